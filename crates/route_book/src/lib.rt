@@ -1,0 +1,14 @@
+//! `route_book`: a store of places, routes and marks with a line language, and a program over it.
+#![tactic(auto)]
+
+mod command;
+mod placed;
+mod refusal;
+mod shown;
+mod word;
+
+pub use command::Command;
+pub use placed::Placed;
+pub use refusal::{Refusal, RoomError};
+pub use shown::Shown;
+pub use word::Word;
