@@ -1,5 +1,5 @@
 -- Which line spells which command. A line is given without its LF.
-use Rattle.std.specs.Prelude.{◌≡◌, ℕ, ◌<◌, ◌^◌, ◌==◌, ◌++◌, List, [], ◌∷◌, Option, Some, None, codes, decimal, if◌then◌else◌}
+use Rattle.std.specs.Prelude.{◌≡◌, ℕ, ◌<◌, ◌^◌, ◌++◌, List, ◌∷◌, codes, decimal}
 use Rattle.route_book.specs.Word.{IsWord}
 use Rattle.route_book.specs.declared.command.Command.{Command}
 use Rattle.route_book.specs.declared.command.Command.TheVariants.{Place, Show, Find, All}

@@ -1,5 +1,5 @@
 -- What a word is.
-use Rattle.std.specs.Prelude.{◌≡◌, ℕ, ◌<◌, ◌≤◌, ◌⊎◌, ◌||◌, ◌&&◌, Bool, IsTrue, true, List, length, nat_lt, nat_le, All}
+use Rattle.std.specs.Prelude.{◌≡◌, ℕ, ◌||◌, ◌&&◌, Bool, true, List, length, nat_lt, nat_le}
 use Rattle.std.specs.List.{list_all}
 
 -- a byte of `a` to `z` or `0` to `9`

@@ -3,12 +3,14 @@
 
 mod command;
 mod placed;
+mod probes;
 mod refusal;
 mod shown;
 mod word;
 
 pub use command::Command;
 pub use placed::Placed;
+pub use probes::Probes;
 pub use refusal::{Refusal, RoomError};
 pub use shown::Shown;
 pub use word::Word;
