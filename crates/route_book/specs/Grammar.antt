@@ -1,12 +1,9 @@
 -- Which line spells which command. A line is given without its LF.
 use Rattle.std.specs.Prelude.{◌≡◌, ℕ, ◌<◌, ◌^◌, ◌++◌, List, ◌∷◌, codes, decimal}
+use Rattle.route_book.specs.Number.{IsNumber}
 use Rattle.route_book.specs.Word.{IsWord}
 use Rattle.route_book.specs.declared.command.Command.{Command}
 use Rattle.route_book.specs.declared.command.Command.TheVariants.{Place, Show, Find, All}
-
--- keys and tickets are below 2^64
-abbrev pub IsNumber : ℕ → Type 0
-IsNumber n = n < 2 ^ 64
 
 -- the line has just these bytes: fields apart by one space, numbers in decimal digits without leading zeros
 abbrev pub Spells : List ℕ → Command → Type 0

@@ -1,2 +1,3 @@
 pub mod Grammar
+pub mod Number
 pub mod Word

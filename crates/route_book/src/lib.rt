@@ -2,6 +2,7 @@
 #![tactic(auto)]
 
 mod command;
+mod number;
 mod placed;
 mod probes;
 mod refusal;
@@ -9,6 +10,7 @@ mod shown;
 mod word;
 
 pub use command::Command;
+pub use number::read_number;
 pub use placed::Placed;
 pub use probes::Probes;
 pub use refusal::{Refusal, RoomError};
