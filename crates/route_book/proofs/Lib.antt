@@ -1,1 +1,5 @@
+pub mod BookLemmas
+pub mod CallLemmas
 pub mod NumberLemmas
+pub mod PlaceLemmas
+pub mod SearchLemmas

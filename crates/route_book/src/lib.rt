@@ -1,15 +1,21 @@
 //! `route_book`: a store of places, routes and marks with a line language, and a program over it.
 #![tactic(auto)]
 
+mod book;
 mod command;
+mod counts;
 mod number;
+mod place;
 mod placed;
 mod probes;
 mod refusal;
+mod search;
 mod shown;
 mod word;
 
+pub use book::RouteBook;
 pub use command::Command;
+pub use counts::Counts;
 pub use number::read_number;
 pub use placed::Placed;
 pub use probes::Probes;
