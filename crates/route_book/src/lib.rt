@@ -4,6 +4,8 @@
 mod book;
 mod command;
 mod counts;
+pub mod laws;
+mod line;
 mod number;
 mod place;
 mod placed;
@@ -16,6 +18,7 @@ mod word;
 pub use book::RouteBook;
 pub use command::Command;
 pub use counts::Counts;
+pub use line::read_line;
 pub use number::read_number;
 pub use placed::Placed;
 pub use probes::Probes;

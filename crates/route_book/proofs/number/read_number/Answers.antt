@@ -1,7 +1,6 @@
-use Rattle.std.proofs.Common.{◌≡◌, None, arith, sym, inl, inr, ◌∙◌, rules, tests}
+use Rattle.std.proofs.Common.{None, arith, sym, inl, inr, ◌∙◌}
 use Rattle.std.proofs.lemmas.Bool.{false≢true}
 use Rattle.std.proofs.lemmas.Bool.Decides.{nat_tests}
-use Rattle.route_book.specs.Number.{number_of}
 use Rattle.route_book.proofs.NumberLemmas.{IfNone-number_of, IfSome-number_of, unreadable, stopped, finished}
 use Rattle.route_book.proofs.number.read_number.Goals as goal
 use Rattle.route_book.proofs.number.read_number.Goals.{then-is_empty-via-then-is_empty, then-is_empty-via-else-is_empty+then-has_leading_zero}

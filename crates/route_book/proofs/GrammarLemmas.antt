@@ -1,0 +1,273 @@
+-- Lines, their fields, and the commands that they spell.
+use Rattle.std.proofs.Common.{lit≤, ◌≡◌, ℕ, ◌+◌, ◌-◌, ◌<◌, ◌≤◌, ◌==◌, ◌&&◌, ◌||◌, ◌⊎◌, inl, inr, Bool, true, false, List, [], ◌∷◌, ◌++◌, length, take, drop, Option, Some, None, cond, nat_lt, nat_le, refl, sym, ap, subst, ◌∙◌, arith, decimal, IfSome, IfNone, position, All, Contains, option_map, option_and_then, codes, length-append}
+use Rattle.std.proofs.lemmas.Bool.Decides.{nat_tests}
+use Rattle.std.proofs.lemmas.List.{length-drop, take_all}
+use Rattle.std.proofs.lemmas.List.Elements.{All-from_get_or}
+use Rattle.std.proofs.lemmas.Slice.Eq.{bytes_eq-Decides}
+use Rattle.std.proofs.lemmas.Fmt.{decimal_is_IsNumeral, length-decimal-le}
+use Rattle.std.proofs.lemmas.List.Folds.{list_all-append}
+use Rattle.std.proofs.lemmas.Str.Parse.{digit_from_value}
+use Rattle.std.specs.Str.Parse.{AllDigits}
+use Rattle.std.proofs.lemmas.List.Splits.{join_with_byte-slice_split, slice_split_at, slice_split_none, slice_split_first}
+use Rattle.std.proofs.lemmas.List.Sums.{AllPass-from_list_all, fails_before_first}
+use Rattle.std.specs.List.{position_or_len, join_with_byte, list_all}
+use Rattle.std.specs.Str.{bytes_eq}
+use Rattle.route_book.specs.declared.command.Command.{Command}
+use Rattle.route_book.specs.declared.command.Command.TheVariants.{Place, Show, Find, All as Every}
+use Rattle.route_book.specs.Grammar.{Spells, command_of, command_of_fields, fields_of, verb_alone, verb_with_one, verb_with_two}
+use Rattle.route_book.specs.Number.{IsNumber, number_of}
+use Rattle.route_book.specs.Word.{IsWord, is_word, is_word_byte, word_of}
+use Rattle.route_book.proofs.NumberLemmas.{both, number_of-some, number_of-found}
+
+abbrev is_space : ℕ → Bool
+is_space b = b == 32
+
+first_space : (at n end : ℕ) → cond (nat_lt at n) (Some at) None ≡ Some end → (at < n) × (at ≡ end)
+first_space at n end found = grind (arith, nat_tests)
+
+no_space : (at n : ℕ) → cond (nat_lt at n) (Some at) None ≡ None → n ≤ at
+no_space at n none = grind (arith, nat_tests)
+
+-- up to the first space stands a field, and behind it the fields that are left
+pub next_field : (line : List ℕ) (end : ℕ) → position is_space line ≡ Some end → fields_of line ≡ take end line ∷ fields_of (take (length line - (end + 1)) (drop (end + 1) line))
+next_field line end found =
+    let at = first_space (position_or_len is_space line) (length line) end found in
+    let rest = take_all (length line - (end + 1)) (drop (end + 1) line) (omega (arith, length-drop (end + 1) line)) in
+    subst (λ k. fields_of line ≡ take k line ∷ fields_of (drop (k + 1) line)) at.1 (slice_split_first is_space line 0 at.0)
+    ∙ ap (λ l. take end line ∷ fields_of l) (sym rest)
+
+-- with no space the line is one field
+pub last_field : (line : List ℕ) → position is_space line ≡ None → fields_of line ≡ line ∷ []
+last_field line none =
+    slice_split_none is_space line (All-from_get_or (λ x. is_space x ≡ false) line 0 (λ k within. fails_before_first is_space line k 0 (omega (arith, no_space _ _ none))))
+
+-- the parts of a choice that comes to some command
+
+chosen : {X : Type 0} (test : Bool) (x y : Option X) (c : X) → cond test x y ≡ Some c → ((test ≡ true) × (x ≡ Some c)) ⊎ ((test ≡ false) × (y ≡ Some c))
+chosen true x y c e = inl (refl, e)
+chosen false x y c e = inr (refl, e)
+
+same_bytes : (xs ys : List ℕ) → bytes_eq xs ys ≡ true → xs ≡ ys
+same_bytes xs ys e = (bytes_eq-Decides xs ys).0 e
+
+mapped : {X Y : Type 0} (f : X → Y) (o : Option X) (y : Y) → option_map f o ≡ Some y → (x : X) × (o ≡ Some x) × (y ≡ f x)
+mapped f (Some x) y e = (x, refl, cc)
+mapped f None y e = cc
+
+followed : {X Y : Type 0} (f : X → Option Y) (o : Option X) (y : Y) → option_and_then f o ≡ Some y → (x : X) × (o ≡ Some x) × (f x ≡ Some y)
+followed f (Some x) y e = (x, refl, e)
+followed f None y e = cc
+
+word_of-found : (bytes word : List ℕ) → word_of bytes ≡ Some word → IsWord word × (bytes ≡ word)
+word_of-found bytes word e = at (chosen _ _ _ _ e)
+  where
+    at : ((is_word bytes ≡ true) × (Some bytes ≡ Some word)) ⊎ ((is_word bytes ≡ false) × (None ≡ Some word)) → IsWord word × (bytes ≡ word)
+    at (inl h) = let same : bytes ≡ word = cc in (subst IsWord same h.0, same)
+    at (inr h) = cc
+
+-- what a verb and a number spell
+verb_number : (verb name field : List ℕ) (make : ℕ → Command) (command : Command) → bytes_eq verb name ≡ true → option_map make (number_of field) ≡ Some command → (n : ℕ) × IsNumber n × (verb ++ 32 ∷ field ≡ name ++ 32 ∷ decimal n) × (command ≡ make n)
+verb_number verb name field make command same e =
+    let number = mapped _ _ _ e in
+    let text = number_of-found _ _ number.1 in
+    (number.0, text.0, ap (λ v. v ++ 32 ∷ field) (same_bytes _ _ same) ∙ ap (λ f. name ++ 32 ∷ f) text.1, number.2)
+
+Spells-from_alone : (verb : List ℕ) (command : Command) → verb_alone verb ≡ Some command → Spells verb command
+Spells-from_alone verb command e = at (chosen _ _ _ _ e)
+  where
+    at : ((bytes_eq verb (codes "all") ≡ true) × (Some Every ≡ Some command)) ⊎ ((bytes_eq verb (codes "all") ≡ false) × (None ≡ Some command)) → Spells verb command
+    at (inl h) = let same : Every ≡ command = cc in subst (Spells verb) same (same_bytes _ _ h.0)
+    at (inr h) = cc
+
+Spells-from_one : (verb field : List ℕ) (command : Command) → verb_with_one verb field ≡ Some command → Spells (verb ++ 32 ∷ field) command
+Spells-from_one verb field command e = at (chosen _ _ _ _ e)
+  where
+    find : ((bytes_eq verb (codes "find") ≡ true) × (option_map Find (number_of field) ≡ Some command)) ⊎ ((bytes_eq verb (codes "find") ≡ false) × (None ≡ Some command)) → Spells (verb ++ 32 ∷ field) command
+    find (inl h) = let p = verb_number _ _ _ _ _ h.0 h.1 in subst (Spells (verb ++ 32 ∷ field)) (sym p.3) (p.1, p.2)
+    find (inr h) = cc
+
+    at : ((bytes_eq verb (codes "show") ≡ true) × (option_map Show (number_of field) ≡ Some command)) ⊎ ((bytes_eq verb (codes "show") ≡ false) × (cond (bytes_eq verb (codes "find")) (option_map Find (number_of field)) None ≡ Some command)) → Spells (verb ++ 32 ∷ field) command
+    at (inl h) = let p = verb_number _ _ _ _ _ h.0 h.1 in subst (Spells (verb ++ 32 ∷ field)) (sym p.3) (p.1, p.2)
+    at (inr h) = find (chosen _ _ _ _ h.1)
+
+Spells-from_two : (verb first second : List ℕ) (command : Command) → verb_with_two verb first second ≡ Some command → Spells (verb ++ 32 ∷ (first ++ 32 ∷ second)) command
+Spells-from_two verb first second command e = at (chosen _ _ _ _ e)
+  where
+    at : ((bytes_eq verb (codes "place") ≡ true) × (option_and_then (λ key. option_map (Place key) (word_of second)) (number_of first) ≡ Some command)) ⊎ ((bytes_eq verb (codes "place") ≡ false) × (None ≡ Some command)) → Spells (verb ++ 32 ∷ (first ++ 32 ∷ second)) command
+    at (inl h) =
+        let key = followed _ _ _ h.1 in
+        let number = number_of-found _ _ key.1 in
+        let word = mapped _ _ _ key.2 in
+        let text = word_of-found _ _ word.1 in
+        subst (Spells (verb ++ 32 ∷ (first ++ 32 ∷ second))) (sym word.2)
+        (number.0, text.0, ap (λ v. v ++ 32 ∷ (first ++ 32 ∷ second)) (same_bytes _ _ h.0) ∙ ap (λ f. codes "place" ++ 32 ∷ (f ++ 32 ∷ second)) number.1 ∙ ap (λ w. codes "place" ++ 32 ∷ (decimal key.0 ++ 32 ∷ w)) text.1)
+    at (inr h) = cc
+
+-- the fields of a command spell it where they are joined again
+Spells-from_fields : (fields : List (List ℕ)) (command : Command) → command_of_fields fields ≡ Some command → Spells (join_with_byte 32 fields) command
+Spells-from_fields [] command e = cc
+Spells-from_fields (verb ∷ []) command e = Spells-from_alone verb command e
+Spells-from_fields (verb ∷ field ∷ []) command e = Spells-from_one verb field command e
+Spells-from_fields (verb ∷ first ∷ second ∷ []) command e = Spells-from_two verb first second command e
+Spells-from_fields (verb ∷ first ∷ second ∷ third ∷ more) command e = cc
+
+-- `command_of` finds what a line spells
+pub command_of-found : (line : List ℕ) (command : Command) → command_of line ≡ Some command → Spells line command
+unfolding command_of
+command_of-found line command e =
+    subst (λ l. Spells l command) (join_with_byte-slice_split 32 line) (Spells-from_fields (fields_of line) command e)
+
+-- the bytes of numbers and words are no spaces and no line ends
+
+word_bytes-from_digits : (ds : List ℕ) → AllDigits 10 ds → list_all is_word_byte ds ≡ true
+word_bytes-from_digits [] digits = refl
+word_bytes-from_digits (c ∷ cs) digits =
+    let range = digit_from_value c digits.0 in
+    let rest = word_bytes-from_digits cs digits.1 in
+    grind (arith, nat_tests)
+
+word_bytes-decimal : (n : ℕ) → IsNumber n → list_all is_word_byte (decimal n) ≡ true
+word_bytes-decimal n small = word_bytes-from_digits _ (decimal_is_IsNumeral n small).0.1
+
+record WordParts (word : List ℕ) : Type 0 where
+  bytes : list_all is_word_byte word ≡ true
+  short : length word ≤ 16
+  some : 1 ≤ length word
+
+word_parts : (word : List ℕ) → IsWord word → WordParts word
+word_parts word is =
+    let outer = both (nat_le 1 (length word) && nat_le (length word) 16) (list_all is_word_byte word) is in
+    let inner = both (nat_le 1 (length word)) (nat_le (length word) 16) outer.0 in
+    record { bytes = outer.1; short = grind (arith, nat_tests); some = grind (arith, nat_tests) }
+
+no_space_in : (bytes : List ℕ) → list_all is_word_byte bytes ≡ true → All (λ b. is_space b ≡ false) bytes
+no_space_in bytes words =
+    All-from_get_or (λ b. is_space b ≡ false) bytes 0 (λ k within. let word = AllPass-from_list_all is_word_byte bytes words k 0 within in grind (arith, nat_tests))
+
+number_alone : (n : ℕ) → IsNumber n → fields_of (decimal n) ≡ decimal n ∷ []
+number_alone n small = slice_split_none is_space (decimal n) (no_space_in (decimal n) (word_bytes-decimal n small))
+
+word_alone : (word : List ℕ) → IsWord word → fields_of word ≡ word ∷ []
+word_alone word is = slice_split_none is_space word (no_space_in word (word_parts word is).bytes)
+
+-- a field, a space and the rest of the line
+fields_of-cons : (field rest : List ℕ) → list_all is_word_byte field ≡ true → fields_of (field ++ 32 ∷ rest) ≡ field ∷ fields_of rest
+fields_of-cons field rest words = slice_split_at is_space field 32 rest (no_space_in field words) refl
+
+verb_number-fields : (verb : List ℕ) (n : ℕ) → list_all is_word_byte verb ≡ true → IsNumber n → fields_of (verb ++ 32 ∷ decimal n) ≡ verb ∷ decimal n ∷ []
+verb_number-fields verb n words small = fields_of-cons verb (decimal n) words ∙ ap (λ fs. verb ∷ fs) (number_alone n small)
+
+-- a line that spells a command is found
+pub command_of-spelled : (line : List ℕ) (command : Command) → Spells line command → command_of line ≡ Some command
+unfolding command_of
+command_of-spelled line Every spells = ap (λ l. command_of_fields (fields_of l)) spells
+command_of-spelled line (Show ticket) spells =
+    ap (λ l. command_of_fields (fields_of l)) spells.1
+    ∙ ap command_of_fields (verb_number-fields (codes "show") ticket refl spells.0)
+    ∙ ap (option_map Show) (number_of-some _ ticket spells.0 refl)
+command_of-spelled line (Find key) spells =
+    ap (λ l. command_of_fields (fields_of l)) spells.1
+    ∙ ap command_of_fields (verb_number-fields (codes "find") key refl spells.0)
+    ∙ ap (option_map Find) (number_of-some _ key spells.0 refl)
+command_of-spelled line (Place key word) spells =
+    ap (λ l. command_of_fields (fields_of l)) spells.2
+    ∙ ap command_of_fields (
+    fields_of-cons (codes "place") (decimal key ++ 32 ∷ word) refl
+    ∙ ap (λ fs. codes "place" ∷ fs) (fields_of-cons (decimal key) word (word_bytes-decimal key spells.0) ∙ ap (λ fs. decimal key ∷ fs) (word_alone word spells.1))
+    )
+    ∙ ap (option_and_then (λ k. option_map (Place k) (word_of word))) (number_of-some _ key spells.0 refl)
+    ∙ ap (λ test. option_map (Place key) (cond test (Some word) None)) spells.1
+
+-- what a reader that answers `command_of` can say
+pub IfSome-command_of : (line : List ℕ) (r : Option Command) → r ≡ command_of line → IfSome r (Spells line)
+IfSome-command_of line None e = tt
+IfSome-command_of line (Some command) e = command_of-found line command (sym e)
+
+pub IfNone-command_of : (line : List ℕ) (r : Option Command) → r ≡ command_of line → IfNone r ((command : Command) → Spells line command → ⊥)
+IfNone-command_of line (Some command) e = tt
+IfNone-command_of line None e = λ command spells. let some = command_of-spelled line command spells in cc
+
+pub command_of-none : (line : List ℕ) → ((command : Command) → Spells line command → ⊥) → command_of line ≡ None
+command_of-none line none = at (command_of line) refl
+  where
+    at : (o : Option Command) → command_of line ≡ o → command_of line ≡ None
+    at None e = e
+    at (Some command) e = absurd (none command (command_of-found line command e))
+
+-- every line has one command at most, and every command one line
+
+pub one_command : (line : List ℕ) (c d : Command) → Spells line c → Spells line d → c ≡ d
+one_command line c d first second = let e = command_of-spelled line c first in let f = command_of-spelled line d second in cc
+
+pub one_line : (first second : List ℕ) (command : Command) → Spells first command → Spells second command → first ≡ second
+one_line first second Every a b = a ∙ sym b
+one_line first second (Show ticket) a b = a.1 ∙ sym b.1
+one_line first second (Find key) a b = a.1 ∙ sym b.1
+one_line first second (Place key word) a b = a.2 ∙ sym b.2
+
+-- how long a spelling is, and which bytes it has
+
+abbrev is_line_byte : ℕ → Bool
+is_line_byte b = is_word_byte b || b == 32
+
+line_bytes-from_word_bytes : (bytes : List ℕ) → list_all is_word_byte bytes ≡ true → list_all is_line_byte bytes ≡ true
+line_bytes-from_word_bytes [] words = refl
+line_bytes-from_word_bytes (b ∷ bs) words =
+    let parts = both (is_word_byte b) (list_all is_word_byte bs) words in
+    rw (parts.0, line_bytes-from_word_bytes bs parts.1) refl
+
+line_bytes-append : (front back : List ℕ) → list_all is_line_byte front ≡ true → list_all is_line_byte back ≡ true → list_all is_line_byte (front ++ back) ≡ true
+line_bytes-append front back first second = rw (list_all-append is_line_byte front back, first, second) refl
+
+record LineText (line : List ℕ) : Type 0 where
+  bytes : list_all is_line_byte line ≡ true
+  short : length line ≤ 69
+  some : 1 ≤ length line
+
+verb_number-text : (verb : List ℕ) (n : ℕ) → list_all is_line_byte verb ≡ true → length verb ≤ 49 → 1 ≤ length verb → IsNumber n → LineText (verb ++ decimal n)
+verb_number-text verb n bytes short some small =
+    let digits = length-decimal-le 20 n (omega arith) (omega arith) small in
+    record {
+      bytes = line_bytes-append verb (decimal n) bytes (line_bytes-from_word_bytes (decimal n) (word_bytes-decimal n small));
+      short = omega (arith, length-append verb (decimal n));
+      some = omega (arith, length-append verb (decimal n));
+    }
+
+line_text : (line : List ℕ) (command : Command) → Spells line command → LineText line
+line_text line Every spells = subst LineText (sym spells) (record { bytes = refl; short = lit≤ tt; some = lit≤ tt })
+line_text line (Show ticket) spells = subst LineText (sym spells.1) (verb_number-text (codes "show ") ticket refl (lit≤ tt) (lit≤ tt) spells.0)
+line_text line (Find key) spells = subst LineText (sym spells.1) (verb_number-text (codes "find ") key refl (lit≤ tt) (lit≤ tt) spells.0)
+line_text line (Place key word) spells =
+    let digits = length-decimal-le 20 key (omega arith) (omega arith) spells.0 in
+    let parts = word_parts word spells.1 in
+    let front = verb_number-text (codes "place ") key refl (lit≤ tt) (lit≤ tt) spells.0 in
+    let size = length-append (codes "place " ++ decimal key) (32 ∷ word) in
+    let before = length-append (codes "place ") (decimal key) in
+    subst LineText (sym spells.2) (record {
+      bytes = line_bytes-append (codes "place " ++ decimal key) (32 ∷ word) front.bytes (line_bytes-from_word_bytes word parts.bytes);
+      short = omega arith;
+      some = omega arith;
+    })
+
+pub length-spelling : (line : List ℕ) (command : Command) → Spells line command → length line ≤ 69
+length-spelling line command spells = (line_text line command spells).short
+
+pub spelling_nonempty : (line : List ℕ) (command : Command) → Spells line command → 0 < length line
+spelling_nonempty line command spells = (line_text line command spells).some
+
+pub no_line_end : (line : List ℕ) (command : Command) → Spells line command → ¬ (Contains line 10)
+no_line_end line command spells = λ at.
+    let byte = AllPass-from_list_all is_line_byte line (line_text line command spells).bytes at.0 10 at.1 in
+    let end : is_line_byte 10 ≡ true = subst (λ b. is_line_byte b ≡ true) at.2 byte in
+    cc
+
+-- which lines are no commands
+
+pub long_line : (line : List ℕ) → 69 < length line → command_of line ≡ None
+long_line line long = command_of-none line (λ command spells. omega (arith, length-spelling line command spells))
+
+pub empty_line : command_of [] ≡ None
+empty_line = command_of-none [] (λ command spells. omega (arith, spelling_nonempty [] command spells))
+
+pub broken_line : (line : List ℕ) → Contains line 10 → command_of line ≡ None
+broken_line line end = command_of-none line (λ command spells. no_line_end line command spells end)

@@ -1,0 +1,64 @@
+ghost use Rattle.route_book.specs.declared.command.Command.{Command};
+ghost use Rattle.route_book.specs.Grammar.{Spells, command_of, command_of_fields, verb_alone, verb_with_one, verb_with_two};
+ghost use Rattle.std.specs.Prelude.{◌≡◌, IfNone, IfSome};
+
+mod fields;
+
+use crate::command::Command;
+use crate::number::read_number;
+use crate::word::Word;
+use fields::Fields;
+
+/// The command that a line, given without its LF, spells; `None` exactly where it spells none.
+pub fn read_line(line: &[u8]) -> Option<Command>
+    ensures found { IfSome result (Spells line.now) }
+    ensures none { IfNone result ((command : Command) → ¬ Spells line.now command) }
+    ensures exact { result ≡ command_of line.now }
+{
+    read_fields(Fields::of(line))
+}
+
+fn read_fields(mut fields: Fields) -> Option<Command>
+    ensures { result ≡ command_of_fields fields.entry }
+{
+    match (fields.next(), fields.next(), fields.next(), fields.next()) {
+        (Some(verb), None, _, _) => verb_alone(verb),
+        (Some(verb), Some(field), None, _) => verb_with_one(verb, field),
+        (Some(verb), Some(first), Some(second), None) => verb_with_two(verb, first, second),
+        _ => None,
+    }
+}
+
+fn verb_alone(verb: &[u8]) -> Option<Command>
+    ensures { result ≡ verb_alone verb.now }
+{
+    if verb == b"all".as_slice() {
+        return Some(Command::All);
+    }
+    None
+}
+
+fn verb_with_one(verb: &[u8], field: &[u8]) -> Option<Command>
+    ensures { result ≡ verb_with_one verb.now field.now }
+{
+    if verb == b"show".as_slice() {
+        let ticket = read_number(field)?;
+        return Some(Command::Show { ticket });
+    }
+    if verb == b"find".as_slice() {
+        let key = read_number(field)?;
+        return Some(Command::Find { key });
+    }
+    None
+}
+
+fn verb_with_two(verb: &[u8], first: &[u8], second: &[u8]) -> Option<Command>
+    ensures { result ≡ verb_with_two verb.now first.now second.now }
+{
+    if verb == b"place".as_slice() {
+        let key = read_number(first)?;
+        let word = Word::new(second)?;
+        return Some(Command::Place { key, word });
+    }
+    None
+}
