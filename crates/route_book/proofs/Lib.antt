@@ -3,4 +3,7 @@ pub mod CallLemmas
 pub mod GrammarLemmas
 pub mod NumberLemmas
 pub mod PlaceLemmas
+pub mod RunLemmas
 pub mod SearchLemmas
+pub mod UnfinishedLemmas
+pub mod WrittenLemmas

@@ -29,10 +29,14 @@ pub record AreByTicket (entries : List Entry) (last : ℕ) : Type 0 where
   pub given : (i : ℕ) → i < length entries → (0 < (entry_at entries i).ticket) × ((entry_at entries i).ticket ≤ last)
   pub rising : (i j : ℕ) → i < j → j < length entries → (entry_at entries i).ticket < (entry_at entries j).ticket
 
+-- indices of entries
+abbrev pub AreWithin : List Entry → List ℕ → Type 0
+AreWithin entries order = (k : ℕ) → k < length order → slice_index order k < length entries
+
 -- the indices of all entries, each of them
 pub record IsOrder (entries : List Entry) (order : List ℕ) : Type 0 where
   pub as_many : length order ≡ length entries
-  pub within : (k : ℕ) → k < length order → slice_index order k < length entries
+  pub within : AreWithin entries order
   pub each : (i : ℕ) → i < length entries → list_any (λ k. k == i) order ≡ true
 
 pub record IsBook (entries : List Entry) (indices : List ℕ) (last : ℕ) : Type 0 where

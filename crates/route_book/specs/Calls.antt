@@ -1,6 +1,7 @@
 -- What each call on a store answers, and the state after it.
 use Rattle.std.specs.Prelude.{ℕ, ◌+◌, ◌==◌, ◌∷◌, List, [], Option, None, Some, Result, Ok, Err, if◌then◌else◌, nat_lt, map}
 use Rattle.std.specs.Option.{option_map}
+use Rattle.std.specs.Borrow.{Bor}
 use Rattle.route_book.specs.State.{State, Place, Item, place, stop, mark, with_key, holder, is_full_of_places}
 use Rattle.route_book.specs.declared.placed.Placed.{Placed}
 use Rattle.route_book.specs.declared.placed.Placed.TheVariants.{New, Old}
@@ -51,3 +52,7 @@ shown s ticket = from (holder s ticket)
 -- `find`
 abbrev pub found : State → ℕ → Option ℕ
 found s key = option_map (λ p. p.ticket) (with_key key s.places)
+
+-- `places`: what the iterator gives of a place
+abbrev pub listed : ℕ × ℕ × Bor (List ℕ) → Place
+listed item = record { ticket = item.0; key = item.1; word = item.2.now }

@@ -3,6 +3,12 @@ pub mod Calls
 pub mod Grammar
 pub mod Number
 pub mod Reply
+pub mod ReplyText
+pub mod Run
 pub mod Searches
 pub mod State
+pub mod Text
+pub mod Unfinished
+pub mod Watched
 pub mod Word
+pub mod Written

@@ -7,6 +7,7 @@ ghost use Rattle.route_book.specs.Book.{IsOrder, entry_at, place_at, places_by};
 use crate::counts::Counts;
 use crate::place::Place;
 use crate::placed::Placed;
+use crate::places::Places;
 use crate::probes::Probes;
 use crate::refusal::{Refusal, RoomError};
 use crate::search::search;
@@ -195,6 +196,16 @@ impl<A: Allocator> RouteBook<A> {
 }
 
 impl<A: Allocator> RouteBook<A> {
+    /// The places in the order of their keys.
+    pub fn places(&self) -> Places<'_>
+        ensures { result ≡ self.now.places }
+    {
+        Places {
+            places: &self.places,
+            order: &self.by_key,
+        }
+    }
+
     // Whether no further place can be had.
     fn is_full_of_places(&self) -> bool
         ensures { result ≡ is_full_of_places self.now }

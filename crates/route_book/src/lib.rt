@@ -1,6 +1,7 @@
 //! `route_book`: a store of places, routes and marks with a line language, and a program over it.
 #![tactic(auto)]
 
+mod answer;
 mod book;
 mod command;
 mod counts;
@@ -9,10 +10,15 @@ mod line;
 mod number;
 mod place;
 mod placed;
+mod places;
 mod probes;
 mod refusal;
+mod reply_text;
+mod running;
 mod search;
 mod shown;
+mod unfinished;
+mod watched;
 mod word;
 
 pub use book::RouteBook;
@@ -21,7 +27,10 @@ pub use counts::Counts;
 pub use line::read_line;
 pub use number::read_number;
 pub use placed::Placed;
+pub use places::Places;
 pub use probes::Probes;
 pub use refusal::{Refusal, RoomError};
+pub use running::{RunFault, run};
 pub use shown::Shown;
+pub use watched::Watched;
 pub use word::Word;

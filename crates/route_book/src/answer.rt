@@ -1,0 +1,106 @@
+ghost use Rattle.std.specs.Prelude.{◌≡◌, ℕ, ◌<◌, ◌++◌, List, [], OnOk, OnErr};
+ghost use Rattle.route_book.specs.ReplyText.{HasRoom};
+ghost use Rattle.std.specs.Io.KnownBytes.{Appends};
+ghost use Rattle.route_book.specs.Grammar.{command_of};
+ghost use Rattle.route_book.specs.Reply.{reply, next, places_text};
+ghost use Rattle.route_book.specs.Searches.{CountsWithin, fair, place_count, living_count};
+ghost use Rattle.route_book.specs.Watched.{inner_of};
+ghost use Rattle.route_book.specs.Written.{AppendsBeginning};
+
+use crate::book::RouteBook;
+use crate::command::Command;
+use crate::counts::Counts;
+use crate::line::read_line;
+use crate::places::Places;
+use crate::reply_text::ReplyText;
+use crate::watched::Watched;
+use std::alloc::Allocator;
+use std::io;
+use std::io::Write;
+
+impl<A: Allocator> RouteBook<A> {
+    /// Carries out one line, given without its LF, and writes its reply.
+    ///
+    /// An `Err` is that of the write that failed, or `WriteZero` where one took nothing. The line is carried out all
+    /// the same, and a beginning of its reply is written, at least a byte short.
+    pub fn answer<W: Write>(
+        &mut self,
+        line: &[u8],
+        writer: &mut Watched<W>,
+        counts: &mut Counts,
+    ) -> io::Result<()>
+        ensures state { self.new ≡ next self.old (command_of line.now) }
+        ensures ok { OnOk result (Appends (W.contents (inner_of writer.old)) (W.contents (inner_of writer.new)) (reply self.old (command_of line.now))) }
+        ensures ok_failed { OnOk result (writer.new.failed ≡ writer.old.failed) }
+        ensures err { OnErr result (AppendsBeginning (W.contents (inner_of writer.old)) (W.contents (inner_of writer.new)) (reply self.old (command_of line.now))) }
+        ensures err_failed { OnErr result (writer.old.failed < writer.new.failed) }
+        ensures counts { CountsWithin counts.old counts.new (fair (place_count self.old)) (fair (living_count self.old)) (fair (living_count self.old)) }
+    {
+        self.carry_out(read_line(line), &mut ReplyText::new(), writer, counts)
+    }
+
+    // Carries out a command, or answers a line that spells none. `text` is for the reply to be gathered in.
+    pub(crate) fn carry_out<W: Write>(
+        &mut self,
+        command: Option<Command>,
+        text: &mut ReplyText,
+        writer: &mut Watched<W>,
+        counts: &mut Counts,
+    ) -> io::Result<()>
+        ensures state { self.new ≡ next self.old command }
+        ensures ok { OnOk result (Appends (W.contents (inner_of writer.old)) (W.contents (inner_of writer.new)) (reply self.old command)) }
+        ensures ok_failed { OnOk result (writer.new.failed ≡ writer.old.failed) }
+        ensures err { OnErr result (AppendsBeginning (W.contents (inner_of writer.old)) (W.contents (inner_of writer.new)) (reply self.old command)) }
+        ensures err_failed { OnErr result (writer.old.failed < writer.new.failed) }
+        ensures counts { CountsWithin counts.old counts.new (fair (place_count self.old)) (fair (living_count self.old)) (fair (living_count self.old)) }
+    {
+        text.clear();
+        match command {
+            None => text.push_line(b"bad"),
+            Some(Command::Place { key, word }) => {
+                text.push_placed(&self.place_counted(key, word, counts));
+            }
+            Some(Command::Show { ticket }) => text.push_shown(&self.show_counted(ticket, counts)),
+            Some(Command::Find { key }) => text.push_found(self.find_counted(key, counts)),
+            Some(Command::All) => return write_places(self.places(), text, writer),
+        }
+        writer.send(text.as_slice())
+    }
+}
+
+// A line for each place and `end`, in as few writes as the text's room allows.
+fn write_places<W: Write>(
+    places: Places<'_>,
+    text: &mut ReplyText,
+    writer: &mut Watched<W>,
+) -> io::Result<()>
+    requires { text.old ≡ [] }
+    ensures ok { OnOk result (Appends (W.contents (inner_of writer.old)) (W.contents (inner_of writer.new)) (places_text places.entry)) }
+    ensures ok_failed { OnOk result (writer.new.failed ≡ writer.old.failed) }
+    ensures err { OnErr result (AppendsBeginning (W.contents (inner_of writer.old)) (W.contents (inner_of writer.new)) (places_text places.entry)) }
+    ensures err_failed { OnErr result (writer.old.failed < writer.new.failed) }
+{
+    for (ticket, key, word) in places {
+        make_room(text, writer)?;
+        text.push_place(ticket, key, word);
+    }
+    make_room(text, writer)?;
+    text.push_line(b"end");
+    writer.send(text.as_slice())
+}
+
+// Room for one line more: where there is none, what was gathered is written.
+fn make_room<W: Write>(text: &mut ReplyText, writer: &mut Watched<W>) -> io::Result<()>
+    ensures room { OnOk result (HasRoom text.new 59) }
+    ensures ok { OnOk result ((sent : List ℕ) × (text.old ≡ sent ++ text.new) × Appends (W.contents (inner_of writer.old)) (W.contents (inner_of writer.new)) sent) }
+    ensures ok_failed { OnOk result (writer.new.failed ≡ writer.old.failed) }
+    ensures err { OnErr result (AppendsBeginning (W.contents (inner_of writer.old)) (W.contents (inner_of writer.new)) text.old) }
+    ensures err_failed { OnErr result (writer.old.failed < writer.new.failed) }
+{
+    if text.has_room() {
+        return Ok(());
+    }
+    writer.send(text.as_slice())?;
+    text.clear();
+    Ok(())
+}

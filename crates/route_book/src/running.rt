@@ -1,0 +1,137 @@
+ghost use Rattle.std.specs.Prelude.{◌≡◌, ◌⊎◌, ℕ, ◌+◌, ◌-◌, ◌<◌, ◌++◌, ◌^◌, List, [], ◌∷◌, IfErr, IfNone, IfSome, OnOk, OnErr, map};
+ghost use Rattle.std.specs.Io.KnownBytes.{Consumes, IsAtEnd};
+ghost use Rattle.route_book.specs.Run.{Carries, OnRead, OnWrite, OnTooLong, StopsWithin};
+ghost use Rattle.route_book.specs.Text.{lines, unended_line, whole, whole_lines};
+ghost use Rattle.route_book.specs.Unfinished.{HasNoLineEnd, StandsFor, StopsAtEnd, Stops, Takes};
+ghost use Rattle.route_book.specs.Watched.{inner_of};
+
+mod fault;
+
+use crate::book::RouteBook;
+use crate::counts::Counts;
+use crate::reply_text::ReplyText;
+use crate::unfinished::Unfinished;
+use crate::watched::Watched;
+pub use fault::RunFault;
+use std::alloc::Allocator;
+use std::io;
+use std::io::{Read, Write};
+
+/// Answers an input: carries out one line after another and writes each reply before the next line is carried out.
+/// The writer is flushed once, at the end of the input.
+///
+/// The input may come in pieces of any length. A line over 69 bytes, or what follows the last LF, is answered as a
+/// line that spells no command. No memory is taken, and the store stays usable after each fault.
+pub fn run<A: Allocator, R: Read, W: Write>(
+    book: &mut RouteBook<A>,
+    reader: &mut Watched<R>,
+    writer: &mut Watched<W>,
+    counts: &mut Counts,
+) -> Result<(), RunFault>
+    // The whole input was read, and every line of it is carried out and answered.
+    ensures ok { OnOk result ((input : List ℕ) × Consumes (R.remaining (inner_of reader.old)) (R.remaining (inner_of reader.new)) input
+        × IsAtEnd (R.remaining (inner_of reader.new))
+        × Carries book.old (lines input) book.new (W.contents (inner_of writer.old)) (W.contents (inner_of writer.new)) counts.old counts.new) }
+
+    // Every whole line that was read is carried out and answered, and nothing else.
+    ensures read { IfErr result (λ fault. OnRead fault ((input : List ℕ) × Consumes (R.remaining (inner_of reader.old)) (R.remaining (inner_of reader.new)) input
+        × Carries book.old (map whole (whole_lines input)) book.new (W.contents (inner_of writer.old)) (W.contents (inner_of writer.new)) counts.old counts.new)) }
+    ensures too_long { IfErr result (λ fault. OnTooLong fault ((input : List ℕ) × Consumes (R.remaining (inner_of reader.old)) (R.remaining (inner_of reader.new)) input
+        × Carries book.old (map whole (whole_lines input)) book.new (W.contents (inner_of writer.old)) (W.contents (inner_of writer.new)) counts.old counts.new)) }
+
+    // A line was being answered; or all are, and the flush failed.
+    ensures write { IfErr result (λ fault. OnWrite fault ((input : List ℕ) × Consumes (R.remaining (inner_of reader.old)) (R.remaining (inner_of reader.new)) input
+        × (StopsWithin input (R.remaining (inner_of reader.new)) book.old book.new (W.contents (inner_of writer.old)) (W.contents (inner_of writer.new)) counts.old counts.new
+        ⊎ (IsAtEnd (R.remaining (inner_of reader.new))
+        × Carries book.old (lines input) book.new (W.contents (inner_of writer.old)) (W.contents (inner_of writer.new)) counts.old counts.new)))) }
+
+    // No fault comes without a cause.
+    ensures read_failed { IfErr result (λ fault. OnRead fault (reader.old.failed < reader.new.failed)) }
+    ensures write_failed { IfErr result (λ fault. OnWrite fault (writer.old.failed < writer.new.failed)) }
+    ensures many_reads { IfErr result (λ fault. OnTooLong fault (reader.new.calls ≡ reader.old.calls + (2 ^ 64 - 1))) }
+{
+    let mut piece = [0u8; 4096];
+    let mut unfinished = Unfinished::new();
+    let mut text = ReplyText::new();
+    for _ in 0..u64::MAX {
+        let n = match reader.read(&mut piece) {
+            Ok(n) => n,
+            Err(error) => return Err(RunFault::Read(error)),
+        };
+        if n == 0 {
+            return match end(book, &unfinished, &mut text, writer, counts) {
+                Ok(()) => Ok(()),
+                Err(error) => Err(RunFault::Write(error)),
+            };
+        }
+        if let Err(error) = take(
+            book,
+            &piece[..n],
+            &mut unfinished,
+            &mut text,
+            writer,
+            counts,
+        ) {
+            return Err(RunFault::Write(error));
+        }
+    }
+    Err(RunFault::TooLong)
+}
+
+// Carries out the lines that a piece of the input ends, and keeps what follows them.
+fn take<A: Allocator, W: Write>(
+    book: &mut RouteBook<A>,
+    piece: &[u8],
+    unfinished: &mut Unfinished,
+    text: &mut ReplyText,
+    writer: &mut Watched<W>,
+    counts: &mut Counts,
+) -> io::Result<()>
+    ensures ok { OnOk result ((line : List ℕ) → HasNoLineEnd line → StandsFor unfinished.old line
+        → Takes (line ++ piece.now) [] unfinished.new book.old book.new (W.contents (inner_of writer.old)) (W.contents (inner_of writer.new)) counts.old counts.new) }
+    ensures ok_failed { OnOk result (writer.new.failed ≡ writer.old.failed) }
+    ensures err { OnErr result ((line : List ℕ) → HasNoLineEnd line → StandsFor unfinished.old line
+        → Stops (line ++ piece.now) book.old book.new (W.contents (inner_of writer.old)) (W.contents (inner_of writer.new)) counts.old counts.new) }
+    ensures err_failed { OnErr result (writer.old.failed < writer.new.failed) }
+{
+    let mut left = piece;
+    while let Some((line, behind)) = split_line(left) {
+        let command = unfinished.finish(line);
+        left = behind;
+        book.carry_out(command, text, writer, counts)?;
+    }
+    unfinished.extend(left);
+    Ok(())
+}
+
+// Answers what follows the last LF, if there is anything, and flushes the writer.
+fn end<A: Allocator, W: Write>(
+    book: &mut RouteBook<A>,
+    unfinished: &Unfinished,
+    text: &mut ReplyText,
+    writer: &mut Watched<W>,
+    counts: &mut Counts,
+) -> io::Result<()>
+    ensures ok { OnOk result ((line : List ℕ) → StandsFor unfinished.now line
+        → Carries book.old (unended_line line) book.new (W.contents (inner_of writer.old)) (W.contents (inner_of writer.new)) counts.old counts.new) }
+    ensures ok_failed { OnOk result (writer.new.failed ≡ writer.old.failed) }
+    ensures err { OnErr result ((line : List ℕ) → StandsFor unfinished.now line
+        → StopsAtEnd line book.old book.new (W.contents (inner_of writer.old)) (W.contents (inner_of writer.new)) counts.old counts.new
+        ⊎ Carries book.old (unended_line line) book.new (W.contents (inner_of writer.old)) (W.contents (inner_of writer.new)) counts.old counts.new) }
+    ensures err_failed { OnErr result (writer.old.failed < writer.new.failed) }
+{
+    if unfinished.is_empty() {
+        return writer.flush();
+    }
+    book.carry_out(None, text, writer, counts)?;
+    writer.flush()
+}
+
+// The bytes before the first LF, and those behind it.
+fn split_line(bytes: &[u8]) -> Option<(&[u8], &[u8])>
+    ensures found { IfSome result (λ cut. (bytes.now ≡ cut.0.now ++ 10 ∷ cut.1.now) × HasNoLineEnd cut.0.now) }
+    ensures none { IfNone result (HasNoLineEnd bytes.now) }
+{
+    let end = bytes.iter().position(|byte| *byte == b'\n')?;
+    Some((&bytes[..end], &bytes[end + 1..]))
+}

@@ -1,0 +1,123 @@
+ghost use Rattle.std.specs.Prelude.{◌≡◌, ℕ, ◌+◌, ◌-◌, ◌<◌, OnOk, OnErr};
+ghost use Rattle.std.specs.Io.{ReadsAtMost, WritesAtMost};
+ghost use Rattle.std.specs.Io.KnownBytes.{Appends, Keeps, ReadConsumes, WriteAppends};
+ghost use Rattle.route_book.specs.Written.{AppendsBeginning};
+
+use crate::probes::Probes;
+use std::io;
+use std::io::{ErrorKind, Read, Write};
+
+/// A reader or writer whose bytes are those of its inner one, with a count of the calls and of those that failed.
+#[derive(Drop)]
+pub struct Watched<T> {
+    inner: T,
+    /// Calls that failed, a write that took none of some bytes included.
+    pub failed: Probes,
+    /// All calls.
+    pub calls: Probes,
+}
+
+impl<T> Watched<T> {
+    ghost use Rattle.route_book.specs.Watched.{inner_of};
+
+    /// Watches a reader or a writer from here on.
+    pub fn new(inner: T) -> Self
+        ensures inner { inner_of result ≡ inner }
+        ensures failed { result.failed ≡ 0 }
+        ensures calls { result.calls ≡ 0 }
+    {
+        Watched {
+            inner,
+            failed: Probes::new(),
+            calls: Probes::new(),
+        }
+    }
+
+    /// The reader or writer itself.
+    pub fn into_inner(self) -> T
+        ensures { result ≡ inner_of self }
+    {
+        let Watched {
+            inner,
+            failed: _,
+            calls: _,
+        } = self;
+        inner
+    }
+}
+
+impl<R: Read> Read for Watched<R> {
+    ghost use Rattle.route_book.specs.Watched.{failures};
+
+    ghost remaining = { λ w. R.remaining w.inner };
+
+    fn read(&mut self, buf: &mut [u8]) -> io::Result<usize>
+        ensures bound { ReadsAtMost result buf.new }
+        ensures bytes { ReadConsumes (R.remaining self.old.inner) (R.remaining self.new.inner) result buf.new }
+        ensures failed { self.new.failed ≡ self.old.failed + failures result }
+        ensures calls { self.new.calls ≡ self.old.calls + 1 }
+    {
+        self.calls.tick();
+        let outcome = self.inner.read(buf);
+        if outcome.is_err() {
+            self.failed.tick();
+        }
+        outcome
+    }
+}
+
+impl<W: Write> Write for Watched<W> {
+    ghost use Rattle.route_book.specs.Watched.{failures, write_failures};
+
+    ghost contents = { λ w. W.contents w.inner };
+
+    fn write(&mut self, buf: &[u8]) -> io::Result<usize>
+        ensures bound { WritesAtMost result buf.now }
+        ensures bytes { WriteAppends (W.contents self.old.inner) (W.contents self.new.inner) result buf.now }
+        ensures failed { self.new.failed ≡ self.old.failed + write_failures result buf.now }
+        ensures calls { self.new.calls ≡ self.old.calls + 1 }
+    {
+        self.calls.tick();
+        let outcome = self.inner.write(buf);
+        match outcome {
+            Ok(n) if n > 0 || buf.is_empty() => {}
+            _ => self.failed.tick(),
+        }
+        outcome
+    }
+
+    fn flush(&mut self) -> io::Result<()>
+        ensures bytes { Keeps (W.contents self.old.inner) (W.contents self.new.inner) }
+        ensures failed { self.new.failed ≡ self.old.failed + failures result }
+        ensures calls { self.new.calls ≡ self.old.calls + 1 }
+    {
+        self.calls.tick();
+        let outcome = self.inner.flush();
+        if outcome.is_err() {
+            self.failed.tick();
+        }
+        outcome
+    }
+}
+
+impl<W: Write> Watched<W> {
+    ghost use Rattle.route_book.specs.Watched.{inner_of};
+
+    // Writes all the bytes, by as many writes as that takes.
+    pub(crate) fn send(&mut self, bytes: &[u8]) -> io::Result<()>
+        ensures ok { OnOk result (Appends (W.contents (inner_of self.old)) (W.contents (inner_of self.new)) bytes.now) }
+        ensures ok_failed { OnOk result (self.new.failed ≡ self.old.failed) }
+        ensures err { OnErr result (AppendsBeginning (W.contents (inner_of self.old)) (W.contents (inner_of self.new)) bytes.now) }
+        ensures err_failed { OnErr result (self.old.failed < self.new.failed) }
+    {
+        let mut rest = bytes;
+        while !rest.is_empty() {
+            let taken = self.write(rest)?;
+            if taken == 0 {
+                return Err(io::Error::from(ErrorKind::WriteZero));
+            }
+            rest = &rest[taken..];
+        }
+        Ok(())
+    }
+}
