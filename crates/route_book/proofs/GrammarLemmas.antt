@@ -1,5 +1,5 @@
 -- Lines, their fields, and the commands that they spell.
-use Rattle.std.proofs.Common.{lit≤, ◌≡◌, ℕ, ◌+◌, ◌-◌, ◌<◌, ◌≤◌, ◌==◌, ◌&&◌, ◌||◌, ◌⊎◌, inl, inr, Bool, true, false, List, [], ◌∷◌, ◌++◌, length, take, drop, Option, Some, None, cond, nat_lt, nat_le, refl, sym, ap, subst, ◌∙◌, arith, decimal, IfSome, IfNone, position, All, Contains, option_map, option_and_then, codes, length-append}
+use Rattle.std.proofs.Common.{lit≤, ◌≡◌, ℕ, ◌+◌, ◌-◌, ◌<◌, ◌≤◌, ◌==◌, ◌||◌, ◌⊎◌, inl, inr, Bool, true, false, List, [], ◌∷◌, ◌++◌, length, take, drop, Option, Some, None, cond, nat_lt, refl, sym, ap, subst, ◌∙◌, arith, decimal, IfSome, IfNone, position, All, Contains, option_map, option_and_then, codes, length-append}
 use Rattle.std.proofs.lemmas.Bool.Decides.{nat_tests}
 use Rattle.std.proofs.lemmas.List.{length-drop, take_all}
 use Rattle.std.proofs.lemmas.List.Elements.{All-from_get_or}
@@ -18,6 +18,7 @@ use Rattle.route_book.specs.Grammar.{Spells, command_of, command_of_fields, fiel
 use Rattle.route_book.specs.Number.{IsNumber, number_of}
 use Rattle.route_book.specs.Word.{IsWord, is_word, is_word_byte, word_of}
 use Rattle.route_book.proofs.NumberLemmas.{both, number_of-some, number_of-found}
+use Rattle.route_book.proofs.WordLemmas.{word_parts}
 
 abbrev is_space : ℕ → Bool
 is_space b = b == 32
@@ -128,17 +129,6 @@ word_bytes-from_digits (c ∷ cs) digits =
 
 word_bytes-decimal : (n : ℕ) → IsNumber n → list_all is_word_byte (decimal n) ≡ true
 word_bytes-decimal n small = word_bytes-from_digits _ (decimal_is_IsNumeral n small).0.1
-
-record WordParts (word : List ℕ) : Type 0 where
-  bytes : list_all is_word_byte word ≡ true
-  short : length word ≤ 16
-  some : 1 ≤ length word
-
-word_parts : (word : List ℕ) → IsWord word → WordParts word
-word_parts word is =
-    let outer = both (nat_le 1 (length word) && nat_le (length word) 16) (list_all is_word_byte word) is in
-    let inner = both (nat_le 1 (length word)) (nat_le (length word) 16) outer.0 in
-    record { bytes = outer.1; short = grind (arith, nat_tests); some = grind (arith, nat_tests) }
 
 no_space_in : (bytes : List ℕ) → list_all is_word_byte bytes ≡ true → All (λ b. is_space b ≡ false) bytes
 no_space_in bytes words =

@@ -6,4 +6,5 @@ pub mod PlaceLemmas
 pub mod RunLemmas
 pub mod SearchLemmas
 pub mod UnfinishedLemmas
+pub mod WordLemmas
 pub mod WrittenLemmas

@@ -1,12 +1,14 @@
 ghost use Rattle.route_book.specs.Word.{IsWord, is_word, is_word_byte, word_of};
-ghost use Rattle.std.specs.Prelude.{◌≡◌, ◌↔◌, ⊤, IfSome, IsSome, List, ℕ};
+ghost use Rattle.std.specs.Fmt.{padded};
+ghost use Rattle.std.specs.Prelude.{◌≡◌, ◌↔◌, ⊤, IfSome, IsSome, List, ℕ, Some};
 
 use arrayvec::ArrayVec;
 use std::alloc::AllocError;
+use std::fmt;
 use std::marker::Model;
 
 /// A word: 1 to 16 bytes, each of `a` to `z` or `0` to `9`. It takes no memory of its own.
-#[derive(Debug, PartialEq, Eq, Hash, Drop)]
+#[derive(Debug, PartialEq, Eq, PartialOrd, Ord, Hash, Drop)]
 pub struct Word {
     bytes: ArrayVec<u8, 16>,
 }
@@ -44,6 +46,29 @@ impl Word {
         ensures word { IsWord self.now }
     {
         self.bytes.as_slice()
+    }
+
+    /// The same word once more. It takes no memory and cannot fail, as `clone` cannot.
+    pub fn copied(&self) -> Word
+        ensures { result ≡ self.now }
+    {
+        match self.clone() {
+            Ok(word) => word,
+            Err(_) => unreachable!(),
+        }
+    }
+}
+
+impl fmt::Display for Word {
+    ghost output = { λ w. Some w };
+
+    ghost styled_output = { λ w spec. Some (padded spec w) };
+
+    fn fmt<W: fmt::Write>(&self, f: &mut fmt::Formatter<W>) -> fmt::Result {
+        match std::str::from_utf8(self.as_bytes()) {
+            Ok(text) => f.pad(text),
+            Err(_) => unreachable!(),
+        }
     }
 }
 
