@@ -66,43 +66,47 @@ word_of-found bytes word e = at (chosen _ _ _ _ e)
     at (inl h) = let same : bytes ≡ word = cc in (subst IsWord same h.0, same)
     at (inr h) = cc
 
--- what a verb and a number spell
-verb_number : (verb name field : List ℕ) (make : ℕ → Command) (command : Command) → bytes_eq verb name ≡ true → option_map make (number_of field) ≡ Some command → (n : ℕ) × IsNumber n × (verb ++ 32 ∷ field ≡ name ++ 32 ∷ decimal n) × (command ≡ make n)
-verb_number verb name field make command same e =
-    let number = mapped _ _ _ e in
-    let text = number_of-found _ _ number.1 in
-    (number.0, text.0, ap (λ v. v ++ 32 ∷ field) (same_bytes _ _ same) ∙ ap (λ f. name ++ 32 ∷ f) text.1, number.2)
+-- a choice by the verb: the line is spelled either way
+
+by_verb : (verb name line : List ℕ) (named other : Option Command) (command : Command) → (verb ≡ name → named ≡ Some command → Spells line command) → (other ≡ Some command → Spells line command) → cond (bytes_eq verb name) named other ≡ Some command → Spells line command
+by_verb verb name line named other command here there e = at (chosen (bytes_eq verb name) named other command e)
+  where
+    at : ((bytes_eq verb name ≡ true) × (named ≡ Some command)) ⊎ ((bytes_eq verb name ≡ false) × (other ≡ Some command)) → Spells line command
+    at (inl h) = here (same_bytes verb name h.0) h.1
+    at (inr h) = there h.1
+
+-- the same, where the verb goes with a number
+by_verb_number : (verb name field : List ℕ) (make : ℕ → Command) (other : Option Command) (command : Command) → ((n : ℕ) → IsNumber n → Spells (name ++ 32 ∷ decimal n) (make n)) → (other ≡ Some command → Spells (verb ++ 32 ∷ field) command) → cond (bytes_eq verb name) (option_map make (number_of field)) other ≡ Some command → Spells (verb ++ 32 ∷ field) command
+by_verb_number verb name field make other command spells there e =
+    by_verb verb name (verb ++ 32 ∷ field) (option_map make (number_of field)) other command (λ same found.
+    let number = mapped make (number_of field) command found in
+    let text = number_of-found field number.0 number.1 in
+    let line : name ++ 32 ∷ decimal number.0 ≡ verb ++ 32 ∷ field = ap (λ v. v ++ 32 ∷ decimal number.0) (sym same) ∙ ap (λ f. verb ++ 32 ∷ f) (sym text.1) in
+    subst (λ l. Spells l command) line (subst (Spells (name ++ 32 ∷ decimal number.0)) (sym number.2) (spells number.0 text.0))) there e
+
+nothing : (line : List ℕ) (command : Command) → None ≡ Some command → Spells line command
+nothing line command e = cc
 
 Spells-from_alone : (verb : List ℕ) (command : Command) → verb_alone verb ≡ Some command → Spells verb command
-Spells-from_alone verb command e = at (chosen _ _ _ _ e)
-  where
-    at : ((bytes_eq verb (codes "all") ≡ true) × (Some Every ≡ Some command)) ⊎ ((bytes_eq verb (codes "all") ≡ false) × (None ≡ Some command)) → Spells verb command
-    at (inl h) = let same : Every ≡ command = cc in subst (Spells verb) same (same_bytes _ _ h.0)
-    at (inr h) = cc
+Spells-from_alone verb command =
+    by_verb verb (codes "all") verb (Some Every) None command (λ same found. let every : Every ≡ command = cc in subst (Spells verb) every same) (nothing _ _)
 
 Spells-from_one : (verb field : List ℕ) (command : Command) → verb_with_one verb field ≡ Some command → Spells (verb ++ 32 ∷ field) command
-Spells-from_one verb field command e = at (chosen _ _ _ _ e)
-  where
-    find : ((bytes_eq verb (codes "find") ≡ true) × (option_map Find (number_of field) ≡ Some command)) ⊎ ((bytes_eq verb (codes "find") ≡ false) × (None ≡ Some command)) → Spells (verb ++ 32 ∷ field) command
-    find (inl h) = let p = verb_number _ _ _ _ _ h.0 h.1 in subst (Spells (verb ++ 32 ∷ field)) (sym p.3) (p.1, p.2)
-    find (inr h) = cc
-
-    at : ((bytes_eq verb (codes "show") ≡ true) × (option_map Show (number_of field) ≡ Some command)) ⊎ ((bytes_eq verb (codes "show") ≡ false) × (cond (bytes_eq verb (codes "find")) (option_map Find (number_of field)) None ≡ Some command)) → Spells (verb ++ 32 ∷ field) command
-    at (inl h) = let p = verb_number _ _ _ _ _ h.0 h.1 in subst (Spells (verb ++ 32 ∷ field)) (sym p.3) (p.1, p.2)
-    at (inr h) = find (chosen _ _ _ _ h.1)
+Spells-from_one verb field command =
+    by_verb_number verb (codes "show") field Show _ command (λ n small. (small, refl)) (
+    by_verb_number verb (codes "find") field Find _ command (λ n small. (small, refl)) (nothing _ _)
+    )
 
 Spells-from_two : (verb first second : List ℕ) (command : Command) → verb_with_two verb first second ≡ Some command → Spells (verb ++ 32 ∷ (first ++ 32 ∷ second)) command
-Spells-from_two verb first second command e = at (chosen _ _ _ _ e)
-  where
-    at : ((bytes_eq verb (codes "place") ≡ true) × (option_and_then (λ key. option_map (Place key) (word_of second)) (number_of first) ≡ Some command)) ⊎ ((bytes_eq verb (codes "place") ≡ false) × (None ≡ Some command)) → Spells (verb ++ 32 ∷ (first ++ 32 ∷ second)) command
-    at (inl h) =
-        let key = followed _ _ _ h.1 in
-        let number = number_of-found _ _ key.1 in
-        let word = mapped _ _ _ key.2 in
-        let text = word_of-found _ _ word.1 in
-        subst (Spells (verb ++ 32 ∷ (first ++ 32 ∷ second))) (sym word.2)
-        (number.0, text.0, ap (λ v. v ++ 32 ∷ (first ++ 32 ∷ second)) (same_bytes _ _ h.0) ∙ ap (λ f. codes "place" ++ 32 ∷ (f ++ 32 ∷ second)) number.1 ∙ ap (λ w. codes "place" ++ 32 ∷ (decimal key.0 ++ 32 ∷ w)) text.1)
-    at (inr h) = cc
+Spells-from_two verb first second command =
+    let line : List ℕ = verb ++ 32 ∷ (first ++ 32 ∷ second) in
+    by_verb verb (codes "place") line _ None command (λ same found.
+    let key = followed _ (number_of first) command found in
+    let number = number_of-found first key.0 key.1 in
+    let word = mapped (Place key.0) (word_of second) command key.2 in
+    let text = word_of-found second word.0 word.1 in
+    subst (Spells line) (sym word.2)
+    (number.0, text.0, ap (λ v. v ++ 32 ∷ (first ++ 32 ∷ second)) same ∙ ap (λ f. codes "place" ++ 32 ∷ (f ++ 32 ∷ second)) number.1 ∙ ap (λ w. codes "place" ++ 32 ∷ (decimal key.0 ++ 32 ∷ w)) text.1)) (nothing _ _)
 
 -- the fields of a command spell it where they are joined again
 Spells-from_fields : (fields : List (List ℕ)) (command : Command) → command_of_fields fields ≡ Some command → Spells (join_with_byte 32 fields) command
@@ -144,21 +148,21 @@ word_alone word is = slice_split_none is_space word (no_space_in word (word_part
 fields_of-cons : (field rest : List ℕ) → list_all is_word_byte field ≡ true → fields_of (field ++ 32 ∷ rest) ≡ field ∷ fields_of rest
 fields_of-cons field rest words = slice_split_at is_space field 32 rest (no_space_in field words) refl
 
-verb_number-fields : (verb : List ℕ) (n : ℕ) → list_all is_word_byte verb ≡ true → IsNumber n → fields_of (verb ++ 32 ∷ decimal n) ≡ verb ∷ decimal n ∷ []
-verb_number-fields verb n words small = fields_of-cons verb (decimal n) words ∙ ap (λ fs. verb ∷ fs) (number_alone n small)
+fields_of-verb_number : (line verb : List ℕ) (n : ℕ) → list_all is_word_byte verb ≡ true → IsNumber n → line ≡ verb ++ 32 ∷ decimal n → fields_of line ≡ verb ∷ decimal n ∷ []
+fields_of-verb_number line verb n words small text =
+    ap fields_of text ∙ fields_of-cons verb (decimal n) words ∙ ap (λ fs. verb ∷ fs) (number_alone n small)
+
+number_found : (make : ℕ → Command) (n : ℕ) → IsNumber n → option_map make (number_of (decimal n)) ≡ Some (make n)
+number_found make n small = ap (option_map make) (number_of-some (decimal n) n small refl)
 
 -- a line that spells a command is found
 pub command_of-spelled : (line : List ℕ) (command : Command) → Spells line command → command_of line ≡ Some command
 unfolding command_of
 command_of-spelled line Every spells = ap (λ l. command_of_fields (fields_of l)) spells
 command_of-spelled line (Show ticket) spells =
-    ap (λ l. command_of_fields (fields_of l)) spells.1
-    ∙ ap command_of_fields (verb_number-fields (codes "show") ticket refl spells.0)
-    ∙ ap (option_map Show) (number_of-some _ ticket spells.0 refl)
+    ap command_of_fields (fields_of-verb_number line (codes "show") ticket refl spells.0 spells.1) ∙ number_found Show ticket spells.0
 command_of-spelled line (Find key) spells =
-    ap (λ l. command_of_fields (fields_of l)) spells.1
-    ∙ ap command_of_fields (verb_number-fields (codes "find") key refl spells.0)
-    ∙ ap (option_map Find) (number_of-some _ key spells.0 refl)
+    ap command_of_fields (fields_of-verb_number line (codes "find") key refl spells.0 spells.1) ∙ number_found Find key spells.0
 command_of-spelled line (Place key word) spells =
     ap (λ l. command_of_fields (fields_of l)) spells.2
     ∙ ap command_of_fields (
