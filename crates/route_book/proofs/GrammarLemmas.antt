@@ -1,20 +1,20 @@
 -- Lines, their fields, and the commands that they spell.
 use Rattle.std.proofs.Common.{lit≤, ◌≡◌, ℕ, ◌+◌, ◌-◌, ◌<◌, ◌≤◌, ◌==◌, ◌||◌, ◌⊎◌, inl, inr, Bool, true, false, List, [], ◌∷◌, ◌++◌, length, take, drop, Option, Some, None, cond, nat_lt, refl, sym, ap, subst, ◌∙◌, arith, decimal, IfSome, IfNone, position, All, Contains, option_map, option_and_then, codes, length-append}
 use Rattle.std.proofs.lemmas.Bool.Decides.{nat_tests}
-use Rattle.std.proofs.lemmas.List.{length-drop, take_all}
-use Rattle.std.proofs.lemmas.List.Elements.{All-from_get_or}
-use Rattle.std.proofs.lemmas.Slice.Eq.{bytes_eq-Decides}
 use Rattle.std.proofs.lemmas.Fmt.{decimal_is_IsNumeral, length-decimal-le}
+use Rattle.std.proofs.lemmas.List.Elements.{All-from_get_or}
 use Rattle.std.proofs.lemmas.List.Folds.{list_all-append}
-use Rattle.std.proofs.lemmas.Str.Parse.{digit_from_value}
-use Rattle.std.specs.Str.Parse.{AllDigits}
 use Rattle.std.proofs.lemmas.List.Splits.{join_with_byte-slice_split, slice_split_at, slice_split_none, slice_split_first}
 use Rattle.std.proofs.lemmas.List.Sums.{AllPass-from_list_all, fails_before_first}
+use Rattle.std.proofs.lemmas.List.{length-drop, take_all}
+use Rattle.std.proofs.lemmas.Slice.Eq.{bytes_eq-Decides}
+use Rattle.std.proofs.lemmas.Str.Parse.{digit_from_value}
 use Rattle.std.specs.List.{position_or_len, join_with_byte, list_all}
+use Rattle.std.specs.Str.Parse.{AllDigits}
 use Rattle.std.specs.Str.{bytes_eq}
 use Rattle.route_book.specs.declared.command.Command.{Command}
 use Rattle.route_book.specs.declared.command.Command.TheVariants.{Place, Show, Find, All as Every}
-use Rattle.route_book.specs.Grammar.{Spells, command_of, command_of_fields, fields_of, verb_alone, verb_with_one, verb_with_two}
+use Rattle.route_book.specs.Grammar.{Spells, command_of, command_of_fields, fields_of, command_of_one_field, command_of_two_fields, command_of_three_fields}
 use Rattle.route_book.specs.Number.{IsNumber, number_of}
 use Rattle.route_book.specs.Word.{IsWord, is_word, is_word_byte, word_of}
 use Rattle.route_book.proofs.NumberLemmas.{both, number_of-some, number_of-found}
@@ -87,18 +87,18 @@ by_verb_number verb name field make other command spells there e =
 nothing : (line : List ℕ) (command : Command) → None ≡ Some command → Spells line command
 nothing line command e = cc
 
-Spells-from_alone : (verb : List ℕ) (command : Command) → verb_alone verb ≡ Some command → Spells verb command
-Spells-from_alone verb command =
+Spells-from_one_field : (verb : List ℕ) (command : Command) → command_of_one_field verb ≡ Some command → Spells verb command
+Spells-from_one_field verb command =
     by_verb verb (codes "all") verb (Some Every) None command (λ same found. let every : Every ≡ command = cc in subst (Spells verb) every same) (nothing _ _)
 
-Spells-from_one : (verb field : List ℕ) (command : Command) → verb_with_one verb field ≡ Some command → Spells (verb ++ 32 ∷ field) command
-Spells-from_one verb field command =
+Spells-from_two_fields : (verb field : List ℕ) (command : Command) → command_of_two_fields verb field ≡ Some command → Spells (verb ++ 32 ∷ field) command
+Spells-from_two_fields verb field command =
     by_verb_number verb (codes "show") field Show _ command (λ n small. (small, refl)) (
     by_verb_number verb (codes "find") field Find _ command (λ n small. (small, refl)) (nothing _ _)
     )
 
-Spells-from_two : (verb first second : List ℕ) (command : Command) → verb_with_two verb first second ≡ Some command → Spells (verb ++ 32 ∷ (first ++ 32 ∷ second)) command
-Spells-from_two verb first second command =
+Spells-from_three_fields : (verb first second : List ℕ) (command : Command) → command_of_three_fields verb first second ≡ Some command → Spells (verb ++ 32 ∷ (first ++ 32 ∷ second)) command
+Spells-from_three_fields verb first second command =
     let line : List ℕ = verb ++ 32 ∷ (first ++ 32 ∷ second) in
     by_verb verb (codes "place") line _ None command (λ same found.
     let key = followed _ (number_of first) command found in
@@ -111,9 +111,9 @@ Spells-from_two verb first second command =
 -- the fields of a command spell it where they are joined again
 Spells-from_fields : (fields : List (List ℕ)) (command : Command) → command_of_fields fields ≡ Some command → Spells (join_with_byte 32 fields) command
 Spells-from_fields [] command e = cc
-Spells-from_fields (verb ∷ []) command e = Spells-from_alone verb command e
-Spells-from_fields (verb ∷ field ∷ []) command e = Spells-from_one verb field command e
-Spells-from_fields (verb ∷ first ∷ second ∷ []) command e = Spells-from_two verb first second command e
+Spells-from_fields (verb ∷ []) command e = Spells-from_one_field verb command e
+Spells-from_fields (verb ∷ field ∷ []) command e = Spells-from_two_fields verb field command e
+Spells-from_fields (verb ∷ first ∷ second ∷ []) command e = Spells-from_three_fields verb first second command e
 Spells-from_fields (verb ∷ first ∷ second ∷ third ∷ more) command e = cc
 
 -- `command_of` finds what a line spells

@@ -18,25 +18,25 @@ Spells line All = line ≡ codes "all"
 abbrev pub fields_of : List ℕ → List (List ℕ)
 fields_of line = slice_split (λ b. b == 32) line
 
--- what a verb spells alone, and with one or two fields after it
-abbrev pub verb_alone : List ℕ → Option Command
-verb_alone verb = if bytes_eq verb (codes "all") then Some All else None
+-- the command that a line's fields spell, the first of them its verb
+abbrev pub command_of_one_field : List ℕ → Option Command
+command_of_one_field verb = if bytes_eq verb (codes "all") then Some All else None
 
-abbrev pub verb_with_one : List ℕ → List ℕ → Option Command
-verb_with_one verb field =
+abbrev pub command_of_two_fields : List ℕ → List ℕ → Option Command
+command_of_two_fields verb field =
     if bytes_eq verb (codes "show") then option_map Show (number_of field)
     else (if bytes_eq verb (codes "find") then option_map Find (number_of field) else None)
 
-abbrev pub verb_with_two : List ℕ → List ℕ → List ℕ → Option Command
-verb_with_two verb first second =
+abbrev pub command_of_three_fields : List ℕ → List ℕ → List ℕ → Option Command
+command_of_three_fields verb first second =
     if bytes_eq verb (codes "place")
     then option_and_then (λ key. option_map (Place key) (word_of second)) (number_of first)
     else None
 
 abbrev pub command_of_fields : List (List ℕ) → Option Command
-command_of_fields (verb ∷ []) = verb_alone verb
-command_of_fields (verb ∷ field ∷ []) = verb_with_one verb field
-command_of_fields (verb ∷ first ∷ second ∷ []) = verb_with_two verb first second
+command_of_fields (verb ∷ []) = command_of_one_field verb
+command_of_fields (verb ∷ field ∷ []) = command_of_two_fields verb field
+command_of_fields (verb ∷ first ∷ second ∷ []) = command_of_three_fields verb first second
 command_of_fields _ = None
 
 -- the command that the line spells

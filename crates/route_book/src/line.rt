@@ -1,5 +1,5 @@
 ghost use Rattle.route_book.specs.declared.command.Command.{Command};
-ghost use Rattle.route_book.specs.Grammar.{Spells, command_of, command_of_fields, verb_alone, verb_with_one, verb_with_two};
+ghost use Rattle.route_book.specs.Grammar.{Spells, command_of, command_of_fields, command_of_one_field, command_of_two_fields, command_of_three_fields};
 ghost use Rattle.std.specs.Prelude.{◌≡◌, IfNone, IfSome};
 
 mod fields;
@@ -22,15 +22,15 @@ fn read_fields(mut fields: Fields) -> Option<Command>
     ensures { result ≡ command_of_fields fields.entry }
 {
     match (fields.next(), fields.next(), fields.next(), fields.next()) {
-        (Some(verb), None, _, _) => verb_alone(verb),
-        (Some(verb), Some(field), None, _) => verb_with_one(verb, field),
-        (Some(verb), Some(first), Some(second), None) => verb_with_two(verb, first, second),
+        (Some(verb), None, _, _) => read_one_field(verb),
+        (Some(verb), Some(field), None, _) => read_two_fields(verb, field),
+        (Some(verb), Some(first), Some(second), None) => read_three_fields(verb, first, second),
         _ => None,
     }
 }
 
-fn verb_alone(verb: &[u8]) -> Option<Command>
-    ensures { result ≡ verb_alone verb.now }
+fn read_one_field(verb: &[u8]) -> Option<Command>
+    ensures { result ≡ command_of_one_field verb.now }
 {
     if verb == b"all".as_slice() {
         return Some(Command::All);
@@ -38,8 +38,8 @@ fn verb_alone(verb: &[u8]) -> Option<Command>
     None
 }
 
-fn verb_with_one(verb: &[u8], field: &[u8]) -> Option<Command>
-    ensures { result ≡ verb_with_one verb.now field.now }
+fn read_two_fields(verb: &[u8], field: &[u8]) -> Option<Command>
+    ensures { result ≡ command_of_two_fields verb.now field.now }
 {
     if verb == b"show".as_slice() {
         let ticket = read_number(field)?;
@@ -52,8 +52,8 @@ fn verb_with_one(verb: &[u8], field: &[u8]) -> Option<Command>
     None
 }
 
-fn verb_with_two(verb: &[u8], first: &[u8], second: &[u8]) -> Option<Command>
-    ensures { result ≡ verb_with_two verb.now first.now second.now }
+fn read_three_fields(verb: &[u8], first: &[u8], second: &[u8]) -> Option<Command>
+    ensures { result ≡ command_of_three_fields verb.now first.now second.now }
 {
     if verb == b"place".as_slice() {
         let key = read_number(first)?;
