@@ -5,6 +5,7 @@ pub mod NumberLemmas
 pub mod PlaceLemmas
 pub mod RunLemmas
 pub mod SearchLemmas
+pub mod SoundLemmas
 pub mod UnfinishedLemmas
 pub mod WordLemmas
 pub mod WrittenLemmas

@@ -1,6 +1,6 @@
 -- The number of comparisons of a search by halves.
-use Rattle.std.proofs.Common.{◌≡◌, ℕ, zero, suc, ◌+◌, ◌-◌, ◌*◌, ◌^◌, ◌<◌, ◌≤◌, ◌⊎◌, inl, inr, arith, mul_assoc, sym, subst, refl, ap, true, nat_le, if◌then◌else◌}
-use Rattle.std.proofs.lemmas.Bool.{cases_cond, cases_lt, le-leb}
+use Rattle.std.proofs.Common.{◌≡◌, ℕ, zero, suc, ◌+◌, ◌-◌, ◌*◌, ◌^◌, ◌<◌, ◌≤◌, ◌⊎◌, inl, inr, arith, mul_assoc, sym, subst, refl, ap, Bool, true, false, cond, nat_le, if◌then◌else◌}
+use Rattle.std.proofs.lemmas.Bool.{cases_cond, cases_lt, le-leb, leb-true}
 use Rattle.std.proofs.lemmas.Nat.{mul-le, pow_pos}
 use Rattle.std.proofs.Math.Nat.{pow-suc}
 use Rattle.route_book.specs.Searches.{fair, fair_up_to}
@@ -64,3 +64,18 @@ fair_yet len start now later size rises ticked some left =
     let h = mul-le (2 ^ (now - start)) 1 (2 ^ (now - start)) size (omega arith) some in
     let bound = one_more len (now - start) (omega arith) in
     omega arith
+
+-- a number found is within its bound
+pub within_bound : (n most : ℕ) → 0 < n → 2 ^ (fair_up_to n most + 1) ≤ (n + 1) * (n + 1)
+within_bound n zero some = let h = mul-le 2 2 (n + 1) (n + 1) (omega arith) (omega arith) in omega (arith, h)
+within_bound n (suc most) some = at (nat_le (2 ^ (suc most + 1)) ((n + 1) * (n + 1))) refl (within_bound n most some)
+  where
+    at : (b : Bool) → nat_le (2 ^ (suc most + 1)) ((n + 1) * (n + 1)) ≡ b → 2 ^ (fair_up_to n most + 1) ≤ (n + 1) * (n + 1) → 2 ^ (cond b (suc most) (fair_up_to n most) + 1) ≤ (n + 1) * (n + 1)
+    at true e below = leb-true _ _ e
+    at false e below = below
+
+-- and no greater number is: one that fits is no more than the square
+pub fair-greatest : (n c : ℕ) → 2 ^ (c + 1) ≤ (n + 1) * (n + 1) → c ≤ fair n
+fair-greatest n c fits =
+    let below = below_pow (c + 1) in
+    greatest n ((n + 1) * (n + 1)) c (omega (arith, below, fits)) fits

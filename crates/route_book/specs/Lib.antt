@@ -6,6 +6,7 @@ pub mod Reply
 pub mod ReplyText
 pub mod Run
 pub mod Searches
+pub mod Sound
 pub mod State
 pub mod Text
 pub mod Unfinished

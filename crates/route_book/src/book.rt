@@ -136,12 +136,9 @@ impl<A: Allocator> RouteBook<A> {
         match search_ticket(&self.places, ticket, &mut counts.first) {
             Ok(at) => {
                 let place = &self.places[at];
-                let Ok(word) = place.word.clone() else {
-                    unreachable!();
-                };
                 Ok(Shown::Place {
                     key: place.key,
-                    word,
+                    word: place.word.copied(),
                 })
             }
             Err(_) => Err(Refusal::Gone),
@@ -170,7 +167,8 @@ impl<A: Allocator> RouteBook<A> {
         ensures state { self.new ≡ after_place self.old key word }
         ensures counts { CountsWithin counts.old counts.new (fair (place_count self.old)) 0 0 }
     {
-        match search_key(&self.places, &self.by_key, key, counts) {
+        let searched = search_key(&self.places, &self.by_key, key, counts);
+        match searched {
             Ok(at) => {
                 let place = &mut self.places[self.by_key[at]];
                 let ticket = place.ticket;

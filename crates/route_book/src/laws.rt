@@ -1,6 +1,10 @@
 //! What holds of the definitions that the contracts cite. The functions do nothing: their contracts are the laws.
 mod grammar;
+mod searches;
+mod states;
 
 pub use grammar::{
     commands_have_one_line, lines_have_one_command, spellings_are_found, spellings_are_short_lines,
 };
+pub use searches::the_bound_is_the_greatest;
+pub use states::states_are_sound;
