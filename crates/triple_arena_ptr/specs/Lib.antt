@@ -1,0 +1,5 @@
+pub mod Generation
+pub mod Hexadecimal
+pub mod Index
+pub mod NonZeros
+pub mod Pointer

@@ -1,0 +1,254 @@
+//! The generations: std's integers that are not 0, and `()` where generations are not counted.
+ghost use Rattle.std.specs.Prelude.{Some, None, ◌-◌, ◌^◌, refl};
+ghost use Rattle.std.specs.Cmp.Rules.{comparing};
+ghost use Rattle.std.specs.Int.NonZero.{non_zero_u8_get, non_zero_u16_get, non_zero_u32_get, non_zero_u64_get, non_zero_u128_get, non_zero_usize_get};
+ghost use Rattle.std.proofs.Common.{rules};
+ghost use Rattle.triple_arena_ptr.specs.NonZeros.{u8_determined, u16_determined, u32_determined, u64_determined, u128_determined, usize_determined};
+
+use crate::hexadecimal;
+use crate::ptr::PtrGen;
+use std::fmt;
+use std::num::{NonZeroU8, NonZeroU16, NonZeroU32, NonZeroU64, NonZeroU128, NonZeroUsize};
+
+impl PtrGen for () {
+    ghost number = { λ _. 1 };
+
+    ghost last = { None };
+
+    ghost counts_to_two = { λ g h. Prim.search rules };
+
+    ghost positive = { λ a. Prim.search rules };
+
+    ghost determined = { λ a b h. Prim.search rules };
+
+    ghost ordered = { λ a b. refl };
+
+    ghost equal = { λ a b. refl };
+
+    fn one() -> Self {}
+
+    fn two() -> Self {}
+
+    fn generational_inc(self) -> ((), bool) {
+        ((), false)
+    }
+
+    fn fmt_hex<W: fmt::Write>(&self, _f: &mut fmt::Formatter<W>) -> fmt::Result {
+        Ok(())
+    }
+}
+
+impl PtrGen for NonZeroU8 {
+    ghost number = { non_zero_u8_get };
+
+    ghost last = { Some 255 };
+
+    ghost counts_to_two = { λ g h. Prim.search rules };
+
+    ghost positive = { λ a. a.ok };
+
+    ghost determined = { u8_determined };
+
+    ghost ordered = { λ a b. Prim.search (comparing, rules) };
+
+    ghost equal = { λ a b. Prim.search (comparing, rules) };
+
+    fn one() -> Self {
+        NonZeroU8::MIN
+    }
+
+    fn two() -> Self {
+        NonZeroU8::MIN.saturating_add(1)
+    }
+
+    fn generational_inc(self) -> (Self, bool) {
+        match self.checked_add(1) {
+            Some(next) => (next, false),
+            None => (Self::two(), true),
+        }
+    }
+
+    fn fmt_hex<W: fmt::Write>(&self, f: &mut fmt::Formatter<W>) -> fmt::Result {
+        let number = self.get();
+        write!(f, "{number:x}")
+    }
+}
+
+impl PtrGen for NonZeroU16 {
+    ghost number = { non_zero_u16_get };
+
+    ghost last = { Some (2 ^ 16 - 1) };
+
+    ghost counts_to_two = { λ g h. Prim.search rules };
+
+    ghost positive = { λ a. a.ok };
+
+    ghost determined = { u16_determined };
+
+    ghost ordered = { λ a b. Prim.search (comparing, rules) };
+
+    ghost equal = { λ a b. Prim.search (comparing, rules) };
+
+    fn one() -> Self {
+        NonZeroU16::MIN
+    }
+
+    fn two() -> Self {
+        NonZeroU16::MIN.saturating_add(1)
+    }
+
+    fn generational_inc(self) -> (Self, bool) {
+        match self.checked_add(1) {
+            Some(next) => (next, false),
+            None => (Self::two(), true),
+        }
+    }
+
+    fn fmt_hex<W: fmt::Write>(&self, f: &mut fmt::Formatter<W>) -> fmt::Result {
+        let number = self.get();
+        write!(f, "{number:x}")
+    }
+}
+
+impl PtrGen for NonZeroU32 {
+    ghost number = { non_zero_u32_get };
+
+    ghost last = { Some (2 ^ 32 - 1) };
+
+    ghost counts_to_two = { λ g h. Prim.search rules };
+
+    ghost positive = { λ a. a.ok };
+
+    ghost determined = { u32_determined };
+
+    ghost ordered = { λ a b. Prim.search (comparing, rules) };
+
+    ghost equal = { λ a b. Prim.search (comparing, rules) };
+
+    fn one() -> Self {
+        NonZeroU32::MIN
+    }
+
+    fn two() -> Self {
+        NonZeroU32::MIN.saturating_add(1)
+    }
+
+    fn generational_inc(self) -> (Self, bool) {
+        match self.checked_add(1) {
+            Some(next) => (next, false),
+            None => (Self::two(), true),
+        }
+    }
+
+    fn fmt_hex<W: fmt::Write>(&self, f: &mut fmt::Formatter<W>) -> fmt::Result {
+        let number = self.get();
+        write!(f, "{number:x}")
+    }
+}
+
+impl PtrGen for NonZeroU64 {
+    ghost number = { non_zero_u64_get };
+
+    ghost last = { Some (2 ^ 64 - 1) };
+
+    ghost counts_to_two = { λ g h. Prim.search rules };
+
+    ghost positive = { λ a. a.ok };
+
+    ghost determined = { u64_determined };
+
+    ghost ordered = { λ a b. Prim.search (comparing, rules) };
+
+    ghost equal = { λ a b. Prim.search (comparing, rules) };
+
+    fn one() -> Self {
+        NonZeroU64::MIN
+    }
+
+    fn two() -> Self {
+        NonZeroU64::MIN.saturating_add(1)
+    }
+
+    fn generational_inc(self) -> (Self, bool) {
+        match self.checked_add(1) {
+            Some(next) => (next, false),
+            None => (Self::two(), true),
+        }
+    }
+
+    fn fmt_hex<W: fmt::Write>(&self, f: &mut fmt::Formatter<W>) -> fmt::Result {
+        let number = self.get();
+        write!(f, "{number:x}")
+    }
+}
+
+impl PtrGen for NonZeroU128 {
+    ghost number = { non_zero_u128_get };
+
+    ghost last = { Some (2 ^ 128 - 1) };
+
+    ghost counts_to_two = { λ g h. Prim.search rules };
+
+    ghost positive = { λ a. a.ok };
+
+    ghost determined = { u128_determined };
+
+    ghost ordered = { λ a b. Prim.search (comparing, rules) };
+
+    ghost equal = { λ a b. Prim.search (comparing, rules) };
+
+    fn one() -> Self {
+        NonZeroU128::MIN
+    }
+
+    fn two() -> Self {
+        NonZeroU128::MIN.saturating_add(1)
+    }
+
+    fn generational_inc(self) -> (Self, bool) {
+        match self.checked_add(1) {
+            Some(next) => (next, false),
+            None => (Self::two(), true),
+        }
+    }
+
+    fn fmt_hex<W: fmt::Write>(&self, f: &mut fmt::Formatter<W>) -> fmt::Result {
+        hexadecimal::fmt_u128(self.get(), f)
+    }
+}
+
+impl PtrGen for NonZeroUsize {
+    ghost number = { non_zero_usize_get };
+
+    ghost last = { Some (2 ^ 64 - 1) };
+
+    ghost counts_to_two = { λ g h. Prim.search rules };
+
+    ghost positive = { λ a. a.ok };
+
+    ghost determined = { usize_determined };
+
+    ghost ordered = { λ a b. Prim.search (comparing, rules) };
+
+    ghost equal = { λ a b. Prim.search (comparing, rules) };
+
+    fn one() -> Self {
+        NonZeroUsize::MIN
+    }
+
+    fn two() -> Self {
+        NonZeroUsize::MIN.saturating_add(1)
+    }
+
+    fn generational_inc(self) -> (Self, bool) {
+        match self.checked_add(1) {
+            Some(next) => (next, false),
+            None => (Self::two(), true),
+        }
+    }
+
+    fn fmt_hex<W: fmt::Write>(&self, f: &mut fmt::Formatter<W>) -> fmt::Result {
+        let number = self.get();
+        write!(f, "{number:x}")
+    }
+}

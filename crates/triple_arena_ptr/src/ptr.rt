@@ -1,0 +1,138 @@
+//! What an index, a generation and a pointer are.
+ghost use Rattle.std.specs.Prelude.{◌≡◌, ℕ, ◌<◌, ◌≤◌, ◌^◌, ◌==◌, ◌&&◌, ◌↔◌, List, Option, Some, IsNone, IfSome};
+ghost use Rattle.std.specs.Ordering.{nat_cmp, on, then_cmp};
+ghost use Rattle.std.specs.Fmt.{WritesOnOk};
+ghost use Rattle.std.specs.Int.NonZero.{non_zero_usize_get};
+ghost use Rattle.triple_arena_ptr.specs.Generation.{IsGeneration, second_generation, next_generation, next_wraps};
+ghost use Rattle.triple_arena_ptr.specs.Hexadecimal.{hexadecimal};
+ghost use Rattle.triple_arena_ptr.specs.Index.{max_index_of};
+ghost use Rattle.triple_arena_ptr.specs.Pointer.{generation_digits, pointer_text};
+
+use std::fmt;
+use std::fmt::Debug;
+use std::hash::Hash;
+use std::num::NonZeroUsize;
+
+/// A generation: one of the numbers from 1 to a greatest one, or the one value of `()`, whose number is 1.
+pub trait PtrGen: Debug + Hash + Copy + Ord {
+    ghost number: { Self → ℕ };
+
+    // The greatest generation, or `None` where generations are not counted.
+    ghost last: { Option ℕ };
+
+    /// The first generation, 1. An arena gives it to nothing by itself.
+    fn one() -> Self
+        ensures { number result ≡ 1 };
+
+    /// The generation 2, with which an arena's counter starts, or the one value of `()`.
+    fn two() -> Self
+        ensures { number result ≡ second_generation last };
+
+    /// The generation that follows, and whether it started again at 2.
+    fn generational_inc(self) -> (Self, bool)
+        ensures next { number result.0 ≡ next_generation last (number self) }
+        ensures wraps { result.1 ≡ next_wraps last (number self) }
+        ensures counted { IsGeneration last (number self) };
+
+    /// Writes the generation in lower-case hexadecimal digits without a prefix, or nothing where generations are not counted.
+    fn fmt_hex<W: fmt::Write>(&self, f: &mut fmt::Formatter<W>) -> fmt::Result
+        ensures { WritesOnOk W.write_str_gives f.old result (generation_digits last (number self.now)) f.new };
+
+    // Where generations are counted, they count to 2 at least.
+    ghost counts_to_two: { (g : ℕ) → last ≡ Some g → 2 ≤ g };
+
+    ghost positive: { (a : Self) → 0 < number a };
+
+    // The number determines the generation.
+    ghost determined: { (a b : Self) → number a ≡ number b → a ≡ b };
+
+    ghost ordered: { (a b : Self) → Self.cmp a b ≡ nat_cmp (number a) (number b) };
+
+    ghost equal: { (a b : Self) → Self.eq a b ≡ (number a == number b) };
+}
+
+/// An index, from 1 to a greatest one.
+pub trait PtrInx: Debug + Hash + Copy + Ord {
+    ghost number: { Self → ℕ };
+
+    // The greatest index of the type.
+    ghost greatest: { ℕ };
+
+    /// The index with this number, or `None` where it is past `max_index`.
+    fn try_from_usize(inx: NonZeroUsize) -> Option<Self>
+        ensures past { IsNone result ↔ (greatest < non_zero_usize_get inx) }
+        ensures same { IfSome result (λ x. number x ≡ non_zero_usize_get inx) };
+
+    /// The number of the index, or `None` where it is past `max_index`.
+    fn try_into_usize(self) -> Option<NonZeroUsize>
+        ensures past { IsNone result ↔ (2 ^ 64 ≤ number self) }
+        ensures same { IfSome result (λ n. non_zero_usize_get n ≡ number self) }
+        ensures bounded { number self ≤ greatest };
+
+    /// The greatest index that is a `usize` too.
+    fn max_index() -> Self
+        ensures { number result ≡ max_index_of greatest };
+
+    /// An index that an arena is least likely to hold: `max_index`.
+    fn best_effort_invalid() -> Self
+        ensures { number result ≡ max_index_of greatest };
+
+    /// Writes the index in lower-case hexadecimal digits without a prefix.
+    fn fmt_hex<W: fmt::Write>(&self, f: &mut fmt::Formatter<W>) -> fmt::Result
+        ensures { WritesOnOk W.write_str_gives f.old result (hexadecimal (number self.now)) f.new };
+
+    ghost positive: { (a : Self) → 0 < number a };
+
+    // The number determines the index.
+    ghost determined: { (a b : Self) → number a ≡ number b → a ≡ b };
+
+    ghost ordered: { (a b : Self) → Self.cmp a b ≡ nat_cmp (number a) (number b) };
+
+    ghost equal: { (a b : Self) → Self.eq a b ≡ (number a == number b) };
+}
+
+/// A pointer into an arena: an index and a generation.
+pub trait Ptr: Debug + Hash + Copy + Ord {
+    type Inx: PtrInx;
+
+    type Gen: PtrGen;
+
+    ghost index: { Self → ℕ };
+
+    ghost generation: { Self → ℕ };
+
+    ghost name: { List ℕ };
+
+    /// The type's name, as it stands before the index in a pointer's text.
+    fn name() -> &'static str
+        ensures { result.now ≡ name };
+
+    /// A pointer that finds nothing in an arena whose generations have not wrapped: the index `best_effort_invalid` and the generation `one`.
+    fn invalid() -> Self
+        ensures has_index { index result ≡ max_index_of Self.Inx.greatest }
+        ensures has_generation { generation result ≡ 1 };
+
+    fn inx(self) -> Self::Inx
+        ensures { Self.Inx.number result ≡ index self };
+
+    fn generation(self) -> Self::Gen
+        ensures { Self.Gen.number result ≡ generation self };
+
+    /// The pointer with this index and generation. An arena need not hold it.
+    fn _from_raw(inx: Self::Inx, gen_raw: Self::Gen) -> Self
+        ensures has_index { index result ≡ Self.Inx.number inx }
+        ensures has_generation { generation result ≡ Self.Gen.number gen_raw };
+
+    ghost positive: { (p : Self) → 0 < index p };
+
+    // The index and the generation determine the pointer.
+    ghost determined: { (p q : Self) → index p ≡ index q → generation p ≡ generation q → p ≡ q };
+
+    // By index, and then by generation.
+    ghost ordered: { (p q : Self) → Self.cmp p q ≡ then_cmp (on index nat_cmp) (on generation nat_cmp) p q };
+
+    ghost equal: { (p q : Self) → Self.eq p q ≡ ((index p == index q) && (generation p == generation q)) };
+
+    // What `{:?}` writes.
+    ghost shown: { (p : Self) → Self.debug_output p ≡ Some (pointer_text name Self.Gen.last (index p) (generation p)) };
+}
