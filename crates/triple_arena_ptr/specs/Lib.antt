@@ -3,3 +3,5 @@ pub mod Hexadecimal
 pub mod Index
 pub mod NonZeros
 pub mod Pointer
+pub mod Recast
+pub mod RecastLaws

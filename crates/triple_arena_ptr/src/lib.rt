@@ -1,14 +1,20 @@
 //! Pointers into generational arenas, and what the arenas' crates share.
 #![tactic(auto)]
 
-pub mod errors;
+mod errors;
 mod generations;
 mod hexadecimal;
 mod indexes;
-pub mod ptr;
+mod pointer_text;
+mod ptr;
+mod ptr_types;
+mod recast;
 
 pub use errors::{
     AllocError, ChainInsertionError, DirectInsertionError, GetDisjointMutError,
     MaxCapacityReductionError, NotWithinCapacityError, OrdInsertionError, ReallocationError,
 };
+pub use pointer_text::fmt_pointer;
 pub use ptr::{Ptr, PtrGen, PtrInx};
+pub use ptr_types::P0;
+pub use recast::{Recast, Recaster};
