@@ -3,6 +3,14 @@ use Rattle.std.specs.Prelude.{◌≡◌, List, [], ◌∷◌, ◌++◌, Option, 
 use Rattle.std.proofs.Common.{ap, ◌∙◌, sym}
 use Rattle.triple_arena_ptr.specs.Recast.{renamed_item, answer_before, recast_answer, items_after, renamed, where_ok, option_items, option_recasted}
 
+-- a value that is an item
+pub renamed-one : {I : Type 0} (f : I → Option I) (x : I) → renamed_item (f x) x ∷ [] ≡ renamed f (x ∷ [])
+renamed-one f x = after (f x)
+  where
+    after : (o : Option _) → renamed_item o x ∷ [] ≡ renamed_item o x ∷ items_after o [] []
+    after None = refl
+    after (Some y) = refl
+
 -- the items of two parts, of which the second is reached only after the first
 pub renamed-append : {I : Type 0} (f : I → Option I) (xs ys : List I)
     → renamed f (xs ++ ys) ≡ renamed f xs ++ where_ok (recast_answer f xs) (renamed f ys) ys

@@ -16,5 +16,5 @@ pub use errors::{
 };
 pub use pointer_text::fmt_pointer;
 pub use ptr::{Ptr, PtrGen, PtrInx};
-pub use ptr_types::P0;
+pub use ptr_types::{P0, P1, P2, P3, P4, P5, Q2};
 pub use recast::{Recast, Recaster};
