@@ -7,6 +7,7 @@ mod hexadecimal;
 mod indexes;
 mod pointer_text;
 mod ptr;
+mod ptr_no_gen;
 mod ptr_types;
 mod recast;
 
@@ -16,5 +17,6 @@ pub use errors::{
 };
 pub use pointer_text::fmt_pointer;
 pub use ptr::{Ptr, PtrGen, PtrInx};
+pub use ptr_no_gen::PtrNoGen;
 pub use ptr_types::{P0, P1, P2, P3, P4, P5, Q2};
 pub use recast::{Recast, Recaster};
