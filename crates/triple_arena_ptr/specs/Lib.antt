@@ -1,6 +1,9 @@
+pub mod Advancer
 pub mod Generation
 pub mod Hexadecimal
 pub mod Index
+pub mod InvalidationOption
+pub mod InvalidationResult
 pub mod NoGenLaws
 pub mod NonZeros
 pub mod Pointer

@@ -1,20 +1,24 @@
 //! Pointers into generational arenas, and what the arenas' crates share.
 #![tactic(auto)]
 
+mod advancer;
 mod errors;
 mod generations;
 mod hexadecimal;
 mod indexes;
+mod invalidation;
 mod pointer_text;
 mod ptr;
 mod ptr_no_gen;
 mod ptr_types;
 mod recast;
 
+pub use advancer::Advancer;
 pub use errors::{
     AllocError, ChainInsertionError, DirectInsertionError, GetDisjointMutError,
     MaxCapacityReductionError, NotWithinCapacityError, OrdInsertionError, ReallocationError,
 };
+pub use invalidation::{InvalidationOption, InvalidationResult};
 pub use pointer_text::fmt_pointer;
 pub use ptr::{Ptr, PtrGen, PtrInx};
 pub use ptr_no_gen::PtrNoGen;

@@ -1,0 +1,28 @@
+//! Going over a collection with no borrow of it between the steps.
+ghost use Rattle.std.specs.Prelude.{◌≡◌, List, [], Option, Some};
+ghost use Rattle.triple_arena_ptr.specs.Advancer.{Advances};
+
+/// Gives the items of a collection, one a call. The collection is free between the calls: it may be read, written
+/// and changed.
+///
+/// ```ignore
+/// let mut advancer = arena.advancer();
+/// while let Some(p) = advancer.advance(&arena) {
+///     // here `arena` can be changed
+/// }
+/// ```
+pub trait Advancer<C> {
+    type Item;
+
+    // The items that it will give over the collection as it is, in order, or `None` where they may have no end.
+    // Over a collection that stays as it is, it gives these items and then ends.
+    ghost remaining: { Self → C → Option (List Self.Item) };
+
+    /// The next item, or `None` where there is none left.
+    fn advance(&mut self, collection: &C) -> Option<Self::Item>
+        ensures { Advances (remaining self.old collection.now) result (remaining self.new collection.now) };
+
+    /// An advancer that gives nothing.
+    fn empty() -> Self
+        ensures { (collection : C) → remaining result collection ≡ Some [] };
+}

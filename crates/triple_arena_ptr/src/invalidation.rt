@@ -1,0 +1,189 @@
+//! What a call answers that ends pointers by a step of a generation.
+ghost use Rattle.std.specs.Prelude.{◌≡◌, MatchOption, IsSome, IfSome, IsSomeAnd, IsNone, is_none, not, false, option_and_then};
+ghost use Rattle.std.specs.Option.{option_map, option_map_or};
+
+/// The value of a call that ended at least one pointer, or none at all where it takes no pointer.
+#[derive(Debug, PartialEq, Eq, Drop)]
+pub enum InvalidationOption<T> {
+    /// The generation went up.
+    Success(T),
+    /// The generation started again at 2: a pointer that ended long ago may be given again.
+    GenerationOverflow(T),
+}
+
+impl<T> InvalidationOption<T> {
+    ghost use Rattle.triple_arena_ptr.specs.InvalidationOption.{IsMappedBy, overflowed, value_of, strict_value};
+
+    /// Whether the generation went up.
+    pub fn is_success(&self) -> bool
+        ensures { result ≡ not (overflowed self.now) }
+    {
+        match self {
+            InvalidationOption::Success(_) => true,
+            InvalidationOption::GenerationOverflow(_) => false,
+        }
+    }
+
+    /// Whether the generation started again at 2.
+    pub fn is_overflow(&self) -> bool
+        ensures { result ≡ overflowed self.now }
+    {
+        !self.is_success()
+    }
+
+    /// The value, also where the generation started again.
+    pub fn allow(self) -> T
+        ensures { result ≡ value_of self }
+    {
+        match self {
+            InvalidationOption::Success(value) => value,
+            InvalidationOption::GenerationOverflow(value) => value,
+        }
+    }
+
+    /// The value where the generation went up. Else it is dropped.
+    pub fn strict(self) -> Option<T>
+    where
+        T: Drop,
+        ensures { result ≡ strict_value self }
+    {
+        match self {
+            InvalidationOption::Success(value) => Some(value),
+            InvalidationOption::GenerationOverflow(_) => None,
+        }
+    }
+
+    /// The same answer with the value that `f` makes of this one.
+    pub fn map<U, F: FnOnce(T) -> U>(self, f: F) -> InvalidationOption<U>
+        requires { F.pre f (value_of self) }
+        ensures { IsMappedBy F.post f self result }
+    {
+        match self {
+            InvalidationOption::Success(value) => InvalidationOption::Success(f(value)),
+            InvalidationOption::GenerationOverflow(value) => {
+                InvalidationOption::GenerationOverflow(f(value))
+            }
+        }
+    }
+
+    /// The value, and whether the generation started again at 2.
+    pub fn overflowing(self) -> (T, bool)
+        ensures value { result.0 ≡ value_of self }
+        ensures overflow { result.1 ≡ overflowed self }
+    {
+        match self {
+            InvalidationOption::Success(value) => (value, false),
+            InvalidationOption::GenerationOverflow(value) => (value, true),
+        }
+    }
+}
+
+/// The value of a call that ended the pointer that it was given, or the answer that it was not valid.
+#[derive(Debug, PartialEq, Eq, Drop)]
+pub enum InvalidationResult<T> {
+    /// The generation went up.
+    Success(T),
+    /// The generation started again at 2: a pointer that ended long ago may be given again.
+    GenerationOverflow(T),
+    /// The pointer was not valid, and nothing was changed.
+    InvalidPtr,
+}
+
+impl<T> InvalidationResult<T> {
+    ghost use Rattle.triple_arena_ptr.specs.InvalidationOption.{IsMappedBy, overflowed, value_of, strict_value};
+    ghost use Rattle.triple_arena_ptr.specs.InvalidationResult.{answer_of};
+
+    /// Whether the pointer was valid and the generation went up.
+    pub fn is_success(&self) -> bool
+        ensures { result ≡ option_map_or (λ a. not (overflowed a)) (answer_of self.now) false }
+    {
+        match self {
+            InvalidationResult::Success(_) => true,
+            _ => false,
+        }
+    }
+
+    /// Whether the pointer was valid and the generation started again at 2.
+    pub fn is_overflow(&self) -> bool
+        ensures { result ≡ option_map_or overflowed (answer_of self.now) false }
+    {
+        match self {
+            InvalidationResult::GenerationOverflow(_) => true,
+            _ => false,
+        }
+    }
+
+    /// Whether the pointer was not valid.
+    pub fn is_invalid(&self) -> bool
+        ensures { result ≡ is_none (answer_of self.now) }
+    {
+        match self {
+            InvalidationResult::InvalidPtr => true,
+            _ => false,
+        }
+    }
+
+    /// The value where the pointer was valid, also where the generation started again.
+    pub fn allow(self) -> Option<T>
+        ensures { result ≡ option_map value_of (answer_of self) }
+    {
+        match self {
+            InvalidationResult::Success(value) => Some(value),
+            InvalidationResult::GenerationOverflow(value) => Some(value),
+            InvalidationResult::InvalidPtr => None,
+        }
+    }
+
+    /// The value where the pointer was valid and the generation went up. Else it is dropped.
+    pub fn strict(self) -> Option<T>
+    where
+        T: Drop,
+        ensures { result ≡ option_and_then strict_value (answer_of self) }
+    {
+        match self {
+            InvalidationResult::Success(value) => Some(value),
+            _ => None,
+        }
+    }
+
+    /// The same answer with the value that `f` makes of this one, where there is one.
+    pub fn map<U, F: FnOnce(T) -> U>(self, f: F) -> InvalidationResult<U>
+    where
+        F: Drop,
+        requires { IfSome (answer_of self) (λ a. F.pre f (value_of a)) }
+        ensures { MatchOption (answer_of self) (IsNone (answer_of result)) (λ a. IsSomeAnd (answer_of result) (IsMappedBy F.post f a)) }
+    {
+        match self {
+            InvalidationResult::Success(value) => InvalidationResult::Success(f(value)),
+            InvalidationResult::GenerationOverflow(value) => {
+                InvalidationResult::GenerationOverflow(f(value))
+            }
+            InvalidationResult::InvalidPtr => InvalidationResult::InvalidPtr,
+        }
+    }
+
+    /// The value, and whether the generation started again at 2, where the pointer was valid.
+    pub fn overflowing(self) -> Option<(T, bool)>
+        ensures { result ≡ option_map (λ a. (value_of a, overflowed a)) (answer_of self) }
+    {
+        match self {
+            InvalidationResult::Success(value) => Some((value, false)),
+            InvalidationResult::GenerationOverflow(value) => Some((value, true)),
+            InvalidationResult::InvalidPtr => None,
+        }
+    }
+
+    /// The answer, of a pointer that was valid.
+    pub fn unwrap(self) -> InvalidationOption<T>
+        requires { IsSome (answer_of self) }
+        ensures { answer_of self ≡ Some result }
+    {
+        match self {
+            InvalidationResult::Success(value) => InvalidationOption::Success(value),
+            InvalidationResult::GenerationOverflow(value) => {
+                InvalidationOption::GenerationOverflow(value)
+            }
+            InvalidationResult::InvalidPtr => unreachable!(),
+        }
+    }
+}
