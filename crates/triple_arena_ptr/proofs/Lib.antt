@@ -1,1 +1,2 @@
 mod HexadecimalLemmas
+mod NonZeroUsizeIteratorLemmas

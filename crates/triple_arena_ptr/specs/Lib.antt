@@ -5,6 +5,7 @@ pub mod Index
 pub mod InvalidationOption
 pub mod InvalidationResult
 pub mod NoGenLaws
+pub mod NonZeroUsizeIterator
 pub mod NonZeros
 pub mod Pointer
 pub mod Recast

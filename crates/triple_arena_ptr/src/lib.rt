@@ -7,6 +7,7 @@ mod generations;
 mod hexadecimal;
 mod indexes;
 mod invalidation;
+mod nzusize;
 mod pointer_text;
 mod ptr;
 mod ptr_no_gen;
@@ -19,6 +20,7 @@ pub use errors::{
     MaxCapacityReductionError, NotWithinCapacityError, OrdInsertionError, ReallocationError,
 };
 pub use invalidation::{InvalidationOption, InvalidationResult};
+pub use nzusize::{IntoNonZeroUsizeIterator, NonZeroUsizeIterator, nzusize_iter};
 pub use pointer_text::fmt_pointer;
 pub use ptr::{Ptr, PtrGen, PtrInx};
 pub use ptr_no_gen::PtrNoGen;
