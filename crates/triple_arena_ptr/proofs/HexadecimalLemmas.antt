@@ -1,5 +1,5 @@
 -- The text of a number that is written in two halves.
-use Rattle.std.proofs.Common.{◌≡◌, ◌≢◌, ℕ, ◌-◌, ◌/◌, ◌%◌, ◌^◌, ◌≤◌, List, [], ◌++◌, Option, Some, false, sym, ◌∙◌, replicate, ap, arith, append-nil, if◌then◌else◌}
+use Rattle.std.proofs.Common.{◌≡◌, ◌≢◌, ℕ, ◌-◌, ◌/◌, ◌%◌, ◌^◌, List, [], ◌++◌, Option, Some, false, sym, ◌∙◌, replicate, ap, arith, append-nil, if◌then◌else◌}
 use Rattle.std.proofs.lemmas.Bool.{le-ltb}
 use Rattle.std.specs.Option.{option_map}
 use Rattle.std.specs.Fmt.{digits, digits_output, styled_digits_output, format_spec, padded_integral, shown_prefix, radix_prefix, char_count, ◌++?◌}

@@ -1,5 +1,5 @@
 -- What a pointer shows of itself.
-use Rattle.std.specs.Prelude.{ℕ, List, [], ◌∷◌, ◌++◌, Option, Some, None, codes}
+use Rattle.std.specs.Prelude.{ℕ, List, [], ◌++◌, Option, Some, None, codes}
 use Rattle.triple_arena_ptr.specs.Hexadecimal.{hexadecimal}
 
 -- the digits of a generation under the greatest one: none where generations are not counted

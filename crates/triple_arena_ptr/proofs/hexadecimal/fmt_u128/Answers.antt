@@ -1,6 +1,5 @@
-use Rattle.std.proofs.Common.{rules, ◌≡◌, Some, subst}
+use Rattle.std.proofs.Common.{subst}
 use Rattle.std.specs.Fmt.{DisplaysOnOk}
-use Rattle.triple_arena_ptr.specs.Hexadecimal.{hexadecimal}
 use Rattle.triple_arena_ptr.proofs.HexadecimalLemmas.{written_halves}
 use Rattle.triple_arena_ptr.proofs.hexadecimal.fmt_u128.Goals as goal
 
