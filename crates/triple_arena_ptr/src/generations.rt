@@ -64,7 +64,7 @@ impl PtrGen for NonZeroU8 {
     fn generational_inc(self) -> (Self, bool) {
         match self.checked_add(1) {
             Some(next) => (next, false),
-            None => (Self::two(), true),
+            None => (NonZeroU8::two(), true),
         }
     }
 
@@ -100,7 +100,7 @@ impl PtrGen for NonZeroU16 {
     fn generational_inc(self) -> (Self, bool) {
         match self.checked_add(1) {
             Some(next) => (next, false),
-            None => (Self::two(), true),
+            None => (NonZeroU16::two(), true),
         }
     }
 
@@ -136,7 +136,7 @@ impl PtrGen for NonZeroU32 {
     fn generational_inc(self) -> (Self, bool) {
         match self.checked_add(1) {
             Some(next) => (next, false),
-            None => (Self::two(), true),
+            None => (NonZeroU32::two(), true),
         }
     }
 
@@ -172,7 +172,7 @@ impl PtrGen for NonZeroU64 {
     fn generational_inc(self) -> (Self, bool) {
         match self.checked_add(1) {
             Some(next) => (next, false),
-            None => (Self::two(), true),
+            None => (NonZeroU64::two(), true),
         }
     }
 
@@ -208,7 +208,7 @@ impl PtrGen for NonZeroU128 {
     fn generational_inc(self) -> (Self, bool) {
         match self.checked_add(1) {
             Some(next) => (next, false),
-            None => (Self::two(), true),
+            None => (NonZeroU128::two(), true),
         }
     }
 
@@ -243,7 +243,7 @@ impl PtrGen for NonZeroUsize {
     fn generational_inc(self) -> (Self, bool) {
         match self.checked_add(1) {
             Some(next) => (next, false),
-            None => (Self::two(), true),
+            None => (NonZeroUsize::two(), true),
         }
     }
 

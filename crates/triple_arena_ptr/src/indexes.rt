@@ -39,7 +39,7 @@ impl PtrInx for NonZeroU8 {
     }
 
     fn best_effort_invalid() -> Self {
-        Self::max_index()
+        NonZeroU8::max_index()
     }
 
     fn fmt_hex<W: fmt::Write>(&self, f: &mut fmt::Formatter<W>) -> fmt::Result {
@@ -77,7 +77,7 @@ impl PtrInx for NonZeroU16 {
     }
 
     fn best_effort_invalid() -> Self {
-        Self::max_index()
+        NonZeroU16::max_index()
     }
 
     fn fmt_hex<W: fmt::Write>(&self, f: &mut fmt::Formatter<W>) -> fmt::Result {
@@ -115,7 +115,7 @@ impl PtrInx for NonZeroU32 {
     }
 
     fn best_effort_invalid() -> Self {
-        Self::max_index()
+        NonZeroU32::max_index()
     }
 
     fn fmt_hex<W: fmt::Write>(&self, f: &mut fmt::Formatter<W>) -> fmt::Result {
@@ -150,7 +150,7 @@ impl PtrInx for NonZeroU64 {
     }
 
     fn best_effort_invalid() -> Self {
-        Self::max_index()
+        NonZeroU64::max_index()
     }
 
     fn fmt_hex<W: fmt::Write>(&self, f: &mut fmt::Formatter<W>) -> fmt::Result {
@@ -189,7 +189,7 @@ impl PtrInx for NonZeroU128 {
     }
 
     fn best_effort_invalid() -> Self {
-        Self::max_index()
+        NonZeroU128::max_index()
     }
 
     fn fmt_hex<W: fmt::Write>(&self, f: &mut fmt::Formatter<W>) -> fmt::Result {
@@ -223,7 +223,7 @@ impl PtrInx for NonZeroUsize {
     }
 
     fn best_effort_invalid() -> Self {
-        Self::max_index()
+        NonZeroUsize::max_index()
     }
 
     fn fmt_hex<W: fmt::Write>(&self, f: &mut fmt::Formatter<W>) -> fmt::Result {

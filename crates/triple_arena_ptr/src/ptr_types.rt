@@ -47,10 +47,7 @@ impl Ptr for P0 {
     }
 
     fn invalid() -> Self {
-        P0 {
-            inx: PtrInx::best_effort_invalid(),
-            generation: PtrGen::one(),
-        }
+        P0::_from_raw(PtrInx::best_effort_invalid(), PtrGen::one())
     }
 
     fn inx(self) -> NonZeroUsize {
@@ -73,7 +70,7 @@ impl Default for P0 {
     ghost is_default = { λ p. (⟦<P0 as Ptr>⟧.index p ≡ 2 ^ 64 - 1) × (⟦<P0 as Ptr>⟧.generation p ≡ 1) };
 
     fn default() -> Self {
-        Self::invalid()
+        P0::invalid()
     }
 }
 
@@ -81,7 +78,7 @@ impl fmt::Debug for P0 {
     ghost debug_output = { λ p. Some (pointer_text (codes "P0") (Some (2 ^ 64 - 1)) (non_zero_usize_get p.inx) (non_zero_u64_get p.generation)) };
 
     fn fmt<W: fmt::Write>(&self, f: &mut fmt::Formatter<W>) -> fmt::Result {
-        fmt_pointer(Self::name(), self.inx, self.generation, f)
+        fmt_pointer(P0::name(), self.inx, self.generation, f)
     }
 }
 
@@ -138,10 +135,7 @@ impl Ptr for Q2 {
     }
 
     fn invalid() -> Self {
-        Q2 {
-            inx: PtrInx::best_effort_invalid(),
-            generation: PtrGen::one(),
-        }
+        Q2::_from_raw(PtrInx::best_effort_invalid(), PtrGen::one())
     }
 
     fn inx(self) -> NonZeroUsize {
@@ -164,7 +158,7 @@ impl Default for Q2 {
     ghost is_default = { λ p. (⟦<Q2 as Ptr>⟧.index p ≡ 2 ^ 64 - 1) × (⟦<Q2 as Ptr>⟧.generation p ≡ 1) };
 
     fn default() -> Self {
-        Self::invalid()
+        Q2::invalid()
     }
 }
 
@@ -172,7 +166,7 @@ impl fmt::Debug for Q2 {
     ghost debug_output = { λ p. Some (pointer_text (codes "Q2") (Some (2 ^ 64 - 1)) (non_zero_usize_get p.inx) (non_zero_u64_get p.generation)) };
 
     fn fmt<W: fmt::Write>(&self, f: &mut fmt::Formatter<W>) -> fmt::Result {
-        fmt_pointer(Self::name(), self.inx, self.generation, f)
+        fmt_pointer(Q2::name(), self.inx, self.generation, f)
     }
 }
 
@@ -229,10 +223,7 @@ impl Ptr for P1 {
     }
 
     fn invalid() -> Self {
-        P1 {
-            inx: PtrInx::best_effort_invalid(),
-            generation: PtrGen::one(),
-        }
+        P1::_from_raw(PtrInx::best_effort_invalid(), PtrGen::one())
     }
 
     fn inx(self) -> NonZeroU8 {
@@ -255,7 +246,7 @@ impl Default for P1 {
     ghost is_default = { λ p. (⟦<P1 as Ptr>⟧.index p ≡ 255) × (⟦<P1 as Ptr>⟧.generation p ≡ 1) };
 
     fn default() -> Self {
-        Self::invalid()
+        P1::invalid()
     }
 }
 
@@ -263,7 +254,7 @@ impl fmt::Debug for P1 {
     ghost debug_output = { λ p. Some (pointer_text (codes "P1") (Some 255) (non_zero_u8_get p.inx) (non_zero_u8_get p.generation)) };
 
     fn fmt<W: fmt::Write>(&self, f: &mut fmt::Formatter<W>) -> fmt::Result {
-        fmt_pointer(Self::name(), self.inx, self.generation, f)
+        fmt_pointer(P1::name(), self.inx, self.generation, f)
     }
 }
 
@@ -320,10 +311,7 @@ impl Ptr for P2 {
     }
 
     fn invalid() -> Self {
-        P2 {
-            inx: PtrInx::best_effort_invalid(),
-            generation: PtrGen::one(),
-        }
+        P2::_from_raw(PtrInx::best_effort_invalid(), PtrGen::one())
     }
 
     fn inx(self) -> NonZeroU16 {
@@ -346,7 +334,7 @@ impl Default for P2 {
     ghost is_default = { λ p. (⟦<P2 as Ptr>⟧.index p ≡ 2 ^ 16 - 1) × (⟦<P2 as Ptr>⟧.generation p ≡ 1) };
 
     fn default() -> Self {
-        Self::invalid()
+        P2::invalid()
     }
 }
 
@@ -354,7 +342,7 @@ impl fmt::Debug for P2 {
     ghost debug_output = { λ p. Some (pointer_text (codes "P2") (Some (2 ^ 16 - 1)) (non_zero_u16_get p.inx) (non_zero_u16_get p.generation)) };
 
     fn fmt<W: fmt::Write>(&self, f: &mut fmt::Formatter<W>) -> fmt::Result {
-        fmt_pointer(Self::name(), self.inx, self.generation, f)
+        fmt_pointer(P2::name(), self.inx, self.generation, f)
     }
 }
 
@@ -411,10 +399,7 @@ impl Ptr for P3 {
     }
 
     fn invalid() -> Self {
-        P3 {
-            inx: PtrInx::best_effort_invalid(),
-            generation: PtrGen::one(),
-        }
+        P3::_from_raw(PtrInx::best_effort_invalid(), PtrGen::one())
     }
 
     fn inx(self) -> NonZeroU32 {
@@ -437,7 +422,7 @@ impl Default for P3 {
     ghost is_default = { λ p. (⟦<P3 as Ptr>⟧.index p ≡ 2 ^ 32 - 1) × (⟦<P3 as Ptr>⟧.generation p ≡ 1) };
 
     fn default() -> Self {
-        Self::invalid()
+        P3::invalid()
     }
 }
 
@@ -445,7 +430,7 @@ impl fmt::Debug for P3 {
     ghost debug_output = { λ p. Some (pointer_text (codes "P3") (Some (2 ^ 32 - 1)) (non_zero_u32_get p.inx) (non_zero_u32_get p.generation)) };
 
     fn fmt<W: fmt::Write>(&self, f: &mut fmt::Formatter<W>) -> fmt::Result {
-        fmt_pointer(Self::name(), self.inx, self.generation, f)
+        fmt_pointer(P3::name(), self.inx, self.generation, f)
     }
 }
 
@@ -502,10 +487,7 @@ impl Ptr for P4 {
     }
 
     fn invalid() -> Self {
-        P4 {
-            inx: PtrInx::best_effort_invalid(),
-            generation: PtrGen::one(),
-        }
+        P4::_from_raw(PtrInx::best_effort_invalid(), PtrGen::one())
     }
 
     fn inx(self) -> NonZeroU64 {
@@ -528,7 +510,7 @@ impl Default for P4 {
     ghost is_default = { λ p. (⟦<P4 as Ptr>⟧.index p ≡ 2 ^ 64 - 1) × (⟦<P4 as Ptr>⟧.generation p ≡ 1) };
 
     fn default() -> Self {
-        Self::invalid()
+        P4::invalid()
     }
 }
 
@@ -536,7 +518,7 @@ impl fmt::Debug for P4 {
     ghost debug_output = { λ p. Some (pointer_text (codes "P4") (Some (2 ^ 128 - 1)) (non_zero_u64_get p.inx) (non_zero_u128_get p.generation)) };
 
     fn fmt<W: fmt::Write>(&self, f: &mut fmt::Formatter<W>) -> fmt::Result {
-        fmt_pointer(Self::name(), self.inx, self.generation, f)
+        fmt_pointer(P4::name(), self.inx, self.generation, f)
     }
 }
 
@@ -593,10 +575,7 @@ impl Ptr for P5 {
     }
 
     fn invalid() -> Self {
-        P5 {
-            inx: PtrInx::best_effort_invalid(),
-            generation: PtrGen::one(),
-        }
+        P5::_from_raw(PtrInx::best_effort_invalid(), PtrGen::one())
     }
 
     fn inx(self) -> NonZeroUsize {
@@ -619,7 +598,7 @@ impl Default for P5 {
     ghost is_default = { λ p. (⟦<P5 as Ptr>⟧.index p ≡ 2 ^ 64 - 1) × (⟦<P5 as Ptr>⟧.generation p ≡ 1) };
 
     fn default() -> Self {
-        Self::invalid()
+        P5::invalid()
     }
 }
 
@@ -627,7 +606,7 @@ impl fmt::Debug for P5 {
     ghost debug_output = { λ p. Some (pointer_text (codes "P5") None (non_zero_usize_get p.inx) 1) };
 
     fn fmt<W: fmt::Write>(&self, f: &mut fmt::Formatter<W>) -> fmt::Result {
-        fmt_pointer(Self::name(), self.inx, self.generation, f)
+        fmt_pointer(P5::name(), self.inx, self.generation, f)
     }
 }
 
