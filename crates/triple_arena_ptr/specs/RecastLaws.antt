@@ -55,3 +55,10 @@ pair_items_recasted items_x items_y recasted_x recasted_y f each_x each_y x y =
     ∙ ap (λ l. renamed f (items_x x) ++ l) (items-where_ok items_y (recast_answer f (items_x x)) (recasted_y y) y
     ∙ ap (λ l. where_ok (recast_answer f (items_x x)) l (items_y y)) (each_y y))
     ∙ sym (renamed-append f (items_x x) (items_y y))
+
+-- the answer of two parts, of which the second is reached only after the first
+pub answer_of_parts : {I : Type 0} (f : I → Option I) (xs ys : List I) (first : Result (Unit {0}) I)
+    → first ≡ recast_answer f xs
+    → where_ok first (recast_answer f ys) first ≡ recast_answer f (xs ++ ys)
+answer_of_parts f xs ys first is_first =
+    ap (λ r. where_ok r (recast_answer f ys) r) is_first ∙ sym (recast_answer-append f xs ys)

@@ -5,7 +5,7 @@ ghost use Rattle.triple_arena_ptr.specs.Advancer.{Advances};
 /// Gives the items of a collection, one a call. The collection is free between the calls: it may be read, written
 /// and changed.
 ///
-/// ```ignore
+/// ```rust
 /// let mut advancer = arena.advancer();
 /// while let Some(p) = advancer.advance(&arena) {
 ///     // here `arena` can be changed

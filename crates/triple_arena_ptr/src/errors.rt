@@ -20,7 +20,7 @@ pub enum ReallocationError {
     #[error("beyond the maximum capacity")]
     BeyondMaxCapacity,
     /// The allocator refused the memory.
-    #[error("the allocator has no memory")]
+    #[error("memory allocation failed")]
     AllocError,
 }
 
@@ -48,7 +48,7 @@ pub enum ChainInsertionError {
     #[error("beyond the maximum capacity")]
     BeyondMaxCapacity,
     /// The allocator refused the memory.
-    #[error("the allocator has no memory")]
+    #[error("memory allocation failed")]
     AllocError,
 }
 
@@ -65,7 +65,7 @@ pub enum OrdInsertionError {
     #[error("beyond the maximum capacity")]
     BeyondMaxCapacity,
     /// The allocator refused the memory.
-    #[error("the allocator has no memory")]
+    #[error("memory allocation failed")]
     AllocError,
 }
 

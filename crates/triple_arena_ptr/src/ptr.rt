@@ -123,7 +123,9 @@ pub trait Ptr: Debug + Hash + Copy + Ord {
         ensures has_index { index result ≡ Self.Inx.number inx }
         ensures has_generation { generation result ≡ Self.Gen.number gen_raw };
 
-    ghost positive: { (p : Self) → 0 < index p };
+    ghost index_positive: { (p : Self) → 0 < index p };
+
+    ghost generation_positive: { (p : Self) → 0 < generation p };
 
     // The index and the generation determine the pointer.
     ghost determined: { (p q : Self) → index p ≡ index q → generation p ≡ generation q → p ≡ q };

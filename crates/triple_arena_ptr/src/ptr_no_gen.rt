@@ -1,6 +1,6 @@
 //! Pointers without a generation.
 ghost use Rattle.std.specs.Prelude.{◌≡◌, [], ◌∷◌, Some, None, ⊤, refl};
-ghost use Rattle.std.proofs.Common.{◌∙◌, sym};
+ghost use Rattle.std.proofs.Common.{◌∙◌, sym, rules};
 ghost use Rattle.std.proofs.Math.Nat.{ℕ_set};
 ghost use Rattle.std.proofs.Math.Path.{to_path_p};
 ghost use Rattle.triple_arena_ptr.specs.NoGenLaws.{order_at_first, equal_at_first};
@@ -44,7 +44,9 @@ impl<P: Ptr> Ptr for PtrNoGen<P> {
 
     ghost name = { P.name };
 
-    ghost positive = { λ p. P.positive p.with_first };
+    ghost index_positive = { λ p. P.index_positive p.with_first };
+
+    ghost generation_positive = { λ _. Prim.search rules };
 
     ghost determined = { λ p q e _. let same = P.determined p.with_first q.with_first e (p.first ∙ sym q.first) in
         λ i. record { with_first = same i; first = to_path_p (λ j. P.generation (same j) ≡ 1) {a = p.first} {b = q.first} (ℕ_set _ _ _ _) i } };

@@ -32,7 +32,9 @@ impl Ptr for P0 {
 
     ghost name = { codes "P0" };
 
-    ghost positive = { λ p. p.inx.ok };
+    ghost index_positive = { λ p. p.inx.ok };
+
+    ghost generation_positive = { λ p. p.generation.ok };
 
     ghost determined = { λ p q e g k. record { inx = usize_determined p.inx q.inx e k; generation = u64_determined p.generation q.generation g k } };
 
@@ -120,7 +122,9 @@ impl Ptr for Q2 {
 
     ghost name = { codes "Q2" };
 
-    ghost positive = { λ p. p.inx.ok };
+    ghost index_positive = { λ p. p.inx.ok };
+
+    ghost generation_positive = { λ p. p.generation.ok };
 
     ghost determined = { λ p q e g k. record { inx = usize_determined p.inx q.inx e k; generation = u64_determined p.generation q.generation g k } };
 
@@ -208,7 +212,9 @@ impl Ptr for P1 {
 
     ghost name = { codes "P1" };
 
-    ghost positive = { λ p. p.inx.ok };
+    ghost index_positive = { λ p. p.inx.ok };
+
+    ghost generation_positive = { λ p. p.generation.ok };
 
     ghost determined = { λ p q e g k. record { inx = u8_determined p.inx q.inx e k; generation = u8_determined p.generation q.generation g k } };
 
@@ -296,7 +302,9 @@ impl Ptr for P2 {
 
     ghost name = { codes "P2" };
 
-    ghost positive = { λ p. p.inx.ok };
+    ghost index_positive = { λ p. p.inx.ok };
+
+    ghost generation_positive = { λ p. p.generation.ok };
 
     ghost determined = { λ p q e g k. record { inx = u16_determined p.inx q.inx e k; generation = u16_determined p.generation q.generation g k } };
 
@@ -384,7 +392,9 @@ impl Ptr for P3 {
 
     ghost name = { codes "P3" };
 
-    ghost positive = { λ p. p.inx.ok };
+    ghost index_positive = { λ p. p.inx.ok };
+
+    ghost generation_positive = { λ p. p.generation.ok };
 
     ghost determined = { λ p q e g k. record { inx = u32_determined p.inx q.inx e k; generation = u32_determined p.generation q.generation g k } };
 
@@ -472,7 +482,9 @@ impl Ptr for P4 {
 
     ghost name = { codes "P4" };
 
-    ghost positive = { λ p. p.inx.ok };
+    ghost index_positive = { λ p. p.inx.ok };
+
+    ghost generation_positive = { λ p. p.generation.ok };
 
     ghost determined = { λ p q e g k. record { inx = u64_determined p.inx q.inx e k; generation = u128_determined p.generation q.generation g k } };
 
@@ -560,7 +572,9 @@ impl Ptr for P5 {
 
     ghost name = { codes "P5" };
 
-    ghost positive = { λ p. p.inx.ok };
+    ghost index_positive = { λ p. p.inx.ok };
+
+    ghost generation_positive = { λ p. Prim.search rules };
 
     ghost determined = { λ p q e g k. record { inx = usize_determined p.inx q.inx e k; generation = tt } };
 

@@ -1,5 +1,5 @@
 //! What code that is generic in the pointer type knows, with no proof of its own.
-ghost use Rattle.std.specs.Prelude.{◌≡◌, ℕ, ◌<◌, ◌≤◌, ◌^◌, ◌↔◌, [], IsTrue, IsSome, IsNone, IfSome, IfOk, Some, OnOk, map, string_bytes};
+ghost use Rattle.std.specs.Prelude.{◌≡◌, ℕ, ◌<◌, ◌≤◌, ◌^◌, ◌↔◌, [], false, IsTrue, IsSome, IsNone, IfSome, IfOk, Some, OnOk, map, string_bytes};
 ghost use Rattle.triple_arena_ptr.specs.Generation.{next_generation};
 ghost use Rattle.triple_arena_ptr.specs.Pointer.{pointer_text};
 ghost use Rattle.triple_arena_ptr.specs.Recast.{renamed};
@@ -18,7 +18,8 @@ fn is_same<P: Ptr>(p: P, q: P) -> bool
 
 fn rebuilt<P: Ptr>(p: P) -> P
     ensures same { result ≡ p }
-    ensures positive { 0 < P.index p }
+    ensures index { 0 < P.index p }
+    ensures generation { 0 < P.generation p }
 {
     P::_from_raw(p.inx(), p.generation())
 }
@@ -57,6 +58,13 @@ fn counts<G: PtrGen>() -> bool
     ensures { IsTrue result ↔ IsSome G.last }
 {
     G::one() != G::two()
+}
+
+// A generation that counts goes from 1 to 2.
+fn first_step_starts_again<G: PtrGen>() -> bool
+    ensures { result ≡ false }
+{
+    G::one().generational_inc().1
 }
 
 fn there_and_back<I: PtrInx>(inx: I) -> Option<I>

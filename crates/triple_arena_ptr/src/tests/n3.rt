@@ -92,7 +92,9 @@ impl Ptr for N3 {
 
     ghost name = { codes "N3" };
 
-    ghost positive = { λ p. p.inx.ok };
+    ghost index_positive = { λ p. p.inx.ok };
+
+    ghost generation_positive = { λ p. p.generation.ok };
 
     ghost determined = { λ p q e g k. record {
       inx = u8_determined p.inx q.inx e k;

@@ -43,7 +43,7 @@ fn texts_of_errors(rt: HostRuntime) -> Result<(), Fail> {
         ),
         (
             ReallocationError::AllocError.to_string(alloc)?,
-            "the allocator has no memory",
+            "memory allocation failed",
         ),
     ];
     for (text, want) in &texts {
