@@ -1,5 +1,6 @@
 //! Each generic call once, at a concrete type.
-ghost use Rattle.std.specs.Prelude.{[], Some, None, drop, if◌then◌else◌};
+ghost use Rattle.std.specs.Prelude.{◌≡◌, [], IsSome, Some, None, drop, if◌then◌else◌};
+ghost use Rattle.triple_arena_ptr.specs.Recast.{renamed};
 
 use crate::{
     Advancer, InvalidationOption, InvalidationResult, P0, Ptr, PtrGen, PtrInx, Recast, Recaster,
@@ -7,6 +8,16 @@ use crate::{
 };
 use std::num::NonZeroUsize;
 use std::test::Fail;
+
+// The items that generic code finds after a recast.
+fn recast_items<I, T: Recast<I>, R: Recaster<Item = I>>(
+    value: &mut T,
+    recaster: &R,
+) -> Result<(), I>
+    ensures { T.items value.new ≡ renamed (R.image recaster.now) (T.items value.old) }
+{
+    value.recast(recaster)
+}
 
 // One pointer has an image.
 #[derive(Drop)]
@@ -36,12 +47,24 @@ fn recasts_up_to_the_first_that_is_missing(rt: HostRuntime) -> Result<(), Fail> 
     let new = P0::_from_raw(NonZeroUsize::MIN, PtrGen::two());
     let renaming = Renaming { from: old, to: new };
     let mut value = (Some(old), (7u64, (old, None::<P0>)));
-    assert_eq!(rt; value.recast(&renaming), Ok(()));
+    assert_eq!(rt; recast_items(&mut value, &renaming), Ok(()));
     assert_eq!(rt; value, (Some(new), (7, (new, None))));
     let mut value = ((old, new), old);
     assert_eq!(rt; value.recast(&renaming), Err(new));
     assert_eq!(rt; value, ((new, new), old));
     Ok(())
+}
+
+// An advancer over a collection that stays as it is ends.
+fn drain<C, A: Advancer<C>>(advancer: &mut A, collection: &C)
+where
+    A::Item: Drop,
+    requires { IsSome (A.remaining advancer.old collection.now) }
+    ensures { A.remaining advancer.new collection.now ≡ Some [] }
+{
+    while let Some(item) = advancer.advance(collection) {
+        drop(item);
+    }
 }
 
 // The bytes of an array from a place on.
@@ -83,6 +106,8 @@ fn advances_over_what_changes(rt: HostRuntime) -> Result<(), Fail> {
     assert_eq!(rt; advancer.advance(&bytes), Some(1));
     bytes[1] = 5;
     assert_eq!(rt; advancer.advance(&bytes), Some(5));
+    drain(&mut advancer, &bytes);
+    assert_eq!(rt; advancer.advance(&bytes), None);
     assert_eq!(rt; Bytes::empty().advance(&bytes), None);
     Ok(())
 }

@@ -1,12 +1,12 @@
 //! What code that is generic in the pointer type knows, with no proof of its own.
-ghost use Rattle.std.specs.Prelude.{◌≡◌, ℕ, ◌<◌, ◌≤◌, ◌^◌, ◌↔◌, [], false, IsTrue, IsSome, IsNone, IfSome, IfOk, Some, OnOk, map, string_bytes};
+ghost use Rattle.std.specs.Prelude.{◌≡◌, ◌<◌, ◌^◌, ◌↔◌, false, IsTrue, IsSome, IfSome, IfOk, string_bytes};
 ghost use Rattle.triple_arena_ptr.specs.Generation.{next_generation};
 ghost use Rattle.triple_arena_ptr.specs.Pointer.{pointer_text};
-ghost use Rattle.triple_arena_ptr.specs.Recast.{renamed};
 
-use crate::{Advancer, P0, P1, P4, P5, Ptr, PtrGen, PtrInx, PtrNoGen, Recast, Recaster};
+use crate::{P0, P1, P4, P5, Ptr, PtrGen, PtrInx, PtrNoGen};
 use std::alloc::{AllocError, Global};
 use std::num::NonZeroUsize;
+use std::process::Abort;
 use std::test::Fail;
 
 // The pointers are equal where they are one, and only there.
@@ -92,33 +92,31 @@ fn text<P: Ptr>(alloc: Global, p: P) -> Result<String, AllocError>
     format!(in alloc; "{p:?}")
 }
 
-fn recast_items<I, T: Recast<I>, R: Recaster<Item = I>>(
-    value: &mut T,
-    recaster: &R,
-) -> Result<(), I>
-    ensures { T.items value.new ≡ renamed (R.image recaster.now) (T.items value.old) }
-{
-    value.recast(recaster)
-}
-
-// An advancer over a collection that stays as it is ends.
-fn drain<C, A: Advancer<C>>(advancer: &mut A, collection: &C)
-where
-    A::Item: Drop,
-    requires { IsSome (A.remaining advancer.old collection.now) }
-    ensures { A.remaining advancer.new collection.now ≡ Some [] }
-{
-    while let Some(item) = advancer.advance(collection) {
-        drop(item);
-    }
+// Each law once at a concrete type, and what its functions answer there.
+fn laws_at<P: Ptr>(rt: &impl Abort, p: P, is_counted: bool) {
+    assert!(rt; is_same(rebuilt(p), p));
+    assert!(rt; feeds_alike(p, p));
+    assert_eq!(rt; p == in_next_generation(p), !is_counted);
+    assert_eq!(rt; counts::<P::Gen>(), is_counted);
+    assert!(rt; !first_step_starts_again::<P::Gen>());
+    assert_eq!(rt; there_and_back(p.inx()), Some(p.inx()));
+    assert_eq!(rt;
+        back_and_there::<P::Inx>(NonZeroUsize::MIN),
+        Some(NonZeroUsize::MIN)
+    );
+    assert_eq!(rt; greatest::<P::Inx>(), P::invalid().inx().try_into_usize());
 }
 
 #[test]
 fn laws_at_each_kind_of_pointer(rt: HostRuntime) -> Result<(), Fail> {
-    let p: P0 = Ptr::invalid();
-    assert!(rt; is_same(rebuilt(p), p));
-    let next = in_next_generation(p);
-    assert!(rt; is_before_by_generation(p, next));
-    assert!(rt; !feeds_alike(p, next));
+    laws_at(&rt, P0::invalid(), true);
+    laws_at(&rt, P1::invalid(), true);
+    laws_at(&rt, P4::invalid(), true);
+    laws_at(&rt, P5::invalid(), false);
+    laws_at(&rt, PtrNoGen::<P0>::invalid(), false);
+    let p = P0::_from_raw(NonZeroUsize::MIN, PtrGen::one());
+    assert!(rt; is_before_by_index(p, P0::invalid()));
+    assert!(rt; is_before_by_generation(p, in_next_generation(p)));
+    assert_eq!(rt; text(rt.alloc(), p)?.as_str(), "P0[1](1)");
     Ok(())
 }

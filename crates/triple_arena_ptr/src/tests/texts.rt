@@ -45,6 +45,22 @@ fn texts_of_errors(rt: HostRuntime) -> Result<(), Fail> {
             ReallocationError::AllocError.to_string(alloc)?,
             "memory allocation failed",
         ),
+        (
+            DirectInsertionError::ExistingElementAtIndex.to_string(alloc)?,
+            "an element exists at the index already",
+        ),
+        (
+            ChainInsertionError::FailedLinkRequirement.to_string(alloc)?,
+            "the requirement on the links is not met",
+        ),
+        (
+            OrdInsertionError::FailedOrdRequirement.to_string(alloc)?,
+            "the requirement on the order is not met",
+        ),
+        (
+            GetDisjointMutError::OverlappingIndices.to_string(alloc)?,
+            "the places overlap",
+        ),
     ];
     for (text, want) in &texts {
         assert_eq!(rt; text.as_str(), *want);

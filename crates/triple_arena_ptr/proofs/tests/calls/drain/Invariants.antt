@@ -1,6 +1,6 @@
 use Rattle.std.proofs.Common.{[], length}
 use Rattle.std.specs.Prelude.{IsSome, unwrap_or}
-use Rattle.triple_arena_ptr.proofs.tests.laws.drain.Given as goal
+use Rattle.triple_arena_ptr.proofs.tests.calls.drain.Given as goal
 
 abbrev pub invariant-loop-item : goal.invariant-loop-item
 invariant-loop-item g l = IsSome (g.A.Advancer.remaining l.advancer l.collection)
