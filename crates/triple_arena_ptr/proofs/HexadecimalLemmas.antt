@@ -1,9 +1,9 @@
 -- The text of a number that is written in two halves.
-use Rattle.std.proofs.Common.{◌≡◌, ◌≢◌, ℕ, ◌-◌, ◌/◌, ◌%◌, ◌^◌, List, [], ◌++◌, Option, Some, false, sym, ◌∙◌, replicate, ap, arith, append-nil, if◌then◌else◌}
-use Rattle.std.proofs.lemmas.Bool.{le-ltb}
+use Rattle.std.proofs.Common.{◌≡◌, ◌≢◌, ℕ, ◌-◌, ◌/◌, ◌%◌, ◌^◌, ◌<◌, List, [], ◌++◌, Option, Some, false, sym, ◌∙◌, replicate, ap, arith, append-nil}
 use Rattle.std.specs.Option.{option_map}
 use Rattle.std.specs.Fmt.{digits, digits_output, styled_digits_output, format_spec, padded_integral, shown_prefix, radix_prefix, char_count, option_append}
-use Rattle.triple_arena_ptr.specs.Hexadecimal.{hexadecimal, sixteen_digits}
+use Rattle.triple_arena_ptr.specs.Hexadecimal.{hexadecimal}
+use Rattle.triple_arena_ptr.proofs.DigitsLemmas.{sixteen_digits, digits_of_halves}
 
 -- sixteen places with leading zeros
 sixteen_places : (n : ℕ) → padded_integral (format_spec 32 0 4 16 (2 ^ 64 - 1)) false [] (digits 16 false n) ≡ sixteen_digits n
@@ -26,8 +26,9 @@ pub written_halves : (high low spec : _) (n : ℕ)
     → digits_output low ≡ Some (digits 16 false (n % 2 ^ 64))
     → spec ≡ format_spec 32 0 4 16 (2 ^ 64 - 1)
     → n / 2 ^ 64 ≢ 0
+    → n < 2 ^ 128
     → option_append (digits_output high) (styled_digits_output low spec) ≡ Some (hexadecimal n)
-written_halves high low spec n upper lower is_sixteen large =
+written_halves high low spec n upper lower is_sixteen large small =
     ap (λ o. option_append o (styled_digits_output low spec)) upper
     ∙ ap (option_append (Some (digits 16 false (n / 2 ^ 64)))) (low_half (radix_prefix low.base) spec (digits_output low) (n % 2 ^ 64) lower is_sixteen)
-    ∙ ap (λ b. Some (if b then digits 16 false n else digits 16 false (n / 2 ^ 64) ++ sixteen_digits (n % 2 ^ 64))) (sym (le-ltb n (2 ^ 64) (omega arith)))
+    ∙ ap Some (sym (digits_of_halves n (omega arith) small))

@@ -1,2 +1,3 @@
+mod DigitsLemmas
 mod HexadecimalLemmas
 mod NonZeroUsizeIteratorLemmas

@@ -2,19 +2,19 @@
 ghost use Rattle.std.specs.Prelude.{◌≡◌, MatchOption, IsSome, IfSome, IsSomeAnd, IsNone, is_none, not, false, option_and_then};
 ghost use Rattle.std.specs.Option.{option_map, option_map_or};
 
-/// The value of a call that ended at least one pointer, or none at all where it takes no pointer.
+/// The answer of a call that may step generations: its value, and whether a generation started again.
 #[derive(Debug, PartialEq, Eq, Drop)]
 pub enum InvalidationOption<T> {
-    /// The generation went up.
+    /// No generation started again.
     Success(T),
-    /// The generation started again at 2: a pointer that ended long ago may be given again.
+    /// A generation started again at 2: a pointer that ended long ago may be given again.
     GenerationOverflow(T),
 }
 
 impl<T> InvalidationOption<T> {
     ghost use Rattle.triple_arena_ptr.specs.InvalidationOption.{IsMappedBy, overflowed, value_of, strict_value};
 
-    /// Whether the generation went up.
+    /// Whether no generation started again.
     pub fn is_success(&self) -> bool
         ensures { result ≡ not (overflowed self.now) }
     {
@@ -24,14 +24,14 @@ impl<T> InvalidationOption<T> {
         }
     }
 
-    /// Whether the generation started again at 2.
+    /// Whether a generation started again at 2.
     pub fn is_overflow(&self) -> bool
         ensures { result ≡ overflowed self.now }
     {
         !self.is_success()
     }
 
-    /// The value, also where the generation started again.
+    /// The value, also where a generation started again.
     pub fn allow(self) -> T
         ensures { result ≡ value_of self }
     {
@@ -41,7 +41,7 @@ impl<T> InvalidationOption<T> {
         }
     }
 
-    /// The value where the generation went up. Else it is dropped.
+    /// The value where no generation started again. Else it is dropped.
     pub fn strict(self) -> Option<T>
     where
         T: Drop,
@@ -66,7 +66,7 @@ impl<T> InvalidationOption<T> {
         }
     }
 
-    /// The value, and whether the generation started again at 2.
+    /// The value, and whether a generation started again at 2.
     pub fn overflowing(self) -> (T, bool)
         ensures value { result.0 ≡ value_of self }
         ensures overflow { result.1 ≡ overflowed self }
@@ -78,12 +78,12 @@ impl<T> InvalidationOption<T> {
     }
 }
 
-/// The value of a call that ended the pointer that it was given, or the answer that it was not valid.
+/// The answer of a call that ends a pointer: as `InvalidationOption`, or that the pointer was not valid.
 #[derive(Debug, PartialEq, Eq, Drop)]
 pub enum InvalidationResult<T> {
-    /// The generation went up.
+    /// The pointer was valid, and no generation started again.
     Success(T),
-    /// The generation started again at 2: a pointer that ended long ago may be given again.
+    /// The pointer was valid, and a generation started again at 2: a pointer that ended long ago may be given again.
     GenerationOverflow(T),
     /// The pointer was not valid, and nothing was changed.
     InvalidPtr,
@@ -93,7 +93,7 @@ impl<T> InvalidationResult<T> {
     ghost use Rattle.triple_arena_ptr.specs.InvalidationOption.{IsMappedBy, overflowed, value_of, strict_value};
     ghost use Rattle.triple_arena_ptr.specs.InvalidationResult.{answer_of};
 
-    /// Whether the pointer was valid and the generation went up.
+    /// Whether the pointer was valid and no generation started again.
     pub fn is_success(&self) -> bool
         ensures { result ≡ option_map_or (λ a. not (overflowed a)) (answer_of self.now) false }
     {
@@ -103,7 +103,7 @@ impl<T> InvalidationResult<T> {
         }
     }
 
-    /// Whether the pointer was valid and the generation started again at 2.
+    /// Whether the pointer was valid and a generation started again at 2.
     pub fn is_overflow(&self) -> bool
         ensures { result ≡ option_map_or overflowed (answer_of self.now) false }
     {
@@ -123,7 +123,7 @@ impl<T> InvalidationResult<T> {
         }
     }
 
-    /// The value where the pointer was valid, also where the generation started again.
+    /// The value where the pointer was valid, also where a generation started again.
     pub fn allow(self) -> Option<T>
         ensures { result ≡ option_map value_of (answer_of self) }
     {
@@ -134,7 +134,7 @@ impl<T> InvalidationResult<T> {
         }
     }
 
-    /// The value where the pointer was valid and the generation went up. Else it is dropped.
+    /// The value where the pointer was valid and no generation started again. Else it is dropped.
     pub fn strict(self) -> Option<T>
     where
         T: Drop,
@@ -162,7 +162,7 @@ impl<T> InvalidationResult<T> {
         }
     }
 
-    /// The value, and whether the generation started again at 2, where the pointer was valid.
+    /// The value, and whether a generation started again at 2, where the pointer was valid.
     pub fn overflowing(self) -> Option<(T, bool)>
         ensures { result ≡ option_map (λ a. (value_of a, overflowed a)) (answer_of self) }
     {

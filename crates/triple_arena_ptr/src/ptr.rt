@@ -20,7 +20,7 @@ pub trait PtrGen: Debug + Hash + Copy + Ord {
     // The greatest generation, or `None` where generations are not counted.
     ghost last: { Option ℕ };
 
-    /// The first generation, 1. An arena gives it to nothing by itself.
+    /// The first generation, 1, to which no step leads where generations are counted.
     fn one() -> Self
         ensures { number result ≡ 1 };
 
@@ -73,7 +73,7 @@ pub trait PtrInx: Debug + Hash + Copy + Ord {
     fn max_index() -> Self
         ensures { number result ≡ max_index_of greatest };
 
-    /// An index that an arena is least likely to hold: `max_index`.
+    /// The index that an arena is least likely to hold: `max_index`.
     fn best_effort_invalid() -> Self
         ensures { number result ≡ max_index_of greatest };
 
@@ -107,7 +107,8 @@ pub trait Ptr: Debug + Hash + Copy + Ord {
     fn name() -> &'static str
         ensures { result.now ≡ name };
 
-    /// A pointer that finds nothing in an arena whose generations have not wrapped: the index `best_effort_invalid` and the generation `one`.
+    /// The index `best_effort_invalid` and the generation `one`, to which no step of an arena's counter leads where generations
+    /// are counted.
     fn invalid() -> Self
         ensures has_index { index result ≡ max_index_of Self.Inx.greatest }
         ensures has_generation { generation result ≡ 1 };

@@ -139,9 +139,9 @@ fn indexes_from_both_ends(rt: HostRuntime) -> Result<(), Fail> {
 
 #[test]
 fn answers_of_invalidation(rt: HostRuntime) -> Result<(), Fail> {
-    let went_up = InvalidationOption::Success(3u8);
-    assert!(rt; went_up.is_success());
-    assert_eq!(rt; went_up.map(|n| n / 2), InvalidationOption::Success(1));
+    let success = InvalidationOption::Success(3u8);
+    assert!(rt; success.is_success());
+    assert_eq!(rt; success.map(|n| n / 2), InvalidationOption::Success(1));
     assert_eq!(rt;
         InvalidationOption::GenerationOverflow(3u8).overflowing(),
         (3, true)
