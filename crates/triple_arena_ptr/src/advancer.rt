@@ -12,6 +12,7 @@ ghost use Rattle.triple_arena_ptr.specs.Advancer.{Advances};
 /// }
 /// ```
 pub trait Advancer<C> {
+    /// What is given.
     type Item;
 
     // The items that it will give over the collection as it is, in order, or `None` where they may have no end.

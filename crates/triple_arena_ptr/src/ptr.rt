@@ -93,8 +93,10 @@ pub trait PtrInx: Debug + Hash + Copy + Ord {
 
 /// A pointer into an arena: an index and a generation.
 pub trait Ptr: Debug + Hash + Copy + Ord {
+    /// The type of the index.
     type Inx: PtrInx;
 
+    /// The type of the generation.
     type Gen: PtrGen;
 
     ghost index: { Self → ℕ };
@@ -113,9 +115,11 @@ pub trait Ptr: Debug + Hash + Copy + Ord {
         ensures has_index { index result ≡ max_index_of Self.Inx.greatest }
         ensures has_generation { generation result ≡ 1 };
 
+    /// The index.
     fn inx(self) -> Self::Inx
         ensures { Self.Inx.number result ≡ index self };
 
+    /// The generation.
     fn generation(self) -> Self::Gen
         ensures { Self.Gen.number result ≡ generation self };
 

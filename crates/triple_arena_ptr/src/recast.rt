@@ -4,6 +4,7 @@ ghost use Rattle.triple_arena_ptr.specs.Recast.{renamed_item, recast_answer, ren
 
 /// A renaming of items: each item has an image or none.
 pub trait Recaster {
+    /// What is renamed.
     type Item;
 
     ghost image: { Self → Self.Item → Option Self.Item };
