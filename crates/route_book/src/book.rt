@@ -8,7 +8,6 @@ use crate::counts::Counts;
 use crate::place::Place;
 use crate::placed::Placed;
 use crate::places::Places;
-use crate::probes::Probes;
 use crate::refusal::{Refusal, RoomError};
 use crate::search::search;
 use crate::shown::Shown;
@@ -16,6 +15,7 @@ use crate::word::Word;
 use std::alloc::{Allocator, Global};
 use std::marker::Model;
 use std::mem;
+use triple_arena_ptr::Probes;
 
 /// A store of places, each with a key, a word and a ticket. Its room is taken once, when it is made;
 /// no call on a made store takes memory.

@@ -1,6 +1,6 @@
 ghost use Rattle.std.specs.Prelude.{◌≡◌, ℕ};
 
-use crate::probes::Probes;
+use triple_arena_ptr::Probes;
 
 /// What calls on a store took: the comparisons of their searches, and the references that their sweeps looked at.
 #[derive(Drop)]

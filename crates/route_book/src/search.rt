@@ -1,8 +1,8 @@
 ghost use Rattle.std.specs.Prelude.{◌≡◌, ℕ, ◌+◌, ◌-◌, ◌<◌, ◌≤◌, IfOk, IfErr};
 ghost use Rattle.route_book.specs.Searches.{fair};
 
-use crate::probes::Probes;
 use std::cmp::Ordering;
+use triple_arena_ptr::Probes;
 
 /// Searches by halves a list of `len` numbers that rise, the one at `i` given by `number_at(i)`:
 /// `Ok` has the place of the wanted number, `Err` the place where it would stand. One tick a comparison.

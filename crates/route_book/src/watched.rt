@@ -3,9 +3,9 @@ ghost use Rattle.std.specs.Io.{ReadsAtMost, WritesAtMost};
 ghost use Rattle.std.specs.Io.KnownBytes.{Appends, Keeps, ReadConsumes, WriteAppends};
 ghost use Rattle.route_book.specs.Written.{AppendsBeginning};
 
-use crate::probes::Probes;
 use std::io;
 use std::io::{ErrorKind, Read, Write};
+use triple_arena_ptr::Probes;
 
 /// A reader or writer whose bytes are those of its inner one, with a count of the calls and of those that failed.
 #[derive(Drop)]

@@ -10,6 +10,7 @@
 //! - [`P0`] to [`P5`], [`Q2`] and [`PtrNoGen`] are pointer types. Choose by how many elements and removals there are.
 //! - [`Advancer`] goes over a collection that may change on the way; [`nzusize_iter`] goes over indexes.
 //! - [`Recast`] renames the pointers that a value holds, by a [`Recaster`].
+//! - [`Probes`] counts, as comparisons; contracts see a number without bound.
 //! - [`InvalidationOption`], [`InvalidationResult`] and the error types are what the arenas' calls answer.
 //!
 //! # A pointer type of one's own
@@ -85,6 +86,7 @@ mod indexes;
 mod invalidation;
 mod nzusize;
 mod pointer_text;
+mod probes;
 mod ptr;
 mod ptr_no_gen;
 mod ptr_types;
@@ -98,6 +100,7 @@ pub use errors::{
 pub use invalidation::{InvalidationOption, InvalidationResult};
 pub use nzusize::{IntoNonZeroUsizeIterator, NonZeroUsizeIterator, nzusize_iter};
 pub use pointer_text::fmt_pointer;
+pub use probes::Probes;
 pub use ptr::{Ptr, PtrGen, PtrInx};
 pub use ptr_no_gen::PtrNoGen;
 pub use ptr_types::{P0, P1, P2, P3, P4, P5, Q2};

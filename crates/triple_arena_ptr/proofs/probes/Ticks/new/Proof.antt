@@ -21,11 +21,11 @@ use denote.Triple.Entry.{on_entry, alive}
 use denote.Triple.Spec.{Meets, triple_of}
 use denote.Triple.Table.{entered}
 use denote.Triple.Walked.{says, Stays, walk_of, Walks, ends_at, walked, walk_Meets}
-use Rattle.route_book.specs.contracts.probes.Ticks.new.Key.{name as key}
-use Rattle.route_book.specs.contracts.probes.Ticks.new as f
-use Rattle.route_book.proofs.probes.Ticks.new.Statement as stated
-use Rattle.route_book.proofs.probes.Ticks.new.Code as code
-use Rattle.route_book.specs.contracts.probes.Ticks as made
+use Rattle.triple_arena_ptr.specs.contracts.probes.Ticks.new.Key.{name as key}
+use Rattle.triple_arena_ptr.specs.contracts.probes.Ticks.new as f
+use Rattle.triple_arena_ptr.proofs.probes.Ticks.new.Statement as stated
+use Rattle.triple_arena_ptr.proofs.probes.Ticks.new.Code as code
+use Rattle.triple_arena_ptr.specs.contracts.probes.Ticks as made
 
 abbrev stayed : Stays (f.ended).signature.params (f.ended).kept
 stayed = tt

@@ -28,11 +28,11 @@ use denote.Triple.Entry.{on_entry, alive, Args}
 use denote.Triple.Spec.{Meets, triple_of}
 use denote.Triple.Table.{entered}
 use denote.Triple.Walked.{says, stay_none_ref, Stays, walk_of, Walks, ends_at, walked, Goes-none_ref, walk_Meets}
-use Rattle.route_book.specs.contracts.probes.Ticks.next.Key.{name as key}
-use Rattle.route_book.specs.contracts.probes.Ticks.next as f
-use Rattle.route_book.proofs.probes.Ticks.next.Statement as stated
-use Rattle.route_book.proofs.probes.Ticks.next.Code as code
-use Rattle.route_book.specs.contracts.probes.Ticks as ticks
+use Rattle.triple_arena_ptr.specs.contracts.probes.Ticks.next.Key.{name as key}
+use Rattle.triple_arena_ptr.specs.contracts.probes.Ticks.next as f
+use Rattle.triple_arena_ptr.proofs.probes.Ticks.next.Statement as stated
+use Rattle.triple_arena_ptr.proofs.probes.Ticks.next.Code as code
+use Rattle.triple_arena_ptr.specs.contracts.probes.Ticks as ticks
 
 abbrev stayed : Stays (f.ended).signature.params (f.ended).kept
 stayed = (stay_none_ref (0 ∷ []) tt (plain (λ _. ticks.the_row)) yes, tt)
