@@ -33,6 +33,8 @@ pub fn run<A: Allocator, R: Read, W: Write>(
         × IsAtEnd (R.remaining (inner_of reader.new))
         × Carries book.old (lines input) book.new (W.contents (inner_of writer.old)) (W.contents (inner_of writer.new)) counts.old counts.new) }
 
+    ensures ok_failed { OnOk result ((reader.new.failed ≡ reader.old.failed) × (writer.new.failed ≡ writer.old.failed)) }
+
     // Every whole line that was read is carried out and answered, and nothing else.
     ensures read { IfErr result (λ fault. OnRead fault ((input : List ℕ) × Consumes (R.remaining (inner_of reader.old)) (R.remaining (inner_of reader.new)) input
         × Carries book.old (map whole (whole_lines input)) book.new (W.contents (inner_of writer.old)) (W.contents (inner_of writer.new)) counts.old counts.new)) }
