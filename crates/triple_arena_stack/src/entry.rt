@@ -1,0 +1,130 @@
+//! A place for one item more, which tells its index before the item is there.
+ghost use Rattle.std.specs.Prelude.{◌≡◌, ℕ, ◌+◌, ◌<◌, ◌↔◌, Some, [], ◌∷◌, ◌++◌, length, IsOk, IfOk, IsErrOf};
+ghost use Rattle.std.specs.Borrow.{sem, RestsIfErr};
+ghost use Rattle.std.specs.Int.NonZero.{non_zero_usize_get};
+ghost use Rattle.triple_arena_stack.specs.Entry.{entry_stack, entry_lender};
+ghost use Rattle.triple_arena_stack.specs.Room.{capacity as capacity_of, grown};
+
+use crate::NonZeroInxGenericStack;
+use crate::stack::push_in_room;
+use std::marker::PhantomData;
+use std::num::NonZeroUsize;
+use triple_arena_ptr::{NotWithinCapacityError, ReallocationError};
+
+/// The calls of a stack that answer an entry. Each stack has them.
+pub trait NonZeroInxGenericStackEntries<T: Drop>: NonZeroInxGenericStack<T> {
+    /// A place for one item more. Where all slots are taken the stack stays as it is.
+    fn entry_push_within_capacity(
+        &mut self,
+    ) -> Result<NonZeroInxGenericStackPushEntry<'_, T, Self>, NotWithinCapacityError>
+        ensures variant { IsOk result
+            ↔ (length (Self.items self.old) < capacity_of (Self.room self.old)) }
+        ensures same_reference { IfOk result (λ e. entry_lender e ≡ self.entry.ghost_name) }
+        ensures stack { IfOk result (λ e. entry_stack e ≡ self.old) }
+        ensures* err { sem 𝓛 (RestsIfErr Self.row self.entry entry_lender result
+            (λ s. s ≡ self.old)) };
+
+    /// A place for one item more. Where all slots are taken the stack grows, and answers the errors,
+    /// as `push_reallocating` does. An error leaves the stack as it was.
+    fn entry_push_reallocating(
+        &mut self,
+    ) -> Result<NonZeroInxGenericStackPushEntry<'_, T, Self>, ReallocationError>
+        ensures same_reference { IfOk result (λ e. entry_lender e ≡ self.entry.ghost_name) }
+        ensures items { IfOk result (λ e. Self.items (entry_stack e) ≡ Self.items self.old) }
+        ensures has_room { IfOk result (λ e. length (Self.items (entry_stack e)) < capacity_of (Self.room (entry_stack e))) }
+        ensures kept { length (Self.items self.old) < capacity_of (Self.room self.old)
+            → IfOk result (λ e. Self.room (entry_stack e) ≡ Self.room self.old) }
+        ensures grown { length (Self.items self.old) ≡ capacity_of (Self.room self.old)
+            → IfOk result (λ e. Self.room (entry_stack e) ≡ grown (Self.room self.old)) }
+        ensures succeeds { length (Self.items self.old) < capacity_of (Self.room self.old)
+            → IsOk result }
+        ensures beyond { IsErrOf result ReallocationError.BeyondMaxCapacity
+            ↔ ((Self.room self.old).limit ≡ Some (length (Self.items self.old))) }
+        ensures* err { sem 𝓛 (RestsIfErr Self.row self.entry entry_lender result
+            (λ s. s ≡ self.old)) };
+
+    /// The same as `entry_push_reallocating`.
+    fn entry_push(
+        &mut self,
+    ) -> Result<NonZeroInxGenericStackPushEntry<'_, T, Self>, ReallocationError>
+        ensures same_reference { IfOk result (λ e. entry_lender e ≡ self.entry.ghost_name) }
+        ensures items { IfOk result (λ e. Self.items (entry_stack e) ≡ Self.items self.old) }
+        ensures has_room { IfOk result (λ e. length (Self.items (entry_stack e)) < capacity_of (Self.room (entry_stack e))) }
+        ensures kept { length (Self.items self.old) < capacity_of (Self.room self.old)
+            → IfOk result (λ e. Self.room (entry_stack e) ≡ Self.room self.old) }
+        ensures grown { length (Self.items self.old) ≡ capacity_of (Self.room self.old)
+            → IfOk result (λ e. Self.room (entry_stack e) ≡ grown (Self.room self.old)) }
+        ensures succeeds { length (Self.items self.old) < capacity_of (Self.room self.old)
+            → IsOk result }
+        ensures beyond { IsErrOf result ReallocationError.BeyondMaxCapacity
+            ↔ ((Self.room self.old).limit ≡ Some (length (Self.items self.old))) }
+        ensures* err { sem 𝓛 (RestsIfErr Self.row self.entry entry_lender result
+            (λ s. s ≡ self.old)) };
+}
+
+/// What a place for one item more does.
+pub trait NonZeroInxGenericStackPushEntryTrait<T> {
+    // The index that the item gets.
+    ghost index: { Self → ℕ };
+
+    // There is a free slot, as when the entry was made.
+    ghost has_room: { Self → Type 0 };
+
+    /// The index that the item gets.
+    fn inx(&self) -> NonZeroUsize
+        requires { has_room self.now }
+        ensures { non_zero_usize_get result ≡ index self.now };
+
+    /// Appends `value`, and answers its index. It takes no memory and cannot fail.
+    fn push(self, value: T) -> NonZeroUsize
+        requires { has_room self }
+        ensures { non_zero_usize_get result ≡ index self };
+}
+
+/// A place for one item more in a stack `S`. Dropped unused, it leaves the stack as it is.
+#[derive(Drop)]
+pub struct NonZeroInxGenericStackPushEntry<'a, T, S> {
+    stack: &'a mut S,
+    of: PhantomData<T>,
+}
+
+impl<'a, T, S> NonZeroInxGenericStackPushEntry<'a, T, S> {
+    // The entry of this stack.
+    pub(crate) fn new(stack: &'a mut S) -> Self
+        ensures same_reference { entry_lender result ≡ stack.entry.ghost_name }
+        ensures stack { entry_stack result ≡ stack.old }
+    {
+        NonZeroInxGenericStackPushEntry {
+            stack,
+            of: PhantomData,
+        }
+    }
+}
+
+impl<'a, T: Drop, S: NonZeroInxGenericStack<T>> NonZeroInxGenericStackPushEntryTrait<T>
+    for NonZeroInxGenericStackPushEntry<'a, T, S> {
+    ghost index = { λ e. length (S.items (entry_stack e)) + 1 };
+
+    ghost has_room = { λ e. length (S.items (entry_stack e)) < capacity_of (S.room (entry_stack e)) };
+
+    fn inx(&self) -> NonZeroUsize {
+        // The length is below the capacity, which is a number.
+        let _ = self.stack.capacity();
+        match NonZeroUsize::new(self.stack.len() + 1) {
+            Some(i) => i,
+            None => unreachable!(),
+        }
+    }
+
+    fn push(self, value: T) -> NonZeroUsize
+        requires { length (S.items (entry_stack self)) < capacity_of (S.room (entry_stack self)) }
+        ensures index { non_zero_usize_get result ≡ length (S.items (entry_stack self.entry)) + 1 }
+
+        // `self.exit.0.now` is the stack as it is left.
+        ensures items { S.items self.exit.0.now ≡ S.items (entry_stack self.entry) ++ value ∷ [] }
+        ensures room { S.room self.exit.0.now ≡ S.room (entry_stack self.entry) }
+    {
+        let NonZeroInxGenericStackPushEntry { stack, of: _ } = self;
+        push_in_room(stack, value)
+    }
+}

@@ -1,0 +1,260 @@
+//! What every stack does.
+ghost use Rattle.std.specs.Prelude.{◌≡◌, ◌≢◌, ℕ, ◌+◌, ◌-◌, ◌*◌, ◌^◌, ◌<◌, ◌≤◌, ◌↔◌, List, [], ◌∷◌, ◌++◌, Some, None, length, max, IsTrue, IsOk, IsSome, IfOk, OnOk, OnErr, IsErrOf};
+ghost use Rattle.std.specs.Borrow.{sem, Lends, LendsIf, Array};
+ghost use Rattle.std.specs.Int.NonZero.{non_zero_usize_get};
+ghost use Rattle.std.specs.List.{refill};
+ghost use Rattle.std.specs.Option.{option_copied, option_copied_mut, option_to_list};
+ghost use Rattle.triple_arena_stack.specs.Room.{Room, capacity as capacity_of, grown, with_reserved, IsBeyond};
+ghost use Rattle.triple_arena_stack.specs.Stack.{item_at, with_item};
+
+use std::num::NonZeroUsize;
+use triple_arena_ptr::{GetDisjointMutError, NotWithinCapacityError, ReallocationError};
+
+/// A stack whose items have the indexes from 1 on.
+pub trait NonZeroInxGenericStack<T: Drop> {
+    /// What the stack takes its memory from.
+    type Alloc;
+
+    // The item of index 1 comes first.
+    ghost items: { Self → List T };
+
+    // The reserved slots and the limit.
+    ghost room: { Self → Room };
+
+    // The room of a stack that is made for so many items.
+    ghost room_at: { ℕ → Room };
+
+    // The stack with other items in the same room.
+    ghost with_items: { Self → List T → Self };
+
+    /// An empty stack, which takes no memory.
+    fn new(alloc: Self::Alloc) -> Self
+        ensures items { items result ≡ [] }
+        ensures room { room result ≡ room_at 0 };
+
+    /// An empty stack with room for `min` items. It answers `BeyondMaxCapacity` where no stack of
+    /// this type has so much, and `AllocError` where the memory was refused.
+    fn with_min_capacity(alloc: Self::Alloc, min: usize) -> Result<Self, ReallocationError>
+        ensures items { IfOk result (λ s. items s ≡ []) }
+        ensures room { IfOk result (λ s. room s ≡ room_at min) }
+        ensures fits { IfOk result (λ s. min ≤ capacity_of (room s)) }
+
+        // No memory is asked for where a new stack has the room already.
+        ensures succeeds { min ≤ capacity_of (room_at 0) → IsOk result }
+        ensures beyond { IsErrOf result ReallocationError.BeyondMaxCapacity
+            ↔ IsBeyond (room_at min).limit min };
+
+    /// How many items fit with no growth.
+    fn capacity(&self) -> usize
+        ensures value { result ≡ capacity_of (room self.now) }
+        ensures holds_all { length (items self.now) ≤ result }
+
+        // Twice the capacity is a number wherever no limit stops a growth.
+        ensures can_double { (room self.now).limit ≡ None → result < 2 ^ 63 };
+
+    /// The capacity that no growth passes, if there is one.
+    fn max_capacity(&self) -> Option<usize>
+        ensures { result ≡ (room self.now).limit };
+
+    /// The number of items, which is the index of the last one.
+    fn len(&self) -> usize
+        ensures value { result ≡ length (items self.now) }
+        ensures fits { result ≤ capacity_of (room self.now) };
+
+    /// Makes room for `min` items, by a growth to exactly that where there is less. It answers
+    /// `BeyondMaxCapacity` where `min` is past the greatest capacity, and `AllocError` where the
+    /// memory was refused. An error leaves the stack as it was, its capacity too.
+    fn reallocate_min_capacity(&mut self, min: usize) -> Result<(), ReallocationError>
+        ensures items { items self.new ≡ items self.old }
+        ensures grown { capacity_of (room self.old) < min
+            → OnOk result (room self.new ≡ with_reserved (room self.old) min) }
+        ensures kept { min ≤ capacity_of (room self.old) → room self.new ≡ room self.old }
+        ensures succeeds { min ≤ capacity_of (room self.old) → IsOk result }
+        ensures beyond { IsErrOf result ReallocationError.BeyondMaxCapacity
+            ↔ IsBeyond (room self.old).limit min }
+        ensures err { OnErr result (self.new ≡ self.old) };
+
+    /// Appends `value`, and answers its index. Where all slots are taken the stack stays as it is,
+    /// and `value` is dropped.
+    fn push_within_capacity(&mut self, value: T) -> Result<NonZeroUsize, NotWithinCapacityError>
+        ensures variant { IsOk result ↔ (length (items self.old) < capacity_of (room self.old)) }
+        ensures index { IfOk result (λ i. non_zero_usize_get i ≡ length (items self.old) + 1) }
+        ensures items { OnOk result (items self.new ≡ items self.old ++ value ∷ []) }
+        ensures room { room self.new ≡ room self.old }
+        ensures err { OnErr result (self.new ≡ self.old) };
+
+    /// The item at `i`, for writing. There must be one.
+    fn item_mut(&mut self, i: NonZeroUsize) -> &mut T
+        requires { non_zero_usize_get i ≤ length (items self.old) }
+        ensures* writes_back { sem 𝓛 (Lends Self.row T.row self.entry result
+            (λ x. with_items self.old (with_item (items self.old) (non_zero_usize_get i) x))) }
+        ensures value { Some result.now ≡ item_at (items self.old) (non_zero_usize_get i) };
+
+    /// Removes and returns the last item, if there is one.
+    fn pop(&mut self) -> Option<T>
+        ensures items { items self.old ≡ items self.new ++ option_to_list result }
+        ensures variant { IsSome result ↔ (0 < length (items self.old)) }
+        ensures room { room self.new ≡ room self.old };
+
+    /// Drops every item.
+    fn clear(&mut self)
+        ensures items { items self.new ≡ [] }
+        ensures room { room self.new ≡ room self.old };
+
+    /// The items from index 1 on.
+    fn as_slice(&self) -> &[T]
+        ensures { result.now ≡ items self.now };
+
+    /// The items from index 1 on, for writing.
+    fn as_mut_slice(&mut self) -> &mut [T]
+        ensures* writes_back { sem 𝓛 (Lends Self.row (Array T.row 0) self.entry result
+            (λ xs. with_items self.old (refill (length (items self.old)) (items self.old) xs))) }
+        ensures value { result.now ≡ items self.old };
+
+    // Other items change nothing else.
+    ghost items_with_items: { (s : Self) (xs : List T) → items (with_items s xs) ≡ xs };
+
+    ghost room_with_items: { (s : Self) (xs : List T) → room (with_items s xs) ≡ room s };
+
+    /// Whether there is no item.
+    final fn is_empty(&self) -> bool
+        ensures { IsTrue result ↔ (items self.now ≡ []) }
+    {
+        self.len() == 0
+    }
+
+    /// Appends `value`, and answers its index. Where all slots are taken the stack grows: to 4 at
+    /// first, then to the double, and never past its greatest capacity.
+    ///
+    /// It answers `BeyondMaxCapacity` where the length is the greatest capacity, and `AllocError`
+    /// where the memory was refused. The stack is then as it was, and `value` is dropped.
+    final fn push_reallocating(&mut self, value: T) -> Result<NonZeroUsize, ReallocationError>
+        ensures index { IfOk result (λ i. non_zero_usize_get i ≡ length (items self.old) + 1) }
+        ensures items { OnOk result (items self.new ≡ items self.old ++ value ∷ []) }
+        ensures kept { length (items self.old) < capacity_of (room self.old)
+            → room self.new ≡ room self.old }
+        ensures grown { length (items self.old) ≡ capacity_of (room self.old)
+            → OnOk result (room self.new ≡ grown (room self.old)) }
+        ensures succeeds { length (items self.old) < capacity_of (room self.old) → IsOk result }
+        ensures beyond { IsErrOf result ReallocationError.BeyondMaxCapacity
+            ↔ ((room self.old).limit ≡ Some (length (items self.old))) }
+        ensures err { OnErr result (self.new ≡ self.old) }
+    {
+        make_room(self)?;
+        Ok(push_in_room(self, value))
+    }
+
+    /// The same as `push_reallocating`.
+    final fn push(&mut self, value: T) -> Result<NonZeroUsize, ReallocationError>
+        ensures index { IfOk result (λ i. non_zero_usize_get i ≡ length (items self.old) + 1) }
+        ensures items { OnOk result (items self.new ≡ items self.old ++ value ∷ []) }
+        ensures kept { length (items self.old) < capacity_of (room self.old)
+            → room self.new ≡ room self.old }
+        ensures grown { length (items self.old) ≡ capacity_of (room self.old)
+            → OnOk result (room self.new ≡ grown (room self.old)) }
+        ensures succeeds { length (items self.old) < capacity_of (room self.old) → IsOk result }
+        ensures beyond { IsErrOf result ReallocationError.BeyondMaxCapacity
+            ↔ ((room self.old).limit ≡ Some (length (items self.old))) }
+        ensures err { OnErr result (self.new ≡ self.old) }
+    {
+        self.push_reallocating(value)
+    }
+
+    /// The item at `i`, if there is one.
+    final fn get(&self, i: NonZeroUsize) -> Option<&T>
+        ensures { option_copied result ≡ item_at (items self.now) (non_zero_usize_get i) }
+    {
+        self.as_slice().get(i.get() - 1)
+    }
+
+    /// The item at `i` for writing, if there is one.
+    final fn get_mut(&mut self, i: NonZeroUsize) -> Option<&mut T>
+        ensures* writes_back { sem 𝓛 (LendsIf Self.row T.row self.entry result
+            (λ x. with_items self.old
+            (with_item (items self.old) (non_zero_usize_get i) x)) self.old) }
+        ensures variant { IsSome result ↔ (non_zero_usize_get i ≤ length (items self.old)) }
+        ensures value { option_copied_mut result ≡ item_at (items self.old) (non_zero_usize_get i) }
+    {
+        if i.get() <= self.len() {
+            Some(self.item_mut(i))
+        } else {
+            None
+        }
+    }
+
+    /// Whether `get_disjoint_mut` can lend the items at `i` and `j`. It answers `IndexOutOfBounds`
+    /// where one of them is not there, and else `OverlappingIndices` where they are one.
+    final fn check_disjoint(
+        &self,
+        i: NonZeroUsize,
+        j: NonZeroUsize,
+    ) -> Result<(), GetDisjointMutError>
+        ensures ok { OnOk result ((non_zero_usize_get i ≤ length (items self.now))
+            × (non_zero_usize_get j ≤ length (items self.now))
+            × (non_zero_usize_get i ≢ non_zero_usize_get j)) }
+        ensures out_of_bounds { IsErrOf result GetDisjointMutError.IndexOutOfBounds
+            ↔ (length (items self.now) < max (non_zero_usize_get i) (non_zero_usize_get j)) }
+        ensures overlapping { IsErrOf result GetDisjointMutError.OverlappingIndices
+            ↔ ((non_zero_usize_get i ≡ non_zero_usize_get j)
+            × (non_zero_usize_get i ≤ length (items self.now))) }
+    {
+        if i.max(j).get() > self.len() {
+            return Err(GetDisjointMutError::IndexOutOfBounds);
+        }
+        if i == j {
+            return Err(GetDisjointMutError::OverlappingIndices);
+        }
+        Ok(())
+    }
+}
+
+// The capacity that a growth asks for, as far as a number can say it.
+fn doubled(capacity: usize) -> usize
+    ensures exact { capacity < 2 ^ 63 → result ≡ max 4 (2 * capacity) }
+    ensures great { 2 ^ 63 ≤ capacity → result ≡ 2 ^ 64 - 1 }
+{
+    capacity.saturating_mul(2).max(4)
+}
+
+// Makes room for one item more than there are.
+pub(crate) fn make_room<T: Drop, S: NonZeroInxGenericStack<T>>(
+    stack: &mut S,
+) -> Result<(), ReallocationError>
+    ensures items { S.items stack.new ≡ S.items stack.old }
+    ensures fits { OnOk result (length (S.items stack.new) < capacity_of (S.room stack.new)) }
+    ensures kept { length (S.items stack.old) < capacity_of (S.room stack.old)
+        → S.room stack.new ≡ S.room stack.old }
+    ensures grown { length (S.items stack.old) ≡ capacity_of (S.room stack.old)
+        → OnOk result (S.room stack.new ≡ grown (S.room stack.old)) }
+    ensures succeeds { length (S.items stack.old) < capacity_of (S.room stack.old) → IsOk result }
+    ensures beyond { IsErrOf result ReallocationError.BeyondMaxCapacity
+        ↔ ((S.room stack.old).limit ≡ Some (length (S.items stack.old))) }
+    ensures err { OnErr result (stack.new ≡ stack.old) }
+{
+    let capacity = stack.capacity();
+    if stack.len() < capacity {
+        return Ok(());
+    }
+    let wanted = doubled(capacity);
+    match stack.max_capacity() {
+        None => stack.reallocate_min_capacity(wanted),
+        Some(limit) if capacity < limit => stack.reallocate_min_capacity(wanted.min(limit)),
+        Some(_) => Err(ReallocationError::BeyondMaxCapacity),
+    }
+}
+
+// Appends `value` to a stack that has room.
+pub(crate) fn push_in_room<T: Drop, S: NonZeroInxGenericStack<T>>(
+    stack: &mut S,
+    value: T,
+) -> NonZeroUsize
+    requires { length (S.items stack.old) < capacity_of (S.room stack.old) }
+    ensures index { non_zero_usize_get result ≡ length (S.items stack.old) + 1 }
+    ensures items { S.items stack.new ≡ S.items stack.old ++ value ∷ [] }
+    ensures room { S.room stack.new ≡ S.room stack.old }
+{
+    match stack.push_within_capacity(value) {
+        Ok(i) => i,
+        Err(_) => unreachable!(),
+    }
+}
