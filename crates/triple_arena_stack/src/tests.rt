@@ -1,0 +1,5 @@
+//! What no clause says: that memory is had where there is some; and each generic call at each
+//! stack.
+mod capacities;
+mod generic;
+mod refusals;
