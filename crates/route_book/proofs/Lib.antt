@@ -1,5 +1,6 @@
 pub mod BookLemmas
 pub mod CallLemmas
+pub mod CommandLineLemmas
 pub mod GrammarLemmas
 pub mod NumberLemmas
 pub mod PlaceLemmas

@@ -1,5 +1,6 @@
 pub mod Book
 pub mod Calls
+pub mod CommandLine
 pub mod Grammar
 pub mod Number
 pub mod Reply

@@ -4,6 +4,7 @@
 mod answer;
 mod book;
 mod command;
+mod command_line;
 mod counts;
 pub mod laws;
 mod line;
@@ -22,6 +23,7 @@ mod word;
 
 pub use book::RouteBook;
 pub use command::Command;
+pub use command_line::program;
 pub use counts::Counts;
 pub use line::read_line;
 pub use number::read_number;

@@ -1,0 +1,140 @@
+ghost use Rattle.std.specs.Prelude.{◌≡◌, ◌<◌, ◌≤◌, ◌+◌, ◌-◌, ◌^◌, ◌↔◌, ◌⊎◌, ℕ, Some, IfSome, IsNone, codes, map, string_bytes};
+ghost use Rattle.std.specs.Option.{option_map};
+ghost use Rattle.std.specs.Io.KnownBytes.{Appends};
+ghost use Rattle.route_book.specs.Number.{number_of};
+ghost use Rattle.route_book.specs.CommandLine.{Answers, BeginsToAnswer, Tells, refusal_of, refused_line, room_sum, rooms_of};
+ghost use Rattle.route_book.specs.Reply.{ended};
+ghost use Rattle.route_book.specs.State.{Rooms, empty};
+ghost use Rattle.route_book.specs.Watched.{inner_of};
+
+use crate::book::RouteBook;
+use crate::counts::Counts;
+use crate::number::read_number;
+use crate::refusal::RoomError;
+use crate::running::{RunFault, run};
+use crate::watched::Watched;
+use std::alloc::Global;
+use std::io::{Read, Write};
+
+/// The program `route_book PLACES STOPS MARKS`: makes a store with these rooms and answers its input.
+///
+/// `args` are its arguments, without its name. It gives its exit status:
+///
+/// - 0 where the whole input is answered;
+/// - 1 where the input could not be read or a reply could not be written;
+/// - 2 where the arguments are not three decimal numbers below 2^64 without leading zeros;
+/// - 3 where the store could not be made. The input is then not read, as at 2.
+///
+/// At each but 0 it writes a line on `errors` that says why; a failure to write that is passed over.
+pub fn program<R: Read, W: Write, E: Write>(
+    alloc: Global,
+    args: &[String],
+    input: &mut Watched<R>,
+    output: &mut Watched<W>,
+    errors: &mut Watched<E>,
+) -> u8
+    ensures status { result ≤ 3 }
+
+    // The arguments alone decide whether they are refused, and rooms past an index always are.
+    ensures usage { (result ≡ 2) ↔ IsNone (rooms_of (map string_bytes args.now)) }
+    ensures index { IfSome (rooms_of (map string_bytes args.now)) (λ rooms. 2 ^ 64 ≤ room_sum rooms → result ≡ 3) }
+    ensures unread { 2 ≤ result → input.new ≡ input.old }
+    ensures unwritten { 2 ≤ result → output.new ≡ output.old }
+
+    // What was written is the text that answers the input, or a beginning of it where a read or a write failed.
+    ensures answered { result ≡ 0 → IfSome (rooms_of (map string_bytes args.now)) (λ rooms. Answers rooms (R.remaining (inner_of input.old)) (R.remaining (inner_of input.new)) (W.contents (inner_of output.old)) (W.contents (inner_of output.new))) }
+    ensures begun { result ≡ 1 → IfSome (rooms_of (map string_bytes args.now)) (λ rooms. BeginsToAnswer rooms (R.remaining (inner_of input.old)) (R.remaining (inner_of input.new)) (W.contents (inner_of output.old)) (W.contents (inner_of output.new))) }
+
+    // The line that says why.
+    ensures silent { result ≡ 0 → errors.new ≡ errors.old }
+    ensures fault { result ≡ 1
+        → (((input.old.failed < input.new.failed) ⊎ (input.new.calls ≡ input.old.calls + (2 ^ 64 - 1)))
+        × Tells errors.old.failed errors.new.failed (E.contents (inner_of errors.old)) (E.contents (inner_of errors.new)) (codes "read failed"))
+        ⊎ ((output.old.failed < output.new.failed)
+        × Tells errors.old.failed errors.new.failed (E.contents (inner_of errors.old)) (E.contents (inner_of errors.new)) (codes "write failed")) }
+    ensures told_usage { result ≡ 2 → Tells errors.old.failed errors.new.failed (E.contents (inner_of errors.old)) (E.contents (inner_of errors.new)) (codes "usage: route_book PLACES STOPS MARKS") }
+    ensures told_room { result ≡ 3 → IfSome (rooms_of (map string_bytes args.now)) (λ rooms. Tells errors.old.failed errors.new.failed (E.contents (inner_of errors.old)) (E.contents (inner_of errors.new)) (refused_line (refusal_of rooms))) }
+{
+    let Some((places, stops, marks)) = read_rooms(args) else {
+        tell(errors, b"usage: route_book PLACES STOPS MARKS\n");
+        return 2;
+    };
+    match RouteBook::new(alloc, places, stops, marks) {
+        Ok(book) => answer_input(book, input, output, errors),
+        Err(refusal) => {
+            tell(errors, refused_line(refusal));
+            3
+        }
+    }
+}
+
+// The status of a run over a new store; a fault is told.
+fn answer_input<R: Read, W: Write, E: Write>(
+    mut book: RouteBook,
+    input: &mut Watched<R>,
+    output: &mut Watched<W>,
+    errors: &mut Watched<E>,
+) -> u8
+    ensures status { result ≤ 1 }
+    ensures answered { result ≡ 0 → (rooms : Rooms) → book ≡ empty rooms 0 → Answers rooms (R.remaining (inner_of input.old)) (R.remaining (inner_of input.new)) (W.contents (inner_of output.old)) (W.contents (inner_of output.new)) }
+    ensures begun { result ≡ 1 → (rooms : Rooms) → book ≡ empty rooms 0 → BeginsToAnswer rooms (R.remaining (inner_of input.old)) (R.remaining (inner_of input.new)) (W.contents (inner_of output.old)) (W.contents (inner_of output.new)) }
+    ensures silent { result ≡ 0 → errors.new ≡ errors.old }
+    ensures fault { result ≡ 1
+        → (((input.old.failed < input.new.failed) ⊎ (input.new.calls ≡ input.old.calls + (2 ^ 64 - 1)))
+        × Tells errors.old.failed errors.new.failed (E.contents (inner_of errors.old)) (E.contents (inner_of errors.new)) (codes "read failed"))
+        ⊎ ((output.old.failed < output.new.failed)
+        × Tells errors.old.failed errors.new.failed (E.contents (inner_of errors.old)) (E.contents (inner_of errors.new)) (codes "write failed")) }
+{
+    match run(&mut book, input, output, &mut Counts::new()) {
+        Ok(()) => 0,
+        Err(RunFault::Read(_)) => {
+            tell(errors, b"read failed\n");
+            1
+        }
+        Err(RunFault::Write(_)) => {
+            tell(errors, b"write failed\n");
+            1
+        }
+        Err(RunFault::TooLong) => {
+            tell(errors, b"read failed\n");
+            1
+        }
+    }
+}
+
+// The rooms of places, stops and marks.
+fn read_rooms(args: &[String]) -> Option<(usize, usize, usize)>
+    ensures { option_map (λ rooms. record { places = rooms.0; stops = rooms.1; marks = rooms.2 }) result ≡ rooms_of (map string_bytes args.now) }
+{
+    let [places, stops, marks] = args else {
+        return None;
+    };
+    Some((read_room(places)?, read_room(stops)?, read_room(marks)?))
+}
+
+fn read_room(arg: &String) -> Option<usize>
+    ensures { result ≡ number_of (string_bytes arg.now) }
+{
+    let number = read_number(arg.as_bytes())?;
+    usize::try_from(number).ok()
+}
+
+// The line for a refusal of `RouteBook::new`, with its LF.
+fn refused_line(refusal: RoomError) -> &'static [u8]
+    ensures { result.now ≡ ended (refused_line refusal) }
+{
+    match refusal {
+        RoomError::Generation => b"room refused: generation\n",
+        RoomError::Index => b"room refused: index\n",
+        RoomError::Stack => b"room refused: stack\n",
+        RoomError::Memory => b"room refused: memory\n",
+        RoomError::TooSmall => b"room refused: too small\n",
+    }
+}
+
+// Writes a line. Nobody is left to hear of a failure.
+fn tell<E: Write>(errors: &mut Watched<E>, line: &[u8])
+    ensures { errors.new.failed ≡ errors.old.failed → Appends (E.contents (inner_of errors.old)) (E.contents (inner_of errors.new)) line.now }
+{
+    let _ = errors.send(line);
+}

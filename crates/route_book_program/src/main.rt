@@ -1,0 +1,42 @@
+//! The program `route_book PLACES STOPS MARKS`: a store with these rooms answers the lines of the standard input.
+#![tactic(auto)]
+
+use route_book::{RoomError, Watched, program};
+use std::env;
+use std::io;
+use std::io::{ErrorKind, Write};
+use std::process::ExitCode;
+
+fn main(rt: HostRuntime) -> ExitCode {
+    ExitCode::from(match arguments(&rt) {
+        Ok(args) => answer_input(&rt, &args),
+        Err(error) if error.kind() == ErrorKind::OutOfMemory => {
+            let _ = writeln!(rt.stderr(), "room refused: {}", RoomError::Memory);
+            3
+        }
+        // An argument that is no text is no number either; without arguments `program` tells the usage.
+        Err(_) => answer_input(&rt, &[]),
+    })
+}
+
+// All arguments but the program's name.
+fn arguments(rt: &HostRuntime) -> io::Result<Vec<String>> {
+    let mut args = env::args(rt)?;
+    args.next();
+    let mut rooms = Vec::new(rt.alloc());
+    for arg in args {
+        rooms.push(arg)?;
+    }
+    Ok(rooms)
+}
+
+// Answers the standard input on the standard output.
+fn answer_input(rt: &HostRuntime, args: &[String]) -> u8 {
+    program(
+        rt.alloc(),
+        args,
+        &mut Watched::new(rt.stdin()),
+        &mut Watched::new(rt.stdout()),
+        &mut Watched::new(rt.stderr()),
+    )
+}
