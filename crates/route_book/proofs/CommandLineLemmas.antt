@@ -1,11 +1,11 @@
--- A run that breaks off has written a beginning of the text that answers what it read.
-use Rattle.std.proofs.Common.{◌≡◌, ◌∙◌, sym, ap, subst, refl, ℕ, ◌++◌, List, [], ◌∷◌, Option, map, append_assoc, append-nil}
-use Rattle.std.specs.Io.KnownBytes.{Appends, Consumes}
+-- What a run that breaks off has written, as the program tells it.
+use Rattle.std.proofs.Common.{◌≡◌, ◌⊎◌, inl, inr, ◌∙◌, sym, ap, subst, refl, ℕ, ◌++◌, List, [], ◌∷◌, Option, map, append_assoc, append-nil}
+use Rattle.std.specs.Io.KnownBytes.{Appends, Consumes, IsAtEnd}
 use Rattle.route_book.specs.State.{State, Rooms, empty}
 use Rattle.route_book.specs.Reply.{reply, next}
 use Rattle.route_book.specs.Text.{Line, whole, command_in, replies, after_lines, lines, whole_lines, rest_of, unended_line, text}
 use Rattle.route_book.specs.Run.{Carries, StopsWithin, OnRead, OnWrite, OnTooLong}
-use Rattle.route_book.specs.CommandLine.{BeginsToAnswer}
+use Rattle.route_book.specs.CommandLine.{AnswersWholeLines, BeginsToAnswer}
 use Rattle.route_book.specs.declared.counts.Counts.{Counts}
 use Rattle.route_book.specs.declared.running.fault.RunFault.{RunFault}
 use Rattle.route_book.specs.declared.running.fault.RunFault.TheVariants.{Read, Write, TooLong}
@@ -22,15 +22,18 @@ begins rooms book before left held written input part missing new read is answer
   answered = answered;
 }
 
-pub begins-whole_lines : (rooms : Rooms) (book later : State) (before left held written : Option (List ℕ)) (counts counted : Counts) (input : List ℕ) → book ≡ empty rooms 0 → Consumes before left input → Carries book (map whole (whole_lines input)) later held written counts counted → BeginsToAnswer rooms before left held written
-begins-whole_lines rooms book later before left held written counts counted input new read carries =
-    begins rooms book before left held written input _ _ new read (replies-append book (map whole (whole_lines input)) (unended_line (rest_of input))) carries.replied
+pub answers-whole_lines : (rooms : Rooms) (book later : State) (before left held written : Option (List ℕ)) (counts counted : Counts) (input : List ℕ) → book ≡ empty rooms 0 → Consumes before left input → Carries book (map whole (whole_lines input)) later held written counts counted → AnswersWholeLines rooms before left held written
+answers-whole_lines rooms book later before left held written counts counted input new read carries = record {
+  input = input;
+  read = read;
+  answered = subst (λ s. Appends held written (replies s (map whole (whole_lines input)))) new carries.replied;
+}
 
-pub begins-lines : (rooms : Rooms) (book later : State) (before left held written : Option (List ℕ)) (counts counted : Counts) (input : List ℕ) → book ≡ empty rooms 0 → Consumes before left input → Carries book (lines input) later held written counts counted → BeginsToAnswer rooms before left held written
+begins-lines : (rooms : Rooms) (book later : State) (before left held written : Option (List ℕ)) (counts counted : Counts) (input : List ℕ) → book ≡ empty rooms 0 → Consumes before left input → Carries book (lines input) later held written counts counted → BeginsToAnswer rooms before left held written
 begins-lines rooms book later before left held written counts counted input new read carries =
     begins rooms book before left held written input (text book input) [] new read (sym (append-nil (text book input))) carries.replied
 
-pub begins-within : (rooms : Rooms) (book later : State) (before left held written : Option (List ℕ)) (counts counted : Counts) (input : List ℕ) → book ≡ empty rooms 0 → Consumes before left input → StopsWithin input left book later held written counts counted → BeginsToAnswer rooms before left held written
+begins-within : (rooms : Rooms) (book later : State) (before left held written : Option (List ℕ)) (counts counted : Counts) (input : List ℕ) → book ≡ empty rooms 0 → Consumes before left input → StopsWithin input left book later held written counts counted → BeginsToAnswer rooms before left held written
 begins-within rooms book later before left held written counts counted input new read stops =
     let b = stops.breaks in
     let m = after_lines book stops.before in
@@ -43,6 +46,11 @@ begins-within rooms book later before left held written counts counted input new
     ∙ sym (append_assoc (replies book stops.before) b.part (b.missing ++ behind))
     in
     begins rooms book before left held written input (replies book stops.before ++ b.part) (b.missing ++ behind) new read is b.replied
+
+-- where a write failed, a line was being answered; or all were, and the flush failed
+pub begins-to_answer : (rooms : Rooms) (book later : State) (before left held written : Option (List ℕ)) (counts counted : Counts) (input : List ℕ) → book ≡ empty rooms 0 → Consumes before left input → StopsWithin input left book later held written counts counted ⊎ (IsAtEnd left × Carries book (lines input) later held written counts counted) → BeginsToAnswer rooms before left held written
+begins-to_answer rooms book later before left held written counts counted input new read (inl stops) = begins-within rooms book later before left held written counts counted input new read stops
+begins-to_answer rooms book later before left held written counts counted input new read (inr all) = begins-lines rooms book later before left held written counts counted input new read all.1
 
 -- what is known of each kind of fault
 pub on_read : (fault : RunFault) (e : Error) (P : Type 0) → fault ≡ Read e → OnRead fault P → P

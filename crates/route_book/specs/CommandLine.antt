@@ -1,11 +1,11 @@
 -- What the program's arguments ask for, and what it has done when it ends.
-use Rattle.std.specs.Prelude.{◌≡◌, ℕ, ◌+◌, ◌≤◌, ◌<◌, ◌^◌, ◌++◌, ◌∷◌, List, [], Option, None, codes, nat_le, option_and_then, if◌then◌else◌}
+use Rattle.std.specs.Prelude.{◌≡◌, ℕ, ◌+◌, ◌≤◌, ◌<◌, ◌^◌, ◌++◌, ◌∷◌, List, [], Option, None, codes, map, nat_le, option_and_then, if◌then◌else◌}
 use Rattle.std.specs.Option.{option_map}
 use Rattle.std.specs.Io.KnownBytes.{Appends, Consumes, IsAtEnd}
 use Rattle.route_book.specs.Number.{number_of}
 use Rattle.route_book.specs.Reply.{ended}
 use Rattle.route_book.specs.State.{Rooms, empty}
-use Rattle.route_book.specs.Text.{text}
+use Rattle.route_book.specs.Text.{whole, whole_lines, replies, text}
 use Rattle.route_book.specs.declared.refusal.RoomError.{RoomError}
 use Rattle.route_book.specs.declared.refusal.RoomError.TheVariants.{Generation, Index, Stack, Memory, TooSmall}
 
@@ -40,6 +40,12 @@ pub record Answers (rooms : Rooms) (before left held written : Option (List ℕ)
   pub read : Consumes before left input
   pub ended : IsAtEnd left
   pub answered : Appends held written (text (empty rooms 0) input)
+
+-- some input was read, and each line of it that an LF ends was answered, nothing else
+pub record AnswersWholeLines (rooms : Rooms) (before left held written : Option (List ℕ)) : Type 0 where
+  pub input : List ℕ
+  pub read : Consumes before left input
+  pub answered : Appends held written (replies (empty rooms 0) (map whole (whole_lines input)))
 
 -- some input was read, and a beginning of the text that answers it was written
 pub record BeginsToAnswer (rooms : Rooms) (before left held written : Option (List ℕ)) : Type 0 where

@@ -2,7 +2,7 @@ ghost use Rattle.std.specs.Prelude.{◌≡◌, ◌<◌, ◌≤◌, ◌+◌, ◌-
 ghost use Rattle.std.specs.Option.{option_map};
 ghost use Rattle.std.specs.Io.KnownBytes.{Appends};
 ghost use Rattle.route_book.specs.Number.{number_of};
-ghost use Rattle.route_book.specs.CommandLine.{Answers, BeginsToAnswer, Tells, refusal_of, refused_line, room_sum, rooms_of};
+ghost use Rattle.route_book.specs.CommandLine.{Answers, AnswersWholeLines, BeginsToAnswer, Tells, refusal_of, refused_line, room_sum, rooms_of};
 ghost use Rattle.route_book.specs.Reply.{ended};
 ghost use Rattle.route_book.specs.State.{Rooms, empty};
 ghost use Rattle.route_book.specs.Watched.{inner_of};
@@ -41,17 +41,20 @@ pub fn program<R: Read, W: Write, E: Write>(
     ensures unread { 2 ≤ result → input.new ≡ input.old }
     ensures unwritten { 2 ≤ result → output.new ≡ output.old }
 
-    // What was written is the text that answers the input, or a beginning of it where a read or a write failed.
+    // The whole input is answered.
     ensures answered { result ≡ 0 → IfSome (rooms_of (map string_bytes args.now)) (λ rooms. Answers rooms (R.remaining (inner_of input.old)) (R.remaining (inner_of input.new)) (W.contents (inner_of output.old)) (W.contents (inner_of output.new))) }
-    ensures begun { result ≡ 1 → IfSome (rooms_of (map string_bytes args.now)) (λ rooms. BeginsToAnswer rooms (R.remaining (inner_of input.old)) (R.remaining (inner_of input.new)) (W.contents (inner_of output.old)) (W.contents (inner_of output.new))) }
-
-    // The line that says why.
     ensures silent { result ≡ 0 → errors.new ≡ errors.old }
-    ensures fault { result ≡ 1
-        → (((input.old.failed < input.new.failed) ⊎ (input.new.calls ≡ input.old.calls + (2 ^ 64 - 1)))
+
+    // A read failed and every whole line that was read is answered; or a write failed, and a beginning of the answer is written.
+    ensures fault { result ≡ 1 → IfSome (rooms_of (map string_bytes args.now)) (λ rooms.
+        (AnswersWholeLines rooms (R.remaining (inner_of input.old)) (R.remaining (inner_of input.new)) (W.contents (inner_of output.old)) (W.contents (inner_of output.new))
+        × ((input.old.failed < input.new.failed) ⊎ (input.new.calls ≡ input.old.calls + (2 ^ 64 - 1)))
         × Tells errors.old.failed errors.new.failed (E.contents (inner_of errors.old)) (E.contents (inner_of errors.new)) (codes "read failed"))
-        ⊎ ((output.old.failed < output.new.failed)
-        × Tells errors.old.failed errors.new.failed (E.contents (inner_of errors.old)) (E.contents (inner_of errors.new)) (codes "write failed")) }
+        ⊎ (BeginsToAnswer rooms (R.remaining (inner_of input.old)) (R.remaining (inner_of input.new)) (W.contents (inner_of output.old)) (W.contents (inner_of output.new))
+        × (output.old.failed < output.new.failed)
+        × Tells errors.old.failed errors.new.failed (E.contents (inner_of errors.old)) (E.contents (inner_of errors.new)) (codes "write failed"))) }
+
+    // The line that says why the input was not read.
     ensures told_usage { result ≡ 2 → Tells errors.old.failed errors.new.failed (E.contents (inner_of errors.old)) (E.contents (inner_of errors.new)) (codes "usage: route_book PLACES STOPS MARKS") }
     ensures told_room { result ≡ 3 → IfSome (rooms_of (map string_bytes args.now)) (λ rooms. Tells errors.old.failed errors.new.failed (E.contents (inner_of errors.old)) (E.contents (inner_of errors.new)) (refused_line (refusal_of rooms))) }
 {
@@ -77,12 +80,13 @@ fn answer_input<R: Read, W: Write, E: Write>(
 ) -> u8
     ensures status { result ≤ 1 }
     ensures answered { result ≡ 0 → (rooms : Rooms) → book ≡ empty rooms 0 → Answers rooms (R.remaining (inner_of input.old)) (R.remaining (inner_of input.new)) (W.contents (inner_of output.old)) (W.contents (inner_of output.new)) }
-    ensures begun { result ≡ 1 → (rooms : Rooms) → book ≡ empty rooms 0 → BeginsToAnswer rooms (R.remaining (inner_of input.old)) (R.remaining (inner_of input.new)) (W.contents (inner_of output.old)) (W.contents (inner_of output.new)) }
     ensures silent { result ≡ 0 → errors.new ≡ errors.old }
-    ensures fault { result ≡ 1
-        → (((input.old.failed < input.new.failed) ⊎ (input.new.calls ≡ input.old.calls + (2 ^ 64 - 1)))
+    ensures fault { result ≡ 1 → (rooms : Rooms) → book ≡ empty rooms 0 →
+        (AnswersWholeLines rooms (R.remaining (inner_of input.old)) (R.remaining (inner_of input.new)) (W.contents (inner_of output.old)) (W.contents (inner_of output.new))
+        × ((input.old.failed < input.new.failed) ⊎ (input.new.calls ≡ input.old.calls + (2 ^ 64 - 1)))
         × Tells errors.old.failed errors.new.failed (E.contents (inner_of errors.old)) (E.contents (inner_of errors.new)) (codes "read failed"))
-        ⊎ ((output.old.failed < output.new.failed)
+        ⊎ (BeginsToAnswer rooms (R.remaining (inner_of input.old)) (R.remaining (inner_of input.new)) (W.contents (inner_of output.old)) (W.contents (inner_of output.new))
+        × (output.old.failed < output.new.failed)
         × Tells errors.old.failed errors.new.failed (E.contents (inner_of errors.old)) (E.contents (inner_of errors.new)) (codes "write failed")) }
 {
     match run(&mut book, input, output, &mut Counts::new()) {
