@@ -17,6 +17,8 @@ mod reply_text;
 mod running;
 mod search;
 mod shown;
+#[cfg(test)]
+mod tests;
 mod unfinished;
 mod watched;
 mod word;

@@ -1,0 +1,5 @@
+mod calls;
+mod faults;
+mod programs;
+mod rows;
+mod streams;
