@@ -1,15 +1,13 @@
 -- Places kept in vectors, and what a search among them means for the state.
-use Rattle.std.proofs.Common.{◌≡◌, ◌≢◌, ◌∙◌, sym, ap, subst, refl, Bool, true, false, ◌||◌, ◌==◌, ℕ, zero, suc, ◌+◌, ◌-◌, ◌<◌, ◌≤◌, ◌⊎◌, inl, inr, List, [], ◌∷◌, ◌++◌, slice_set, length, map, get_or, Option, Some, None, arith}
-use Rattle.std.specs.Option.{option_map}
+use Rattle.std.proofs.Common.{◌≡◌, ◌≢◌, ◌∙◌, sym, ap, refl, Bool, true, false, ◌||◌, ◌==◌, ℕ, zero, suc, ◌+◌, ◌-◌, ◌<◌, ◌≤◌, ◌⊎◌, inl, inr, List, [], ◌∷◌, ◌++◌, slice_set, length, map, get_or, arith}
 use Rattle.std.specs.List.{insert, list_any}
 use Rattle.std.proofs.lemmas.Bool.{cases_lt, cases_eq, cases_order, eq-eqb}
 use Rattle.std.proofs.lemmas.List.{get_or-map, get_or_default, length-map, length-set, ext_get_or, get_or-set_same, get_or-set_other, get_or_append_left, get_or_at, length-append}
 use Rattle.std.proofs.lemmas.List.Edits.{length-insert, get_or-insert_below, get_or-insert_at, get_or-insert_above}
-use Rattle.route_book.specs.State.{State, Place, with_key}
-use Rattle.route_book.specs.Calls.{found}
+use Rattle.route_book.specs.State.{Place}
 use Rattle.route_book.specs.declared.place.Place.{Place as Entry}
-use Rattle.route_book.specs.Book.{entry_at, state_place, place_at, places_by, IsOrder, AreByKey, AreByTicket, IsBook}
-use Rattle.route_book.proofs.PlaceLemmas.{with_key-at, with_key_none, below_gap, above_gap, same_place, AreByKey-set, AreByKey-insert}
+use Rattle.route_book.specs.Book.{entry_at, state_place, place_at, places_by, IsOrder, AreByKey, IsBook}
+use Rattle.route_book.proofs.PlaceLemmas.{below_gap, above_gap, same_place, AreByKey-set, AreByKey-insert}
 
 -- the place at an index of the order
 pub place_at-map : (entries : List Entry) (order : List ℕ) (k : ℕ) → k < length order → place_at (places_by entries order) k ≡ state_place (entry_at entries (get_or order k 0))

@@ -1,11 +1,11 @@
 -- What `place` and `show` do, where a search found a key, a ticket or a gap.
-use Rattle.std.proofs.Common.{◌≡◌, ◌∙◌, sym, ap, subst, refl, Bool, true, false, ◌||◌, ◌==◌, ◌≢◌, ◌⊎◌, inl, inr, true≢false, ℕ, zero, suc, ◌+◌, ◌-◌, ◌<◌, ◌≤◌, List, [], ◌∷◌, ◌++◌, length, get_or, slice_set, Option, Some, None, Result, Ok, Err, arith}
+use Rattle.std.proofs.Common.{◌≡◌, ◌∙◌, sym, ap, subst, refl, Bool, true, false, ◌||◌, ◌==◌, ◌≢◌, ◌⊎◌, inl, inr, true≢false, ℕ, suc, ◌+◌, ◌-◌, ◌<◌, ◌≤◌, List, [], ◌∷◌, ◌++◌, length, get_or, slice_set, Some, None, Ok, Err, arith}
 use Rattle.std.specs.List.{insert, list_any, find}
 use Rattle.std.specs.Option.{option_map}
 use Rattle.std.proofs.lemmas.Bool.{leb-false, eq-eqb, ne_eqb, le-ltb, cases_eq, cases_lt, cases_order}
 use Rattle.std.proofs.lemmas.List.{length-append, get_or_default}
 use Rattle.route_book.specs.State.{Rooms, State, Place, with_key, is_full_of_places}
-use Rattle.route_book.specs.Calls.{placed, after_place, put, reworded, found, shown}
+use Rattle.route_book.specs.Calls.{placed, after_place, found, shown}
 use Rattle.route_book.specs.Book.{entry_at, state_place, place_at, places_by, held, IsOrder, AreByKey, AreByTicket, IsBook}
 use Rattle.route_book.specs.declared.place.Place.{Place as Entry}
 use Rattle.route_book.specs.declared.placed.Placed.TheVariants.{New, Old}

@@ -1,9 +1,9 @@
 -- What a run that breaks off has written, as the program tells it.
-use Rattle.std.proofs.Common.{◌≡◌, ◌⊎◌, inl, inr, ◌∙◌, sym, ap, subst, refl, ℕ, ◌++◌, List, [], ◌∷◌, Option, map, append_assoc, append-nil}
+use Rattle.std.proofs.Common.{◌≡◌, ◌⊎◌, inl, inr, ◌∙◌, sym, ap, subst, ℕ, ◌++◌, List, [], ◌∷◌, Option, map, append_assoc, append-nil}
 use Rattle.std.specs.Io.KnownBytes.{Appends, Consumes, IsAtEnd}
 use Rattle.route_book.specs.State.{State, Rooms, empty}
-use Rattle.route_book.specs.Reply.{reply, next}
-use Rattle.route_book.specs.Text.{Line, whole, command_in, replies, after_lines, lines, whole_lines, rest_of, unended_line, text}
+use Rattle.route_book.specs.Reply.{next}
+use Rattle.route_book.specs.Text.{whole, command_in, replies, after_lines, lines, whole_lines, text}
 use Rattle.route_book.specs.Run.{Carries, StopsWithin, OnRead, OnWrite, OnTooLong}
 use Rattle.route_book.specs.CommandLine.{AnswersWholeLines, BeginsToAnswer}
 use Rattle.route_book.specs.declared.counts.Counts.{Counts}

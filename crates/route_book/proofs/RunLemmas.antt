@@ -1,14 +1,13 @@
 -- Lines that are carried out one after another, and how an input is cut into them.
-use Rattle.std.proofs.Common.{◌≡◌, ◌∙◌, sym, ap, subst, refl, ℕ, ◌+◌, ◌<◌, ◌≤◌, ◌==◌, ◌++◌, List, [], ◌∷◌, Option, Bool, true, false, All, flat_map, length, map, append_assoc, append-nil, add_assoc, arith}
+use Rattle.std.proofs.Common.{◌≡◌, ◌∙◌, sym, ap, subst, refl, ℕ, ◌+◌, ◌<◌, ◌≤◌, ◌==◌, ◌++◌, List, [], ◌∷◌, Option, Bool, flat_map, length, map, append_assoc, append-nil, arith}
 use Rattle.std.specs.List.{AllByRecursion, slice_split}
 use Rattle.std.specs.Io.KnownBytes.{Appends}
 use Rattle.std.proofs.KnownBytes.{Appends-nil, Appends-trans}
-use Rattle.std.proofs.lemmas.List.{map-append}
 use Rattle.std.proofs.lemmas.List.Concat.{flat_map-append}
 use Rattle.std.proofs.lemmas.List.Splits.{slice_split_at, slice_split_none, length-slice_split}
 use Rattle.route_book.specs.State.{State}
 use Rattle.route_book.specs.Reply.{ended, reply, next}
-use Rattle.route_book.specs.Text.{Line, whole, unended, command_in, replies, after_lines, front, last, lines, whole_lines, rest_of, unended_line}
+use Rattle.route_book.specs.Text.{Line, whole, command_in, replies, after_lines, front, last, lines, whole_lines, rest_of, unended_line}
 use Rattle.route_book.specs.Searches.{CountsWithin, fair, place_count, living_count}
 use Rattle.route_book.specs.Run.{Carries, BreaksOff, fair_over}
 use Rattle.route_book.specs.Unfinished.{Cuts, HasNoLineEnd}

@@ -1,7 +1,7 @@
 -- The number of comparisons of a search by halves.
-use Rattle.std.proofs.Common.{◌≡◌, ℕ, zero, suc, ◌+◌, ◌-◌, ◌*◌, ◌^◌, ◌<◌, ◌≤◌, ◌⊎◌, inl, inr, arith, mul_assoc, sym, subst, refl, ap, Bool, true, false, cond, nat_le, if◌then◌else◌}
+use Rattle.std.proofs.Common.{◌≡◌, ℕ, zero, suc, ◌+◌, ◌-◌, ◌*◌, ◌^◌, ◌<◌, ◌≤◌, inl, inr, arith, mul_assoc, subst, refl, Bool, true, false, cond, nat_le}
 use Rattle.std.proofs.lemmas.Bool.{cases_cond, cases_lt, le-leb, leb-true}
-use Rattle.std.proofs.lemmas.Nat.{mul-le, pow_pos}
+use Rattle.std.proofs.lemmas.Nat.{mul-le}
 use Rattle.std.proofs.Math.Nat.{pow-suc}
 use Rattle.route_book.specs.Searches.{fair, fair_up_to}
 

@@ -1,5 +1,5 @@
 -- Lines of which a piece of the input brings the end.
-use Rattle.std.proofs.Common.{◌≡◌, ◌∙◌, sym, ap, subst, refl, ℕ, ◌++◌, ◌==◌, false, List, [], ◌∷◌, Option, flat_map, map, append_assoc, append-nil, All, length, ◌<◌, arith}
+use Rattle.std.proofs.Common.{◌≡◌, ◌∙◌, sym, ap, subst, refl, ℕ, ◌++◌, ◌==◌, false, List, [], ◌∷◌, Option, flat_map, map, append_assoc, append-nil, length, ◌<◌, arith}
 use Rattle.std.specs.Io.KnownBytes.{Appends, IsAtEnd}
 use Rattle.std.proofs.lemmas.List.{map-append}
 use Rattle.std.proofs.lemmas.List.Concat.{flat_map-append}
@@ -7,7 +7,7 @@ use Rattle.std.proofs.lemmas.List.Elements.{All-append, All-nil}
 use Rattle.route_book.specs.State.{State}
 use Rattle.route_book.specs.Grammar.{command_of}
 use Rattle.route_book.specs.Reply.{ended, reply, next}
-use Rattle.route_book.specs.Text.{Line, whole, unended, unended_line, lines, whole_lines}
+use Rattle.route_book.specs.Text.{whole, unended, unended_line, lines, whole_lines}
 use Rattle.route_book.specs.Searches.{CountsWithin, fair, place_count, living_count}
 use Rattle.route_book.specs.Run.{Carries, BreaksOff, StopsWithin}
 use Rattle.route_book.specs.Unfinished.{HasNoLineEnd, StandsFor, Cuts, Takes, Stops, StopsAtEnd}

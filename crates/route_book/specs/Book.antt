@@ -1,5 +1,5 @@
 -- How a store keeps its places in vectors. No public clause cites this module.
-use Rattle.std.specs.Prelude.{◌≡◌, ℕ, ◌+◌, ◌*◌, ◌<◌, ◌≤◌, ◌==◌, Bool, true, List, [], map, length, slice_index_or, slice_index}
+use Rattle.std.specs.Prelude.{◌≡◌, ℕ, ◌<◌, ◌≤◌, ◌==◌, true, List, [], map, length, slice_index_or, slice_index}
 use Rattle.std.specs.List.{list_any}
 use Rattle.route_book.specs.State.{Rooms, State, Place}
 use Rattle.route_book.specs.declared.place.Place.{Place as Entry}

@@ -1,5 +1,5 @@
 -- What the program's arguments ask for, and what it has done when it ends.
-use Rattle.std.specs.Prelude.{◌≡◌, ℕ, ◌+◌, ◌≤◌, ◌<◌, ◌^◌, ◌++◌, ◌∷◌, List, [], Option, None, codes, map, nat_le, option_and_then, if◌then◌else◌}
+use Rattle.std.specs.Prelude.{◌≡◌, ℕ, ◌+◌, ◌^◌, ◌++◌, ◌∷◌, List, [], Option, None, codes, map, nat_le, option_and_then, if◌then◌else◌}
 use Rattle.std.specs.Option.{option_map}
 use Rattle.std.specs.Io.KnownBytes.{Appends, Consumes, IsAtEnd}
 use Rattle.route_book.specs.Number.{number_of}

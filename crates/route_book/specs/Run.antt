@@ -1,10 +1,9 @@
 -- What a run over an input does: the lines that it carries out, and where a fault breaks it off.
-use Rattle.std.specs.Prelude.{◌≡◌, ℕ, ◌+◌, ◌<◌, ◌==◌, ◌++◌, ◌∷◌, ◌⊎◌, Bool, true, false, List, [], Option, All, flat_map, length, map}
-use Rattle.std.specs.List.{AllByRecursion}
-use Rattle.std.specs.Io.KnownBytes.{Appends, Consumes, IsAtEnd}
+use Rattle.std.specs.Prelude.{◌≡◌, ℕ, ◌+◌, ◌<◌, ◌++◌, ◌∷◌, List, [], Option, length}
+use Rattle.std.specs.Io.KnownBytes.{Appends, IsAtEnd}
 use Rattle.route_book.specs.State.{State}
-use Rattle.route_book.specs.Reply.{ended, reply, next}
-use Rattle.route_book.specs.Text.{Line, whole, unended, command_in, replies, after_lines, lines, whole_lines}
+use Rattle.route_book.specs.Reply.{reply, next}
+use Rattle.route_book.specs.Text.{Line, whole, unended, command_in, replies, after_lines, lines}
 use Rattle.route_book.specs.Searches.{CountsWithin, fair, place_count, living_count}
 use Rattle.route_book.specs.declared.counts.Counts.{Counts}
 use Rattle.route_book.specs.declared.running.fault.RunFault.{RunFault}

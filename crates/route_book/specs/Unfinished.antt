@@ -1,9 +1,9 @@
 -- Lines as they come in pieces. No public clause cites this module.
-use Rattle.std.specs.Prelude.{◌≡◌, ℕ, ◌<◌, ◌==◌, ◌++◌, ◌∷◌, Bool, true, false, List, [], Option, All, flat_map, length, map}
+use Rattle.std.specs.Prelude.{◌≡◌, ℕ, ◌<◌, ◌==◌, ◌++◌, ◌∷◌, true, false, List, [], Option, All, flat_map, length, map}
 use Rattle.std.specs.List.{AllByRecursion}
 use Rattle.route_book.specs.State.{State}
 use Rattle.route_book.specs.Reply.{ended}
-use Rattle.route_book.specs.Text.{Line, whole, unended, unended_line}
+use Rattle.route_book.specs.Text.{whole, unended}
 use Rattle.route_book.specs.Run.{Carries, BreaksOff}
 use Rattle.route_book.specs.declared.counts.Counts.{Counts}
 use Rattle.route_book.specs.declared.unfinished.Unfinished.{Unfinished}

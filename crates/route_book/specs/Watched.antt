@@ -1,5 +1,5 @@
 -- What is known of a watched reader or writer.
-use Rattle.std.specs.Prelude.{ℕ, ◌&&◌, ◌==◌, Bool, true, false, List, length, Result, Ok, Err, nat_lt, if◌then◌else◌}
+use Rattle.std.specs.Prelude.{ℕ, ◌&&◌, ◌==◌, List, length, Result, Ok, Err, nat_lt, if◌then◌else◌}
 use Rattle.route_book.specs.declared.watched.Watched.{Watched}
 
 -- the reader or writer that is watched

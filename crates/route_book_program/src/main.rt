@@ -2,10 +2,9 @@
 #![tactic(auto)]
 
 use route_book::{RoomError, Watched, program};
-use std::env;
-use std::io;
 use std::io::{ErrorKind, Write};
 use std::process::ExitCode;
+use std::{env, io};
 
 fn main(rt: HostRuntime) -> ExitCode {
     ExitCode::from(match arguments(&rt) {

@@ -1,5 +1,5 @@
-use Rattle.std.proofs.Common.{◌∙◌, ◌≡◌, ◌++◌, ◌+◌, ℕ, Option, List, [], refl, inl, inr, ap, sym, take, append-nil, arith, subst, lit<, ◌⊎◌, ◌==◌, false}
-use Rattle.std.specs.Io.KnownBytes.{Consumes, IsAtEnd}
+use Rattle.std.proofs.Common.{◌∙◌, ◌≡◌, ◌++◌, ℕ, Option, List, [], refl, inl, inr, take, append-nil, arith, subst, lit<, ◌==◌, false}
+use Rattle.std.specs.Io.KnownBytes.{Consumes}
 use Rattle.std.proofs.KnownBytes.{Consumes-nil, Consumes-trans, Consumes-kept}
 use Rattle.std.proofs.lemmas.List.Elements.{All-nil}
 use Rattle.route_book.proofs.UnfinishedLemmas.{Takes-none, Takes-piece, Takes-whole, Takes-all, Stops-within, Stops-at_end}

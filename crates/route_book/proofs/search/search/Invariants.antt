@@ -1,4 +1,4 @@
-use Rattle.std.proofs.Common.{◌-◌, ◌≡◌, ℕ, ◌+◌, ◌<◌, ◌≤◌, ◌*◌, ◌^◌}
+use Rattle.std.proofs.Common.{◌-◌, ℕ, ◌+◌, ◌<◌, ◌≤◌, ◌*◌, ◌^◌}
 use Rattle.route_book.specs.Searches.{fair}
 use Rattle.route_book.proofs.search.search.Given as goal
 

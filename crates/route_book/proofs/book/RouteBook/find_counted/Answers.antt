@@ -1,4 +1,4 @@
-use Rattle.std.proofs.Common.{◌≡◌, ℕ, ap, sym}
+use Rattle.std.proofs.Common.{ap, sym}
 use Rattle.route_book.specs.State.{State}
 use Rattle.route_book.proofs.CallLemmas.{found_at, found_none}
 use Rattle.route_book.proofs.book.RouteBook.find_counted.Goals as goal

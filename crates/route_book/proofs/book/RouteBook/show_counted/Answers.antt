@@ -1,4 +1,4 @@
-use Rattle.std.proofs.Common.{◌≡◌, ◌∙◌, ℕ, ap, sym, arith}
+use Rattle.std.proofs.Common.{◌∙◌, ap, arith}
 use Rattle.route_book.specs.State.{Rooms}
 use Rattle.route_book.specs.Calls.{shown}
 use Rattle.route_book.proofs.CallLemmas.{shown_at, shown_gone}

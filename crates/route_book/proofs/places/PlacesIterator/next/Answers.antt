@@ -1,4 +1,4 @@
-use Rattle.std.proofs.Common.{◌≡◌, ℕ, suc, ◌<◌, List, ◌∷◌, length, subst, arith}
+use Rattle.std.proofs.Common.{◌≡◌, ℕ, suc, List, ◌∷◌, subst, arith}
 use Rattle.route_book.specs.Book.{AreWithin}
 use Rattle.route_book.specs.declared.place.Place.{Place}
 use Rattle.route_book.proofs.places.PlacesIterator.next.Goals as goal
