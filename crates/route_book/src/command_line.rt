@@ -41,8 +41,9 @@ pub fn program<R: Read, W: Write, E: Write>(
     ensures unread { 2 ≤ result → input.new ≡ input.old }
     ensures unwritten { 2 ≤ result → output.new ≡ output.old }
 
-    // The whole input is answered.
+    // The whole input is answered, and no call failed.
     ensures answered { result ≡ 0 → IfSome (rooms_of (map string_bytes args.now)) (λ rooms. Answers rooms (R.remaining (inner_of input.old)) (R.remaining (inner_of input.new)) (W.contents (inner_of output.old)) (W.contents (inner_of output.new))) }
+    ensures unfailed { result ≡ 0 → (input.new.failed ≡ input.old.failed) × (output.new.failed ≡ output.old.failed) }
     ensures silent { result ≡ 0 → errors.new ≡ errors.old }
 
     // A read failed and every whole line that was read is answered; or a write failed, and a beginning of the answer is written.
@@ -80,6 +81,7 @@ fn answer_input<R: Read, W: Write, E: Write>(
 ) -> u8
     ensures status { result ≤ 1 }
     ensures answered { result ≡ 0 → (rooms : Rooms) → book ≡ empty rooms 0 → Answers rooms (R.remaining (inner_of input.old)) (R.remaining (inner_of input.new)) (W.contents (inner_of output.old)) (W.contents (inner_of output.new)) }
+    ensures unfailed { result ≡ 0 → (input.new.failed ≡ input.old.failed) × (output.new.failed ≡ output.old.failed) }
     ensures silent { result ≡ 0 → errors.new ≡ errors.old }
     ensures fault { result ≡ 1 → (rooms : Rooms) → book ≡ empty rooms 0 →
         (AnswersWholeLines rooms (R.remaining (inner_of input.old)) (R.remaining (inner_of input.new)) (W.contents (inner_of output.old)) (W.contents (inner_of output.new))
