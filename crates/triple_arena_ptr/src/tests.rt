@@ -1,5 +1,6 @@
 //! What no clause says, and what a caller may rely on.
 mod calls;
+mod edges;
 mod laws;
 mod n3;
 mod texts;
