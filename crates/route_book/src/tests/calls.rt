@@ -2,6 +2,7 @@
 
 use super::streams::{Page, Pieces};
 use crate::{Counts, Placed, Refusal, RoomError, RouteBook, RunFault, Shown, Watched, Word, run};
+use refusing_allocator::RefusingAllocator;
 use std::io;
 use std::io::{ErrorKind, Write};
 use std::test::Fail;
@@ -12,6 +13,11 @@ fn rooms_that_cannot_be_had(rt: HostRuntime) -> Result<(), Fail> {
     assert!(rt; matches!(past, Err(RoomError::Index)));
     let huge = RouteBook::new(rt.alloc(), usize::MAX, 0, 0);
     assert!(rt; matches!(huge, Err(RoomError::Memory)));
+    for nth in 1..3 {
+        let heap = RefusingAllocator::new(rt.alloc(), nth);
+        assert!(rt; matches!(RouteBook::new(&heap, 4, 4, 2), Err(RoomError::Memory)));
+        assert!(rt; RouteBook::new(&heap, 4, 4, 2).is_ok());
+    }
     assert!(rt; RouteBook::new(rt.alloc(), 0, usize::MAX, 0).is_ok());
     Ok(())
 }

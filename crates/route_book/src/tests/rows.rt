@@ -2,6 +2,7 @@
 
 use super::streams::{Page, Pieces};
 use crate::{Counts, RouteBook, Watched, run};
+use refusing_allocator::RefusingAllocator;
 use std::process::Abort;
 use std::test::Fail;
 
@@ -14,7 +15,10 @@ const STEPS: [(usize, usize); 5] = [
     (usize::MAX, 1),
 ];
 
-// A new store answers the input with this text, however the bytes are cut.
+// The requests for memory that make a store.
+const REQUESTS: u64 = 2;
+
+// A new store answers the input with this text, however the bytes are cut. Once it is made no memory is taken.
 fn answers(
     rt: &(impl AllocGlobal + Abort),
     last: u64,
@@ -22,10 +26,12 @@ fn answers(
     text: &str,
 ) -> Result<(), Fail> {
     for (read, taken) in STEPS {
-        let mut book = RouteBook::new_after(rt.alloc(), 4, 4, 2, last)?;
+        let heap = RefusingAllocator::new(rt.alloc(), REQUESTS + 1);
+        let mut book = RouteBook::new_after(&heap, 4, 4, 2, last)?;
         let mut reader = Watched::new(Pieces::new(input, read));
         let mut writer = Watched::new(Page::new(taken));
         run(&mut book, &mut reader, &mut writer, &mut Counts::new())?;
+        assert!(rt; !heap.has_refused());
         let page = writer.into_inner();
         assert_eq!(rt;
             page.text(),
