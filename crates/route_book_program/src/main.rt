@@ -1,6 +1,9 @@
 //! The program `route_book PLACES STOPS MARKS`: a store with these rooms answers the lines of the standard input.
 #![tactic(auto)]
 
+ghost use Rattle.std.specs.Prelude.{◌≡◌, ◌≤◌, ◌^◌, ◌↔◌, IfSome, IsNone, map, string_bytes};
+ghost use Rattle.route_book.specs.CommandLine.{room_sum, rooms_of};
+
 use route_book::{RoomError, Watched, program};
 use std::io::{ErrorKind, Write};
 use std::process::ExitCode;
@@ -30,7 +33,11 @@ fn arguments(rt: &HostRuntime) -> io::Result<Vec<String>> {
 }
 
 // Answers the standard input on the standard output.
-fn answer_input(rt: &HostRuntime, args: &[String]) -> u8 {
+fn answer_input(rt: &HostRuntime, args: &[String]) -> u8
+    ensures status { result ≤ 3 }
+    ensures usage { (result ≡ 2) ↔ IsNone (rooms_of (map string_bytes args.now)) }
+    ensures index { IfSome (rooms_of (map string_bytes args.now)) (λ rooms. 2 ^ 64 ≤ room_sum rooms → result ≡ 3) }
+{
     program(
         rt.alloc(),
         args,
