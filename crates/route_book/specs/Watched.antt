@@ -6,6 +6,14 @@ use Rattle.route_book.specs.declared.watched.Watched.{Watched}
 abbrev pub inner_of : {T : Type 0} → Watched T → T
 inner_of w = w.inner
 
+-- how many of its calls failed
+abbrev pub failed_of : {T : Type 0} → Watched T → ℕ
+failed_of w = w.failed
+
+-- how many calls it had
+abbrev pub calls_of : {T : Type 0} → Watched T → ℕ
+calls_of w = w.calls
+
 -- one for a call that failed
 abbrev pub failures : {T E : Type 0} → Result T E → ℕ
 failures (Ok x) = 0

@@ -1,10 +1,10 @@
-ghost use Rattle.std.specs.Prelude.{◌≡◌, ℕ, ◌<◌, ◌++◌, List, [], OnOk, OnErr};
+ghost use Rattle.std.specs.Prelude.{◌≡◌, ℕ, ◌+◌, ◌++◌, List, [], OnOk, OnErr};
 ghost use Rattle.route_book.specs.ReplyText.{HasRoom};
 ghost use Rattle.std.specs.Io.KnownBytes.{Appends};
 ghost use Rattle.route_book.specs.Grammar.{command_of};
 ghost use Rattle.route_book.specs.Reply.{reply, next, places_text};
 ghost use Rattle.route_book.specs.Searches.{CountsWithin, fair, place_count, living_count};
-ghost use Rattle.route_book.specs.Watched.{inner_of};
+ghost use Rattle.route_book.specs.Watched.{inner_of, failed_of};
 ghost use Rattle.route_book.specs.Written.{AppendsBeginning};
 
 use crate::book::RouteBook;
@@ -31,9 +31,9 @@ impl<A: Allocator> RouteBook<A> {
     ) -> io::Result<()>
         ensures state { self.new ≡ next self.old (command_of line.now) }
         ensures ok { OnOk result (Appends (W.contents (inner_of writer.old)) (W.contents (inner_of writer.new)) (reply self.old (command_of line.now))) }
-        ensures ok_failed { OnOk result (writer.new.failed ≡ writer.old.failed) }
+        ensures ok_failed { OnOk result (failed_of writer.new ≡ failed_of writer.old) }
         ensures err { OnErr result (AppendsBeginning (W.contents (inner_of writer.old)) (W.contents (inner_of writer.new)) (reply self.old (command_of line.now))) }
-        ensures err_failed { OnErr result (writer.old.failed < writer.new.failed) }
+        ensures err_failed { OnErr result (failed_of writer.new ≡ failed_of writer.old + 1) }
         ensures counts { CountsWithin counts.old counts.new (fair (place_count self.old)) (fair (living_count self.old)) (fair (living_count self.old)) }
     {
         self.carry_out(read_line(line), &mut ReplyText::new(), writer, counts)
@@ -49,9 +49,9 @@ impl<A: Allocator> RouteBook<A> {
     ) -> io::Result<()>
         ensures state { self.new ≡ next self.old command }
         ensures ok { OnOk result (Appends (W.contents (inner_of writer.old)) (W.contents (inner_of writer.new)) (reply self.old command)) }
-        ensures ok_failed { OnOk result (writer.new.failed ≡ writer.old.failed) }
+        ensures ok_failed { OnOk result (failed_of writer.new ≡ failed_of writer.old) }
         ensures err { OnErr result (AppendsBeginning (W.contents (inner_of writer.old)) (W.contents (inner_of writer.new)) (reply self.old command)) }
-        ensures err_failed { OnErr result (writer.old.failed < writer.new.failed) }
+        ensures err_failed { OnErr result (failed_of writer.new ≡ failed_of writer.old + 1) }
         ensures counts { CountsWithin counts.old counts.new (fair (place_count self.old)) (fair (living_count self.old)) (fair (living_count self.old)) }
     {
         text.clear();
@@ -76,9 +76,9 @@ fn write_places<W: Write>(
 ) -> io::Result<()>
     requires { text.old ≡ [] }
     ensures ok { OnOk result (Appends (W.contents (inner_of writer.old)) (W.contents (inner_of writer.new)) (places_text places.entry)) }
-    ensures ok_failed { OnOk result (writer.new.failed ≡ writer.old.failed) }
+    ensures ok_failed { OnOk result (failed_of writer.new ≡ failed_of writer.old) }
     ensures err { OnErr result (AppendsBeginning (W.contents (inner_of writer.old)) (W.contents (inner_of writer.new)) (places_text places.entry)) }
-    ensures err_failed { OnErr result (writer.old.failed < writer.new.failed) }
+    ensures err_failed { OnErr result (failed_of writer.new ≡ failed_of writer.old + 1) }
 {
     for (ticket, key, word) in places {
         make_room(text, writer)?;
@@ -93,9 +93,9 @@ fn write_places<W: Write>(
 fn make_room<W: Write>(text: &mut ReplyText, writer: &mut Watched<W>) -> io::Result<()>
     ensures room { OnOk result (HasRoom text.new 59) }
     ensures ok { OnOk result ((sent : List ℕ) × (text.old ≡ sent ++ text.new) × Appends (W.contents (inner_of writer.old)) (W.contents (inner_of writer.new)) sent) }
-    ensures ok_failed { OnOk result (writer.new.failed ≡ writer.old.failed) }
+    ensures ok_failed { OnOk result (failed_of writer.new ≡ failed_of writer.old) }
     ensures err { OnErr result (AppendsBeginning (W.contents (inner_of writer.old)) (W.contents (inner_of writer.new)) text.old) }
-    ensures err_failed { OnErr result (writer.old.failed < writer.new.failed) }
+    ensures err_failed { OnErr result (failed_of writer.new ≡ failed_of writer.old + 1) }
 {
     if text.has_room() {
         return Ok(());

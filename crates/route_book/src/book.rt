@@ -1,4 +1,4 @@
-ghost use Rattle.std.specs.Prelude.{◌≡◌, ℕ, ◌+◌, ◌-◌, ◌<◌, ◌≤◌, ◌^◌, ◌↔◌, ◌⊎◌, Ok, Err, IfOk, IfErr, IsErrOf, [], ◌∷◌, ◌++◌, length, insert, vec_len, vec_capacity};
+ghost use Rattle.std.specs.Prelude.{◌≡◌, ℕ, ◌+◌, ◌-◌, ◌<◌, ◌≤◌, ◌^◌, ◌↔◌, ◌⊎◌, Ok, Err, IsOk, IfOk, IfErr, IsErrOf, [], ◌∷◌, ◌++◌, length, insert, vec_len, vec_capacity};
 ghost use Rattle.route_book.specs.Calls.{placed, after_place, shown, found};
 ghost use Rattle.route_book.specs.Searches.{CountsWithin, fair, place_count, living_count};
 ghost use Rattle.route_book.specs.State.{Rooms, State, empty, is_full_of_places};
@@ -59,6 +59,7 @@ impl<A: Allocator> RouteBook<A> {
         ensures made { IfOk result (λ book. book ≡ empty (record { places = places; stops = stops; marks = marks }) 0) }
         ensures index { IsErrOf result RoomError.Index ↔ (2 ^ 64 ≤ places + stops + marks) }
         ensures refused { IfErr result (λ e. (e ≡ RoomError.Index) ⊎ (e ≡ RoomError.Memory)) }
+        ensures succeeds { places ≡ 0 → places + stops + marks < 2 ^ 64 → IsOk result }
     {
         Self::new_after(alloc, places, stops, marks, 0)
     }
@@ -78,6 +79,7 @@ impl<A: Allocator> RouteBook<A> {
         ensures made { IfOk result (λ book. book ≡ empty (record { places = places; stops = stops; marks = marks }) last) }
         ensures index { IsErrOf result RoomError.Index ↔ (2 ^ 64 ≤ places + stops + marks) }
         ensures refused { IfErr result (λ e. (e ≡ RoomError.Index) ⊎ (e ≡ RoomError.Memory)) }
+        ensures succeeds { places ≡ 0 → places + stops + marks < 2 ^ 64 → IsOk result }
     {
         if stops > usize::MAX - places || marks > usize::MAX - places - stops {
             return Err(RoomError::Index);

@@ -5,7 +5,7 @@ ghost use Rattle.route_book.specs.Number.{number_of};
 ghost use Rattle.route_book.specs.CommandLine.{Answers, AnswersWholeLines, BeginsToAnswer, Tells, refusal_of, refused_line, room_sum, rooms_of};
 ghost use Rattle.route_book.specs.Reply.{ended};
 ghost use Rattle.route_book.specs.State.{Rooms, empty};
-ghost use Rattle.route_book.specs.Watched.{inner_of};
+ghost use Rattle.route_book.specs.Watched.{inner_of, failed_of, calls_of};
 
 use crate::book::RouteBook;
 use crate::counts::Counts;
@@ -43,21 +43,21 @@ pub fn program<R: Read, W: Write, E: Write>(
 
     // The whole input is answered, and no call failed.
     ensures answered { result ≡ 0 → IfSome (rooms_of (map string_bytes args.now)) (λ rooms. Answers rooms (R.remaining (inner_of input.old)) (R.remaining (inner_of input.new)) (W.contents (inner_of output.old)) (W.contents (inner_of output.new))) }
-    ensures unfailed { result ≡ 0 → (input.new.failed ≡ input.old.failed) × (output.new.failed ≡ output.old.failed) }
+    ensures unfailed { result ≡ 0 → (failed_of input.new ≡ failed_of input.old) × (failed_of output.new ≡ failed_of output.old) }
     ensures silent { result ≡ 0 → errors.new ≡ errors.old }
 
     // A read failed and every whole line that was read is answered; or a write failed, and a beginning of the answer is written.
     ensures fault { result ≡ 1 → IfSome (rooms_of (map string_bytes args.now)) (λ rooms.
         (AnswersWholeLines rooms (R.remaining (inner_of input.old)) (R.remaining (inner_of input.new)) (W.contents (inner_of output.old)) (W.contents (inner_of output.new))
-        × ((input.old.failed < input.new.failed) ⊎ (input.new.calls ≡ input.old.calls + (2 ^ 64 - 1)))
-        × Tells errors.old.failed errors.new.failed (E.contents (inner_of errors.old)) (E.contents (inner_of errors.new)) (codes "read failed"))
+        × ((failed_of input.new ≡ failed_of input.old + 1) ⊎ (calls_of input.new ≡ calls_of input.old + (2 ^ 64 - 1)))
+        × Tells (failed_of errors.old) (failed_of errors.new) (E.contents (inner_of errors.old)) (E.contents (inner_of errors.new)) (codes "read failed"))
         ⊎ (BeginsToAnswer rooms (R.remaining (inner_of input.old)) (R.remaining (inner_of input.new)) (W.contents (inner_of output.old)) (W.contents (inner_of output.new))
-        × (output.old.failed < output.new.failed)
-        × Tells errors.old.failed errors.new.failed (E.contents (inner_of errors.old)) (E.contents (inner_of errors.new)) (codes "write failed"))) }
+        × (failed_of output.new ≡ failed_of output.old + 1)
+        × Tells (failed_of errors.old) (failed_of errors.new) (E.contents (inner_of errors.old)) (E.contents (inner_of errors.new)) (codes "write failed"))) }
 
     // The line that says why the input was not read.
-    ensures told_usage { result ≡ 2 → Tells errors.old.failed errors.new.failed (E.contents (inner_of errors.old)) (E.contents (inner_of errors.new)) (codes "usage: route_book PLACES STOPS MARKS") }
-    ensures told_room { result ≡ 3 → IfSome (rooms_of (map string_bytes args.now)) (λ rooms. Tells errors.old.failed errors.new.failed (E.contents (inner_of errors.old)) (E.contents (inner_of errors.new)) (refused_line (refusal_of rooms))) }
+    ensures told_usage { result ≡ 2 → Tells (failed_of errors.old) (failed_of errors.new) (E.contents (inner_of errors.old)) (E.contents (inner_of errors.new)) (codes "usage: route_book PLACES STOPS MARKS") }
+    ensures told_room { result ≡ 3 → IfSome (rooms_of (map string_bytes args.now)) (λ rooms. Tells (failed_of errors.old) (failed_of errors.new) (E.contents (inner_of errors.old)) (E.contents (inner_of errors.new)) (refused_line (refusal_of rooms))) }
 {
     let Some((places, stops, marks)) = read_rooms(args) else {
         tell(errors, b"usage: route_book PLACES STOPS MARKS\n");
@@ -81,15 +81,15 @@ fn answer_input<R: Read, W: Write, E: Write>(
 ) -> u8
     ensures status { result ≤ 1 }
     ensures answered { result ≡ 0 → (rooms : Rooms) → book ≡ empty rooms 0 → Answers rooms (R.remaining (inner_of input.old)) (R.remaining (inner_of input.new)) (W.contents (inner_of output.old)) (W.contents (inner_of output.new)) }
-    ensures unfailed { result ≡ 0 → (input.new.failed ≡ input.old.failed) × (output.new.failed ≡ output.old.failed) }
+    ensures unfailed { result ≡ 0 → (failed_of input.new ≡ failed_of input.old) × (failed_of output.new ≡ failed_of output.old) }
     ensures silent { result ≡ 0 → errors.new ≡ errors.old }
     ensures fault { result ≡ 1 → (rooms : Rooms) → book ≡ empty rooms 0 →
         (AnswersWholeLines rooms (R.remaining (inner_of input.old)) (R.remaining (inner_of input.new)) (W.contents (inner_of output.old)) (W.contents (inner_of output.new))
-        × ((input.old.failed < input.new.failed) ⊎ (input.new.calls ≡ input.old.calls + (2 ^ 64 - 1)))
-        × Tells errors.old.failed errors.new.failed (E.contents (inner_of errors.old)) (E.contents (inner_of errors.new)) (codes "read failed"))
+        × ((failed_of input.new ≡ failed_of input.old + 1) ⊎ (calls_of input.new ≡ calls_of input.old + (2 ^ 64 - 1)))
+        × Tells (failed_of errors.old) (failed_of errors.new) (E.contents (inner_of errors.old)) (E.contents (inner_of errors.new)) (codes "read failed"))
         ⊎ (BeginsToAnswer rooms (R.remaining (inner_of input.old)) (R.remaining (inner_of input.new)) (W.contents (inner_of output.old)) (W.contents (inner_of output.new))
-        × (output.old.failed < output.new.failed)
-        × Tells errors.old.failed errors.new.failed (E.contents (inner_of errors.old)) (E.contents (inner_of errors.new)) (codes "write failed")) }
+        × (failed_of output.new ≡ failed_of output.old + 1)
+        × Tells (failed_of errors.old) (failed_of errors.new) (E.contents (inner_of errors.old)) (E.contents (inner_of errors.new)) (codes "write failed")) }
 {
     match run(&mut book, input, output, &mut Counts::new()) {
         Ok(()) => 0,
@@ -140,7 +140,7 @@ fn refused_line(refusal: RoomError) -> &'static [u8]
 
 // Writes a line. Nobody is left to hear of a failure.
 fn tell<E: Write>(errors: &mut Watched<E>, line: &[u8])
-    ensures { errors.new.failed ≡ errors.old.failed → Appends (E.contents (inner_of errors.old)) (E.contents (inner_of errors.new)) line.now }
+    ensures { failed_of errors.new ≡ failed_of errors.old → Appends (E.contents (inner_of errors.old)) (E.contents (inner_of errors.new)) line.now }
 {
     let _ = errors.send(line);
 }

@@ -3,7 +3,7 @@ ghost use Rattle.std.specs.Io.KnownBytes.{Consumes, IsAtEnd};
 ghost use Rattle.route_book.specs.Run.{Carries, OnRead, OnWrite, OnTooLong, StopsWithin};
 ghost use Rattle.route_book.specs.Text.{lines, unended_line, whole, whole_lines};
 ghost use Rattle.route_book.specs.Unfinished.{HasNoLineEnd, StandsFor, StopsAtEnd, Stops, Takes};
-ghost use Rattle.route_book.specs.Watched.{inner_of};
+ghost use Rattle.route_book.specs.Watched.{inner_of, failed_of, calls_of};
 
 mod fault;
 
@@ -33,7 +33,7 @@ pub fn run<A: Allocator, R: Read, W: Write>(
         × IsAtEnd (R.remaining (inner_of reader.new))
         × Carries book.old (lines input) book.new (W.contents (inner_of writer.old)) (W.contents (inner_of writer.new)) counts.old counts.new) }
 
-    ensures ok_failed { OnOk result ((reader.new.failed ≡ reader.old.failed) × (writer.new.failed ≡ writer.old.failed)) }
+    ensures ok_failed { OnOk result ((failed_of reader.new ≡ failed_of reader.old) × (failed_of writer.new ≡ failed_of writer.old)) }
 
     // Every whole line that was read is carried out and answered, and nothing else.
     ensures read { IfErr result (λ fault. OnRead fault ((input : List ℕ) × Consumes (R.remaining (inner_of reader.old)) (R.remaining (inner_of reader.new)) input
@@ -48,9 +48,10 @@ pub fn run<A: Allocator, R: Read, W: Write>(
         × Carries book.old (lines input) book.new (W.contents (inner_of writer.old)) (W.contents (inner_of writer.new)) counts.old counts.new)))) }
 
     // No fault comes without a cause.
-    ensures read_failed { IfErr result (λ fault. OnRead fault (reader.old.failed < reader.new.failed)) }
-    ensures write_failed { IfErr result (λ fault. OnWrite fault (writer.old.failed < writer.new.failed)) }
-    ensures many_reads { IfErr result (λ fault. OnTooLong fault (reader.new.calls ≡ reader.old.calls + (2 ^ 64 - 1))) }
+    ensures read_failed { IfErr result (λ fault. OnRead fault ((failed_of reader.new ≡ failed_of reader.old + 1) × (failed_of writer.new ≡ failed_of writer.old))) }
+    ensures write_failed { IfErr result (λ fault. OnWrite fault ((failed_of writer.new ≡ failed_of writer.old + 1) × (failed_of reader.new ≡ failed_of reader.old))) }
+    ensures many_reads { IfErr result (λ fault. OnTooLong fault ((calls_of reader.new ≡ calls_of reader.old + (2 ^ 64 - 1))
+        × (failed_of reader.new ≡ failed_of reader.old) × (failed_of writer.new ≡ failed_of writer.old))) }
 {
     let mut piece = [0u8; 4096];
     let mut unfinished = Unfinished::new();
@@ -91,10 +92,10 @@ fn take<A: Allocator, W: Write>(
 ) -> io::Result<()>
     ensures ok { OnOk result ((line : List ℕ) → HasNoLineEnd line → StandsFor unfinished.old line
         → Takes (line ++ piece.now) [] unfinished.new book.old book.new (W.contents (inner_of writer.old)) (W.contents (inner_of writer.new)) counts.old counts.new) }
-    ensures ok_failed { OnOk result (writer.new.failed ≡ writer.old.failed) }
+    ensures ok_failed { OnOk result (failed_of writer.new ≡ failed_of writer.old) }
     ensures err { OnErr result ((line : List ℕ) → HasNoLineEnd line → StandsFor unfinished.old line
         → Stops (line ++ piece.now) book.old book.new (W.contents (inner_of writer.old)) (W.contents (inner_of writer.new)) counts.old counts.new) }
-    ensures err_failed { OnErr result (writer.old.failed < writer.new.failed) }
+    ensures err_failed { OnErr result (failed_of writer.new ≡ failed_of writer.old + 1) }
 {
     let mut left = piece;
     while let Some((line, behind)) = split_line(left) {
@@ -116,11 +117,11 @@ fn end<A: Allocator, W: Write>(
 ) -> io::Result<()>
     ensures ok { OnOk result ((line : List ℕ) → StandsFor unfinished.now line
         → Carries book.old (unended_line line) book.new (W.contents (inner_of writer.old)) (W.contents (inner_of writer.new)) counts.old counts.new) }
-    ensures ok_failed { OnOk result (writer.new.failed ≡ writer.old.failed) }
+    ensures ok_failed { OnOk result (failed_of writer.new ≡ failed_of writer.old) }
     ensures err { OnErr result ((line : List ℕ) → StandsFor unfinished.now line
         → StopsAtEnd line book.old book.new (W.contents (inner_of writer.old)) (W.contents (inner_of writer.new)) counts.old counts.new
         ⊎ Carries book.old (unended_line line) book.new (W.contents (inner_of writer.old)) (W.contents (inner_of writer.new)) counts.old counts.new) }
-    ensures err_failed { OnErr result (writer.old.failed < writer.new.failed) }
+    ensures err_failed { OnErr result (failed_of writer.new ≡ failed_of writer.old + 1) }
 {
     if unfinished.is_empty() {
         return writer.flush();

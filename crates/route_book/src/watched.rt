@@ -1,4 +1,4 @@
-ghost use Rattle.std.specs.Prelude.{◌≡◌, ℕ, ◌+◌, ◌-◌, ◌<◌, OnOk, OnErr};
+ghost use Rattle.std.specs.Prelude.{◌≡◌, ℕ, ◌+◌, ◌-◌, OnOk, OnErr};
 ghost use Rattle.std.specs.Io.{ReadsAtMost, WritesAtMost};
 ghost use Rattle.std.specs.Io.KnownBytes.{Appends, Keeps, ReadConsumes, WriteAppends};
 ghost use Rattle.route_book.specs.Written.{AppendsBeginning};
@@ -11,26 +11,38 @@ use triple_arena_ptr::Probes;
 #[derive(Drop)]
 pub struct Watched<T> {
     inner: T,
-    /// Calls that failed, a write that took none of some bytes included.
-    pub failed: Probes,
-    /// All calls.
-    pub calls: Probes,
+    failed: Probes,
+    calls: Probes,
 }
 
 impl<T> Watched<T> {
-    ghost use Rattle.route_book.specs.Watched.{inner_of};
+    ghost use Rattle.route_book.specs.Watched.{inner_of, failed_of, calls_of};
 
     /// Watches a reader or a writer from here on.
     pub fn new(inner: T) -> Self
         ensures inner { inner_of result ≡ inner }
-        ensures failed { result.failed ≡ 0 }
-        ensures calls { result.calls ≡ 0 }
+        ensures failed { failed_of result ≡ 0 }
+        ensures calls { calls_of result ≡ 0 }
     {
         Watched {
             inner,
             failed: Probes::new(),
             calls: Probes::new(),
         }
+    }
+
+    /// The calls that failed, a write that took none of some bytes included. Nothing but such a call counts here.
+    pub fn failed(&self) -> &Probes
+        ensures { result.now ≡ failed_of self.now }
+    {
+        &self.failed
+    }
+
+    /// All calls.
+    pub fn calls(&self) -> &Probes
+        ensures { result.now ≡ calls_of self.now }
+    {
+        &self.calls
     }
 
     /// The reader or writer itself.
@@ -47,15 +59,15 @@ impl<T> Watched<T> {
 }
 
 impl<R: Read> Read for Watched<R> {
-    ghost use Rattle.route_book.specs.Watched.{failures};
+    ghost use Rattle.route_book.specs.Watched.{failures, failed_of, calls_of};
 
     ghost remaining = { λ w. R.remaining w.inner };
 
     fn read(&mut self, buf: &mut [u8]) -> io::Result<usize>
         ensures bound { ReadsAtMost result buf.new }
         ensures bytes { ReadConsumes (R.remaining self.old.inner) (R.remaining self.new.inner) result buf.new }
-        ensures failed { self.new.failed ≡ self.old.failed + failures result }
-        ensures calls { self.new.calls ≡ self.old.calls + 1 }
+        ensures failed { failed_of self.new ≡ failed_of self.old + failures result }
+        ensures calls { calls_of self.new ≡ calls_of self.old + 1 }
     {
         self.calls.tick();
         let outcome = self.inner.read(buf);
@@ -67,15 +79,15 @@ impl<R: Read> Read for Watched<R> {
 }
 
 impl<W: Write> Write for Watched<W> {
-    ghost use Rattle.route_book.specs.Watched.{failures, write_failures};
+    ghost use Rattle.route_book.specs.Watched.{failures, write_failures, failed_of, calls_of};
 
     ghost contents = { λ w. W.contents w.inner };
 
     fn write(&mut self, buf: &[u8]) -> io::Result<usize>
         ensures bound { WritesAtMost result buf.now }
         ensures bytes { WriteAppends (W.contents self.old.inner) (W.contents self.new.inner) result buf.now }
-        ensures failed { self.new.failed ≡ self.old.failed + write_failures result buf.now }
-        ensures calls { self.new.calls ≡ self.old.calls + 1 }
+        ensures failed { failed_of self.new ≡ failed_of self.old + write_failures result buf.now }
+        ensures calls { calls_of self.new ≡ calls_of self.old + 1 }
     {
         self.calls.tick();
         let outcome = self.inner.write(buf);
@@ -88,8 +100,8 @@ impl<W: Write> Write for Watched<W> {
 
     fn flush(&mut self) -> io::Result<()>
         ensures bytes { Keeps (W.contents self.old.inner) (W.contents self.new.inner) }
-        ensures failed { self.new.failed ≡ self.old.failed + failures result }
-        ensures calls { self.new.calls ≡ self.old.calls + 1 }
+        ensures failed { failed_of self.new ≡ failed_of self.old + failures result }
+        ensures calls { calls_of self.new ≡ calls_of self.old + 1 }
     {
         self.calls.tick();
         let outcome = self.inner.flush();
@@ -101,14 +113,14 @@ impl<W: Write> Write for Watched<W> {
 }
 
 impl<W: Write> Watched<W> {
-    ghost use Rattle.route_book.specs.Watched.{inner_of};
+    ghost use Rattle.route_book.specs.Watched.{inner_of, failed_of};
 
     // Writes all the bytes, by as many writes as that takes.
     pub(crate) fn send(&mut self, bytes: &[u8]) -> io::Result<()>
         ensures ok { OnOk result (Appends (W.contents (inner_of self.old)) (W.contents (inner_of self.new)) bytes.now) }
-        ensures ok_failed { OnOk result (self.new.failed ≡ self.old.failed) }
+        ensures ok_failed { OnOk result (failed_of self.new ≡ failed_of self.old) }
         ensures err { OnErr result (AppendsBeginning (W.contents (inner_of self.old)) (W.contents (inner_of self.new)) bytes.now) }
-        ensures err_failed { OnErr result (self.old.failed < self.new.failed) }
+        ensures err_failed { OnErr result (failed_of self.new ≡ failed_of self.old + 1) }
     {
         let mut rest = bytes;
         while !rest.is_empty() {

@@ -21,18 +21,21 @@ fn answers(rt: &impl Abort, book: &mut RouteBook, input: &[u8], text: &str) -> R
 
 #[test]
 fn a_line_that_is_cut_by_a_failed_read_has_no_reply(rt: HostRuntime) -> Result<(), Fail> {
-    let mut book = RouteBook::new(rt.alloc(), 4, 4, 2)?;
-    let mut reader = Watched::new(Pieces::broken(b"place 1 a\npla"));
-    let mut writer = Watched::new(Page::new(usize::MAX));
-    let outcome = run(&mut book, &mut reader, &mut writer, &mut Counts::new());
-    assert!(rt; matches!(outcome, Err(RunFault::Read(e)) if e.kind() == ErrorKind::BrokenPipe));
-    assert_eq!(rt; reader.failed.count(), 1);
-    assert_eq!(rt; reader.calls.count(), 2);
-    assert_eq!(rt; writer.failed.count(), 0);
-    let page = writer.into_inner();
-    assert_eq!(rt; page.text(), b"1\n".as_slice());
-    assert_eq!(rt; page.flushes, 0);
-    answers(&rt, &mut book, b"find 1\n", "1\n")
+    for (step, calls) in [(1, 14), (2, 8), (3, 6), (usize::MAX, 2)] {
+        let mut book = RouteBook::new(rt.alloc(), 4, 4, 2)?;
+        let mut reader = Watched::new(Pieces::broken(b"place 1 a\npla", step));
+        let mut writer = Watched::new(Page::new(1));
+        let outcome = run(&mut book, &mut reader, &mut writer, &mut Counts::new());
+        assert!(rt; matches!(outcome, Err(RunFault::Read(e)) if e.kind() == ErrorKind::BrokenPipe));
+        assert_eq!(rt; reader.failed().count(), 1);
+        assert_eq!(rt; reader.calls().count(), calls);
+        assert_eq!(rt; writer.failed().count(), 0);
+        let page = writer.into_inner();
+        assert_eq!(rt; page.text(), b"1\n".as_slice());
+        assert_eq!(rt; page.flushes, 0);
+        answers(&rt, &mut book, b"find 1\n", "1\n")?;
+    }
+    Ok(())
 }
 
 // A run whose writer comes to its end, and the kind of its fault.
@@ -50,7 +53,7 @@ fn write_fault(
         &mut writer,
         &mut Counts::new(),
     );
-    assert_eq!(rt; writer.failed.count(), 1);
+    assert_eq!(rt; writer.failed().count(), 1);
     assert_eq!(rt; writer.into_inner().text(), text.as_bytes());
     match outcome {
         Err(RunFault::Write(error)) => Ok(error.kind()),
@@ -60,12 +63,14 @@ fn write_fault(
 
 #[test]
 fn the_line_whose_reply_is_cut_is_carried_out(rt: HostRuntime) -> Result<(), Fail> {
-    for (full, kind) in [
-        (Full::Fails, ErrorKind::BrokenPipe),
-        (Full::TakesNone, ErrorKind::WriteZero),
+    for (full, step, kind) in [
+        (Full::Fails, 1, ErrorKind::BrokenPipe),
+        (Full::TakesNone, 1, ErrorKind::WriteZero),
+        (Full::Fails, usize::MAX, ErrorKind::BrokenPipe),
+        (Full::TakesNone, usize::MAX, ErrorKind::WriteZero),
     ] {
         let mut book = RouteBook::new(rt.alloc(), 4, 4, 2)?;
-        let mut writer = Page::new(usize::MAX);
+        let mut writer = Page::new(step);
         writer.room = 3;
         writer.full = full;
         assert!(rt; write_fault(&rt, &mut book, writer, "1\n2")? == kind);

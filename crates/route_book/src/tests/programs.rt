@@ -36,7 +36,7 @@ fn refuses(
     status: u8,
     line: &str,
 ) -> Result<(), Fail> {
-    let streams = (Pieces::broken(b""), Page::new(0));
+    let streams = (Pieces::broken(b"", usize::MAX), Page::new(0));
     ends(rt, words, streams, status, ("", line))
 }
 
@@ -69,7 +69,10 @@ fn the_input_is_answered(rt: HostRuntime) -> Result<(), Fail> {
 
 #[test]
 fn faults_are_told(rt: HostRuntime) -> Result<(), Fail> {
-    let streams = (Pieces::broken(b"place 1 a\npla"), Page::new(usize::MAX));
+    let streams = (
+        Pieces::broken(b"place 1 a\npla", usize::MAX),
+        Page::new(usize::MAX),
+    );
     ends(&rt, &["4", "4", "2"], streams, 1, ("1\n", "read failed\n"))?;
     let mut full = Page::new(usize::MAX);
     full.room = 3;

@@ -23,11 +23,11 @@ impl<'a> Pieces<'a> {
         }
     }
 
-    /// A reader that gives its bytes and then fails.
-    pub(crate) fn broken(bytes: &'a [u8]) -> Self {
+    /// A reader that gives its bytes, at most `step` at a time, and then fails.
+    pub(crate) fn broken(bytes: &'a [u8], step: usize) -> Self {
         Pieces {
             left: bytes,
-            step: usize::MAX,
+            step,
             fails: true,
         }
     }
