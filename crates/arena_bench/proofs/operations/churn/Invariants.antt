@@ -1,0 +1,6 @@
+use Rattle.std.proofs.Common.{◌≡◌, length}
+use Rattle.arena_bench.proofs.operations.churn.Given as goal
+
+-- the table keeps its length
+abbrev pub invariant-loop : goal.invariant-loop
+invariant-loop l = length l.table ≡ 4096

@@ -1,0 +1,2 @@
+pub mod FreeListLemmas
+pub mod ContentLemmas

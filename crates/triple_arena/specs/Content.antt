@@ -1,0 +1,132 @@
+-- What a contract sees of an `Arena`.
+use Rattle.std.specs.Prelude.{◌≡◌, ◌≢◌, ℕ, zero, suc, ◌+◌, ◌-◌, ◌<◌, ◌≤◌, ◌==◌, List, [], ◌∷◌, ◌++◌, length, take, Option, Some, None, is_some, count_by, slice_index_or, slice_set, if◌then◌else◌, refl}
+use Rattle.std.specs.Coded.{Coded, code_by, coded×, coded_ℕ, coded_list, coded_option}
+use Rattle.triple_arena_ptr.specs.Generation.{next_generation}
+use Rattle.triple_arena_stack.specs.Room.{Room, capacity}
+use Rattle.triple_arena.specs.Entries.{value_if}
+
+-- the generation and the value at each index, from index 1 on, or nothing where it is free; the generation of the
+-- next entry; the free indexes, the next one to be taken first; and the room: the reserved slots, and the greatest
+-- capacity, if there is one
+pub record Content (T : Type 0) : Type 0 where
+  pub slots : List (Option (ℕ × T))
+  pub counter : ℕ
+  pub free : List ℕ
+  pub room : Room
+
+-- a content is stored as the tuple of its fields
+abbrev pub content_code : {T : Type 0} → Coded T → Coded (Content T)
+content_code {T} code =
+    code_by
+    (List (Option (ℕ × T)) × (ℕ × (List ℕ × (ℕ × Option ℕ))))
+    (coded× (coded_list (coded_option (coded× coded_ℕ code))) (coded× coded_ℕ (coded× (coded_list coded_ℕ) (coded× coded_ℕ (coded_option coded_ℕ)))))
+    (λ c. (c.slots, (c.counter, (c.free, (c.room.reserved, c.room.limit)))))
+    (λ p. record { slots = p.0; counter = p.1.0; free = p.1.1.0; room = record { reserved = p.1.1.1.0; limit = p.1.1.1.1 } })
+    (λ _. refl)
+
+-- an index is not on a list
+abbrev pub Lacks : List ℕ → ℕ → Type 0
+Lacks [] i = Unit {0}
+Lacks (j ∷ l) i = (j ≢ i) × Lacks l i
+
+module _ {T : Type 0} where
+  -- the generation and the value at an index; index 0 has none
+  abbrev pub entry_at : Content T → ℕ → Option (ℕ × T)
+  entry_at c zero = None
+  entry_at c (suc k) = slice_index_or c.slots k None
+
+  -- the value at an index, where its entry has this generation
+  abbrev pub get : Content T → ℕ → ℕ → Option T
+  get c index g = value_if g (entry_at c index)
+
+  -- how many indexes are live
+  abbrev pub live_count : Content T → ℕ
+  live_count c = count_by is_some c.slots
+
+  -- how many entries fit with no growth
+  abbrev pub room_for : Content T → ℕ
+  room_for c = capacity c.room
+
+  -- the index of the next entry: the first free one, or one past the slots
+  abbrev pub next_index : Content T → ℕ
+  next_index c = first_or (length c.slots + 1) c.free
+    where
+      first_or : ℕ → List ℕ → ℕ
+      first_or past [] = past
+      first_or past (index ∷ _) = index
+
+  -- the content with one more entry, which has the counter as its generation
+  abbrev pub inserted : Content T → T → Content T
+  inserted c t = at_first c.free
+    where
+      at_first : List ℕ → Content T
+      at_first [] = record c { slots = c.slots ++ Some (c.counter, t) ∷ [] }
+      at_first (index ∷ rest) = record c { slots = slice_set c.slots (index - 1) (Some (c.counter, t)); free = rest }
+
+  -- the content with no entry at this index, which is live: the last slot goes, another is the next one to be taken
+  abbrev pub vacated : Content T → ℕ → Content T
+  vacated c index =
+      if index == length c.slots
+      then record c { slots = take (index - 1) c.slots }
+      else record c { slots = slice_set c.slots (index - 1) None; free = index ∷ c.free }
+
+  -- the content with this counter
+  abbrev pub with_counter : Content T → ℕ → Content T
+  with_counter c g = record c { counter = g }
+
+  -- the content with the next counter, where this is the last generation
+  abbrev pub stepped : Option ℕ → Content T → Content T
+  stepped last c = record c { counter = next_generation last c.counter }
+
+  -- the content after the removal of the entry at this index, which is live
+  abbrev pub removed : Option ℕ → Content T → ℕ → Content T
+  removed last c index = stepped last (vacated c index)
+
+  -- the content with another value at this index, if it is live
+  abbrev pub with_value : Content T → ℕ → T → Content T
+  with_value c index t = at_entry (entry_at c index)
+    where
+      at_entry : Option (ℕ × T) → Content T
+      at_entry None = c
+      at_entry (Some entry) = record c { slots = slice_set c.slots (index - 1) (Some (entry.0, t)) }
+
+  -- the content with another generation at this index, if it is live
+  abbrev pub with_generation : Content T → ℕ → ℕ → Content T
+  with_generation c index g = at_entry (entry_at c index)
+    where
+      at_entry : Option (ℕ × T) → Content T
+      at_entry None = c
+      at_entry (Some entry) = record c { slots = slice_set c.slots (index - 1) (Some (g, entry.1)) }
+
+  -- the content after the pointer to the entry at this index ended, and another took its place
+  abbrev pub invalidated : Option ℕ → Content T → ℕ → Content T
+  invalidated last c index = stepped last (with_generation c index (next_generation last c.counter))
+
+  -- the content with no entry and no slot
+  abbrev pub emptied : Content T → Content T
+  emptied c = record c { slots = []; free = [] }
+
+  -- the content after all entries were removed at once
+  abbrev pub cleared : Option ℕ → Content T → Content T
+  cleared last c = stepped last (emptied c)
+
+  -- the content in another room
+  abbrev pub in_room : Content T → Room → Content T
+  in_room c room = record c { room = room }
+
+  -- a free index: one of the slots, with no entry
+  pub record IsVacant (c : Content T) (index : ℕ) : Type 0 where
+    pub positive : 0 < index
+    pub within : index ≤ length c.slots
+    pub vacant : entry_at c index ≡ None
+
+  -- each of these is a free index, and none comes twice
+  abbrev pub AllVacant : Content T → List ℕ → Type 0
+  AllVacant c [] = Unit {0}
+  AllVacant c (index ∷ rest) = IsVacant c index × (Lacks rest index × AllVacant c rest)
+
+  -- the free indexes are those of the slots that are not live, each once, and the slots are within the capacity
+  pub record IsWellFormed (c : Content T) : Type 0 where
+    pub free : AllVacant c c.free
+    pub counted : live_count c + length c.free ≡ length c.slots
+    pub fits : length c.slots ≤ room_for c

@@ -1,0 +1,88 @@
+-- The laws of a write of a value, which each arena proves.
+use Rattle.std.proofs.Common.{◌≡◌, ◌≢◌, ◌==◌, if◌then◌else◌, ℕ, zero, suc, ◌-◌, ◌<◌, List, [], ◌∷◌, length, get_or, set, Option, Some, None, IsSome, true≢false, inl, inr, refl, sym, ap, subst, ◌∙◌, arith}
+use Rattle.std.proofs.lemmas.Bool.{ne_eqb}
+use Rattle.std.proofs.lemmas.Bool.Decides.{eqb_tells}
+use Rattle.std.proofs.lemmas.List.{get_or-set_same, get_or-set_other}
+use Rattle.triple_arena.specs.Entries.{with_value_at}
+use Rattle.triple_arena.specs.Content.{Content, entry_at, with_value}
+
+module _ {T : Type 0} where
+  -- the entry at an index from 1 on
+  pub entry_at_slot : (c : Content T) (i : ℕ) → 0 < i → entry_at c i ≡ get_or c.slots (i - 1) None
+  entry_at_slot c zero positive = absurd (omega arith)
+  entry_at_slot c (suc k) positive =
+      let back : k ≡ suc k - 1 = omega arith in
+      ap (λ n. get_or c.slots n None) back
+
+  within_slots : (xs : List (Option (ℕ × T))) (k : ℕ) (e : ℕ × T) → get_or xs k None ≡ Some e → k < length xs
+  within_slots [] k e found = absurd (cc)
+  within_slots (x ∷ xs) zero e found = omega arith
+  within_slots (x ∷ xs) (suc k) e found = let h = within_slots xs k e found in omega arith
+
+  -- a live index is one of the slots
+  pub record Live (c : Content T) (i : ℕ) : Type 0 where
+    pub entry : ℕ × T
+    pub is : entry_at c i ≡ Some entry
+    pub positive : 0 < i
+    pub within : i - 1 < length c.slots
+    pub read : get_or c.slots (i - 1) None ≡ Some entry
+
+  pub live_of : (c : Content T) (i : ℕ) → IsSome (entry_at c i) → Live c i
+  live_of c i some = by_entry (entry_at c i) refl some
+    where
+      by_entry : (o : Option (ℕ × T)) → entry_at c i ≡ o → IsSome o → Live c i
+      by_entry None e some = absurd (true≢false (sym some))
+      by_entry (Some x) e some =
+          elim (eqb_tells i 0) [
+            | inl none ↦ absurd (let read : entry_at c 0 ≡ Some x = subst (λ n. entry_at c n ≡ Some x) none.1 e in cc)
+            | inr other ↦
+                let positive : 0 < i = omega (arith, other.1) in
+                let read = sym (entry_at_slot c i positive) ∙ e in
+                record { entry = x; is = e; positive = positive; within = within_slots c.slots (i - 1) x read; read = read }
+          ]
+
+  -- a write of the slot at an index from 1 on
+  pub entry-set : (c c' : Content T) (i j : ℕ) (o : Option (ℕ × T)) → 0 < i → i - 1 < length c.slots → c'.slots ≡ set c.slots (i - 1) o → entry_at c' j ≡ (if j == i then o else entry_at c j)
+  entry-set c c' i zero o positive within written = rw (ne_eqb 0 i (λ e. omega arith)) refl
+  entry-set c c' i (suc k) o positive within written =
+      elim (eqb_tells (suc k) i) [
+        | inl same ↦
+            let at : k ≡ i - 1 = omega (arith, same.1) in
+            rw (same.0, written, at) (get_or-set_same c.slots (i - 1) o None within)
+        | inr other ↦
+            let differs : k ≢ i - 1 = λ e. other.1 (omega (arith, e)) in
+            rw (other.0, written) (get_or-set_other c.slots (i - 1) k o None differs)
+      ]
+
+  -- a write of a value changes the entry at its index alone
+  pub entry-with_value : (c : Content T) (i : ℕ) (t : T) (j : ℕ) → entry_at (with_value c i t) j ≡ with_value_at (entry_at c) i t j
+  entry-with_value c i t j = by_entry (entry_at c i) refl
+    where
+      by_entry : (o : Option (ℕ × T)) → entry_at c i ≡ o → entry_at (with_value c i t) j ≡ with_value_at (entry_at c) i t j
+      by_entry None e =
+          elim (eqb_tells j i) [
+            | inl same ↦ rw (same.0, e) (ap (entry_at c) same.1 ∙ e)
+            | inr other ↦ rw (other.0, e) refl
+          ]
+      by_entry (Some x) e =
+          let some : IsSome (entry_at c i) = rw e refl in
+          let l = live_of c i some in
+          rw e (entry-set c (record c { slots = set c.slots (i - 1) (Some (x.0, t)) }) i j (Some (x.0, t)) l.positive l.within refl)
+
+  -- a write keeps the counter, the room and the number of live entries
+  pub counter-with_value : (c : Content T) (i : ℕ) (t : T) → (with_value c i t).counter ≡ c.counter
+  counter-with_value c i t = by_entry (entry_at c i) refl
+    where
+      by_entry : (o : Option (ℕ × T)) → entry_at c i ≡ o → (with_value c i t).counter ≡ c.counter
+      by_entry None e = rw e refl
+      by_entry (Some x) e = rw e refl
+
+  pub room-with_value : (c : Content T) (i : ℕ) (t : T) → (with_value c i t).room ≡ c.room
+  room-with_value c i t = by_entry (entry_at c i) refl
+    where
+      by_entry : (o : Option (ℕ × T)) → entry_at c i ≡ o → (with_value c i t).room ≡ c.room
+      by_entry None e = rw e refl
+      by_entry (Some x) e = rw e refl
+
+  pub counted-with_value : (c : Content T) (i : ℕ) (t : T) → Some (with_value c i t).counter ≡ Some c.counter
+  counted-with_value c i t = ap Some (counter-with_value c i t)

@@ -1,0 +1,37 @@
+-- What is known of any arena: the entry at each index.
+use Rattle.std.specs.Prelude.{ℕ, ◌==◌, Bool, true, false, Option, Some, None, if◌then◌else◌}
+use Rattle.std.specs.Option.{option_map}
+use Rattle.triple_arena_ptr.specs.Generation.{next_wraps}
+
+-- the number where this holds
+abbrev pub number_if : Bool → ℕ → Option ℕ
+number_if true n = Some n
+number_if false n = None
+
+-- whether the step from this counter starts the generations again, where this is the last one; what has no counter
+-- steps none
+abbrev pub counter_wraps : Option ℕ → Option ℕ → Bool
+counter_wraps last None = false
+counter_wraps last (Some g) = next_wraps last g
+
+module _ {T : Type 0} where
+  -- the value of an entry that has this generation
+  abbrev pub value_if : ℕ → Option (ℕ × T) → Option T
+  value_if g None = None
+  value_if g (Some entry) = if entry.0 == g then Some entry.1 else None
+
+  -- the entries with this one at an index
+  abbrev pub with_entry : (ℕ → Option (ℕ × T)) → ℕ → ℕ × T → ℕ → Option (ℕ × T)
+  with_entry entries i entry j = if j == i then Some entry else entries j
+
+  -- the entries with none at an index
+  abbrev pub without : (ℕ → Option (ℕ × T)) → ℕ → ℕ → Option (ℕ × T)
+  without entries i j = if j == i then None else entries j
+
+  -- the entries with another value at an index, if it has one
+  abbrev pub with_value_at : (ℕ → Option (ℕ × T)) → ℕ → T → ℕ → Option (ℕ × T)
+  with_value_at entries i t j = if j == i then option_map (λ entry. (entry.0, t)) (entries i) else entries j
+
+  -- the entries with another generation at an index, if it has one
+  abbrev pub with_generation_at : (ℕ → Option (ℕ × T)) → ℕ → ℕ → ℕ → Option (ℕ × T)
+  with_generation_at entries i g j = if j == i then option_map (λ entry. (g, entry.1)) (entries i) else entries j

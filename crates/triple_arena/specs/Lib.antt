@@ -1,0 +1,7 @@
+pub mod ArenaRoom
+pub mod Slot
+pub mod Entry
+pub mod Entries
+pub mod Content
+pub mod Layout
+pub mod ContentLaws

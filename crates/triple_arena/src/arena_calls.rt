@@ -1,0 +1,211 @@
+//! The calls of an `Arena` that every arena has.
+ghost use Rattle.std.specs.Prelude.{◌≡◌, ℕ, ◌+◌, ◌<◌, ◌≤◌, ◌↔◌, true, [], Some, None, IsOk, IsSome, IfSome, IfNone, IfOk, OnOk, OnErr, IsErrOf, option_copied};
+ghost use Rattle.std.specs.Borrow.{sem, Lends};
+ghost use Rattle.std.specs.Option.{option_map};
+ghost use Rattle.triple_arena_ptr.specs.Generation.{second_generation, next_generation, next_wraps};
+ghost use Rattle.triple_arena_ptr.specs.InvalidationOption.{value_of, overflowed};
+ghost use Rattle.triple_arena_ptr.specs.InvalidationResult.{answer_of};
+ghost use Rattle.triple_arena_stack.specs.Room.{with_reserved, IsBeyond};
+ghost use Rattle.triple_arena.specs.ArenaRoom.{room_of};
+ghost use Rattle.triple_arena.specs.Entries.{without, with_generation_at};
+ghost use Rattle.triple_arena.specs.Content.{get, entry_at as entry_of_index, live_count as live_of, room_for, removed, invalidated, cleared, with_value as with_value_of, in_room, IsWellFormed};
+ghost use Rattle.triple_arena.specs.ContentLaws.{entry-with_value, counted-with_value, room-with_value};
+
+use crate::arena::{ValueAtMut, max_index};
+use crate::{Arena, ArenaSlot, ArenaTrait};
+use triple_arena_ptr::{InvalidationOption, InvalidationResult, Ptr, PtrInx, ReallocationError};
+use triple_arena_stack::NonZeroInxGenericStack;
+
+impl<P: Ptr, T: Drop, S: NonZeroInxGenericStack<ArenaSlot<P, T>> + Drop> ArenaTrait<P, T>
+    for Arena<P, T, S> {
+    type Alloc = S::Alloc;
+
+    ghost entry_at = { entry_of_index };
+
+    ghost live_count = { live_of };
+
+    ghost counter = { λ c. Some c.counter };
+
+    ghost counts = { true };
+
+    ghost room = { λ c. c.room };
+
+    ghost room_at = { λ n. room_of P.Inx.greatest (S.room_at n) };
+
+    ghost with_value = { with_value_of };
+
+    ghost entry_with_value = { entry-with_value };
+
+    ghost counter_with_value = { counted-with_value };
+
+    ghost room_with_value = { room-with_value };
+
+    fn new(alloc: S::Alloc) -> Self
+        ensures slots { result.slots ≡ [] }
+        ensures counter { result.counter ≡ second_generation P.Gen.last }
+        ensures free { result.free ≡ [] }
+        ensures room { result.room ≡ room_of P.Inx.greatest (S.room_at 0) }
+        ensures entries { (j : ℕ) → entry_of_index result j ≡ None }
+        ensures formed { IsWellFormed result }
+    {
+        Arena::over(S::new(alloc))
+    }
+
+    fn with_min_capacity(alloc: S::Alloc, min: usize) -> Result<Self, ReallocationError>
+        ensures slots { IfOk result (λ a. a.slots ≡ []) }
+        ensures counter { IfOk result (λ a. a.counter ≡ second_generation P.Gen.last) }
+        ensures free { IfOk result (λ a. a.free ≡ []) }
+        ensures room { IfOk result (λ a. a.room ≡ room_of P.Inx.greatest (S.room_at min)) }
+        ensures entries { IfOk result (λ a. (j : ℕ) → entry_of_index a j ≡ None) }
+        ensures formed { IfOk result (λ a. IsWellFormed a) }
+        ensures fits { IfOk result (λ a. min ≤ room_for a) }
+        ensures beyond { IsErrOf result ReallocationError.BeyondMaxCapacity ↔ IsBeyond (room_of P.Inx.greatest (S.room_at min)).limit min }
+    {
+        if min > max_index::<P>() {
+            drop(Self::new(alloc));
+            return Err(ReallocationError::BeyondMaxCapacity);
+        }
+        let slots = S::with_min_capacity(alloc, min)?;
+        Ok(Arena::over(slots))
+    }
+
+    fn capacity(&self) -> usize
+        ensures value { result ≡ room_for self.now }
+        ensures holds_all { live_of self.now ≤ result }
+        ensures formed { IsWellFormed self.now }
+    {
+        self.room_for()
+    }
+
+    fn max_capacity(&self) -> Option<usize> {
+        self.limit()
+    }
+
+    fn reallocate_min_capacity(&mut self, min: usize) -> Result<(), ReallocationError>
+        ensures kept { min ≤ room_for self.old → self.new ≡ self.old }
+        ensures grown { room_for self.old < min → OnOk result (self.new ≡ in_room self.old (with_reserved self.old.room min)) }
+        ensures fits { OnOk result (min ≤ room_for self.new) }
+        ensures entries { (j : ℕ) → entry_of_index self.new j ≡ entry_of_index self.old j }
+        ensures live { live_of self.new ≡ live_of self.old }
+        ensures counter { self.new.counter ≡ self.old.counter }
+        ensures succeeds { min ≤ room_for self.old → IsOk result }
+        ensures beyond { IsErrOf result ReallocationError.BeyondMaxCapacity ↔ IsBeyond self.old.room.limit min }
+        ensures err { OnErr result (self.new ≡ self.old) }
+        ensures formed { IsWellFormed self.new }
+        ensures was_formed { IsWellFormed self.old }
+    {
+        self.reallocate(min)
+    }
+
+    fn len(&self) -> usize
+        ensures value { result ≡ live_of self.now }
+        ensures fits { result ≤ room_for self.now }
+        ensures formed { IsWellFormed self.now }
+    {
+        self.live()
+    }
+
+    fn singular_generation(&self) -> Option<P::Gen> {
+        Some(self.counter())
+    }
+
+    fn get(&self, p: P) -> Option<&T> {
+        self.value(p)
+    }
+
+    fn get_inx(&self, i: P::Inx) -> Option<(P::Gen, &T)> {
+        self.entry(i)
+    }
+
+    fn get_inx_mut_unwrap(&mut self, i: P::Inx) -> &mut T {
+        match self.live_inx(i) {
+            Some(i) => self.value_at_mut(i),
+            None => unreachable!(),
+        }
+    }
+
+    fn remove(&mut self, p: P) -> InvalidationResult<T>
+        ensures value { option_map value_of (answer_of result) ≡ get self.old (P.index p) (P.generation p) }
+        ensures overflow { IfSome (answer_of result) (λ a. overflowed a ≡ next_wraps P.Gen.last self.old.counter) }
+        ensures content { IfSome (answer_of result) (λ a. self.new ≡ removed P.Gen.last self.old (P.index p)) }
+        ensures entries { IfSome (answer_of result) (λ a. (j : ℕ) → entry_of_index self.new j ≡ without (entry_of_index self.old) (P.index p) j) }
+        ensures live { IfSome (answer_of result) (λ a. live_of self.new + 1 ≡ live_of self.old) }
+        ensures counter { IfSome (answer_of result) (λ a. self.new.counter ≡ next_generation P.Gen.last self.old.counter) }
+        ensures room { self.new.room ≡ self.old.room }
+        ensures invalid { IfNone (answer_of result) (self.new ≡ self.old) }
+        ensures formed { IsWellFormed self.new }
+        ensures was_formed { IsWellFormed self.old }
+    {
+        let _ = self.live();
+        match self.live_index(p) {
+            Some(i) => match self.remove_at(i) {
+                InvalidationOption::Success((_, t)) => InvalidationResult::Success(t),
+                InvalidationOption::GenerationOverflow((_, t)) => {
+                    InvalidationResult::GenerationOverflow(t)
+                }
+            },
+            None => InvalidationResult::InvalidPtr,
+        }
+    }
+
+    fn remove_inx(&mut self, i: P::Inx) -> InvalidationResult<(P::Gen, T)>
+        ensures value { option_map (λ a. (P.Gen.number (value_of a).0, (value_of a).1)) (answer_of result) ≡ entry_of_index self.old (P.Inx.number i) }
+        ensures overflow { IfSome (answer_of result) (λ a. overflowed a ≡ next_wraps P.Gen.last self.old.counter) }
+        ensures content { IfSome (answer_of result) (λ a. self.new ≡ removed P.Gen.last self.old (P.Inx.number i)) }
+        ensures entries { IfSome (answer_of result) (λ a. (j : ℕ) → entry_of_index self.new j ≡ without (entry_of_index self.old) (P.Inx.number i) j) }
+        ensures live { IfSome (answer_of result) (λ a. live_of self.new + 1 ≡ live_of self.old) }
+        ensures counter { IfSome (answer_of result) (λ a. self.new.counter ≡ next_generation P.Gen.last self.old.counter) }
+        ensures room { self.new.room ≡ self.old.room }
+        ensures invalid { IfNone (answer_of result) (self.new ≡ self.old) }
+        ensures formed { IsWellFormed self.new }
+        ensures was_formed { IsWellFormed self.old }
+    {
+        let _ = self.live();
+        match self.live_inx(i) {
+            Some(i) => match self.remove_at(i) {
+                InvalidationOption::Success(entry) => InvalidationResult::Success(entry),
+                InvalidationOption::GenerationOverflow(entry) => {
+                    InvalidationResult::GenerationOverflow(entry)
+                }
+            },
+            None => InvalidationResult::InvalidPtr,
+        }
+    }
+
+    fn invalidate(&mut self, p: P) -> InvalidationResult<P>
+        ensures variant { IsSome (answer_of result) ↔ IsSome (get self.old (P.index p) (P.generation p)) }
+        ensures overflow { IfSome (answer_of result) (λ a. overflowed a ≡ next_wraps P.Gen.last self.old.counter) }
+        ensures content { IfSome (answer_of result) (λ a. self.new ≡ invalidated P.Gen.last self.old (P.index p)) }
+        ensures index { IfSome (answer_of result) (λ a. P.index (value_of a) ≡ P.index p) }
+        ensures generation { IfSome (answer_of result) (λ a. P.generation (value_of a) ≡ next_generation P.Gen.last self.old.counter) }
+        ensures entries { IfSome (answer_of result) (λ a. (j : ℕ) → entry_of_index self.new j ≡ with_generation_at (entry_of_index self.old) (P.index p) (P.generation (value_of a)) j) }
+        ensures live { live_of self.new ≡ live_of self.old }
+        ensures counter { IfSome (answer_of result) (λ a. self.new.counter ≡ next_generation P.Gen.last self.old.counter) }
+        ensures room { self.new.room ≡ self.old.room }
+        ensures invalid { IfNone (answer_of result) (self.new ≡ self.old) }
+        ensures formed { IsWellFormed self.new }
+        ensures was_formed { IsWellFormed self.old }
+    {
+        let _ = self.live();
+        match self.live_index(p) {
+            Some(i) => self.invalidate_at(i),
+            None => InvalidationResult::InvalidPtr,
+        }
+    }
+
+    fn clear(&mut self) -> InvalidationOption<()>
+        ensures content { self.new ≡ cleared P.Gen.last self.old }
+        ensures overflow { overflowed result ≡ next_wraps P.Gen.last self.old.counter }
+        ensures entries { (j : ℕ) → entry_of_index self.new j ≡ None }
+        ensures formed { IsWellFormed self.new }
+        ensures was_formed { IsWellFormed self.old }
+    {
+        let _ = self.live();
+        self.empty();
+        if self.step() {
+            InvalidationOption::GenerationOverflow(())
+        } else {
+            InvalidationOption::Success(())
+        }
+    }
+}

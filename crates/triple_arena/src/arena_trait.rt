@@ -1,0 +1,187 @@
+//! What every arena does.
+ghost use Rattle.std.specs.Prelude.{◌≡◌, ◌≢◌, ℕ, ◌+◌, ◌-◌, ◌*◌, ◌^◌, ◌<◌, ◌≤◌, ◌↔◌, Bool, Some, None, IsTrue, IsOk, IsSome, IfSome, IfNone, IfOk, OnOk, OnErr, IsErrOf, Option, option_copied};
+ghost use Rattle.std.specs.Borrow.{sem, Lends, LendsIf};
+ghost use Rattle.std.specs.Option.{option_map, option_copied_mut};
+ghost use Rattle.triple_arena_ptr.specs.Generation.{second_generation, next_generation};
+ghost use Rattle.triple_arena_ptr.specs.InvalidationOption.{value_of, overflowed};
+ghost use Rattle.triple_arena_ptr.specs.InvalidationResult.{answer_of};
+ghost use Rattle.triple_arena_stack.specs.Room.{Room, capacity as capacity_of, with_reserved, IsBeyond};
+ghost use Rattle.triple_arena.specs.Entries.{number_if, value_if, counter_wraps, without, with_value_at, with_generation_at};
+
+use triple_arena_ptr::{InvalidationOption, InvalidationResult, Ptr, ReallocationError};
+
+/// An arena of values of type `T`, to which pointers of type `P` point.
+pub trait ArenaTrait<P: Ptr, T: Drop> {
+    /// What the arena takes its memory from.
+    type Alloc;
+
+    // The generation and the value at each index. Index 0 has none.
+    ghost entry_at: { Self → ℕ → Option (ℕ × T) };
+
+    // How many indexes are live.
+    ghost live_count: { Self → ℕ };
+
+    // The generation of the next entry, in an arena that has a counter.
+    ghost counter: { Self → Option ℕ };
+
+    // Whether the arena has a counter.
+    ghost counts: { Bool };
+
+    // The reserved slots and the greatest capacity.
+    ghost room: { Self → Room };
+
+    // The room of an arena that is made for so many entries.
+    ghost room_at: { ℕ → Room };
+
+    // The arena with another value at an index, if it is live.
+    ghost with_value: { Self → ℕ → T → Self };
+
+    /// An empty arena, which takes no memory.
+    fn new(alloc: Self::Alloc) -> Self
+        ensures entries { (j : ℕ) → entry_at result j ≡ None }
+        ensures live { live_count result ≡ 0 }
+        ensures counter { counter result ≡ number_if counts (second_generation P.Gen.last) }
+        ensures room { room result ≡ room_at 0 };
+
+    /// An empty arena with room for `min` entries. It answers `BeyondMaxCapacity` where no arena of this type has so
+    /// much, and `AllocError` where the memory was refused.
+    fn with_min_capacity(alloc: Self::Alloc, min: usize) -> Result<Self, ReallocationError>
+        ensures entries { IfOk result (λ a. (j : ℕ) → entry_at a j ≡ None) }
+        ensures live { IfOk result (λ a. live_count a ≡ 0) }
+        ensures counter { IfOk result (λ a. counter a ≡ number_if counts (second_generation P.Gen.last)) }
+        ensures room { IfOk result (λ a. room a ≡ room_at min) }
+        ensures fits { IfOk result (λ a. min ≤ capacity_of (room a)) }
+        ensures beyond { IsErrOf result ReallocationError.BeyondMaxCapacity ↔ IsBeyond (room_at min).limit min };
+
+    /// How many entries fit with no growth.
+    fn capacity(&self) -> usize
+        ensures value { result ≡ capacity_of (room self.now) }
+        ensures holds_all { live_count self.now ≤ result };
+
+    /// The capacity that no growth passes, if there is one.
+    fn max_capacity(&self) -> Option<usize>
+        ensures { result ≡ (room self.now).limit };
+
+    /// Makes room for `min` entries, by a growth to exactly that where there is less. It answers `BeyondMaxCapacity`
+    /// where `min` is past the greatest capacity, and `AllocError` where the memory was refused. An error leaves the
+    /// arena as it was, its capacity too.
+    fn reallocate_min_capacity(&mut self, min: usize) -> Result<(), ReallocationError>
+        ensures kept { min ≤ capacity_of (room self.old) → self.new ≡ self.old }
+        ensures grown { capacity_of (room self.old) < min
+            → OnOk result (room self.new ≡ with_reserved (room self.old) min) }
+        ensures fits { OnOk result (min ≤ capacity_of (room self.new)) }
+        ensures entries { (j : ℕ) → entry_at self.new j ≡ entry_at self.old j }
+        ensures live { live_count self.new ≡ live_count self.old }
+        ensures counter { counter self.new ≡ counter self.old }
+        ensures succeeds { min ≤ capacity_of (room self.old) → IsOk result }
+        ensures beyond { IsErrOf result ReallocationError.BeyondMaxCapacity ↔ IsBeyond (room self.old).limit min }
+        ensures err { OnErr result (self.new ≡ self.old) };
+
+    /// How many entries are live.
+    fn len(&self) -> usize
+        ensures value { result ≡ live_count self.now }
+        ensures fits { result ≤ capacity_of (room self.now) };
+
+    /// The counter, which is the generation of the next entry, in an arena that has one.
+    fn singular_generation(&self) -> Option<P::Gen>
+        ensures { option_map P.Gen.number result ≡ counter self.now };
+
+    /// The value that `p` points to, if it is live.
+    fn get(&self, p: P) -> Option<&T>
+        ensures { option_copied result ≡ value_if (P.generation p) (entry_at self.now (P.index p)) };
+
+    /// The generation and the value at an index, if it is live.
+    fn get_inx(&self, i: P::Inx) -> Option<(P::Gen, &T)>
+        ensures { option_map (λ e. (P.Gen.number e.0, e.1.now)) result ≡ entry_at self.now (P.Inx.number i) };
+
+    /// The value at an index that is live, for writing.
+    fn get_inx_mut_unwrap(&mut self, i: P::Inx) -> &mut T
+        requires { IsSome (entry_at self.old (P.Inx.number i)) }
+        ensures* writes_back { sem 𝓛 (Lends Self.row T.row self.entry result (with_value self.old (P.Inx.number i))) }
+        ensures value { option_map (λ e. e.1) (entry_at self.old (P.Inx.number i)) ≡ Some result.now };
+
+    /// Removes the value that `p` points to, and steps the counter. It answers `InvalidPtr`, and changes nothing,
+    /// where `p` points to none.
+    fn remove(&mut self, p: P) -> InvalidationResult<T>
+        ensures value { option_map value_of (answer_of result) ≡ value_if (P.generation p) (entry_at self.old (P.index p)) }
+        ensures overflow { IfSome (answer_of result) (λ a. overflowed a ≡ counter_wraps P.Gen.last (counter self.old)) }
+        ensures entries { IfSome (answer_of result) (λ a. (j : ℕ) → entry_at self.new j ≡ without (entry_at self.old) (P.index p) j) }
+        ensures live { IfSome (answer_of result) (λ a. live_count self.new + 1 ≡ live_count self.old) }
+        ensures counter { IfSome (answer_of result) (λ a. counter self.new ≡ option_map (next_generation P.Gen.last) (counter self.old)) }
+        ensures room { room self.new ≡ room self.old }
+        ensures invalid { IfNone (answer_of result) (self.new ≡ self.old) };
+
+    /// Removes the entry at an index, and steps the counter. It answers `InvalidPtr`, and changes nothing, where the
+    /// index is not live.
+    fn remove_inx(&mut self, i: P::Inx) -> InvalidationResult<(P::Gen, T)>
+        ensures value { option_map (λ a. (P.Gen.number (value_of a).0, (value_of a).1)) (answer_of result) ≡ entry_at self.old (P.Inx.number i) }
+        ensures overflow { IfSome (answer_of result) (λ a. overflowed a ≡ counter_wraps P.Gen.last (counter self.old)) }
+        ensures entries { IfSome (answer_of result) (λ a. (j : ℕ) → entry_at self.new j ≡ without (entry_at self.old) (P.Inx.number i) j) }
+        ensures live { IfSome (answer_of result) (λ a. live_count self.new + 1 ≡ live_count self.old) }
+        ensures counter { IfSome (answer_of result) (λ a. counter self.new ≡ option_map (next_generation P.Gen.last) (counter self.old)) }
+        ensures room { room self.new ≡ room self.old }
+        ensures invalid { IfNone (answer_of result) (self.new ≡ self.old) };
+
+    /// Ends `p` and gives the entry another pointer, with the stepped generation, so that `p` finds nothing where
+    /// generations are counted. Where they are not the pointer is equal to `p`. It answers `InvalidPtr`, and changes
+    /// nothing, where `p` points to no entry.
+    fn invalidate(&mut self, p: P) -> InvalidationResult<P>
+        ensures variant { IsSome (answer_of result) ↔ IsSome (value_if (P.generation p) (entry_at self.old (P.index p))) }
+        ensures index { IfSome (answer_of result) (λ a. P.index (value_of a) ≡ P.index p) }
+        ensures entries { IfSome (answer_of result) (λ a. (j : ℕ) → entry_at self.new j ≡ with_generation_at (entry_at self.old) (P.index p) (P.generation (value_of a)) j) }
+        ensures live { live_count self.new ≡ live_count self.old }
+        ensures room { room self.new ≡ room self.old }
+        ensures invalid { IfNone (answer_of result) (self.new ≡ self.old) };
+
+    /// Removes every entry and every slot, and steps the counter once, also where there was no entry.
+    fn clear(&mut self) -> InvalidationOption<()>
+        ensures overflow { overflowed result ≡ counter_wraps P.Gen.last (counter self.old) }
+        ensures entries { (j : ℕ) → entry_at self.new j ≡ None }
+        ensures live { live_count self.new ≡ 0 }
+        ensures counter { counter self.new ≡ option_map (next_generation P.Gen.last) (counter self.old) }
+        ensures room { room self.new ≡ room self.old };
+
+    // A write of a value changes nothing else.
+    ghost entry_with_value: { (s : Self) (i : ℕ) (t : T) (j : ℕ) → entry_at (with_value s i t) j ≡ with_value_at (entry_at s) i t j };
+
+    ghost counter_with_value: { (s : Self) (i : ℕ) (t : T) → counter (with_value s i t) ≡ counter s };
+
+    ghost room_with_value: { (s : Self) (i : ℕ) (t : T) → room (with_value s i t) ≡ room s };
+
+    /// Whether there is no entry.
+    final fn is_empty(&self) -> bool
+        ensures { IsTrue result ↔ (live_count self.now ≡ 0) }
+    {
+        self.len() == 0
+    }
+
+    /// Whether `p` points to a live entry.
+    final fn contains(&self, p: P) -> bool
+        ensures { IsTrue result ↔ IsSome (value_if (P.generation p) (entry_at self.now (P.index p))) }
+    {
+        self.get(p).is_some()
+    }
+
+    /// The value at an index that is live.
+    final fn get_inx_unwrap(&self, i: P::Inx) -> &T
+        requires { IsSome (entry_at self.now (P.Inx.number i)) }
+        ensures { option_map (λ e. e.1) (entry_at self.now (P.Inx.number i)) ≡ Some result.now }
+    {
+        match self.get_inx(i) {
+            Some((_, value)) => value,
+            None => unreachable!(),
+        }
+    }
+
+    /// The value that `p` points to for writing, if it is live.
+    final fn get_mut(&mut self, p: P) -> Option<&mut T>
+        ensures* writes_back { sem 𝓛 (LendsIf Self.row T.row self.entry result (with_value self.old (P.index p)) self.old) }
+        ensures value { option_copied_mut result ≡ value_if (P.generation p) (entry_at self.old (P.index p)) }
+    {
+        if self.contains(p) {
+            Some(self.get_inx_mut_unwrap(p.inx()))
+        } else {
+            None
+        }
+    }
+}

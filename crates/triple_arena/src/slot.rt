@@ -1,0 +1,165 @@
+//! A slot of an arena.
+ghost use Rattle.std.specs.Prelude.{◌≡◌, ℕ, Option, Some, None, option_copied, IsTrue, ◌↔◌, IsSome, IsNone};
+ghost use Rattle.std.specs.Borrow.{Lends, sem};
+ghost use Rattle.std.specs.Int.NonZero.{non_zero_usize_get};
+ghost use Rattle.std.specs.Option.{option_map};
+ghost use Rattle.triple_arena.specs.Slot.{entry_of, free, used, value_of, link_of, with_slot_value, with_slot_generation};
+ghost use Rattle.triple_arena.specs.Entries.{value_if};
+
+use std::marker::Model;
+use std::num::NonZeroUsize;
+use triple_arena_ptr::{Ptr, PtrGen};
+
+/// A slot of an arena: free, with a link to the next free one, or allocated, with a generation and a value.
+#[derive(Drop)]
+pub struct ArenaSlot<P: Ptr, T> {
+    entry: Entry<P::Gen, T>,
+}
+
+#[derive(Drop)]
+enum Entry<G, T> {
+    Free(Option<NonZeroUsize>),
+    Used(G, T),
+}
+
+// What keeps one value, if any, and lends it.
+pub(crate) trait ValueMut<T> {
+    ghost held: { Self → Option T };
+
+    ghost with_held: { Self → T → Self };
+
+    fn value_mut(&mut self) -> &mut T
+        requires { IsSome (held self.old) }
+        ensures* lends { sem 𝓛 (Lends Self.row T.row self.entry result (with_held self.old)) }
+        ensures value { held self.old ≡ Some result.now };
+}
+
+impl<G, T> ValueMut<T> for Entry<G, T> {
+    ghost use Rattle.triple_arena.specs.Entry.{entry_value, with_entry_value};
+
+    ghost held = { entry_value };
+
+    ghost with_held = { with_entry_value };
+
+    fn value_mut(&mut self) -> &mut T {
+        match self {
+            Entry::Used(_, value) => value,
+            Entry::Free(_) => unreachable!(),
+        }
+    }
+}
+
+impl<P: Ptr, T> Model for ArenaSlot<P, T> {
+    ghost use Rattle.triple_arena.specs.Slot.{Slot};
+    ghost use Rattle.triple_arena.specs.Entry.{slot_of};
+
+    ghost Value = { Slot T };
+
+    ghost view = { λ s. slot_of P.Gen.number s.entry };
+}
+
+impl<P: Ptr, T> ArenaSlot<P, T> {
+    pub(crate) fn free(next: Option<NonZeroUsize>) -> Self
+        ensures { result ≡ free (option_map non_zero_usize_get next) }
+    {
+        ArenaSlot {
+            entry: Entry::Free(next),
+        }
+    }
+
+    pub(crate) fn used(generation: P::Gen, value: T) -> Self
+        ensures { result ≡ used (P.Gen.number generation) value }
+    {
+        ArenaSlot {
+            entry: Entry::Used(generation, value),
+        }
+    }
+
+    // The generation and the value, if the slot is allocated.
+    pub(crate) fn entry(&self) -> Option<(P::Gen, &T)>
+        ensures { option_map (λ e. (P.Gen.number e.0, e.1.now)) result ≡ entry_of self.now }
+    {
+        match &self.entry {
+            Entry::Used(generation, value) => Some((*generation, value)),
+            Entry::Free(_) => None,
+        }
+    }
+
+    // Gives an allocated slot another generation.
+    pub(crate) fn set_generation(&mut self, generation: P::Gen)
+        ensures { self.new ≡ with_slot_generation self.old (P.Gen.number generation) }
+    {
+        match &mut self.entry {
+            Entry::Used(own, _) => *own = generation,
+            Entry::Free(_) => {}
+        }
+    }
+
+    // The value, if the slot is allocated.
+    pub(crate) fn value(&self) -> Option<&T>
+        ensures { option_copied result ≡ value_of self.now }
+    {
+        match &self.entry {
+            Entry::Used(_, value) => Some(value),
+            Entry::Free(_) => None,
+        }
+    }
+
+    // The value, if the slot is allocated with this generation.
+    pub(crate) fn get(&self, generation: P::Gen) -> Option<&T>
+        ensures { option_copied result ≡ value_if (P.Gen.number generation) (entry_of self.now) }
+    {
+        match &self.entry {
+            Entry::Used(own, value) => {
+                if *own == generation {
+                    Some(value)
+                } else {
+                    None
+                }
+            }
+            Entry::Free(_) => None,
+        }
+    }
+
+    // The link, if the slot is free.
+    pub(crate) fn into_next(self) -> Option<NonZeroUsize>
+    where
+        T: Drop,
+        ensures { option_map non_zero_usize_get result ≡ link_of self }
+    {
+        let ArenaSlot { entry } = self;
+        match entry {
+            Entry::Used(_, _) => None,
+            Entry::Free(next) => next,
+        }
+    }
+
+    // The generation and the value. The slot must be allocated.
+    pub(crate) fn into_entry(self) -> (P::Gen, T)
+        requires { IsSome (entry_of self) }
+        ensures { Some (P.Gen.number result.0, result.1) ≡ entry_of self }
+    {
+        let ArenaSlot { entry } = self;
+        match entry {
+            Entry::Used(generation, value) => (generation, value),
+            Entry::Free(_) => unreachable!(),
+        }
+    }
+}
+
+impl<P: Ptr, T> ValueMut<T> for ArenaSlot<P, T> {
+    ghost held = { value_of };
+
+    ghost with_held = { with_slot_value };
+
+    fn value_mut(&mut self) -> &mut T {
+        self.entry.value_mut()
+    }
+}
+
+impl<P: Ptr, T> Default for ArenaSlot<P, T> {
+    /// A free slot without a link.
+    fn default() -> Self {
+        ArenaSlot::free(None)
+    }
+}

@@ -1,0 +1,112 @@
+//! Nodes in an arena.
+ghost use Rattle.std.specs.Prelude.{◌≡◌, ℕ, ◌+◌, ◌<◌, ◌↔◌, [], Some, None, IsOk, IsTrue, IsSome, IfOk, IfSome, OnOk, OnErr, option_copied};
+ghost use Rattle.triple_arena_ptr.specs.InvalidationResult.{answer_of};
+ghost use Rattle.triple_arena.specs.Content.{live_count, room_for, get};
+ghost use Rattle.triple_arena_user.specs.Nodes.{value_at};
+
+use std::marker::Model;
+use triple_arena::{Arena, ArenaInsertTrait, ArenaSlot, ArenaTrait};
+use triple_arena_ptr::{NotWithinCapacityError, Ptr};
+use triple_arena_stack::NonZeroInxGenericStack;
+
+/// A value with the pointer of the node below.
+#[derive(Drop)]
+pub struct Node<P: Ptr, T> {
+    below: Option<P>,
+    value: T,
+}
+
+impl<P: Ptr, T> Model for Node<P, T> {
+    ghost use Rattle.triple_arena_user.specs.Node.{NodeView};
+    ghost use Rattle.std.specs.Option.{option_map};
+
+    ghost Value = { NodeView T };
+
+    ghost view = { λ n. record { below = option_map (λ p. (P.index p, P.generation p)) n.below; value = n.value } };
+}
+
+/// Nodes, and the top one.
+#[derive(Drop)]
+pub struct Nodes<P: Ptr, T: Drop, S: NonZeroInxGenericStack<ArenaSlot<P, Node<P, T>>>> {
+    arena: Arena<P, Node<P, T>, S>,
+    top: Option<P>,
+}
+
+impl<P: Ptr, T: Drop, S: NonZeroInxGenericStack<ArenaSlot<P, Node<P, T>>>> Model
+    for Nodes<P, T, S> {
+    ghost use Rattle.triple_arena_user.specs.Nodes.{Nodes as View, TopIsLive};
+    ghost use Rattle.std.specs.Option.{option_map};
+
+    ghost Value = { View T };
+
+    ghost view = { λ n. record { arena = n.arena; top = option_map (λ p. (P.index p, P.generation p)) n.top } };
+}
+
+impl<P: Ptr, T: Drop, S: NonZeroInxGenericStack<ArenaSlot<P, Node<P, T>>> + Drop> Nodes<P, T, S> {
+    /// No nodes.
+    pub fn new(alloc: S::Alloc) -> Self
+        ensures none { live_count result.arena ≡ 0 }
+        ensures top { result.top ≡ None }
+    {
+        Nodes {
+            arena: Arena::new(alloc),
+            top: None,
+        }
+    }
+
+    /// The value at `p`.
+    pub fn get(&self, p: P) -> Option<&T>
+        ensures { option_copied result ≡ value_at self.now (P.index p) (P.generation p) }
+    {
+        match self.arena.get(p) {
+            Some(node) => Some(&node.value),
+            None => None,
+        }
+    }
+
+    /// Stores `value` in a node on top of the others.
+    pub fn push(&mut self, value: T) -> Result<P, NotWithinCapacityError>
+        ensures variant { IsOk result ↔ (live_count self.old.arena < room_for self.old.arena) }
+        ensures stored { IfOk result (λ p. value_at self.new (P.index p) (P.generation p) ≡ Some value) }
+        ensures top { IfOk result (λ p. self.new.top ≡ Some (P.index p, P.generation p)) }
+        ensures count { OnOk result (live_count self.new.arena ≡ live_count self.old.arena + 1) }
+        ensures err { OnErr result (self.new ≡ self.old) }
+    {
+        let node = Node {
+            below: self.top,
+            value,
+        };
+        let p = self.arena.insert_within_capacity(node)?;
+        self.top = Some(p);
+        Ok(p)
+    }
+
+    /// Removes the node at `p`, and forgets the top.
+    pub fn remove(&mut self, p: P) -> Option<T>
+        ensures value { result ≡ value_at self.old (P.index p) (P.generation p) }
+        ensures gone { IsSome result → value_at self.new (P.index p) (P.generation p) ≡ None }
+    {
+        match self.arena.remove(p).allow() {
+            Some(node) => {
+                self.top = None;
+                let Node { below: _, value } = node;
+                Some(value)
+            }
+            None => None,
+        }
+    }
+
+    /// Changes the value at `p`, and says whether there was one.
+    pub fn set(&mut self, p: P, value: T) -> bool
+        ensures variant { IsTrue result ↔ IsSome (value_at self.old (P.index p) (P.generation p)) }
+        ensures written { IsTrue result → value_at self.new (P.index p) (P.generation p) ≡ Some value }
+    {
+        match self.arena.get_mut(p) {
+            Some(node) => {
+                node.value = value;
+                true
+            }
+            None => false,
+        }
+    }
+}
