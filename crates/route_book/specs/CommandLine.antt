@@ -1,11 +1,13 @@
 -- What the program's arguments ask for, and what it has done when it ends.
-use Rattle.std.specs.Prelude.{◌≡◌, ℕ, ◌+◌, ◌^◌, ◌++◌, ◌∷◌, List, [], Option, None, codes, map, nat_le, option_and_then, if◌then◌else◌}
+use Rattle.std.specs.Prelude.{◌≡◌, ◌⊎◌, ℕ, ◌+◌, ◌^◌, ◌∷◌, List, [], Option, None, codes, map, nat_le, option_and_then, if◌then◌else◌}
 use Rattle.std.specs.Option.{option_map}
 use Rattle.std.specs.Io.KnownBytes.{Appends, Consumes, IsAtEnd}
 use Rattle.route_book.specs.Number.{number_of}
 use Rattle.route_book.specs.Reply.{ended}
-use Rattle.route_book.specs.State.{Rooms, empty}
+use Rattle.route_book.specs.Run.{StopsWithin}
+use Rattle.route_book.specs.State.{State, Rooms, empty}
 use Rattle.route_book.specs.Text.{whole, whole_lines, replies, text}
+use Rattle.route_book.specs.declared.counts.Counts.{Counts}
 use Rattle.route_book.specs.declared.refusal.RoomError.{RoomError}
 use Rattle.route_book.specs.declared.refusal.RoomError.TheVariants.{Generation, Index, Stack, Memory, TooSmall}
 
@@ -47,11 +49,13 @@ pub record AnswersWholeLines (rooms : Rooms) (before left held written : Option 
   pub read : Consumes before left input
   pub answered : Appends held written (replies (empty rooms 0) (map whole (whole_lines input)))
 
--- some input was read, and a beginning of the text that answers it was written
+-- some input was read, and the replies written up to a line whose reply lacks a byte or more; or the text that answers
+-- the whole input was written, and the flush failed
 pub record BeginsToAnswer (rooms : Rooms) (before left held written : Option (List ℕ)) : Type 0 where
   pub input : List ℕ
   pub read : Consumes before left input
-  pub part : List ℕ
-  pub missing : List ℕ
-  pub whole : text (empty rooms 0) input ≡ part ++ missing
-  pub answered : Appends held written part
+  pub later : State
+  pub counts : Counts
+  pub counted : Counts
+  pub stops : StopsWithin input left (empty rooms 0) later held written counts counted
+      ⊎ (IsAtEnd left × Appends held written (text (empty rooms 0) input))

@@ -30,11 +30,14 @@ impl<A: Allocator> RouteBook<A> {
         counts: &mut Counts,
     ) -> io::Result<()>
         ensures state { self.new ≡ next self.old (command_of line.now) }
-        ensures ok { OnOk result (Appends (W.contents (inner_of writer.old)) (W.contents (inner_of writer.new)) (reply self.old (command_of line.now))) }
+        ensures ok { OnOk result (Appends (W.contents (inner_of writer.old))
+            (W.contents (inner_of writer.new)) (reply self.old (command_of line.now))) }
         ensures ok_failed { OnOk result (failed_of writer.new ≡ failed_of writer.old) }
-        ensures err { OnErr result (AppendsBeginning (W.contents (inner_of writer.old)) (W.contents (inner_of writer.new)) (reply self.old (command_of line.now))) }
+        ensures err { OnErr result (AppendsBeginning (W.contents (inner_of writer.old))
+            (W.contents (inner_of writer.new)) (reply self.old (command_of line.now))) }
         ensures err_failed { OnErr result (failed_of writer.new ≡ failed_of writer.old + 1) }
-        ensures counts { CountsWithin counts.old counts.new (fair (place_count self.old)) (fair (living_count self.old)) (fair (living_count self.old)) }
+        ensures counts { CountsWithin counts.old counts.new (fair (place_count self.old))
+            (fair (living_count self.old)) (fair (living_count self.old)) }
     {
         self.carry_out(read_line(line), &mut ReplyText::new(), writer, counts)
     }
@@ -48,11 +51,14 @@ impl<A: Allocator> RouteBook<A> {
         counts: &mut Counts,
     ) -> io::Result<()>
         ensures state { self.new ≡ next self.old command }
-        ensures ok { OnOk result (Appends (W.contents (inner_of writer.old)) (W.contents (inner_of writer.new)) (reply self.old command)) }
+        ensures ok { OnOk result (Appends (W.contents (inner_of writer.old))
+            (W.contents (inner_of writer.new)) (reply self.old command)) }
         ensures ok_failed { OnOk result (failed_of writer.new ≡ failed_of writer.old) }
-        ensures err { OnErr result (AppendsBeginning (W.contents (inner_of writer.old)) (W.contents (inner_of writer.new)) (reply self.old command)) }
+        ensures err { OnErr result (AppendsBeginning (W.contents (inner_of writer.old))
+            (W.contents (inner_of writer.new)) (reply self.old command)) }
         ensures err_failed { OnErr result (failed_of writer.new ≡ failed_of writer.old + 1) }
-        ensures counts { CountsWithin counts.old counts.new (fair (place_count self.old)) (fair (living_count self.old)) (fair (living_count self.old)) }
+        ensures counts { CountsWithin counts.old counts.new (fair (place_count self.old))
+            (fair (living_count self.old)) (fair (living_count self.old)) }
     {
         text.clear();
         match command {
@@ -75,9 +81,11 @@ fn write_places<W: Write>(
     writer: &mut Watched<W>,
 ) -> io::Result<()>
     requires { text.old ≡ [] }
-    ensures ok { OnOk result (Appends (W.contents (inner_of writer.old)) (W.contents (inner_of writer.new)) (places_text places.entry)) }
+    ensures ok { OnOk result (Appends (W.contents (inner_of writer.old))
+        (W.contents (inner_of writer.new)) (places_text places.entry)) }
     ensures ok_failed { OnOk result (failed_of writer.new ≡ failed_of writer.old) }
-    ensures err { OnErr result (AppendsBeginning (W.contents (inner_of writer.old)) (W.contents (inner_of writer.new)) (places_text places.entry)) }
+    ensures err { OnErr result (AppendsBeginning (W.contents (inner_of writer.old))
+        (W.contents (inner_of writer.new)) (places_text places.entry)) }
     ensures err_failed { OnErr result (failed_of writer.new ≡ failed_of writer.old + 1) }
 {
     for (ticket, key, word) in places {
@@ -92,9 +100,11 @@ fn write_places<W: Write>(
 // Room for one line more: where there is none, what was gathered is written.
 fn make_room<W: Write>(text: &mut ReplyText, writer: &mut Watched<W>) -> io::Result<()>
     ensures room { OnOk result (HasRoom text.new 59) }
-    ensures ok { OnOk result ((sent : List ℕ) × (text.old ≡ sent ++ text.new) × Appends (W.contents (inner_of writer.old)) (W.contents (inner_of writer.new)) sent) }
+    ensures ok { OnOk result ((sent : List ℕ) × (text.old ≡ sent ++ text.new)
+        × Appends (W.contents (inner_of writer.old)) (W.contents (inner_of writer.new)) sent) }
     ensures ok_failed { OnOk result (failed_of writer.new ≡ failed_of writer.old) }
-    ensures err { OnErr result (AppendsBeginning (W.contents (inner_of writer.old)) (W.contents (inner_of writer.new)) text.old) }
+    ensures err { OnErr result (AppendsBeginning (W.contents (inner_of writer.old))
+        (W.contents (inner_of writer.new)) text.old) }
     ensures err_failed { OnErr result (failed_of writer.new ≡ failed_of writer.old + 1) }
 {
     if text.has_room() {

@@ -41,7 +41,9 @@ impl<A: Allocator> Model for RouteBook<A> {
 
     ghost use Rattle.route_book.specs.Book.{IsBook, held};
 
-    ghost view = { λ b. held (record { places = b.place_room; stops = b.stop_room; marks = b.mark_room }) b.last b.places.items b.by_key.items };
+    ghost view = { λ b. held (record
+        { places = b.place_room; stops = b.stop_room; marks = b.mark_room }) b.last b.places.items
+        b.by_key.items };
 
     ghost invariant = { λ b. record {
       book : IsBook b.places.items b.by_key.items b.last;
@@ -56,7 +58,8 @@ impl<A: Allocator> RouteBook<A> {
     pub fn new(alloc: A, places: usize, stops: usize, marks: usize) -> Result<Self, RoomError>
     where
         A: Copy,
-        ensures made { IfOk result (λ book. book ≡ empty (record { places = places; stops = stops; marks = marks }) 0) }
+        ensures made { IfOk result (λ book. book
+            ≡ empty (record { places = places; stops = stops; marks = marks }) 0) }
         ensures index { IsErrOf result RoomError.Index ↔ (2 ^ 64 ≤ places + stops + marks) }
         ensures refused { IfErr result (λ e. (e ≡ RoomError.Index) ⊎ (e ≡ RoomError.Memory)) }
         ensures succeeds { places ≡ 0 → places + stops + marks < 2 ^ 64 → IsOk result }
@@ -76,7 +79,8 @@ impl<A: Allocator> RouteBook<A> {
     ) -> Result<Self, RoomError>
     where
         A: Copy,
-        ensures made { IfOk result (λ book. book ≡ empty (record { places = places; stops = stops; marks = marks }) last) }
+        ensures made { IfOk result (λ book. book
+            ≡ empty (record { places = places; stops = stops; marks = marks }) last) }
         ensures index { IsErrOf result RoomError.Index ↔ (2 ^ 64 ≤ places + stops + marks) }
         ensures refused { IfErr result (λ e. (e ≡ RoomError.Index) ⊎ (e ≡ RoomError.Memory)) }
         ensures succeeds { places ≡ 0 → places + stops + marks < 2 ^ 64 → IsOk result }
@@ -242,10 +246,13 @@ fn search_key(
     counts: &mut Counts,
 ) -> Result<usize, usize>
     requires { IsOrder places.now by_key.now }
-    ensures found { IfOk result (λ at. (at < length by_key.now) × ((place_at (places_by places.now by_key.now) at).key ≡ key)) }
+    ensures found { IfOk result (λ at. (at < length by_key.now)
+        × ((place_at (places_by places.now by_key.now) at).key ≡ key)) }
     ensures within { IfErr result (λ at. at ≤ length by_key.now) }
-    ensures before { IfErr result (λ at. 0 < at → (place_at (places_by places.now by_key.now) (at - 1)).key < key) }
-    ensures behind { IfErr result (λ at. at < length by_key.now → key < (place_at (places_by places.now by_key.now) at).key) }
+    ensures before { IfErr result (λ at. 0 < at
+        → (place_at (places_by places.now by_key.now) (at - 1)).key < key) }
+    ensures behind { IfErr result (λ at. at < length by_key.now
+        → key < (place_at (places_by places.now by_key.now) at).key) }
     ensures counts { CountsWithin counts.old counts.new (fair (length by_key.now)) 0 0 }
 {
     let key_at = |at: usize| -> u64
@@ -258,10 +265,12 @@ fn search_key(
 
 // Where the ticket stands among the places in ticket order, or where it would.
 fn search_ticket(places: &[Place], ticket: u64, probes: &mut Probes) -> Result<usize, usize>
-    ensures found { IfOk result (λ at. (at < length places.now) × ((entry_at places.now at).ticket ≡ ticket)) }
+    ensures found { IfOk result (λ at. (at < length places.now)
+        × ((entry_at places.now at).ticket ≡ ticket)) }
     ensures within { IfErr result (λ at. at ≤ length places.now) }
     ensures before { IfErr result (λ at. 0 < at → (entry_at places.now (at - 1)).ticket < ticket) }
-    ensures behind { IfErr result (λ at. at < length places.now → ticket < (entry_at places.now at).ticket) }
+    ensures behind { IfErr result (λ at. at < length places.now
+        → ticket < (entry_at places.now at).ticket) }
     ensures bound { probes.new ≤ probes.old + fair (length places.now) }
     ensures rises { probes.old ≤ probes.new }
 {

@@ -37,27 +37,45 @@ pub fn program<R: Read, W: Write, E: Write>(
 
     // The arguments alone decide whether they are refused, and rooms past an index always are.
     ensures usage { (result ≡ 2) ↔ IsNone (rooms_of (map string_bytes args.now)) }
-    ensures index { IfSome (rooms_of (map string_bytes args.now)) (λ rooms. 2 ^ 64 ≤ room_sum rooms → result ≡ 3) }
+    ensures index { IfSome (rooms_of (map string_bytes args.now))
+        (λ rooms. 2 ^ 64 ≤ room_sum rooms → result ≡ 3) }
+    ensures room { result ≡ 3 → IfSome (rooms_of (map string_bytes args.now))
+        (λ rooms. (2 ^ 64 ≤ room_sum rooms) ⊎ (0 < rooms.places)) }
     ensures unread { 2 ≤ result → input.new ≡ input.old }
     ensures unwritten { 2 ≤ result → output.new ≡ output.old }
 
     // The whole input is answered, and no call failed.
-    ensures answered { result ≡ 0 → IfSome (rooms_of (map string_bytes args.now)) (λ rooms. Answers rooms (R.remaining (inner_of input.old)) (R.remaining (inner_of input.new)) (W.contents (inner_of output.old)) (W.contents (inner_of output.new))) }
-    ensures unfailed { result ≡ 0 → (failed_of input.new ≡ failed_of input.old) × (failed_of output.new ≡ failed_of output.old) }
+    ensures answered { result ≡ 0 → IfSome (rooms_of (map string_bytes args.now))
+        (λ rooms. Answers rooms (R.remaining (inner_of input.old))
+        (R.remaining (inner_of input.new)) (W.contents (inner_of output.old))
+        (W.contents (inner_of output.new))) }
+    ensures unfailed { result ≡ 0 → (failed_of input.new ≡ failed_of input.old)
+        × (failed_of output.new ≡ failed_of output.old) }
     ensures silent { result ≡ 0 → errors.new ≡ errors.old }
 
-    // A read failed and every whole line that was read is answered; or a write failed, and a beginning of the answer is written.
+    // A read failed and every whole line that was read is answered. Or a write failed: the replies are written up to a
+    // line whose reply is cut short, or all of them are, and the flush failed.
     ensures fault { result ≡ 1 → IfSome (rooms_of (map string_bytes args.now)) (λ rooms.
-        (AnswersWholeLines rooms (R.remaining (inner_of input.old)) (R.remaining (inner_of input.new)) (W.contents (inner_of output.old)) (W.contents (inner_of output.new))
-        × ((failed_of input.new ≡ failed_of input.old + 1) ⊎ (calls_of input.new ≡ calls_of input.old + (2 ^ 64 - 1)))
-        × Tells (failed_of errors.old) (failed_of errors.new) (E.contents (inner_of errors.old)) (E.contents (inner_of errors.new)) (codes "read failed"))
-        ⊎ (BeginsToAnswer rooms (R.remaining (inner_of input.old)) (R.remaining (inner_of input.new)) (W.contents (inner_of output.old)) (W.contents (inner_of output.new))
+        (AnswersWholeLines rooms (R.remaining (inner_of input.old)) (R.remaining (inner_of input.new))
+        (W.contents (inner_of output.old)) (W.contents (inner_of output.new))
+        × ((failed_of input.new ≡ failed_of input.old + 1)
+        ⊎ (calls_of input.new ≡ calls_of input.old + (2 ^ 64 - 1)))
+        × Tells (failed_of errors.old) (failed_of errors.new) (E.contents (inner_of errors.old))
+        (E.contents (inner_of errors.new)) (codes "read failed"))
+        ⊎ (BeginsToAnswer rooms (R.remaining (inner_of input.old)) (R.remaining (inner_of input.new))
+        (W.contents (inner_of output.old)) (W.contents (inner_of output.new))
         × (failed_of output.new ≡ failed_of output.old + 1)
-        × Tells (failed_of errors.old) (failed_of errors.new) (E.contents (inner_of errors.old)) (E.contents (inner_of errors.new)) (codes "write failed"))) }
+        × Tells (failed_of errors.old) (failed_of errors.new) (E.contents (inner_of errors.old))
+        (E.contents (inner_of errors.new)) (codes "write failed"))) }
 
     // The line that says why the input was not read.
-    ensures told_usage { result ≡ 2 → Tells (failed_of errors.old) (failed_of errors.new) (E.contents (inner_of errors.old)) (E.contents (inner_of errors.new)) (codes "usage: route_book PLACES STOPS MARKS") }
-    ensures told_room { result ≡ 3 → IfSome (rooms_of (map string_bytes args.now)) (λ rooms. Tells (failed_of errors.old) (failed_of errors.new) (E.contents (inner_of errors.old)) (E.contents (inner_of errors.new)) (refused_line (refusal_of rooms))) }
+    ensures told_usage { result ≡ 2
+        → Tells (failed_of errors.old) (failed_of errors.new) (E.contents (inner_of errors.old))
+        (E.contents (inner_of errors.new)) (codes "usage: route_book PLACES STOPS MARKS") }
+    ensures told_room { result ≡ 3 → IfSome (rooms_of (map string_bytes args.now))
+        (λ rooms. Tells (failed_of errors.old) (failed_of errors.new)
+        (E.contents (inner_of errors.old)) (E.contents (inner_of errors.new))
+        (refused_line (refusal_of rooms))) }
 {
     let Some((places, stops, marks)) = read_rooms(args) else {
         tell(errors, b"usage: route_book PLACES STOPS MARKS\n");
@@ -80,16 +98,24 @@ fn answer_input<R: Read, W: Write, E: Write>(
     errors: &mut Watched<E>,
 ) -> u8
     ensures status { result ≤ 1 }
-    ensures answered { result ≡ 0 → (rooms : Rooms) → book ≡ empty rooms 0 → Answers rooms (R.remaining (inner_of input.old)) (R.remaining (inner_of input.new)) (W.contents (inner_of output.old)) (W.contents (inner_of output.new)) }
-    ensures unfailed { result ≡ 0 → (failed_of input.new ≡ failed_of input.old) × (failed_of output.new ≡ failed_of output.old) }
+    ensures answered { result ≡ 0 → (rooms : Rooms) → book ≡ empty rooms 0
+        → Answers rooms (R.remaining (inner_of input.old)) (R.remaining (inner_of input.new))
+        (W.contents (inner_of output.old)) (W.contents (inner_of output.new)) }
+    ensures unfailed { result ≡ 0 → (failed_of input.new ≡ failed_of input.old)
+        × (failed_of output.new ≡ failed_of output.old) }
     ensures silent { result ≡ 0 → errors.new ≡ errors.old }
     ensures fault { result ≡ 1 → (rooms : Rooms) → book ≡ empty rooms 0 →
-        (AnswersWholeLines rooms (R.remaining (inner_of input.old)) (R.remaining (inner_of input.new)) (W.contents (inner_of output.old)) (W.contents (inner_of output.new))
-        × ((failed_of input.new ≡ failed_of input.old + 1) ⊎ (calls_of input.new ≡ calls_of input.old + (2 ^ 64 - 1)))
-        × Tells (failed_of errors.old) (failed_of errors.new) (E.contents (inner_of errors.old)) (E.contents (inner_of errors.new)) (codes "read failed"))
-        ⊎ (BeginsToAnswer rooms (R.remaining (inner_of input.old)) (R.remaining (inner_of input.new)) (W.contents (inner_of output.old)) (W.contents (inner_of output.new))
+        (AnswersWholeLines rooms (R.remaining (inner_of input.old)) (R.remaining (inner_of input.new))
+        (W.contents (inner_of output.old)) (W.contents (inner_of output.new))
+        × ((failed_of input.new ≡ failed_of input.old + 1)
+        ⊎ (calls_of input.new ≡ calls_of input.old + (2 ^ 64 - 1)))
+        × Tells (failed_of errors.old) (failed_of errors.new) (E.contents (inner_of errors.old))
+        (E.contents (inner_of errors.new)) (codes "read failed"))
+        ⊎ (BeginsToAnswer rooms (R.remaining (inner_of input.old)) (R.remaining (inner_of input.new))
+        (W.contents (inner_of output.old)) (W.contents (inner_of output.new))
         × (failed_of output.new ≡ failed_of output.old + 1)
-        × Tells (failed_of errors.old) (failed_of errors.new) (E.contents (inner_of errors.old)) (E.contents (inner_of errors.new)) (codes "write failed")) }
+        × Tells (failed_of errors.old) (failed_of errors.new) (E.contents (inner_of errors.old))
+        (E.contents (inner_of errors.new)) (codes "write failed")) }
 {
     match run(&mut book, input, output, &mut Counts::new()) {
         Ok(()) => 0,
@@ -110,7 +136,8 @@ fn answer_input<R: Read, W: Write, E: Write>(
 
 // The rooms of places, stops and marks.
 fn read_rooms(args: &[String]) -> Option<(usize, usize, usize)>
-    ensures { option_map (λ rooms. record { places = rooms.0; stops = rooms.1; marks = rooms.2 }) result ≡ rooms_of (map string_bytes args.now) }
+    ensures { option_map (λ rooms. record { places = rooms.0; stops = rooms.1; marks = rooms.2 })
+        result ≡ rooms_of (map string_bytes args.now) }
 {
     let [places, stops, marks] = args else {
         return None;
@@ -140,7 +167,8 @@ fn refused_line(refusal: RoomError) -> &'static [u8]
 
 // Writes a line. Nobody is left to hear of a failure.
 fn tell<E: Write>(errors: &mut Watched<E>, line: &[u8])
-    ensures { failed_of errors.new ≡ failed_of errors.old → Appends (E.contents (inner_of errors.old)) (E.contents (inner_of errors.new)) line.now }
+    ensures { failed_of errors.new ≡ failed_of errors.old
+        → Appends (E.contents (inner_of errors.old)) (E.contents (inner_of errors.new)) line.now }
 {
     let _ = errors.send(line);
 }

@@ -1,4 +1,16 @@
-//! `route_book`: a store of places, routes and marks with a line language, and a program over it.
+//! A store with a line language, and a program over it. Today it keeps places: a key, a word, and
+//! a ticket that is given once.
+//!
+//! ```text
+//! place 50 oak      1
+//! place 30 elm      2
+//! all               2 30 elm, 1 50 oak, end
+//! show 1            50 oak
+//! ```
+//!
+//! [`run`] answers an input on an output, line by line, and [`program`] makes a store of the rooms
+//! that its arguments name and runs over it. [`RouteBook`] has the calls themselves. A store takes
+//! its memory when it is made, and none later.
 #![tactic(auto)]
 
 mod answer;

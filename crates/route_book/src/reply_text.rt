@@ -170,7 +170,8 @@ impl ReplyText {
 
     pub(crate) fn push_place(&mut self, ticket: u64, key: u64, word: &Word)
         requires { HasRoom self.old 59 }
-        ensures { self.new ≡ self.old ++ ended (place_line (record { ticket = ticket; key = key; word = word.now })) }
+        ensures { self.new ≡ self.old ++ ended
+            (place_line (record { ticket = ticket; key = key; word = word.now })) }
     {
         self.push_number(ticket);
         self.push_bytes(b" ");

@@ -29,29 +29,52 @@ pub fn run<A: Allocator, R: Read, W: Write>(
     counts: &mut Counts,
 ) -> Result<(), RunFault>
     // The whole input was read, and every line of it is carried out and answered.
-    ensures ok { OnOk result ((input : List ℕ) × Consumes (R.remaining (inner_of reader.old)) (R.remaining (inner_of reader.new)) input
+    ensures ok { OnOk result ((input : List ℕ)
+        × Consumes (R.remaining (inner_of reader.old)) (R.remaining (inner_of reader.new)) input
         × IsAtEnd (R.remaining (inner_of reader.new))
-        × Carries book.old (lines input) book.new (W.contents (inner_of writer.old)) (W.contents (inner_of writer.new)) counts.old counts.new) }
+        × Carries book.old (lines input) book.new (W.contents (inner_of writer.old))
+        (W.contents (inner_of writer.new)) counts.old counts.new) }
 
-    ensures ok_failed { OnOk result ((failed_of reader.new ≡ failed_of reader.old) × (failed_of writer.new ≡ failed_of writer.old)) }
+    ensures ok_failed { OnOk result
+        ((failed_of reader.new ≡ failed_of reader.old)
+        × (failed_of writer.new ≡ failed_of writer.old)) }
 
     // Every whole line that was read is carried out and answered, and nothing else.
-    ensures read { IfErr result (λ fault. OnRead fault ((input : List ℕ) × Consumes (R.remaining (inner_of reader.old)) (R.remaining (inner_of reader.new)) input
-        × Carries book.old (map whole (whole_lines input)) book.new (W.contents (inner_of writer.old)) (W.contents (inner_of writer.new)) counts.old counts.new)) }
-    ensures too_long { IfErr result (λ fault. OnTooLong fault ((input : List ℕ) × Consumes (R.remaining (inner_of reader.old)) (R.remaining (inner_of reader.new)) input
-        × Carries book.old (map whole (whole_lines input)) book.new (W.contents (inner_of writer.old)) (W.contents (inner_of writer.new)) counts.old counts.new)) }
+    ensures read { IfErr result (λ fault. OnRead fault
+        ((input : List ℕ) × Consumes (R.remaining (inner_of reader.old))
+        (R.remaining (inner_of reader.new)) input
+        × Carries book.old (map whole (whole_lines input)) book.new
+        (W.contents (inner_of writer.old))
+        (W.contents (inner_of writer.new)) counts.old counts.new)) }
+    ensures too_long { IfErr result
+        (λ fault. OnTooLong fault ((input : List ℕ)
+        × Consumes (R.remaining (inner_of reader.old)) (R.remaining (inner_of reader.new)) input
+        × Carries book.old (map whole (whole_lines input)) book.new
+        (W.contents (inner_of writer.old))
+        (W.contents (inner_of writer.new)) counts.old counts.new)) }
 
     // A line was being answered; or all are, and the flush failed.
-    ensures write { IfErr result (λ fault. OnWrite fault ((input : List ℕ) × Consumes (R.remaining (inner_of reader.old)) (R.remaining (inner_of reader.new)) input
-        × (StopsWithin input (R.remaining (inner_of reader.new)) book.old book.new (W.contents (inner_of writer.old)) (W.contents (inner_of writer.new)) counts.old counts.new
+    ensures write { IfErr result (λ fault. OnWrite fault
+        ((input : List ℕ) × Consumes (R.remaining (inner_of reader.old))
+        (R.remaining (inner_of reader.new)) input
+        × (StopsWithin input (R.remaining (inner_of reader.new)) book.old book.new
+        (W.contents (inner_of writer.old))
+        (W.contents (inner_of writer.new)) counts.old counts.new
         ⊎ (IsAtEnd (R.remaining (inner_of reader.new))
-        × Carries book.old (lines input) book.new (W.contents (inner_of writer.old)) (W.contents (inner_of writer.new)) counts.old counts.new)))) }
+        × Carries book.old (lines input) book.new (W.contents (inner_of writer.old))
+        (W.contents (inner_of writer.new)) counts.old counts.new)))) }
 
     // No fault comes without a cause.
-    ensures read_failed { IfErr result (λ fault. OnRead fault ((failed_of reader.new ≡ failed_of reader.old + 1) × (failed_of writer.new ≡ failed_of writer.old))) }
-    ensures write_failed { IfErr result (λ fault. OnWrite fault ((failed_of writer.new ≡ failed_of writer.old + 1) × (failed_of reader.new ≡ failed_of reader.old))) }
-    ensures many_reads { IfErr result (λ fault. OnTooLong fault ((calls_of reader.new ≡ calls_of reader.old + (2 ^ 64 - 1))
-        × (failed_of reader.new ≡ failed_of reader.old) × (failed_of writer.new ≡ failed_of writer.old))) }
+    ensures read_failed { IfErr result
+        (λ fault. OnRead fault ((failed_of reader.new ≡ failed_of reader.old + 1)
+        × (failed_of writer.new ≡ failed_of writer.old))) }
+    ensures write_failed { IfErr result
+        (λ fault. OnWrite fault ((failed_of writer.new ≡ failed_of writer.old + 1)
+        × (failed_of reader.new ≡ failed_of reader.old))) }
+    ensures many_reads { IfErr result
+        (λ fault. OnTooLong fault ((calls_of reader.new ≡ calls_of reader.old + (2 ^ 64 - 1))
+        × (failed_of reader.new ≡ failed_of reader.old)
+        × (failed_of writer.new ≡ failed_of writer.old))) }
 {
     let mut piece = [0u8; 4096];
     let mut unfinished = Unfinished::new();
@@ -91,10 +114,13 @@ fn take<A: Allocator, W: Write>(
     counts: &mut Counts,
 ) -> io::Result<()>
     ensures ok { OnOk result ((line : List ℕ) → HasNoLineEnd line → StandsFor unfinished.old line
-        → Takes (line ++ piece.now) [] unfinished.new book.old book.new (W.contents (inner_of writer.old)) (W.contents (inner_of writer.new)) counts.old counts.new) }
+        → Takes (line ++ piece.now) [] unfinished.new book.old book.new
+        (W.contents (inner_of writer.old))
+        (W.contents (inner_of writer.new)) counts.old counts.new) }
     ensures ok_failed { OnOk result (failed_of writer.new ≡ failed_of writer.old) }
     ensures err { OnErr result ((line : List ℕ) → HasNoLineEnd line → StandsFor unfinished.old line
-        → Stops (line ++ piece.now) book.old book.new (W.contents (inner_of writer.old)) (W.contents (inner_of writer.new)) counts.old counts.new) }
+        → Stops (line ++ piece.now) book.old book.new (W.contents (inner_of writer.old))
+        (W.contents (inner_of writer.new)) counts.old counts.new) }
     ensures err_failed { OnErr result (failed_of writer.new ≡ failed_of writer.old + 1) }
 {
     let mut left = piece;
@@ -116,10 +142,12 @@ fn end<A: Allocator, W: Write>(
     counts: &mut Counts,
 ) -> io::Result<()>
     ensures ok { OnOk result ((line : List ℕ) → StandsFor unfinished.now line
-        → Carries book.old (unended_line line) book.new (W.contents (inner_of writer.old)) (W.contents (inner_of writer.new)) counts.old counts.new) }
+        → Carries book.old (unended_line line) book.new (W.contents (inner_of writer.old))
+        (W.contents (inner_of writer.new)) counts.old counts.new) }
     ensures ok_failed { OnOk result (failed_of writer.new ≡ failed_of writer.old) }
     ensures err { OnErr result ((line : List ℕ) → StandsFor unfinished.now line
-        → StopsAtEnd line book.old book.new (W.contents (inner_of writer.old)) (W.contents (inner_of writer.new)) counts.old counts.new
+        → StopsAtEnd line book.old book.new (W.contents (inner_of writer.old))
+        (W.contents (inner_of writer.new)) counts.old counts.new
         ⊎ Carries book.old (unended_line line) book.new (W.contents (inner_of writer.old)) (W.contents (inner_of writer.new)) counts.old counts.new) }
     ensures err_failed { OnErr result (failed_of writer.new ≡ failed_of writer.old + 1) }
 {
@@ -132,7 +160,8 @@ fn end<A: Allocator, W: Write>(
 
 // The bytes before the first LF, and those behind it.
 fn split_line(bytes: &[u8]) -> Option<(&[u8], &[u8])>
-    ensures found { IfSome result (λ cut. (bytes.now ≡ cut.0.now ++ 10 ∷ cut.1.now) × HasNoLineEnd cut.0.now) }
+    ensures found { IfSome result (λ cut. (bytes.now ≡ cut.0.now ++ 10 ∷ cut.1.now)
+        × HasNoLineEnd cut.0.now) }
     ensures none { IfNone result (HasNoLineEnd bytes.now) }
 {
     let end = bytes.iter().position(|byte| *byte == b'\n')?;

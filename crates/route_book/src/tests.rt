@@ -2,4 +2,6 @@ mod calls;
 mod faults;
 mod programs;
 mod rows;
+mod searches;
 mod streams;
+mod writes;

@@ -34,7 +34,8 @@ impl Unfinished {
 
     /// More bytes of the line.
     pub(crate) fn extend(&mut self, piece: &[u8])
-        ensures { (line : List ℕ) → StandsFor self.old line → StandsFor self.new (line ++ piece.now) }
+        ensures { (line : List ℕ) → StandsFor self.old line
+            → StandsFor self.new (line ++ piece.now) }
     {
         if !self.is_long && self.bytes.try_extend_from_slice(piece).is_err() {
             self.is_long = true;
@@ -43,7 +44,8 @@ impl Unfinished {
 
     /// The command of the line that ends with these bytes. The next line begins.
     pub(crate) fn finish(&mut self, end: &[u8]) -> Option<Command>
-        ensures command { (line : List ℕ) → StandsFor self.old line → result ≡ command_of (line ++ end.now) }
+        ensures command { (line : List ℕ) → StandsFor self.old line
+            → result ≡ command_of (line ++ end.now) }
         ensures cleared { StandsFor self.new [] }
     {
         if self.is_empty() {

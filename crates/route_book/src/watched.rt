@@ -65,7 +65,8 @@ impl<R: Read> Read for Watched<R> {
 
     fn read(&mut self, buf: &mut [u8]) -> io::Result<usize>
         ensures bound { ReadsAtMost result buf.new }
-        ensures bytes { ReadConsumes (R.remaining self.old.inner) (R.remaining self.new.inner) result buf.new }
+        ensures bytes { ReadConsumes (R.remaining self.old.inner)
+            (R.remaining self.new.inner) result buf.new }
         ensures failed { failed_of self.new ≡ failed_of self.old + failures result }
         ensures calls { calls_of self.new ≡ calls_of self.old + 1 }
     {
@@ -85,7 +86,8 @@ impl<W: Write> Write for Watched<W> {
 
     fn write(&mut self, buf: &[u8]) -> io::Result<usize>
         ensures bound { WritesAtMost result buf.now }
-        ensures bytes { WriteAppends (W.contents self.old.inner) (W.contents self.new.inner) result buf.now }
+        ensures bytes { WriteAppends (W.contents self.old.inner)
+            (W.contents self.new.inner) result buf.now }
         ensures failed { failed_of self.new ≡ failed_of self.old + write_failures result buf.now }
         ensures calls { calls_of self.new ≡ calls_of self.old + 1 }
     {
@@ -117,9 +119,11 @@ impl<W: Write> Watched<W> {
 
     // Writes all the bytes, by as many writes as that takes.
     pub(crate) fn send(&mut self, bytes: &[u8]) -> io::Result<()>
-        ensures ok { OnOk result (Appends (W.contents (inner_of self.old)) (W.contents (inner_of self.new)) bytes.now) }
+        ensures ok { OnOk result (Appends (W.contents (inner_of self.old))
+            (W.contents (inner_of self.new)) bytes.now) }
         ensures ok_failed { OnOk result (failed_of self.new ≡ failed_of self.old) }
-        ensures err { OnErr result (AppendsBeginning (W.contents (inner_of self.old)) (W.contents (inner_of self.new)) bytes.now) }
+        ensures err { OnErr result (AppendsBeginning (W.contents (inner_of self.old))
+            (W.contents (inner_of self.new)) bytes.now) }
         ensures err_failed { OnErr result (failed_of self.new ≡ failed_of self.old + 1) }
     {
         let mut rest = bytes;

@@ -18,11 +18,14 @@ pub fn lines_have_one_command()
 pub fn spellings_are_short_lines()
     ensures some { (line : List ℕ) (command : Command) → Spells line command → 0 < length line }
     ensures short { (line : List ℕ) (command : Command) → Spells line command → length line ≤ 69 }
-    ensures one_line { (line : List ℕ) (command : Command) → Spells line command → ¬ Contains line 10 }
+    ensures one_line { (line : List ℕ) (command : Command) → Spells line command
+        → ¬ Contains line 10 }
 {}
 
 /// `command_of` answers just the command that a line spells.
 pub fn spellings_are_found()
-    ensures found { (line : List ℕ) (command : Command) → command_of line ≡ Some command → Spells line command }
-    ensures all { (line : List ℕ) (command : Command) → Spells line command → command_of line ≡ Some command }
+    ensures found { (line : List ℕ) (command : Command) → command_of line ≡ Some command
+        → Spells line command }
+    ensures all { (line : List ℕ) (command : Command) → Spells line command
+        → command_of line ≡ Some command }
 {}

@@ -6,5 +6,6 @@ ghost use Rattle.route_book.specs.Text.{Line, after_lines};
 /// Whatever lines are carried out, the keys rise, the tickets were given and none stands twice, the words are words,
 /// and no more places live than the room holds.
 pub fn states_are_sound()
-    ensures { (rooms : Rooms) (last : ℕ) (lines : List Line) → IsSound (after_lines (empty rooms last) lines) }
+    ensures { (rooms : Rooms) (last : ℕ) (lines : List Line)
+        → IsSound (after_lines (empty rooms last) lines) }
 {}

@@ -56,7 +56,7 @@ pub(crate) enum Full {
 /// Takes `room` bytes in all, at most `step` of them a time, and keeps them without taking memory.
 #[derive(Drop)]
 pub(crate) struct Page {
-    bytes: ArrayVec<u8, 1024>,
+    bytes: ArrayVec<u8, 8192>,
     pub(crate) step: usize,
     pub(crate) room: usize,
     pub(crate) full: Full,
@@ -71,7 +71,7 @@ impl Page {
         Page {
             bytes: ArrayVec::new(),
             step,
-            room: 1024,
+            room: 8192,
             full: Full::Fails,
             flush_fails: false,
             flushes: 0,
