@@ -1,13 +1,9 @@
 //! A plain arena: slots in a `Vec`, a free list through the free ones, and a counter of removals that new entries
 //! take as their generation. The benchmark compares the proved arena with it.
-//!
-//! usage: arena insert|remove|get|churn|loop STEPS, with the operations of the Rattle program `arena_bench`.
-use std::env;
 use std::num::{NonZeroU64, NonZeroUsize};
-use std::process::ExitCode;
 
 #[derive(Clone, Copy)]
-struct Pointer {
+pub struct Pointer {
     index: NonZeroUsize,
     generation: NonZeroU64,
 }
@@ -17,15 +13,30 @@ enum Slot<T> {
     Used(NonZeroU64, T),
 }
 
-struct Arena<T> {
+pub struct Arena<T> {
     slots: Vec<Slot<T>>,
     generation: NonZeroU64,
     free: Option<NonZeroUsize>,
     len: usize,
 }
 
+impl Pointer {
+    /// A pointer to nothing.
+    pub fn invalid() -> Self {
+        Pointer {
+            index: NonZeroUsize::MAX,
+            generation: NonZeroU64::MIN,
+        }
+    }
+
+    /// A part of it, for a loop that reads pointers alone.
+    pub fn part(self) -> u64 {
+        self.generation.get()
+    }
+}
+
 impl<T> Arena<T> {
-    fn new() -> Self {
+    pub fn new() -> Self {
         Arena {
             slots: Vec::new(),
             generation: NonZeroU64::MIN.saturating_add(1),
@@ -34,7 +45,7 @@ impl<T> Arena<T> {
         }
     }
 
-    fn insert(&mut self, value: T) -> Pointer {
+    pub fn insert(&mut self, value: T) -> Pointer {
         let slot = Slot::Used(self.generation, value);
         let index = match self.free {
             Some(index) => {
@@ -57,14 +68,14 @@ impl<T> Arena<T> {
         }
     }
 
-    fn get(&self, pointer: Pointer) -> Option<&T> {
+    pub fn get(&self, pointer: Pointer) -> Option<&T> {
         match self.slots.get(pointer.index.get() - 1) {
             Some(Slot::Used(generation, value)) if *generation == pointer.generation => Some(value),
             _ => None,
         }
     }
 
-    fn remove(&mut self, pointer: Pointer) -> Option<T> {
+    pub fn remove(&mut self, pointer: Pointer) -> Option<T> {
         self.get(pointer)?;
         let place = &mut self.slots[pointer.index.get() - 1];
         let slot = std::mem::replace(place, Slot::Free(self.free));
@@ -77,146 +88,6 @@ impl<T> Arena<T> {
         match slot {
             Slot::Used(_, value) => Some(value),
             Slot::Free(_) => None,
-        }
-    }
-}
-
-/// How many pointers `get` and `churn` choose from.
-const TABLE: usize = 4096;
-
-/// A linear congruential generator; its upper bits are the sequence.
-struct Sequence {
-    state: u64,
-}
-
-impl Sequence {
-    fn new() -> Self {
-        Sequence { state: 1 }
-    }
-
-    fn number(&mut self) -> u64 {
-        self.state = self
-            .state
-            .wrapping_mul(6364136223846793005)
-            .wrapping_add(1442695040888963407);
-        self.state
-    }
-
-    /// A place of a table.
-    fn place(&mut self) -> usize {
-        (self.number() >> 52) as usize
-    }
-}
-
-/// An arena with this many entries, and their pointers.
-fn filled(len: usize) -> (Arena<u64>, Vec<Pointer>) {
-    let mut arena = Arena::new();
-    let mut pointers = Vec::with_capacity(len);
-    let mut sequence = Sequence::new();
-    for _ in 0..len {
-        pointers.push(arena.insert(sequence.number()));
-    }
-    (arena, pointers)
-}
-
-/// An arena with an entry for each place of a table, and the table of their pointers.
-fn filled_table() -> (Arena<u64>, [Pointer; TABLE]) {
-    let mut arena = Arena::new();
-    let mut table = [Pointer {
-        index: NonZeroUsize::MAX,
-        generation: NonZeroU64::MIN,
-    }; TABLE];
-    let mut sequence = Sequence::new();
-    for pointer in &mut table {
-        *pointer = arena.insert(sequence.number());
-    }
-    (arena, table)
-}
-
-fn remove(steps: usize) -> u64 {
-    let (mut arena, mut pointers) = filled(steps);
-    let mut sequence = Sequence::new();
-    let mut sum = 0u64;
-    for _ in 0..steps {
-        let len = pointers.len();
-        if len == 0 {
-            break;
-        }
-        let place = (sequence.number() >> 33) as usize % len;
-        if let Some(value) = arena.remove(pointers.swap_remove(place)) {
-            sum = sum.wrapping_mul(31).wrapping_add(value);
-        }
-    }
-    sum
-}
-
-fn get(steps: usize) -> u64 {
-    let (mut arena, table) = filled_table();
-    for pointer in table.iter().step_by(4) {
-        arena.remove(*pointer);
-    }
-    let mut sequence = Sequence::new();
-    let mut sum = 0u64;
-    for _ in 0..steps {
-        if let Some(value) = arena.get(table[sequence.place()]) {
-            sum = sum.wrapping_add(*value);
-        }
-    }
-    sum
-}
-
-fn churn(steps: usize) -> u64 {
-    let (mut arena, mut table) = filled_table();
-    let mut sequence = Sequence::new();
-    let mut sum = 0u64;
-    for _ in 0..steps {
-        if let Some(value) = arena.get(table[sequence.place()]) {
-            sum = sum.wrapping_add(*value);
-        }
-        let place = sequence.place();
-        match arena.remove(table[place]) {
-            Some(value) => sum = sum.wrapping_mul(31).wrapping_add(value),
-            None => table[place] = arena.insert(sum),
-        }
-    }
-    sum
-}
-
-fn read_table(steps: usize) -> u64 {
-    let (_arena, table) = filled_table();
-    let mut sequence = Sequence::new();
-    let mut sum = 0u64;
-    for _ in 0..steps {
-        sum = sum.wrapping_add(table[sequence.place()].generation.get());
-    }
-    sum
-}
-
-fn run(operation: &str, steps: usize) -> Option<u64> {
-    match operation {
-        "insert" => Some(filled(steps).1.len() as u64),
-        "remove" => Some(remove(steps)),
-        "get" => Some(get(steps)),
-        "churn" => Some(churn(steps)),
-        "loop" => Some(read_table(steps)),
-        _ => None,
-    }
-}
-
-fn main() -> ExitCode {
-    let args: Vec<String> = env::args().collect();
-    let sum = match args.as_slice() {
-        [_, operation, steps] => steps.parse().ok().and_then(|steps| run(operation, steps)),
-        _ => None,
-    };
-    match sum {
-        Some(sum) => {
-            println!("{sum}");
-            ExitCode::SUCCESS
-        }
-        None => {
-            eprintln!("usage: arena insert|remove|get|churn|loop STEPS");
-            ExitCode::from(2)
         }
     }
 }

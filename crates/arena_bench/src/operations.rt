@@ -25,7 +25,7 @@ pub enum Operation {
 
 impl Operation {
     /// The operation with this name.
-    pub fn named(name: &str) -> Option<Self> {
+    pub(crate) fn named(name: &str) -> Option<Self> {
         match name {
             "insert" => Some(Operation::Insert),
             "remove" => Some(Operation::Remove),
@@ -37,7 +37,7 @@ impl Operation {
     }
 
     /// Runs this many steps, and answers a checksum.
-    pub fn run(self, alloc: Global, steps: usize) -> Result<u64, ReallocationError> {
+    pub(crate) fn run(self, alloc: Global, steps: usize) -> Result<u64, ReallocationError> {
         match self {
             Operation::Insert => Ok(filled(alloc, steps)?.1.len() as u64),
             Operation::Remove => remove(alloc, steps),

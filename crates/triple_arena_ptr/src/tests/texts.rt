@@ -46,6 +46,10 @@ fn texts_of_errors(rt: HostRuntime) -> Result<(), Fail> {
             "memory allocation failed",
         ),
         (
+            DirectInsertionError::NotWithinCapacity.to_string(alloc)?,
+            "the index is not within the capacity",
+        ),
+        (
             DirectInsertionError::ExistingElementAtIndex.to_string(alloc)?,
             "an element exists at the index already",
         ),
@@ -54,8 +58,36 @@ fn texts_of_errors(rt: HostRuntime) -> Result<(), Fail> {
             "the requirement on the links is not met",
         ),
         (
+            ChainInsertionError::NotWithinCapacity.to_string(alloc)?,
+            "not within the capacity",
+        ),
+        (
+            ChainInsertionError::BeyondMaxCapacity.to_string(alloc)?,
+            "beyond the maximum capacity",
+        ),
+        (
+            ChainInsertionError::AllocError.to_string(alloc)?,
+            "memory allocation failed",
+        ),
+        (
             OrdInsertionError::FailedOrdRequirement.to_string(alloc)?,
             "the requirement on the order is not met",
+        ),
+        (
+            OrdInsertionError::NotWithinCapacity.to_string(alloc)?,
+            "not within the capacity",
+        ),
+        (
+            OrdInsertionError::BeyondMaxCapacity.to_string(alloc)?,
+            "beyond the maximum capacity",
+        ),
+        (
+            OrdInsertionError::AllocError.to_string(alloc)?,
+            "memory allocation failed",
+        ),
+        (
+            GetDisjointMutError::IndexOutOfBounds.to_string(alloc)?,
+            "no element exists at one of the places",
         ),
         (
             GetDisjointMutError::OverlappingIndices.to_string(alloc)?,

@@ -4,11 +4,13 @@ use crate::{
     NonZeroInxGenericStackPushEntryTrait, NonZeroInxLimitedVec, NonZeroInxVec,
 };
 use refusing_allocator::RefusingAllocator;
-use std::alloc::{Allocator, Global};
+use std::alloc::Global;
 use std::num::NonZeroUsize;
 use std::process::Abort;
 use std::test::Fail;
 use triple_arena_ptr::ReallocationError;
+
+type Heap = RefusingAllocator<Global>;
 
 // The stack holds its own indexes, from 0 on, and has this length and capacity.
 fn holds<S: NonZeroInxGenericStack<u64>>(rt: &impl Abort, stack: &S, len: usize, capacity: usize) {
@@ -19,20 +21,37 @@ fn holds<S: NonZeroInxGenericStack<u64>>(rt: &impl Abort, stack: &S, len: usize,
     }
 }
 
-// A call that was refused was refused for memory, and left the stack as it was.
-fn is_as_before<T, S: NonZeroInxGenericStack<u64>>(
-    rt: &impl Abort,
-    stack: &S,
-    answer: Result<T, ReallocationError>,
+// What a call finds.
+#[derive(Drop)]
+struct Before {
+    has_refused: bool,
     len: usize,
     capacity: usize,
+}
+
+fn seen<S: NonZeroInxGenericStack<u64>>(heap: &Heap, stack: &S) -> Before {
+    Before {
+        has_refused: heap.has_refused(),
+        len: stack.len(),
+        capacity: stack.capacity(),
+    }
+}
+
+// The call was refused exactly where the heap refused it the memory, and left the stack as it was.
+fn is_refused_with_the_heap<T, S: NonZeroInxGenericStack<u64>>(
+    rt: &impl Abort,
+    heap: &Heap,
+    stack: &S,
+    was: &Before,
+    answer: Result<T, ReallocationError>,
 )
 where
     T: Drop,
 {
+    assert_eq!(rt; answer.is_err(), heap.has_refused() != was.has_refused);
     if let Err(refused) = answer {
         assert_eq!(rt; refused, ReallocationError::AllocError);
-        holds(rt, stack, len, capacity);
+        holds(rt, stack, was.len, was.capacity);
     }
 }
 
@@ -51,67 +70,64 @@ fn push_by_reallocating_entry<S: NonZeroInxGenericStackEntries<u64>>(
 }
 
 // Each call that can take memory.
-fn grows<S: NonZeroInxGenericStackEntries<u64>>(rt: &impl Abort, stack: &mut S) {
+fn grows<S: NonZeroInxGenericStackEntries<u64>>(rt: &impl Abort, heap: &Heap, stack: &mut S) {
     for _ in 0..6 {
-        let len = stack.len();
-        let capacity = stack.capacity();
-        let pushed = stack.push(len as u64);
-        is_as_before(rt, stack, pushed, len, capacity);
+        let was = seen(heap, stack);
+        let pushed = stack.push(was.len as u64);
+        is_refused_with_the_heap(rt, heap, stack, &was, pushed);
 
-        let len = stack.len();
-        let capacity = stack.capacity();
-        let pushed = stack.push_reallocating(len as u64);
-        is_as_before(rt, stack, pushed, len, capacity);
+        let was = seen(heap, stack);
+        let pushed = stack.push_reallocating(was.len as u64);
+        is_refused_with_the_heap(rt, heap, stack, &was, pushed);
 
-        let len = stack.len();
-        let capacity = stack.capacity();
-        let pushed = push_by_entry(stack, len as u64);
-        is_as_before(rt, stack, pushed, len, capacity);
+        let was = seen(heap, stack);
+        let pushed = push_by_entry(stack, was.len as u64);
+        is_refused_with_the_heap(rt, heap, stack, &was, pushed);
 
-        let len = stack.len();
-        let capacity = stack.capacity();
-        let pushed = push_by_reallocating_entry(stack, len as u64);
-        is_as_before(rt, stack, pushed, len, capacity);
+        let was = seen(heap, stack);
+        let pushed = push_by_reallocating_entry(stack, was.len as u64);
+        is_refused_with_the_heap(rt, heap, stack, &was, pushed);
 
-        let capacity = stack.capacity();
-        if capacity < usize::MAX {
-            let grown = stack.reallocate_min_capacity(capacity + 1);
-            is_as_before(rt, stack, grown, stack.len(), capacity);
-        }
+        let was = seen(heap, stack);
+        let grown = stack.reallocate_min_capacity(was.capacity.saturating_add(1));
+        is_refused_with_the_heap(rt, heap, stack, &was, grown);
     }
 }
 
 // A stack for three items, whose one request the heap may refuse.
-fn makes<A: Allocator, S: NonZeroInxGenericStack<u64, Alloc = A> + Drop>(rt: &impl Abort, heap: A) {
-    match S::with_min_capacity(heap, 3) {
+fn makes<'a, S: NonZeroInxGenericStack<u64, Alloc = &'a Heap> + Drop>(
+    rt: &impl Abort,
+    heap: &'a Heap,
+) {
+    let had_refused = heap.has_refused();
+    let made = S::with_min_capacity(heap, 3);
+    assert_eq!(rt; made.is_err(), heap.has_refused() != had_refused);
+    match made {
         Ok(made) => holds(rt, &made, 0, 3),
         Err(refused) => assert_eq!(rt; refused, ReallocationError::AllocError),
     }
 }
 
-fn runs<A: Allocator, S: NonZeroInxGenericStackEntries<u64, Alloc = A> + Drop>(
+fn runs<'a, S: NonZeroInxGenericStackEntries<u64, Alloc = &'a Heap> + Drop>(
     rt: &impl Abort,
-    heap: A,
-    other: A,
+    heap: &'a Heap,
 ) {
     let mut stack = S::new(heap);
-    grows(rt, &mut stack);
-    makes::<A, S>(rt, other);
+    grows(rt, heap, &mut stack);
+    makes::<S>(rt, heap);
 }
-
-type Heap = RefusingAllocator<Global>;
 
 #[test]
 fn each_request_in_turn(rt: HostRuntime) -> Result<(), Fail> {
     let mut refusals = 0;
     for nth in 1..100u64 {
         let first = RefusingAllocator::new(rt.alloc(), nth);
-        runs::<&Heap, NonZeroInxVec<u64, &Heap>>(&rt, &first, &first);
+        runs::<NonZeroInxVec<u64, &Heap>>(&rt, &first);
         let second = RefusingAllocator::new(rt.alloc(), nth);
-        runs::<&Heap, NonZeroInxLimitedVec<u64, &Heap>>(&rt, &second, &second);
+        runs::<NonZeroInxLimitedVec<u64, &Heap>>(&rt, &second);
         assert_eq!(rt; first.has_refused(), second.has_refused());
         let third = RefusingAllocator::new(rt.alloc(), nth);
-        makes::<&Heap, NonZeroInxBoxedSlice<u64, &Heap>>(&rt, &third);
+        makes::<NonZeroInxBoxedSlice<u64, &Heap>>(&rt, &third);
         assert_eq!(rt; third.has_refused(), nth == 1);
         if !first.has_refused() {
             break;

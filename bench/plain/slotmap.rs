@@ -1,0 +1,35 @@
+//! The arena of the crate `slotmap`, with the calls of `arena.rs`.
+use slotmap::{DefaultKey, Key, SlotMap};
+
+#[derive(Clone, Copy)]
+pub struct Pointer(DefaultKey);
+
+impl Pointer {
+    pub fn invalid() -> Self {
+        Pointer(DefaultKey::null())
+    }
+
+    pub fn part(self) -> u64 {
+        self.0.data().as_ffi() & 0xffff_ffff
+    }
+}
+
+pub struct Arena<T>(SlotMap<DefaultKey, T>);
+
+impl<T> Arena<T> {
+    pub fn new() -> Self {
+        Arena(SlotMap::new())
+    }
+
+    pub fn insert(&mut self, value: T) -> Pointer {
+        Pointer(self.0.insert(value))
+    }
+
+    pub fn get(&self, pointer: Pointer) -> Option<&T> {
+        self.0.get(pointer.0)
+    }
+
+    pub fn remove(&mut self, pointer: Pointer) -> Option<T> {
+        self.0.remove(pointer.0)
+    }
+}
