@@ -149,6 +149,15 @@ module _ {T : Type 0} where
       let longer = length_push es (used g t) in
       sound_of (es ++ used g t ∷ []) (len + 1) None [] room (omega (arith, count_push es g t, s.counted)) (omega (arith, longer)) refl (omega (arith, longer, below))
 
+  -- with no head there is room behind the slots, where there is room at all
+  pub room_behind : (es : List (Slot T)) (len : ℕ) (head : Option ℕ) (room : Room) (g : ℕ) (c : Content T) → head ≡ None → IsSound es len head room → content_of es room g head ≡ c → live_count c < room_for c → length es < capacity room
+  room_behind es len head room g c is sound seen below =
+      let s = rw is at sound in
+      let full = full_at_none es len room s in
+      let counted = s.counted in
+      let live : count_by is_some (map entry_of es) < capacity room = rw (← seen) at below in
+      omega arith
+
   -- a head is the first of the free indexes, and its slot is free
   pub record Heads (es : List (Slot T)) (len i : ℕ) : Type 0 where
     pub rest : List ℕ

@@ -90,6 +90,15 @@ module _ {T : Type 0} where
       at_entry None = c
       at_entry (Some entry) = record c { slots = slice_set c.slots (index - 1) (Some (entry.0, t)) }
 
+  -- the content with the value of this entry, if there is one, at an index, if it is live
+  abbrev pub with_value_from : Content T → ℕ → Option (ℕ × T) → Content T
+  with_value_from c index None = c
+  with_value_from c index (Some entry) = with_value c index entry.1
+
+  -- the content with the values at two indexes exchanged, if both are live
+  abbrev pub with_exchange : Content T → ℕ → ℕ → Content T
+  with_exchange c i j = with_value_from (with_value_from c i (entry_at c j)) j (entry_at c i)
+
   -- the content with another generation at this index, if it is live
   abbrev pub with_generation : Content T → ℕ → ℕ → Content T
   with_generation c index g = at_entry (entry_at c index)

@@ -35,3 +35,13 @@ module _ {T : Type 0} where
   -- the entries with another generation at an index, if it has one
   abbrev pub with_generation_at : (ℕ → Option (ℕ × T)) → ℕ → ℕ → ℕ → Option (ℕ × T)
   with_generation_at entries i g j = if j == i then option_map (λ entry. (g, entry.1)) (entries i) else entries j
+
+  -- the first of two entries with the value of the second
+  abbrev pub revalued : Option (ℕ × T) → Option (ℕ × T) → Option (ℕ × T)
+  revalued None _ = None
+  revalued (Some first) second = option_map (λ other. (first.0, other.1)) second
+
+  -- the entries with the values at two indexes exchanged, each under the generation that stood there
+  abbrev pub with_values_exchanged : (ℕ → Option (ℕ × T)) → ℕ → ℕ → ℕ → Option (ℕ × T)
+  with_values_exchanged entries i j k =
+      if k == i then revalued (entries i) (entries j) else if k == j then revalued (entries j) (entries i) else entries k

@@ -5,3 +5,4 @@ pub mod Entries
 pub mod Content
 pub mod Layout
 pub mod ContentLaws
+pub mod InsertEntry

@@ -6,15 +6,15 @@ ghost use Rattle.std.specs.Option.{option_map};
 ghost use Rattle.triple_arena_ptr.specs.Generation.{second_generation, next_generation, next_wraps};
 ghost use Rattle.triple_arena_ptr.specs.InvalidationOption.{value_of, overflowed};
 ghost use Rattle.triple_arena_ptr.specs.InvalidationResult.{answer_of};
-ghost use Rattle.triple_arena.specs.Entries.{with_entry, without, with_generation_at};
+ghost use Rattle.triple_arena.specs.Entries.{with_entry, without, with_values_exchanged, with_generation_at};
 ghost use Rattle.triple_arena_ptr.specs.Index.{max_index_of};
 ghost use Rattle.triple_arena_stack.specs.Room.{grown, with_reserved, IsBeyond};
 ghost use Rattle.triple_arena.specs.ArenaRoom.{room_of};
 ghost use Rattle.triple_arena.specs.Slot.{entry_of};
-ghost use Rattle.triple_arena.specs.Content.{get, entry_at, live_count, room_for, next_index, inserted, with_value, with_generation, with_counter, invalidated, vacated, removed, stepped, emptied, in_room, IsWellFormed};
+ghost use Rattle.triple_arena.specs.Content.{get, entry_at, live_count, room_for, next_index, inserted, with_value, with_exchange, with_generation, with_counter, invalidated, vacated, removed, stepped, emptied, in_room, IsWellFormed};
 
 use crate::ArenaSlot;
-use crate::slot::ValueMut;
+use crate::slot::{ValueMut, exchange_values};
 use std::marker::{Model, PhantomData};
 use std::mem;
 use std::num::NonZeroUsize;
@@ -250,6 +250,22 @@ impl<P: Ptr, T: Drop, S: NonZeroInxGenericStack<ArenaSlot<P, T>>> Arena<P, T, S>
         }
     }
 
+    // The pointer of the next entry.
+    pub(crate) fn next_ptr(&self) -> P
+        requires { live_count self.now < room_for self.now }
+        ensures has_index { P.index result ≡ next_index self.now }
+        ensures has_generation { P.generation result ≡ self.now.counter }
+    {
+        let _ = self.slots.capacity();
+        if let Some(index) = self.head {
+            return pointer_at(index, self.counter);
+        }
+        match NonZeroUsize::new(self.slots.len() + 1) {
+            Some(index) => pointer_at(index, self.counter),
+            None => unreachable!(),
+        }
+    }
+
     // Stores `t` at the first free index, or in a slot more.
     pub(crate) fn insert_in_room(&mut self, t: T) -> P
         requires { live_count self.old < room_for self.old }
@@ -375,6 +391,22 @@ impl<P: Ptr, T: Drop, S: NonZeroInxGenericStack<ArenaSlot<P, T>>> Arena<P, T, S>
         } else {
             InvalidationResult::Success(p)
         }
+    }
+
+    // Exchanges the values at `i` and `j`, which are two and both live.
+    pub(crate) fn exchange_at(&mut self, i: NonZeroUsize, j: NonZeroUsize)
+        requires i_is_live { IsSome (entry_at self.old (non_zero_usize_get i)) }
+        requires j_is_live { IsSome (entry_at self.old (non_zero_usize_get j)) }
+        requires two { non_zero_usize_get i ≢ non_zero_usize_get j }
+        ensures value { self.new ≡ with_exchange self.old (non_zero_usize_get i) (non_zero_usize_get j) }
+        ensures entries { (k : ℕ) → entry_at self.new k ≡ with_values_exchanged (entry_at self.old) (non_zero_usize_get i) (non_zero_usize_get j) k }
+        ensures live { live_count self.new ≡ live_count self.old }
+        ensures counter { self.new.counter ≡ self.old.counter }
+        ensures room { self.new.room ≡ self.old.room }
+        ensures formed { IsWellFormed self.new }
+        ensures was_formed { IsWellFormed self.old }
+    {
+        exchange_values(&mut self.slots, i, j);
     }
 
     // Sets the counter.

@@ -5,10 +5,14 @@ mod arena;
 mod arena_calls;
 mod arena_index;
 mod arena_trait;
+mod disjointable;
+mod entry;
 mod insertion;
 mod slot;
 
 pub use arena::Arena;
 pub use arena_trait::ArenaTrait;
+pub use disjointable::DisjointableArenaTrait;
+pub use entry::{ArenaInsertEntries, ArenaInsertEntry, ArenaInsertEntryTrait};
 pub use insertion::ArenaInsertTrait;
 pub use slot::ArenaSlot;

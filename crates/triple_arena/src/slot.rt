@@ -1,14 +1,17 @@
 //! A slot of an arena.
-ghost use Rattle.std.specs.Prelude.{◌≡◌, ℕ, Option, Some, None, option_copied, IsTrue, ◌↔◌, IsSome, IsNone};
+ghost use Rattle.std.specs.Prelude.{◌≡◌, ◌≢◌, ◌≤◌, ℕ, length, Option, Some, None, option_copied, IsTrue, ◌↔◌, IsSome, IsNone};
 ghost use Rattle.std.specs.Borrow.{Lends, sem};
 ghost use Rattle.std.specs.Int.NonZero.{non_zero_usize_get};
 ghost use Rattle.std.specs.Option.{option_map};
-ghost use Rattle.triple_arena.specs.Slot.{entry_of, free, used, value_of, link_of, with_slot_value, with_slot_generation};
+ghost use Rattle.triple_arena.specs.Slot.{Slot, entry_of, free, used, value_of, link_of, with_slot_value, with_value_of, with_slot_generation};
+ghost use Rattle.triple_arena_stack.specs.Stack.{item_at, with_item};
 ghost use Rattle.triple_arena.specs.Entries.{value_if};
 
 use std::marker::Model;
+use std::mem;
 use std::num::NonZeroUsize;
 use triple_arena_ptr::{Ptr, PtrGen};
+use triple_arena_stack::{NonZeroInxGenericStack, get_disjoint_mut};
 
 /// A slot of an arena: free, with a link to the next free one, or allocated, with a generation and a value.
 #[derive(Drop)]
@@ -121,6 +124,16 @@ impl<P: Ptr, T> ArenaSlot<P, T> {
         }
     }
 
+    // Exchanges the values of two allocated slots. Each keeps its generation.
+    fn exchange_value(&mut self, other: &mut Self)
+        requires first { IsSome (value_of self.old) }
+        requires second { IsSome (value_of other.old) }
+        ensures first { self.new ≡ with_value_of self.old other.old }
+        ensures second { other.new ≡ with_value_of other.old self.old }
+    {
+        mem::swap(self.value_mut(), other.value_mut());
+    }
+
     // The link, if the slot is free.
     pub(crate) fn into_next(self) -> Option<NonZeroUsize>
     where
@@ -155,6 +168,27 @@ impl<P: Ptr, T> ValueMut<T> for ArenaSlot<P, T> {
     fn value_mut(&mut self) -> &mut T {
         self.entry.value_mut()
     }
+}
+
+// Exchanges the values of the allocated slots at two indexes.
+pub(crate) fn exchange_values<P: Ptr, T: Drop, S: NonZeroInxGenericStack<ArenaSlot<P, T>>>(
+    slots: &mut S,
+    i: NonZeroUsize,
+    j: NonZeroUsize,
+)
+    requires i_in_bounds { non_zero_usize_get i ≤ length (S.items slots.old) }
+    requires j_in_bounds { non_zero_usize_get j ≤ length (S.items slots.old) }
+    requires two { non_zero_usize_get i ≢ non_zero_usize_get j }
+    requires i_is_used { (x : Slot T) → Some x ≡ item_at (S.items slots.old) (non_zero_usize_get i) → IsSome (value_of x) }
+    requires j_is_used { (y : Slot T) → Some y ≡ item_at (S.items slots.old) (non_zero_usize_get j) → IsSome (value_of y) }
+    ensures items { (x y : Slot T)
+        → Some x ≡ item_at (S.items slots.old) (non_zero_usize_get i)
+        → Some y ≡ item_at (S.items slots.old) (non_zero_usize_get j)
+        → S.items slots.new ≡ with_item (with_item (S.items slots.old) (non_zero_usize_get i) (with_value_of x y)) (non_zero_usize_get j) (with_value_of y x) }
+    ensures room { S.room slots.new ≡ S.room slots.old }
+{
+    let (first, second) = get_disjoint_mut(slots.as_mut_slice(), i, j);
+    first.exchange_value(second);
 }
 
 impl<P: Ptr, T> Default for ArenaSlot<P, T> {

@@ -5,7 +5,7 @@ ghost use Rattle.std.specs.Int.NonZero.{non_zero_usize_get};
 ghost use Rattle.std.specs.List.{refill};
 ghost use Rattle.std.specs.Option.{option_copied, option_copied_mut, option_to_list};
 ghost use Rattle.triple_arena_stack.specs.Room.{Room, capacity as capacity_of, grown, with_reserved, IsBeyond};
-ghost use Rattle.triple_arena_stack.specs.Stack.{item_at, with_item};
+ghost use Rattle.triple_arena_stack.specs.Stack.{item_at, with_item, exchanged};
 
 use std::num::NonZeroUsize;
 use triple_arena_ptr::{GetDisjointMutError, NotWithinCapacityError, ReallocationError};
@@ -180,6 +180,17 @@ pub trait NonZeroInxGenericStack<T: Drop> {
         } else {
             None
         }
+    }
+
+    /// Exchanges the items at `i` and `j`, which are both there. Where they are one, nothing changes.
+    final fn swap(&mut self, i: NonZeroUsize, j: NonZeroUsize)
+        requires i_in_bounds { non_zero_usize_get i ≤ length (items self.old) }
+        requires j_in_bounds { non_zero_usize_get j ≤ length (items self.old) }
+        ensures items { items self.new
+            ≡ exchanged (items self.old) (non_zero_usize_get i) (non_zero_usize_get j) }
+        ensures room { room self.new ≡ room self.old }
+    {
+        self.as_mut_slice().swap(i.get() - 1, j.get() - 1);
     }
 
     /// Whether `get_disjoint_mut` can lend the items at `i` and `j`. It answers `IndexOutOfBounds`

@@ -1,0 +1,158 @@
+//! A place for one entry more, which tells its pointer before the value is there.
+ghost use Rattle.std.specs.Prelude.{◌≡◌, ℕ, ◌+◌, ◌<◌, ◌↔◌, Some, None, IsOk, IfOk, IsErrOf};
+ghost use Rattle.std.specs.Borrow.{sem, RestsIfErr};
+ghost use Rattle.triple_arena_stack.specs.Room.{grown};
+ghost use Rattle.triple_arena.specs.InsertEntry.{entry_arena, entry_lender};
+ghost use Rattle.triple_arena.specs.Entries.{with_entry};
+ghost use Rattle.triple_arena.specs.Content.{Content, entry_at, live_count, room_for, next_index, inserted, in_room, IsWellFormed};
+
+use crate::{Arena, ArenaSlot};
+use triple_arena_ptr::{NotWithinCapacityError, Ptr, ReallocationError};
+use triple_arena_stack::NonZeroInxGenericStack;
+
+/// What a place for one entry more does.
+pub trait ArenaInsertEntryTrait<P: Ptr, T> {
+    // The index and the generation that the entry gets.
+    ghost index: { Self → ℕ };
+
+    ghost stamp: { Self → ℕ };
+
+    // There is room for an entry, as when the place was made.
+    ghost has_room: { Self → Type 0 };
+
+    /// The pointer that the entry gets.
+    fn ptr(&self) -> P
+        requires { has_room self.now }
+        ensures index { P.index result ≡ index self.now }
+        ensures generation { P.generation result ≡ stamp self.now };
+
+    /// Stores `t`, and answers its pointer. It takes no memory and cannot fail.
+    fn insert(self, t: T) -> P
+        requires { has_room self }
+        ensures index { P.index result ≡ index self }
+        ensures generation { P.generation result ≡ stamp self };
+}
+
+/// A place for one entry more in an `Arena`. Dropped unused, it leaves the arena as it is.
+#[derive(Drop)]
+pub struct ArenaInsertEntry<'a, P: Ptr, T: Drop, S: NonZeroInxGenericStack<ArenaSlot<P, T>>> {
+    arena: &'a mut Arena<P, T, S>,
+}
+
+impl<'a, P: Ptr, T: Drop, S: NonZeroInxGenericStack<ArenaSlot<P, T>>> ArenaInsertEntryTrait<P, T>
+    for ArenaInsertEntry<'a, P, T, S> {
+    ghost index = { λ e. next_index (entry_arena e) };
+
+    ghost stamp = { λ e. (entry_arena e).counter };
+
+    ghost has_room = { λ e. live_count (entry_arena e) < room_for (entry_arena e) };
+
+    fn ptr(&self) -> P {
+        self.arena.next_ptr()
+    }
+
+    fn insert(self, t: T) -> P
+        requires { live_count (entry_arena self) < room_for (entry_arena self) }
+        ensures index { P.index result ≡ next_index (entry_arena self.entry) }
+        ensures generation { P.generation result ≡ (entry_arena self.entry).counter }
+
+        // `self.exit.0.now` is the arena as it is left.
+        ensures content { self.exit.0.now ≡ inserted (entry_arena self.entry) t }
+        ensures vacant { entry_at (entry_arena self.entry) (next_index (entry_arena self.entry)) ≡ None }
+        ensures entries { (j : ℕ) → entry_at self.exit.0.now j
+            ≡ with_entry (entry_at (entry_arena self.entry)) (P.index result) (P.generation result, t) j }
+        ensures live { live_count self.exit.0.now ≡ live_count (entry_arena self.entry) + 1 }
+        ensures counter { self.exit.0.now.counter ≡ (entry_arena self.entry).counter }
+        ensures room { self.exit.0.now.room ≡ (entry_arena self.entry).room }
+        ensures formed { IsWellFormed self.exit.0.now }
+        ensures was_formed { IsWellFormed (entry_arena self.entry) }
+    {
+        let ArenaInsertEntry { arena } = self;
+        arena.insert_entry(t)
+    }
+}
+
+/// The calls of an `Arena` that answer an entry.
+pub trait ArenaInsertEntries<P: Ptr, T: Drop> {
+    /// The stack that the arena keeps its slots in.
+    type Stack: NonZeroInxGenericStack<ArenaSlot<P, T>>;
+
+    // The arena as its entries see it.
+    ghost content: { Self → Content T };
+
+    /// A place for one entry more. Where there is no room the arena stays as it is.
+    fn entry_insert_within_capacity(
+        &mut self,
+    ) -> Result<ArenaInsertEntry<'_, P, T, Self::Stack>, NotWithinCapacityError>
+        ensures variant { IsOk result
+            ↔ (live_count (content self.old) < room_for (content self.old)) }
+        ensures same_reference { IfOk result (λ e. entry_lender e ≡ self.entry.ghost_name) }
+        ensures arena { IfOk result (λ e. entry_arena e ≡ content self.old) }
+        ensures was_formed { IsWellFormed (content self.old) }
+        ensures* err { sem 𝓛 (RestsIfErr Self.row self.entry entry_lender result
+            (λ a. a ≡ self.old)) };
+
+    /// A place for one entry more. Where there is no room the arena grows, and answers the errors, as
+    /// `insert_reallocating` does. An error leaves the arena as it was.
+    fn entry_insert_reallocating(
+        &mut self,
+    ) -> Result<ArenaInsertEntry<'_, P, T, Self::Stack>, ReallocationError>
+        ensures same_reference { IfOk result (λ e. entry_lender e ≡ self.entry.ghost_name) }
+        ensures has_room { IfOk result (λ e. live_count (entry_arena e) < room_for (entry_arena e)) }
+        ensures kept { live_count (content self.old) < room_for (content self.old)
+            → IfOk result (λ e. entry_arena e ≡ content self.old) }
+        ensures grown { live_count (content self.old) ≡ room_for (content self.old)
+            → IfOk result (λ e. entry_arena e
+            ≡ in_room (content self.old) (grown (content self.old).room)) }
+        ensures succeeds { live_count (content self.old) < room_for (content self.old)
+            → IsOk result }
+        ensures beyond { IsErrOf result ReallocationError.BeyondMaxCapacity
+            ↔ ((content self.old).room.limit ≡ Some (live_count (content self.old))) }
+        ensures was_formed { IsWellFormed (content self.old) }
+        ensures* err { sem 𝓛 (RestsIfErr Self.row self.entry entry_lender result
+            (λ a. a ≡ self.old)) };
+
+    /// The same as `entry_insert_reallocating`.
+    fn entry_insert(&mut self) -> Result<ArenaInsertEntry<'_, P, T, Self::Stack>, ReallocationError>
+        ensures same_reference { IfOk result (λ e. entry_lender e ≡ self.entry.ghost_name) }
+        ensures has_room { IfOk result (λ e. live_count (entry_arena e) < room_for (entry_arena e)) }
+        ensures kept { live_count (content self.old) < room_for (content self.old)
+            → IfOk result (λ e. entry_arena e ≡ content self.old) }
+        ensures grown { live_count (content self.old) ≡ room_for (content self.old)
+            → IfOk result (λ e. entry_arena e
+            ≡ in_room (content self.old) (grown (content self.old).room)) }
+        ensures succeeds { live_count (content self.old) < room_for (content self.old)
+            → IsOk result }
+        ensures beyond { IsErrOf result ReallocationError.BeyondMaxCapacity
+            ↔ ((content self.old).room.limit ≡ Some (live_count (content self.old))) }
+        ensures was_formed { IsWellFormed (content self.old) }
+        ensures* err { sem 𝓛 (RestsIfErr Self.row self.entry entry_lender result
+            (λ a. a ≡ self.old)) };
+}
+
+impl<P: Ptr, T: Drop, S: NonZeroInxGenericStack<ArenaSlot<P, T>>> ArenaInsertEntries<P, T>
+    for Arena<P, T, S> {
+    type Stack = S;
+
+    ghost content = { λ c. c };
+
+    fn entry_insert_within_capacity(
+        &mut self,
+    ) -> Result<ArenaInsertEntry<'_, P, T, S>, NotWithinCapacityError> {
+        if self.live() == self.room_for() {
+            return Err(NotWithinCapacityError);
+        }
+        Ok(ArenaInsertEntry { arena: self })
+    }
+
+    fn entry_insert_reallocating(
+        &mut self,
+    ) -> Result<ArenaInsertEntry<'_, P, T, S>, ReallocationError> {
+        self.make_room()?;
+        Ok(ArenaInsertEntry { arena: self })
+    }
+
+    fn entry_insert(&mut self) -> Result<ArenaInsertEntry<'_, P, T, S>, ReallocationError> {
+        self.entry_insert_reallocating()
+    }
+}
