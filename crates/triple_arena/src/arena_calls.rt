@@ -5,7 +5,7 @@ ghost use Rattle.std.specs.Option.{option_map};
 ghost use Rattle.triple_arena_ptr.specs.Generation.{second_generation, next_generation, next_wraps};
 ghost use Rattle.triple_arena_ptr.specs.InvalidationOption.{value_of, overflowed};
 ghost use Rattle.triple_arena_ptr.specs.InvalidationResult.{answer_of};
-ghost use Rattle.triple_arena_stack.specs.Room.{with_reserved, IsBeyond};
+ghost use Rattle.triple_arena_stack.specs.Room.{capacity as capacity_of, with_reserved, IsBeyond};
 ghost use Rattle.triple_arena.specs.ArenaRoom.{room_of};
 ghost use Rattle.triple_arena.specs.Entries.{without, with_generation_at};
 ghost use Rattle.triple_arena.specs.Content.{get, entry_at as entry_of_index, live_count as live_of, room_for, removed, invalidated, cleared, with_value as with_value_of, in_room, IsWellFormed};
@@ -59,6 +59,7 @@ impl<P: Ptr, T: Drop, S: NonZeroInxGenericStack<ArenaSlot<P, T>> + Drop> ArenaTr
         ensures entries { IfOk result (λ a. (j : ℕ) → entry_of_index a j ≡ None) }
         ensures formed { IfOk result (λ a. IsWellFormed a) }
         ensures fits { IfOk result (λ a. min ≤ room_for a) }
+        ensures succeeds { min ≤ capacity_of (room_of P.Inx.greatest (S.room_at 0)) → IsOk result }
         ensures beyond { IsErrOf result ReallocationError.BeyondMaxCapacity ↔ IsBeyond (room_of P.Inx.greatest (S.room_at min)).limit min }
     {
         if min > max_index::<P>() {

@@ -1,8 +1,8 @@
 //! What every arena does.
-ghost use Rattle.std.specs.Prelude.{◌≡◌, ◌≢◌, ℕ, ◌+◌, ◌-◌, ◌*◌, ◌^◌, ◌<◌, ◌≤◌, ◌↔◌, Bool, Some, None, IsTrue, IsOk, IsSome, IfSome, IfNone, IfOk, OnOk, OnErr, IsErrOf, Option, option_copied};
+ghost use Rattle.std.specs.Prelude.{◌≡◌, ◌≢◌, ℕ, ◌+◌, ◌-◌, ◌*◌, ◌^◌, ◌<◌, ◌≤◌, ◌↔◌, Bool, Some, None, IsTrue, IsOk, IsSome, IfSome, IfNone, IfOk, OnOk, OnErr, IsErrOf, Option, option_copied, unwrap_or};
 ghost use Rattle.std.specs.Borrow.{sem, Lends, LendsIf};
 ghost use Rattle.std.specs.Option.{option_map, option_copied_mut};
-ghost use Rattle.triple_arena_ptr.specs.Generation.{second_generation, next_generation};
+ghost use Rattle.triple_arena_ptr.specs.Generation.{second_generation, next_generation, next_wraps};
 ghost use Rattle.triple_arena_ptr.specs.InvalidationOption.{value_of, overflowed};
 ghost use Rattle.triple_arena_ptr.specs.InvalidationResult.{answer_of};
 ghost use Rattle.triple_arena_stack.specs.Room.{Room, capacity as capacity_of, with_reserved, IsBeyond};
@@ -51,6 +51,9 @@ pub trait ArenaTrait<P: Ptr, T: Drop> {
         ensures counter { IfOk result (λ a. counter a ≡ number_if counts (second_generation P.Gen.last)) }
         ensures room { IfOk result (λ a. room a ≡ room_at min) }
         ensures fits { IfOk result (λ a. min ≤ capacity_of (room a)) }
+
+        // No memory is asked for where a new arena has the room already.
+        ensures succeeds { min ≤ capacity_of (room_at 0) → IsOk result }
         ensures beyond { IsErrOf result ReallocationError.BeyondMaxCapacity ↔ IsBeyond (room_at min).limit min };
 
     /// How many entries fit with no growth.
@@ -124,12 +127,16 @@ pub trait ArenaTrait<P: Ptr, T: Drop> {
 
     /// Ends `p` and gives the entry another pointer, with the stepped generation, so that `p` finds nothing where
     /// generations are counted. Where they are not the pointer is equal to `p`. It answers `InvalidPtr`, and changes
-    /// nothing, where `p` points to no entry.
+    /// nothing, where `p` points to no entry. The step is the counter's, or that of the entry's own generation in an
+    /// arena without a counter.
     fn invalidate(&mut self, p: P) -> InvalidationResult<P>
         ensures variant { IsSome (answer_of result) ↔ IsSome (value_if (P.generation p) (entry_at self.old (P.index p))) }
+        ensures overflow { IfSome (answer_of result) (λ a. overflowed a ≡ next_wraps P.Gen.last (unwrap_or (counter self.old) (P.generation p))) }
         ensures index { IfSome (answer_of result) (λ a. P.index (value_of a) ≡ P.index p) }
+        ensures generation { IfSome (answer_of result) (λ a. P.generation (value_of a) ≡ next_generation P.Gen.last (unwrap_or (counter self.old) (P.generation p))) }
         ensures entries { IfSome (answer_of result) (λ a. (j : ℕ) → entry_at self.new j ≡ with_generation_at (entry_at self.old) (P.index p) (P.generation (value_of a)) j) }
         ensures live { live_count self.new ≡ live_count self.old }
+        ensures counter { IfSome (answer_of result) (λ a. counter self.new ≡ option_map (next_generation P.Gen.last) (counter self.old)) }
         ensures room { room self.new ≡ room self.old }
         ensures invalid { IfNone (answer_of result) (self.new ≡ self.old) };
 
