@@ -4,4 +4,5 @@ pub mod Entry
 pub mod Entries
 pub mod Content
 pub mod Layout
+pub mod Walk
 pub mod ContentLaws

@@ -11,6 +11,7 @@ ghost use Rattle.triple_arena.specs.Entries.{without, with_generation_at};
 ghost use Rattle.triple_arena.specs.Content.{get, entry_at as entry_of_index, live_count as live_of, room_for, removed, invalidated, cleared, with_value as with_value_of, in_room, IsWellFormed};
 ghost use Rattle.triple_arena.specs.ContentLaws.{entry-with_value, counted-with_value, room-with_value};
 
+use crate::advancer::PtrAdvancer;
 use crate::arena::{ValueAtMut, max_index};
 use crate::{Arena, ArenaSlot, ArenaTrait};
 use triple_arena_ptr::{InvalidationOption, InvalidationResult, Ptr, PtrInx, ReallocationError};
@@ -19,6 +20,8 @@ use triple_arena_stack::NonZeroInxGenericStack;
 impl<P: Ptr, T: Drop, S: NonZeroInxGenericStack<ArenaSlot<P, T>> + Drop> ArenaTrait<P, T>
     for Arena<P, T, S> {
     type Alloc = S::Alloc;
+
+    type PtrAdvancer = PtrAdvancer<P>;
 
     ghost entry_at = { entry_of_index };
 
@@ -33,6 +36,10 @@ impl<P: Ptr, T: Drop, S: NonZeroInxGenericStack<ArenaSlot<P, T>> + Drop> ArenaTr
     ghost room_at = { λ n. room_of P.Inx.greatest (S.room_at n) };
 
     ghost with_value = { with_value_of };
+
+    ghost walk = { λ a. a };
+
+    ghost advances = { λ before c given after step. step };
 
     ghost entry_with_value = { entry-with_value };
 
@@ -123,6 +130,35 @@ impl<P: Ptr, T: Drop, S: NonZeroInxGenericStack<ArenaSlot<P, T>> + Drop> ArenaTr
             Some(i) => self.value_at_mut(i),
             None => unreachable!(),
         }
+    }
+
+    fn find_first_inx_ptr(&self) -> Option<P> {
+        self.first_live(0, self.slot_count())
+    }
+
+    fn find_last_inx_ptr(&self) -> Option<P> {
+        self.last_live(0, self.slot_count())
+    }
+
+    fn advancer(&self) -> PtrAdvancer<P> {
+        PtrAdvancer::over(0, self.slot_count(), false)
+    }
+
+    fn advancer_inx(&self, i: P::Inx, rev: bool) -> PtrAdvancer<P> {
+        let number = i.try_into_usize();
+        if rev {
+            let end = match number {
+                Some(i) => i.get(),
+                // No index past a `usize` is live.
+                None => usize::MAX,
+            };
+            return PtrAdvancer::over(0, end, true);
+        }
+        let start = match number {
+            Some(i) => i.get() - 1,
+            None => usize::MAX,
+        };
+        PtrAdvancer::over(start, self.slot_count(), false)
     }
 
     fn remove(&mut self, p: P) -> InvalidationResult<T>
