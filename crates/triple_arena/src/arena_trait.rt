@@ -17,7 +17,7 @@ pub trait ArenaTrait<P: Ptr, T: Drop> {
     type Alloc;
 
     /// What goes over the arena's pointers by their indexes.
-    type PtrAdvancer: Advancer<Self, Item = P>;
+    type PtrAdvancer: Advancer<Self, Item = P> + Drop;
 
     // The generation and the value at each index. Index 0 has none.
     ghost entry_at: { Self → ℕ → Option (ℕ × T) };
@@ -180,6 +180,8 @@ pub trait ArenaTrait<P: Ptr, T: Drop> {
         ensures live { live_count self.new ≡ 0 }
         ensures counter { counter self.new ≡ option_map (next_generation P.Gen.last) (counter self.old) }
         ensures room { room self.new ≡ room self.old };
+
+    ghost none_at_zero: { (s : Self) → entry_at s 0 ≡ None };
 
     // What a step of an advancer gives and leaves.
     ghost advances: { (before : Self.PtrAdvancer) (s : Self) (given : Option P) (after : Self.PtrAdvancer)
