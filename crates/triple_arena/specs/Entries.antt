@@ -20,6 +20,14 @@ module _ {T : Type 0} where
   value_if g None = None
   value_if g (Some entry) = if entry.0 == g then Some entry.1 else None
 
+  -- the generation at an index, if it is live
+  abbrev pub generation_at : (ℕ → Option (ℕ × T)) → ℕ → Option ℕ
+  generation_at entries i = option_map (λ entry. entry.0) (entries i)
+
+  -- the index and the generation of the entry at an index, if it is live
+  abbrev pub pointer_at : (ℕ → Option (ℕ × T)) → ℕ → Option (ℕ × ℕ)
+  pointer_at entries i = option_map (λ entry. (i, entry.0)) (entries i)
+
   -- the entries with this one at an index
   abbrev pub with_entry : (ℕ → Option (ℕ × T)) → ℕ → ℕ × T → ℕ → Option (ℕ × T)
   with_entry entries i entry j = if j == i then Some entry else entries j

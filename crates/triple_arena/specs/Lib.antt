@@ -4,5 +4,6 @@ pub mod Entry
 pub mod Entries
 pub mod Content
 pub mod Layout
+pub mod Walk
 pub mod ContentLaws
 pub mod InsertEntry

@@ -6,7 +6,7 @@ ghost use Rattle.std.specs.Option.{option_map};
 ghost use Rattle.triple_arena_ptr.specs.Generation.{second_generation, next_generation, next_wraps};
 ghost use Rattle.triple_arena_ptr.specs.InvalidationOption.{value_of, overflowed};
 ghost use Rattle.triple_arena_ptr.specs.InvalidationResult.{answer_of};
-ghost use Rattle.triple_arena.specs.Entries.{with_entry, without, with_values_exchanged, with_generation_at};
+ghost use Rattle.triple_arena.specs.Entries.{with_entry, without, with_values_exchanged, with_generation_at, pointer_at as pointer_of_entry};
 ghost use Rattle.triple_arena_ptr.specs.Index.{max_index_of};
 ghost use Rattle.triple_arena_stack.specs.Room.{grown, with_reserved, IsBeyond};
 ghost use Rattle.triple_arena.specs.ArenaRoom.{room_of};
@@ -200,6 +200,26 @@ impl<P: Ptr, T: Drop, S: NonZeroInxGenericStack<ArenaSlot<P, T>>> Arena<P, T, S>
                         None
                     }
                 }
+                None => None,
+            },
+            None => None,
+        }
+    }
+
+    // The number of slots.
+    pub(crate) fn slot_count(&self) -> usize
+        ensures { result ≡ length self.now.slots }
+    {
+        self.slots.len()
+    }
+
+    // The pointer to the entry at `i`, if it is live.
+    pub(crate) fn pointer(&self, i: NonZeroUsize) -> Option<P>
+        ensures { option_map (λ p. (P.index p, P.generation p)) result ≡ pointer_of_entry (entry_at self.now) (non_zero_usize_get i) }
+    {
+        match self.slots.get(i) {
+            Some(slot) => match slot.entry() {
+                Some(entry) => Some(pointer_at(i, entry.0)),
                 None => None,
             },
             None => None,

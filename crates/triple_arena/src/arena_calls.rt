@@ -1,16 +1,17 @@
 //! The calls of an `Arena` that every arena has.
-ghost use Rattle.std.specs.Prelude.{◌≡◌, ℕ, ◌+◌, ◌<◌, ◌≤◌, ◌↔◌, true, [], Some, None, IsOk, IsSome, IfSome, IfNone, IfOk, OnOk, OnErr, IsErrOf, option_copied};
+ghost use Rattle.std.specs.Prelude.{◌≡◌, ℕ, ◌+◌, ◌<◌, ◌≤◌, ◌↔◌, true, [], Some, None, IsOk, IsSome, IfSome, IfNone, IfOk, OnOk, OnErr, IsErrOf, option_copied, refl};
 ghost use Rattle.std.specs.Borrow.{sem, Lends};
 ghost use Rattle.std.specs.Option.{option_map};
 ghost use Rattle.triple_arena_ptr.specs.Generation.{second_generation, next_generation, next_wraps};
 ghost use Rattle.triple_arena_ptr.specs.InvalidationOption.{value_of, overflowed};
 ghost use Rattle.triple_arena_ptr.specs.InvalidationResult.{answer_of};
-ghost use Rattle.triple_arena_stack.specs.Room.{with_reserved, IsBeyond};
+ghost use Rattle.triple_arena_stack.specs.Room.{capacity as capacity_of, with_reserved, IsBeyond};
 ghost use Rattle.triple_arena.specs.ArenaRoom.{room_of};
 ghost use Rattle.triple_arena.specs.Entries.{without, with_generation_at};
 ghost use Rattle.triple_arena.specs.Content.{get, entry_at as entry_of_index, live_count as live_of, room_for, removed, invalidated, cleared, with_value as with_value_of, in_room, IsWellFormed};
 ghost use Rattle.triple_arena.specs.ContentLaws.{entry-with_value, counted-with_value, room-with_value};
 
+use crate::advancer::PtrAdvancer;
 use crate::arena::{ValueAtMut, max_index};
 use crate::{Arena, ArenaSlot, ArenaTrait};
 use triple_arena_ptr::{InvalidationOption, InvalidationResult, Ptr, PtrInx, ReallocationError};
@@ -19,6 +20,8 @@ use triple_arena_stack::NonZeroInxGenericStack;
 impl<P: Ptr, T: Drop, S: NonZeroInxGenericStack<ArenaSlot<P, T>> + Drop> ArenaTrait<P, T>
     for Arena<P, T, S> {
     type Alloc = S::Alloc;
+
+    type PtrAdvancer = PtrAdvancer<P>;
 
     ghost entry_at = { entry_of_index };
 
@@ -33,6 +36,12 @@ impl<P: Ptr, T: Drop, S: NonZeroInxGenericStack<ArenaSlot<P, T>> + Drop> ArenaTr
     ghost room_at = { λ n. room_of P.Inx.greatest (S.room_at n) };
 
     ghost with_value = { with_value_of };
+
+    ghost walk = { λ a. a };
+
+    ghost none_at_zero = { λ c. refl };
+
+    ghost advances = { λ before c given after step. step };
 
     ghost entry_with_value = { entry-with_value };
 
@@ -59,6 +68,7 @@ impl<P: Ptr, T: Drop, S: NonZeroInxGenericStack<ArenaSlot<P, T>> + Drop> ArenaTr
         ensures entries { IfOk result (λ a. (j : ℕ) → entry_of_index a j ≡ None) }
         ensures formed { IfOk result (λ a. IsWellFormed a) }
         ensures fits { IfOk result (λ a. min ≤ room_for a) }
+        ensures succeeds { min ≤ capacity_of (room_of P.Inx.greatest (S.room_at 0)) → IsOk result }
         ensures beyond { IsErrOf result ReallocationError.BeyondMaxCapacity ↔ IsBeyond (room_of P.Inx.greatest (S.room_at min)).limit min }
     {
         if min > max_index::<P>() {
@@ -122,6 +132,35 @@ impl<P: Ptr, T: Drop, S: NonZeroInxGenericStack<ArenaSlot<P, T>> + Drop> ArenaTr
             Some(i) => self.value_at_mut(i),
             None => unreachable!(),
         }
+    }
+
+    fn find_first_inx_ptr(&self) -> Option<P> {
+        self.first_live(0, self.slot_count())
+    }
+
+    fn find_last_inx_ptr(&self) -> Option<P> {
+        self.last_live(0, self.slot_count())
+    }
+
+    fn advancer(&self) -> PtrAdvancer<P> {
+        PtrAdvancer::over(0, self.slot_count(), false)
+    }
+
+    fn advancer_inx(&self, i: P::Inx, rev: bool) -> PtrAdvancer<P> {
+        let number = i.try_into_usize();
+        if rev {
+            let end = match number {
+                Some(i) => i.get(),
+                // No index past a `usize` is live.
+                None => usize::MAX,
+            };
+            return PtrAdvancer::over(0, end, true);
+        }
+        let start = match number {
+            Some(i) => i.get() - 1,
+            None => usize::MAX,
+        };
+        PtrAdvancer::over(start, self.slot_count(), false)
     }
 
     fn remove(&mut self, p: P) -> InvalidationResult<T>

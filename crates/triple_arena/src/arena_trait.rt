@@ -1,19 +1,23 @@
 //! What every arena does.
-ghost use Rattle.std.specs.Prelude.{◌≡◌, ◌≢◌, ℕ, ◌+◌, ◌-◌, ◌*◌, ◌^◌, ◌<◌, ◌≤◌, ◌↔◌, Bool, Some, None, IsTrue, IsOk, IsSome, IfSome, IfNone, IfOk, OnOk, OnErr, IsErrOf, Option, option_copied};
+ghost use Rattle.std.specs.Prelude.{◌≡◌, ◌≢◌, ℕ, ◌+◌, ◌-◌, ◌*◌, ◌^◌, ◌<◌, ◌≤◌, ◌↔◌, Bool, Some, None, IsTrue, IsOk, IsSome, IfSome, IfNone, IfOk, OnOk, OnErr, IsErrOf, Option, option_copied, unwrap_or, true, false, min, if◌then◌else◌};
 ghost use Rattle.std.specs.Borrow.{sem, Lends, LendsIf};
 ghost use Rattle.std.specs.Option.{option_map, option_copied_mut};
-ghost use Rattle.triple_arena_ptr.specs.Generation.{second_generation, next_generation};
+ghost use Rattle.triple_arena_ptr.specs.Generation.{second_generation, next_generation, next_wraps};
 ghost use Rattle.triple_arena_ptr.specs.InvalidationOption.{value_of, overflowed};
 ghost use Rattle.triple_arena_ptr.specs.InvalidationResult.{answer_of};
 ghost use Rattle.triple_arena_stack.specs.Room.{Room, capacity as capacity_of, with_reserved, IsBeyond};
-ghost use Rattle.triple_arena.specs.Entries.{number_if, value_if, counter_wraps, without, with_value_at, with_generation_at};
+ghost use Rattle.triple_arena.specs.Entries.{number_if, value_if, counter_wraps, without, with_value_at, with_generation_at, generation_at};
+ghost use Rattle.triple_arena.specs.Walk.{Walk, Steps};
 
-use triple_arena_ptr::{InvalidationOption, InvalidationResult, Ptr, ReallocationError};
+use triple_arena_ptr::{Advancer, InvalidationOption, InvalidationResult, Ptr, ReallocationError};
 
 /// An arena of values of type `T`, to which pointers of type `P` point.
 pub trait ArenaTrait<P: Ptr, T: Drop> {
     /// What the arena takes its memory from.
     type Alloc;
+
+    /// What goes over the arena's pointers by their indexes.
+    type PtrAdvancer: Advancer<Self, Item = P> + Drop;
 
     // The generation and the value at each index. Index 0 has none.
     ghost entry_at: { Self → ℕ → Option (ℕ × T) };
@@ -36,6 +40,9 @@ pub trait ArenaTrait<P: Ptr, T: Drop> {
     // The arena with another value at an index, if it is live.
     ghost with_value: { Self → ℕ → T → Self };
 
+    // The indexes that an advancer has left to look at.
+    ghost walk: { Self.PtrAdvancer → Walk };
+
     /// An empty arena, which takes no memory.
     fn new(alloc: Self::Alloc) -> Self
         ensures entries { (j : ℕ) → entry_at result j ≡ None }
@@ -51,6 +58,9 @@ pub trait ArenaTrait<P: Ptr, T: Drop> {
         ensures counter { IfOk result (λ a. counter a ≡ number_if counts (second_generation P.Gen.last)) }
         ensures room { IfOk result (λ a. room a ≡ room_at min) }
         ensures fits { IfOk result (λ a. min ≤ capacity_of (room a)) }
+
+        // No memory is asked for where a new arena has the room already.
+        ensures succeeds { min ≤ capacity_of (room_at 0) → IsOk result }
         ensures beyond { IsErrOf result ReallocationError.BeyondMaxCapacity ↔ IsBeyond (room_at min).limit min };
 
     /// How many entries fit with no growth.
@@ -100,6 +110,32 @@ pub trait ArenaTrait<P: Ptr, T: Drop> {
         ensures* writes_back { sem 𝓛 (Lends Self.row T.row self.entry result (with_value self.old (P.Inx.number i))) }
         ensures value { option_map (λ e. e.1) (entry_at self.old (P.Inx.number i)) ≡ Some result.now };
 
+    /// The pointer to the entry with the least index, or `None` where no index is live.
+    fn find_first_inx_ptr(&self) -> Option<P>
+        ensures live { IfSome result (λ p. generation_at (entry_at self.now) (P.index p) ≡ Some (P.generation p)) }
+        ensures first { IfSome result (λ p. (j : ℕ) → j < P.index p → entry_at self.now j ≡ None) }
+        ensures none { IfNone result ((j : ℕ) → entry_at self.now j ≡ None) };
+
+    /// The pointer to the entry with the greatest index, or `None` where no index is live.
+    fn find_last_inx_ptr(&self) -> Option<P>
+        ensures live { IfSome result (λ p. generation_at (entry_at self.now) (P.index p) ≡ Some (P.generation p)) }
+        ensures last { IfSome result (λ p. (j : ℕ) → P.index p < j → entry_at self.now j ≡ None) }
+        ensures none { IfNone result ((j : ℕ) → entry_at self.now j ≡ None) };
+
+    /// What gives the pointers to the entries by rising index. It goes to an index that is not below the last one
+    /// that is live now.
+    fn advancer(&self) -> Self::PtrAdvancer
+        ensures rises { (walk result).falls ≡ false }
+        ensures low { (walk result).low ≡ 1 }
+        ensures high { (j : ℕ) → IsSome (entry_at self.now j) → j ≤ (walk result).high };
+
+    /// The same from `i` on, or with `rev` by falling index from `i` to 1.
+    fn advancer_inx(&self, i: P::Inx, rev: bool) -> Self::PtrAdvancer
+        ensures direction { (walk result).falls ≡ rev }
+        ensures low { (walk result).low ≡ (if rev then 1 else min (P.Inx.number i) (2 ^ 64)) }
+        ensures rising_to { rev ≡ false → (j : ℕ) → IsSome (entry_at self.now j) → j ≤ (walk result).high }
+        ensures falling_from { rev ≡ true → (walk result).high ≡ min (P.Inx.number i) (2 ^ 64 - 1) };
+
     /// Removes the value that `p` points to, and steps the counter. It answers `InvalidPtr`, and changes nothing,
     /// where `p` points to none.
     fn remove(&mut self, p: P) -> InvalidationResult<T>
@@ -124,12 +160,16 @@ pub trait ArenaTrait<P: Ptr, T: Drop> {
 
     /// Ends `p` and gives the entry another pointer, with the stepped generation, so that `p` finds nothing where
     /// generations are counted. Where they are not the pointer is equal to `p`. It answers `InvalidPtr`, and changes
-    /// nothing, where `p` points to no entry.
+    /// nothing, where `p` points to no entry. The step is the counter's, or that of the entry's own generation in an
+    /// arena without a counter.
     fn invalidate(&mut self, p: P) -> InvalidationResult<P>
         ensures variant { IsSome (answer_of result) ↔ IsSome (value_if (P.generation p) (entry_at self.old (P.index p))) }
+        ensures overflow { IfSome (answer_of result) (λ a. overflowed a ≡ next_wraps P.Gen.last (unwrap_or (counter self.old) (P.generation p))) }
         ensures index { IfSome (answer_of result) (λ a. P.index (value_of a) ≡ P.index p) }
+        ensures generation { IfSome (answer_of result) (λ a. P.generation (value_of a) ≡ next_generation P.Gen.last (unwrap_or (counter self.old) (P.generation p))) }
         ensures entries { IfSome (answer_of result) (λ a. (j : ℕ) → entry_at self.new j ≡ with_generation_at (entry_at self.old) (P.index p) (P.generation (value_of a)) j) }
         ensures live { live_count self.new ≡ live_count self.old }
+        ensures counter { IfSome (answer_of result) (λ a. counter self.new ≡ option_map (next_generation P.Gen.last) (counter self.old)) }
         ensures room { room self.new ≡ room self.old }
         ensures invalid { IfNone (answer_of result) (self.new ≡ self.old) };
 
@@ -140,6 +180,13 @@ pub trait ArenaTrait<P: Ptr, T: Drop> {
         ensures live { live_count self.new ≡ 0 }
         ensures counter { counter self.new ≡ option_map (next_generation P.Gen.last) (counter self.old) }
         ensures room { room self.new ≡ room self.old };
+
+    ghost none_at_zero: { (s : Self) → entry_at s 0 ≡ None };
+
+    // What a step of an advancer gives and leaves.
+    ghost advances: { (before : Self.PtrAdvancer) (s : Self) (given : Option P) (after : Self.PtrAdvancer)
+        → Self.PtrAdvancer.advance_gives before s given after
+        → Steps (entry_at s) (walk before) (option_map (λ p. (P.index p, P.generation p)) given) (walk after) };
 
     // A write of a value changes nothing else.
     ghost entry_with_value: { (s : Self) (i : ℕ) (t : T) (j : ℕ) → entry_at (with_value s i t) j ≡ with_value_at (entry_at s) i t j };

@@ -1,6 +1,7 @@
 //! A generational arena.
 #![tactic(auto)]
 
+mod advancer;
 mod arena;
 mod arena_calls;
 mod arena_index;
@@ -9,6 +10,11 @@ mod disjointable;
 mod entry;
 mod insertion;
 mod slot;
+
+/// The advancers of the arenas.
+pub mod arena_iterators {
+    pub use crate::advancer::PtrAdvancer;
+}
 
 pub use arena::Arena;
 pub use arena_trait::ArenaTrait;

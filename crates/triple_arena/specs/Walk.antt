@@ -1,0 +1,52 @@
+-- Going over the indexes of an arena.
+use Rattle.std.specs.Prelude.{◌≡◌, ℕ, ◌+◌, ◌-◌, ◌<◌, ◌≤◌, List, [], Bool, true, false, Option, Some, None, nat_le, if◌then◌else◌}
+use Rattle.triple_arena.specs.Entries.{generation_at}
+
+-- the indexes that are left to look at, from the lowest to the highest: from the lowest on, rising, or from the
+-- highest on, falling
+pub record Walk : Type 0 where
+  pub low : ℕ
+  pub high : ℕ
+  pub falls : Bool
+
+-- an index is left to look at
+abbrev pub IsAhead : Walk → ℕ → Type 0
+IsAhead w j = (w.low ≤ j) × (j ≤ w.high)
+
+-- no index is left
+abbrev pub IsOver : Walk → Type 0
+IsOver w = w.high < w.low
+
+-- what is known of the items to come: there are none once the walk is over
+abbrev pub to_come : {X : Type 0} → Walk → Option (List X)
+to_come w = if nat_le w.low w.high then None else Some []
+
+-- an index comes before another, falling or rising
+abbrev pub ComesBefore : Bool → ℕ → ℕ → Type 0
+ComesBefore true j i = i < j
+ComesBefore false j i = j < i
+
+-- the walk that has passed an index
+abbrev pub past : Walk → ℕ → Walk
+past w i = by_direction w.falls
+  where
+    by_direction : Bool → Walk
+    by_direction true = record w { high = i - 1 }
+    by_direction false = record w { low = i + 1 }
+
+module _ {T : Type 0} where
+  -- the first live index of those ahead, with this generation
+  pub record IsFirstLive (entries : ℕ → Option (ℕ × T)) (w : Walk) (i g : ℕ) : Type 0 where
+    pub ahead : IsAhead w i
+    pub live : generation_at entries i ≡ Some g
+    pub first : (j : ℕ) → IsAhead w j → ComesBefore w.falls j i → entries j ≡ None
+
+  -- the first live index of those ahead and its generation, or nothing where none of them is live
+  abbrev pub Finds : (ℕ → Option (ℕ × T)) → Walk → Option (ℕ × ℕ) → Type 0
+  Finds entries w None = (j : ℕ) → IsAhead w j → entries j ≡ None
+  Finds entries w (Some p) = IsFirstLive entries w p.0 p.1
+
+  -- a step over these entries gives the first live index ahead and passes it, or gives nothing and ends the walk
+  abbrev pub Steps : (ℕ → Option (ℕ × T)) → Walk → Option (ℕ × ℕ) → Walk → Type 0
+  Steps entries before None after = Finds entries before None × IsOver after
+  Steps entries before (Some p) after = IsFirstLive entries before p.0 p.1 × (after ≡ past before p.0)
