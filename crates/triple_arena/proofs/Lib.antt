@@ -1,2 +1,3 @@
 pub mod FreeListLemmas
 pub mod ContentLemmas
+mod CompressionLemmas

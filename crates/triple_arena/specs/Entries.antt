@@ -1,5 +1,5 @@
 -- What is known of any arena: the entry at each index.
-use Rattle.std.specs.Prelude.{ℕ, ◌==◌, Bool, true, false, Option, Some, None, if◌then◌else◌}
+use Rattle.std.specs.Prelude.{ℕ, ◌==◌, Bool, true, false, List, find, Option, Some, None, if◌then◌else◌}
 use Rattle.std.specs.Option.{option_map}
 use Rattle.triple_arena_ptr.specs.Generation.{next_wraps}
 
@@ -35,3 +35,7 @@ module _ {T : Type 0} where
   -- the entries with another generation at an index, if it has one
   abbrev pub with_generation_at : (ℕ → Option (ℕ × T)) → ℕ → ℕ → ℕ → Option (ℕ × T)
   with_generation_at entries i g j = if j == i then option_map (λ entry. (g, entry.1)) (entries i) else entries j
+
+  -- the generation and the value that are listed under an index
+  abbrev pub look_up : List (ℕ × (ℕ × T)) → ℕ → Option (ℕ × T)
+  look_up entries i = option_map (λ entry. entry.1) (find (λ entry. entry.0 == i) entries)

@@ -5,3 +5,6 @@ pub mod Entries
 pub mod Content
 pub mod Layout
 pub mod ContentLaws
+pub mod LiveEntries
+pub mod Compression
+pub mod SlotCompression

@@ -12,8 +12,11 @@ ghost use Rattle.triple_arena_stack.specs.Room.{grown, with_reserved, IsBeyond};
 ghost use Rattle.triple_arena.specs.ArenaRoom.{room_of};
 ghost use Rattle.triple_arena.specs.Slot.{entry_of};
 ghost use Rattle.triple_arena.specs.Content.{get, entry_at, live_count, room_for, next_index, inserted, with_value, with_generation, with_counter, invalidated, vacated, removed, stepped, emptied, in_room, IsWellFormed};
+ghost use Rattle.triple_arena.specs.LiveEntries.{live_entries};
+ghost use Rattle.triple_arena.specs.Compression.{generation_of, live_values, compacted, IsCompact, IsMapped};
 
 use crate::ArenaSlot;
+use crate::compression::compact;
 use crate::slot::ValueMut;
 use std::marker::{Model, PhantomData};
 use std::mem;
@@ -66,7 +69,7 @@ pub(crate) fn max_index<P: Ptr>() -> usize
 }
 
 // The pointer with this index and generation.
-fn pointer_at<P: Ptr>(index: NonZeroUsize, generation: P::Gen) -> P
+pub(crate) fn pointer_at<P: Ptr>(index: NonZeroUsize, generation: P::Gen) -> P
     requires { non_zero_usize_get index ≤ P.Inx.greatest }
     ensures has_index { P.index result ≡ non_zero_usize_get index }
     ensures has_generation { P.generation result ≡ P.Gen.number generation }
@@ -394,6 +397,25 @@ impl<P: Ptr, T: Drop, S: NonZeroInxGenericStack<ArenaSlot<P, T>>> Arena<P, T, S>
         self.slots.clear();
         self.head = None;
         self.len = 0;
+    }
+
+    // Moves the live entries to the first indexes, each with what `f` makes of its value, and gives the entries and
+    // the counter this generation.
+    pub(crate) fn compact<F: FnMut(P, T, P) -> T>(&mut self, generation: P::Gen, f: F)
+        requires { F.IsAlwaysCallable f }
+        ensures mapped { IsMapped P.index P.generation F.step f (live_entries self.old) (live_entries self.new) }
+        ensures value { self.new ≡ compacted (P.Gen.number generation) (live_values self.new) self.old }
+        ensures compact { IsCompact (live_entries self.new) }
+        ensures generations { map generation_of (live_entries self.new) ≡ map (λ _. P.Gen.number generation) (live_entries self.old) }
+        ensures live { live_count self.new ≡ live_count self.old }
+        ensures formed { IsWellFormed self.new }
+        ensures was_formed { IsWellFormed self.old }
+    {
+        // The slots are within the capacity, and so are their indexes.
+        let _ = self.room_for();
+        compact(&mut self.slots, generation, f);
+        self.counter = generation;
+        self.head = None;
     }
 
     // Steps the counter, and says whether the generations started again.
