@@ -272,3 +272,14 @@ module _ {P T F : Type 0} (index generation : P → ℕ) (step : F → P → T �
         generations = ap (λ l. map generation_of (listed_from 1 l)) values ∙ generations_of g 1 (live_values new) (listed_from 1 (map entry_of es)) many;
         live = omega arith;
       }
+
+  -- a map that gives what it gets leaves the values
+  pub values_kept : (f : F) (old new : List (ℕ × (ℕ × T))) → ((h k : F) (from to : P) (t u : T) → step h from t to u k → u ≡ t) → IsMapped index generation step f old new → map value_of new ≡ map value_of old
+  values_kept f old new keeps m = ap (map value_of) (sym m.after) ∙ by_moves m.moves f m.calls ∙ ap (map value_of) m.before
+    where
+      by_moves : (moves : List (Move P T)) (h : F) → FoldsTo (λ h move k. step h move.from move.value move.to move.given k) h moves m.last → map value_of (map (entry_after index generation) moves) ≡ map value_of (map (entry_before index generation) moves)
+      by_moves [] h calls = refl
+      by_moves (x ∷ moves) h calls =
+          let same = keeps h calls.0 x.from x.to x.value x.given calls.1 in
+          let rest = by_moves moves calls.0 calls.2 in
+          rw same (ap (λ l. x.value ∷ l) rest)

@@ -11,10 +11,9 @@ ghost use Rattle.triple_arena.specs.Entries.{without, with_generation_at};
 ghost use Rattle.triple_arena.specs.Content.{get, entry_at as entry_of_index, live_count as live_of, room_for, removed, invalidated, cleared, with_value as with_value_of, in_room, IsWellFormed};
 ghost use Rattle.triple_arena.specs.ContentLaws.{entry-with_value, counted-with_value, room-with_value};
 ghost use Rattle.triple_arena.specs.LiveEntries.{live_entries as live_entries_of, entry-listed, live_entries-increase, live_entries-length};
-ghost use Rattle.triple_arena.specs.Compression.{renewed, renewal_wraps, generation_of, live_values, compacted, IsCompact, IsMapped};
+ghost use Rattle.triple_arena.specs.Compression.{renewed, renewal_wraps, generation_of, live_values, compacted, IsCompact};
 
 use crate::arena::{ValueAtMut, max_index};
-use crate::compression::renewal;
 use crate::{Arena, ArenaSlot, ArenaTrait, CompactArenaTrait};
 use triple_arena_ptr::{InvalidationOption, InvalidationResult, Ptr, PtrInx, ReallocationError};
 use triple_arena_stack::NonZeroInxGenericStack;
@@ -220,15 +219,13 @@ impl<P: Ptr, T: Drop, S: NonZeroInxGenericStack<ArenaSlot<P, T>> + Drop> ArenaTr
         }
     }
 
-    fn compress_with<F: FnMut(P, T, P) -> T>(&mut self, reset: bool, map: F) -> InvalidationOption<()>
-    {
-        let (generation, wrapped) = renewal(self.counter(), reset);
-        self.compact(generation, map);
-        if wrapped {
-            InvalidationOption::GenerationOverflow(())
-        } else {
-            InvalidationOption::Success(())
-        }
+    fn compress_with<F: FnMut(P, T, P) -> T>(
+        &mut self,
+        reset: bool,
+        map: F,
+    ) -> InvalidationOption<()> {
+        // The inherent method, whose contract says more.
+        self.compress_with(reset, map)
     }
 
     fn compress(&mut self, reset: bool) -> InvalidationOption<()>

@@ -2,18 +2,46 @@
 ghost use Rattle.std.specs.Prelude.{◌≡◌, ◌+◌, ◌-◌, ◌≤◌, Some, None, length, map as list_map, take, slice_get, slice_set};
 ghost use Rattle.std.specs.Int.NonZero.{non_zero_usize_get};
 ghost use Rattle.std.specs.Option.{option_map};
-ghost use Rattle.triple_arena_ptr.specs.Generation.{next_generation, next_wraps};
+ghost use Rattle.triple_arena_ptr.specs.InvalidationOption.{overflowed};
 ghost use Rattle.triple_arena.specs.Slot.{entry_of};
-ghost use Rattle.triple_arena.specs.LiveEntries.{listed_from};
-ghost use Rattle.triple_arena.specs.Compression.{renewed, renewal_wraps};
+ghost use Rattle.triple_arena.specs.Content.{live_count, IsWellFormed};
+ghost use Rattle.triple_arena.specs.LiveEntries.{live_entries};
+ghost use Rattle.triple_arena.specs.Compression.{renewed, renewal_wraps, generation_of, live_values, compacted, IsCompact, IsMapped};
 ghost use Rattle.triple_arena.specs.SlotCompression.{Compacts};
 
-use crate::ArenaSlot;
 use crate::arena::pointer_at;
+use crate::{Arena, ArenaSlot};
 use std::mem;
 use std::num::NonZeroUsize;
-use triple_arena_ptr::{Ptr, PtrGen};
+use triple_arena_ptr::{InvalidationOption, Ptr, PtrGen};
 use triple_arena_stack::NonZeroInxGenericStack;
+
+impl<P: Ptr, T: Drop, S: NonZeroInxGenericStack<ArenaSlot<P, T>>> Arena<P, T, S> {
+    /// Does what `ArenaTrait::compress_with` says, and leaves no free slot. The room stays.
+    pub fn compress_with<F: FnMut(P, T, P) -> T>(
+        &mut self,
+        reset: bool,
+        map: F,
+    ) -> InvalidationOption<()>
+        requires { F.IsAlwaysCallable map }
+        ensures content { self.new ≡ compacted (renewed P.Gen.last reset self.old.counter) (live_values self.new) self.old }
+        ensures mapped { IsMapped P.index P.generation F.step map (live_entries self.old) (live_entries self.new) }
+        ensures compact { IsCompact (live_entries self.new) }
+        ensures generations { list_map generation_of (live_entries self.new) ≡ list_map (λ e. renewed P.Gen.last reset self.old.counter) (live_entries self.old) }
+        ensures overflow { overflowed result ≡ renewal_wraps P.Gen.last reset self.old.counter }
+        ensures live { live_count self.new ≡ live_count self.old }
+        ensures formed { IsWellFormed self.new }
+        ensures was_formed { IsWellFormed self.old }
+    {
+        let (generation, wrapped) = renewal(self.counter(), reset);
+        self.compact(generation, map);
+        if wrapped {
+            InvalidationOption::GenerationOverflow(())
+        } else {
+            InvalidationOption::Success(())
+        }
+    }
+}
 
 // The generation after `generation`, and whether the step to it started the generations again.
 pub(crate) fn renewal<G: PtrGen>(generation: G, reset: bool) -> (G, bool)
@@ -87,7 +115,11 @@ where
         let old = NonZeroUsize::MIN.saturating_add(at);
         if let Some(entry) = take_entry(slots, old) {
             let new = NonZeroUsize::MIN.saturating_add(live);
-            let given = map(pointer_at(old, entry.0), entry.1, pointer_at(new, generation));
+            let given = map(
+                pointer_at(old, entry.0),
+                entry.1,
+                pointer_at(new, generation),
+            );
             put_entry(slots, new, generation, given);
             live += 1;
         }
