@@ -11,22 +11,30 @@ use triple_arena_stack::{
     NonZeroInxArray, NonZeroInxBoxedSlice, NonZeroInxLimitedVec, NonZeroInxVec,
 };
 
-type InVec<P> = Arena<P, u64, NonZeroInxVec<ArenaSlot<P, u64>, Global>>;
+pub(super) type InVec<P> = Arena<P, u64, NonZeroInxVec<ArenaSlot<P, u64>, Global>>;
 
-type InLimited<P> = Arena<P, u64, NonZeroInxLimitedVec<ArenaSlot<P, u64>, Global>>;
+pub(super) type InLimited<P> = Arena<P, u64, NonZeroInxLimitedVec<ArenaSlot<P, u64>, Global>>;
 
-type InBoxed<P> = Arena<P, u64, NonZeroInxBoxedSlice<ArenaSlot<P, u64>, Global>>;
+pub(super) type InBoxed<P> = Arena<P, u64, NonZeroInxBoxedSlice<ArenaSlot<P, u64>, Global>>;
 
-type InArray<P, const LIMIT: usize> = Arena<P, u64, NonZeroInxArray<ArenaSlot<P, u64>, LIMIT>>;
+pub(super) type InArray<P, const LIMIT: usize> = Arena<
+    P,
+    u64,
+    NonZeroInxArray<ArenaSlot<P, u64>, LIMIT>,
+>;
 
-fn shows<P: Ptr>(rt: &(impl Abort + Alloc), p: P, text: &str) {
+pub(super) fn shows<P: Ptr>(rt: &(impl Abort + Alloc), p: P, text: &str) {
     match format!(in rt.alloc(); "{p:?}") {
         Ok(shown) => assert_eq!(rt; shown.as_str(), text),
         Err(_) => panic!(rt; "no memory for a text"),
     }
 }
 
-fn insert<P: Ptr, A: ArenaInsertTrait<P, u64>>(rt: &impl Abort, arena: &mut A, value: u64) -> P {
+pub(super) fn insert<P: Ptr, A: ArenaInsertTrait<P, u64>>(
+    rt: &impl Abort,
+    arena: &mut A,
+    value: u64,
+) -> P {
     match arena.insert(value) {
         Ok(p) => p,
         Err(_) => panic!(rt; "an insertion is refused"),
