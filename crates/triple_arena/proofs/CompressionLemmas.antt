@@ -1,15 +1,16 @@
 -- What a compression has done after so many slots, and what it leaves.
-use Rattle.std.proofs.Common.{◌≡◌, ℕ, zero, suc, ◌+◌, ◌-◌, ◌<◌, ◌≤◌, List, [], ◌∷◌, ◌++◌, map, length, set, take, Option, Some, None, slice_get, refl, sym, ap, subst, ◌∙◌, arith, append_assoc, append-nil, add-zero, length-append, length-set}
+use Rattle.std.proofs.Common.{◌≡◌, ℕ, zero, suc, ◌+◌, ◌-◌, ◌<◌, ◌≤◌, List, [], ◌∷◌, ◌++◌, map, length, get_or, set, take, Option, Some, None, slice_get, refl, sym, ap, subst, ◌∙◌, arith, append_assoc, append-nil, add-zero, length-append, length-set}
 use Rattle.std.specs.List.{FoldsTo}
 use Rattle.std.specs.Option.{option_map}
 use Rattle.std.proofs.lemmas.Fn.{FoldsTo-push}
 use Rattle.std.proofs.lemmas.List.{map_push, take_at, length-map, length_push}
 use Rattle.triple_arena_stack.specs.Room.{Room}
 use Rattle.triple_arena.specs.Slot.{Slot, entry_of}
-use Rattle.triple_arena.specs.Content.{Content, live_count}
+use Rattle.triple_arena.specs.Content.{Content, entry_at, live_count}
 use Rattle.triple_arena.specs.Layout.{content_of, IsSound}
+use Rattle.triple_arena.specs.ContentLaws.{entry_at_slot}
 use Rattle.triple_arena.specs.LiveEntries.{listed_from, listed-length, live_entries}
-use Rattle.triple_arena.specs.Compression.{Move, index_of, generation_of, value_of, IsCompact, compacted, live_values, entry_before, entry_after, IsMapped}
+use Rattle.triple_arena.specs.Compression.{Move, index_of, entry_of_listed, generation_of, value_of, IsCompact, compacted, live_values, entry_before, entry_after, IsMapped}
 use Rattle.triple_arena.specs.SlotCompression.{Compacts}
 use Rattle.triple_arena.proofs.FreeListLemmas.{sound_of}
 
@@ -58,6 +59,17 @@ module _ {T : Type 0} where
 
   pub compact_of : (g : ℕ) (values : List T) → IsCompact (listed_from 1 (map (λ t. Some (g, t)) values))
   compact_of g values k e found = let at = placed g 1 values k e found in omega arith
+
+  in_place : (g n : ℕ) (values : List T) (k : ℕ) → get_or (map (λ t. Some (g, t)) values) k None ≡ option_map entry_of_listed (slice_get (listed_from n (map (λ t. Some (g, t)) values)) k)
+  in_place g n [] k = refl
+  in_place g n (t ∷ values) zero = refl
+  in_place g n (t ∷ values) (suc k) = in_place g (n + 1) values k
+
+  -- and are found in their order
+  pub entry-compact : (c : Content T) (g : ℕ) (values : List T) → c.slots ≡ map (λ t. Some (g, t)) values → (k : ℕ) → entry_at c (k + 1) ≡ option_map entry_of_listed (slice_get (live_entries c) k)
+  entry-compact c g values slots k =
+      let back : k + 1 - 1 ≡ k = omega arith in
+      entry_at_slot c (k + 1) (omega arith) ∙ ap (λ n. get_or c.slots n None) back ∙ rw slots (in_place g 1 values k)
 
   generations_of : {X : Type 0} (g n : ℕ) (values : List T) (xs : List X) → length values ≡ length xs → map generation_of (listed_from n (map (λ t. Some (g, t)) values)) ≡ map (λ _. g) xs
   generations_of g n [] [] e = refl
@@ -240,6 +252,7 @@ module _ {P T F : Type 0} (index generation : P → ℕ) (step : F → P → T �
     pub mapped : IsMapped index generation step f (live_entries c) (live_entries new)
     pub content : new ≡ compacted g (live_values new) c
     pub compact : IsCompact (live_entries new)
+    pub entries : (k : ℕ) → entry_at new (k + 1) ≡ option_map entry_of_listed (slice_get (live_entries new) k)
     pub generations : map generation_of (live_entries new) ≡ map (λ _. g) (live_entries c)
     pub live : live_count new ≡ live_count c
 
@@ -269,6 +282,7 @@ module _ {P T F : Type 0} (index generation : P → ℕ) (step : F → P → T �
         mapped = record { moves = moves; last = k.last; calls = k.calls; before = k.before; after = k.after };
         content = rw (left.free_is) (ap (λ l. record new { slots = l; free = [] }) values);
         compact = subst (λ l. IsCompact (listed_from 1 l)) (sym values) (compact_of g (live_values new));
+        entries = entry-compact new g (live_values new) values;
         generations = ap (λ l. map generation_of (listed_from 1 l)) values ∙ generations_of g 1 (live_values new) (listed_from 1 (map entry_of es)) many;
         live = omega arith;
       }

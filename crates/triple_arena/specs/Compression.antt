@@ -34,6 +34,9 @@ module _ {T : Type 0} where
   abbrev pub index_of : ℕ × (ℕ × T) → ℕ
   index_of entry = entry.0
 
+  abbrev pub entry_of_listed : ℕ × (ℕ × T) → ℕ × T
+  entry_of_listed entry = entry.1
+
   abbrev pub generation_of : ℕ × (ℕ × T) → ℕ
   generation_of entry = entry.1.0
 

@@ -1,5 +1,5 @@
 //! The generational arena.
-ghost use Rattle.std.specs.Prelude.{◌≡◌, ◌≢◌, ℕ, ◌+◌, ◌-◌, ◌*◌, ◌^◌, ◌<◌, ◌≤◌, ◌↔◌, List, [], ◌∷◌, ◌++◌, length, map, min, max, IsTrue, IsOk, IsSome, IfSome, IfOk, OnOk, OnErr, IsErrOf, Option, Some, None, option_copied};
+ghost use Rattle.std.specs.Prelude.{◌≡◌, ◌≢◌, ℕ, ◌+◌, ◌-◌, ◌*◌, ◌^◌, ◌<◌, ◌≤◌, ◌↔◌, List, [], ◌∷◌, ◌++◌, length, map, min, max, slice_get, IsTrue, IsOk, IsSome, IfSome, IfOk, OnOk, OnErr, IsErrOf, Option, Some, None, option_copied};
 ghost use Rattle.std.specs.Borrow.{sem, Lends};
 ghost use Rattle.std.specs.Int.NonZero.{non_zero_usize_get};
 ghost use Rattle.std.specs.Option.{option_map};
@@ -13,7 +13,7 @@ ghost use Rattle.triple_arena.specs.ArenaRoom.{room_of};
 ghost use Rattle.triple_arena.specs.Slot.{entry_of};
 ghost use Rattle.triple_arena.specs.Content.{get, entry_at, live_count, room_for, next_index, inserted, with_value, with_generation, with_counter, invalidated, vacated, removed, stepped, emptied, in_room, IsWellFormed};
 ghost use Rattle.triple_arena.specs.LiveEntries.{live_entries};
-ghost use Rattle.triple_arena.specs.Compression.{generation_of, live_values, compacted, IsCompact, IsMapped};
+ghost use Rattle.triple_arena.specs.Compression.{entry_of_listed, generation_of, live_values, compacted, IsCompact, IsMapped};
 
 use crate::ArenaSlot;
 use crate::compression::compact;
@@ -406,6 +406,7 @@ impl<P: Ptr, T: Drop, S: NonZeroInxGenericStack<ArenaSlot<P, T>>> Arena<P, T, S>
         ensures mapped { IsMapped P.index P.generation F.step f (live_entries self.old) (live_entries self.new) }
         ensures value { self.new ≡ compacted (P.Gen.number generation) (live_values self.new) self.old }
         ensures compact { IsCompact (live_entries self.new) }
+        ensures entries { (k : ℕ) → entry_at self.new (k + 1) ≡ option_map entry_of_listed (slice_get (live_entries self.new) k) }
         ensures generations { map generation_of (live_entries self.new) ≡ map (λ _. P.Gen.number generation) (live_entries self.old) }
         ensures live { live_count self.new ≡ live_count self.old }
         ensures formed { IsWellFormed self.new }

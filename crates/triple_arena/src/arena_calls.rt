@@ -1,5 +1,5 @@
 //! The calls of an `Arena` that every arena has.
-ghost use Rattle.std.specs.Prelude.{◌≡◌, ℕ, ◌+◌, ◌<◌, ◌≤◌, ◌↔◌, true, [], map as list_map, Some, None, IsOk, IsSome, IfSome, IfNone, IfOk, OnOk, OnErr, IsErrOf, option_copied};
+ghost use Rattle.std.specs.Prelude.{◌≡◌, ℕ, ◌+◌, ◌<◌, ◌≤◌, ◌↔◌, true, [], map as list_map, slice_get, Some, None, IsOk, IsSome, IfSome, IfNone, IfOk, OnOk, OnErr, IsErrOf, option_copied};
 ghost use Rattle.std.specs.Borrow.{sem, Lends};
 ghost use Rattle.std.specs.Option.{option_map};
 ghost use Rattle.triple_arena_ptr.specs.Generation.{second_generation, next_generation, next_wraps};
@@ -11,7 +11,7 @@ ghost use Rattle.triple_arena.specs.Entries.{without, with_generation_at};
 ghost use Rattle.triple_arena.specs.Content.{get, entry_at as entry_of_index, live_count as live_of, room_for, removed, invalidated, cleared, with_value as with_value_of, in_room, IsWellFormed};
 ghost use Rattle.triple_arena.specs.ContentLaws.{entry-with_value, counted-with_value, room-with_value};
 ghost use Rattle.triple_arena.specs.LiveEntries.{live_entries as live_entries_of, entry-listed, live_entries-increase, live_entries-length};
-ghost use Rattle.triple_arena.specs.Compression.{renewed, renewal_wraps, generation_of, live_values, compacted, IsCompact};
+ghost use Rattle.triple_arena.specs.Compression.{renewed, renewal_wraps, entry_of_listed, generation_of, live_values, compacted, IsCompact};
 
 use crate::arena::{ValueAtMut, max_index};
 use crate::{Arena, ArenaSlot, ArenaTrait, CompactArenaTrait};
@@ -232,6 +232,7 @@ impl<P: Ptr, T: Drop, S: NonZeroInxGenericStack<ArenaSlot<P, T>> + Drop> ArenaTr
         ensures content { self.new ≡ compacted (renewed P.Gen.last reset self.old.counter) (live_values self.old) self.old }
         ensures values { live_values self.new ≡ live_values self.old }
         ensures compact { IsCompact (live_entries_of self.new) }
+        ensures entries { (k : ℕ) → entry_of_index self.new (k + 1) ≡ option_map entry_of_listed (slice_get (live_entries_of self.new) k) }
         ensures generations { list_map generation_of (live_entries_of self.new) ≡ list_map (λ e. renewed P.Gen.last reset self.old.counter) (live_entries_of self.old) }
         ensures overflow { overflowed result ≡ renewal_wraps P.Gen.last reset self.old.counter }
         ensures live { live_of self.new ≡ live_of self.old }

@@ -1,5 +1,5 @@
 //! What every arena does.
-ghost use Rattle.std.specs.Prelude.{◌≡◌, ◌≢◌, ℕ, ◌+◌, ◌-◌, ◌*◌, ◌^◌, ◌<◌, ◌≤◌, ◌↔◌, Bool, List, map as list_map, length, Some, None, IsTrue, IsOk, IsSome, IfSome, IfNone, IfOk, OnOk, OnErr, IsErrOf, Option, option_copied};
+ghost use Rattle.std.specs.Prelude.{◌≡◌, ◌≢◌, ℕ, ◌+◌, ◌-◌, ◌*◌, ◌^◌, ◌<◌, ◌≤◌, ◌↔◌, Bool, List, map as list_map, length, slice_get, Some, None, IsTrue, IsOk, IsSome, IfSome, IfNone, IfOk, OnOk, OnErr, IsErrOf, Option, option_copied};
 ghost use Rattle.std.specs.Borrow.{sem, Lends, LendsIf};
 ghost use Rattle.std.specs.Option.{option_map, option_copied_mut};
 ghost use Rattle.triple_arena_ptr.specs.Generation.{second_generation, next_generation};
@@ -8,7 +8,7 @@ ghost use Rattle.triple_arena_ptr.specs.InvalidationResult.{answer_of};
 ghost use Rattle.triple_arena_stack.specs.Room.{Room, capacity as capacity_of, with_reserved, IsBeyond};
 ghost use Rattle.triple_arena.specs.Entries.{number_if, value_if, counter_wraps, without, with_value_at, with_generation_at, look_up};
 ghost use Rattle.std.specs.List.Sorted.{IsStrictlyIncreasing};
-ghost use Rattle.triple_arena.specs.Compression.{renewed, generation_given, compression_wraps, index_of, generation_of, value_of as value_of_entry, IsCompact, IsMapped};
+ghost use Rattle.triple_arena.specs.Compression.{renewed, generation_given, compression_wraps, index_of, entry_of_listed, generation_of, value_of as value_of_entry, IsCompact, IsMapped};
 
 use triple_arena_ptr::{InvalidationOption, InvalidationResult, Ptr, ReallocationError};
 
@@ -162,6 +162,7 @@ pub trait ArenaTrait<P: Ptr, T: Drop> {
         requires { F.IsAlwaysCallable map }
         ensures mapped { IsMapped P.index P.generation F.step map (live_entries self.old) (live_entries self.new) }
         ensures compact { IsCompact (live_entries self.new) }
+        ensures entries { (k : ℕ) → entry_at self.new (k + 1) ≡ option_map entry_of_listed (slice_get (live_entries self.new) k) }
         ensures generations { list_map generation_of (live_entries self.new) ≡ list_map (λ e. generation_given P.Gen.last reset (counter self.old) (generation_of e)) (live_entries self.old) }
         ensures overflow { overflowed result ≡ compression_wraps P.Gen.last reset (counter self.old) (list_map generation_of (live_entries self.old)) }
         ensures live { live_count self.new ≡ live_count self.old }
@@ -172,6 +173,7 @@ pub trait ArenaTrait<P: Ptr, T: Drop> {
     fn compress(&mut self, reset: bool) -> InvalidationOption<()>
         ensures values { list_map value_of_entry (live_entries self.new) ≡ list_map value_of_entry (live_entries self.old) }
         ensures compact { IsCompact (live_entries self.new) }
+        ensures entries { (k : ℕ) → entry_at self.new (k + 1) ≡ option_map entry_of_listed (slice_get (live_entries self.new) k) }
         ensures generations { list_map generation_of (live_entries self.new) ≡ list_map (λ e. generation_given P.Gen.last reset (counter self.old) (generation_of e)) (live_entries self.old) }
         ensures overflow { overflowed result ≡ compression_wraps P.Gen.last reset (counter self.old) (list_map generation_of (live_entries self.old)) }
         ensures live { live_count self.new ≡ live_count self.old }

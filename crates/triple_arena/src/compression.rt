@@ -1,12 +1,12 @@
 //! Compression: the live entries go to the first indexes.
-ghost use Rattle.std.specs.Prelude.{◌≡◌, ◌+◌, ◌-◌, ◌≤◌, Some, None, length, map as list_map, take, slice_get, slice_set};
+ghost use Rattle.std.specs.Prelude.{◌≡◌, ℕ, ◌+◌, ◌-◌, ◌≤◌, Some, None, length, map as list_map, take, slice_get, slice_set};
 ghost use Rattle.std.specs.Int.NonZero.{non_zero_usize_get};
 ghost use Rattle.std.specs.Option.{option_map};
 ghost use Rattle.triple_arena_ptr.specs.InvalidationOption.{overflowed};
 ghost use Rattle.triple_arena.specs.Slot.{entry_of};
-ghost use Rattle.triple_arena.specs.Content.{live_count, IsWellFormed};
+ghost use Rattle.triple_arena.specs.Content.{entry_at, live_count, IsWellFormed};
 ghost use Rattle.triple_arena.specs.LiveEntries.{live_entries};
-ghost use Rattle.triple_arena.specs.Compression.{renewed, renewal_wraps, generation_of, live_values, compacted, IsCompact, IsMapped};
+ghost use Rattle.triple_arena.specs.Compression.{renewed, renewal_wraps, entry_of_listed, generation_of, live_values, compacted, IsCompact, IsMapped};
 ghost use Rattle.triple_arena.specs.SlotCompression.{Compacts};
 
 use crate::arena::pointer_at;
@@ -27,6 +27,7 @@ impl<P: Ptr, T: Drop, S: NonZeroInxGenericStack<ArenaSlot<P, T>>> Arena<P, T, S>
         ensures content { self.new ≡ compacted (renewed P.Gen.last reset self.old.counter) (live_values self.new) self.old }
         ensures mapped { IsMapped P.index P.generation F.step map (live_entries self.old) (live_entries self.new) }
         ensures compact { IsCompact (live_entries self.new) }
+        ensures entries { (k : ℕ) → entry_at self.new (k + 1) ≡ option_map entry_of_listed (slice_get (live_entries self.new) k) }
         ensures generations { list_map generation_of (live_entries self.new) ≡ list_map (λ e. renewed P.Gen.last reset self.old.counter) (live_entries self.old) }
         ensures overflow { overflowed result ≡ renewal_wraps P.Gen.last reset self.old.counter }
         ensures live { live_count self.new ≡ live_count self.old }

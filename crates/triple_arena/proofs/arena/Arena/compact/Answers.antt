@@ -16,6 +16,10 @@ pub returns-clause-compact : goal.returns-clause-compact
 returns-clause-compact g c =
     (compacted_arena _ _ _ _ _ _ _ _ _ _ _ _ _ c.compact.ensures.moved c.self.invariant c.self.view_is (ap (room_of g.P.Inx.PtrInx.greatest) c.compact.ensures.room)).compact
 
+pub returns-clause-entries : goal.returns-clause-entries
+returns-clause-entries g c =
+    (compacted_arena _ _ _ _ _ _ _ _ _ _ _ _ _ c.compact.ensures.moved c.self.invariant c.self.view_is (ap (room_of g.P.Inx.PtrInx.greatest) c.compact.ensures.room)).entries
+
 pub returns-clause-generations : goal.returns-clause-generations
 returns-clause-generations g c =
     (compacted_arena _ _ _ _ _ _ _ _ _ _ _ _ _ c.compact.ensures.moved c.self.invariant c.self.view_is (ap (room_of g.P.Inx.PtrInx.greatest) c.compact.ensures.room)).generations
