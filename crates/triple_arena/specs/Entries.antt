@@ -1,5 +1,5 @@
 -- What is known of any arena: the entry at each index.
-use Rattle.std.specs.Prelude.{ℕ, ◌==◌, Bool, true, false, Option, Some, None, if◌then◌else◌}
+use Rattle.std.specs.Prelude.{ℕ, ◌==◌, Bool, true, false, List, find, Option, Some, None, if◌then◌else◌}
 use Rattle.std.specs.Option.{option_map}
 use Rattle.triple_arena_ptr.specs.Generation.{next_wraps}
 
@@ -53,3 +53,7 @@ module _ {T : Type 0} where
   abbrev pub with_values_exchanged : (ℕ → Option (ℕ × T)) → ℕ → ℕ → ℕ → Option (ℕ × T)
   with_values_exchanged entries i j k =
       if k == i then revalued (entries i) (entries j) else if k == j then revalued (entries j) (entries i) else entries k
+
+  -- the generation and the value that are listed under an index
+  abbrev pub look_up : List (ℕ × (ℕ × T)) → ℕ → Option (ℕ × T)
+  look_up entries i = option_map (λ entry. entry.1) (find (λ entry. entry.0 == i) entries)

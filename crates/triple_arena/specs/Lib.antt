@@ -7,3 +7,6 @@ pub mod Layout
 pub mod Walk
 pub mod ContentLaws
 pub mod InsertEntry
+pub mod LiveEntries
+pub mod Compression
+pub mod SlotCompression

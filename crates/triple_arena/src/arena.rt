@@ -1,5 +1,5 @@
 //! The generational arena.
-ghost use Rattle.std.specs.Prelude.{◌≡◌, ◌≢◌, ℕ, ◌+◌, ◌-◌, ◌*◌, ◌^◌, ◌<◌, ◌≤◌, ◌↔◌, List, [], ◌∷◌, ◌++◌, length, map, min, max, IsTrue, IsOk, IsSome, IfSome, IfOk, OnOk, OnErr, IsErrOf, Option, Some, None, option_copied};
+ghost use Rattle.std.specs.Prelude.{◌≡◌, ◌≢◌, ℕ, ◌+◌, ◌-◌, ◌*◌, ◌^◌, ◌<◌, ◌≤◌, ◌↔◌, List, [], ◌∷◌, ◌++◌, length, map, min, max, slice_get, IsTrue, IsOk, IsSome, IfSome, IfOk, OnOk, OnErr, IsErrOf, Option, Some, None, option_copied};
 ghost use Rattle.std.specs.Borrow.{sem, Lends};
 ghost use Rattle.std.specs.Int.NonZero.{non_zero_usize_get};
 ghost use Rattle.std.specs.Option.{option_map};
@@ -12,8 +12,11 @@ ghost use Rattle.triple_arena_stack.specs.Room.{grown, with_reserved, IsBeyond};
 ghost use Rattle.triple_arena.specs.ArenaRoom.{room_of};
 ghost use Rattle.triple_arena.specs.Slot.{entry_of};
 ghost use Rattle.triple_arena.specs.Content.{get, entry_at, live_count, room_for, next_index, inserted, with_value, with_exchange, with_generation, with_counter, invalidated, vacated, removed, stepped, emptied, in_room, IsWellFormed};
+ghost use Rattle.triple_arena.specs.LiveEntries.{live_entries};
+ghost use Rattle.triple_arena.specs.Compression.{entry_of_listed, generation_of, live_values, compacted, IsCompact, IsMapped};
 
 use crate::ArenaSlot;
+use crate::compression::compact;
 use crate::slot::{ValueMut, exchange_values};
 use std::marker::{Model, PhantomData};
 use std::mem;
@@ -66,7 +69,7 @@ pub(crate) fn max_index<P: Ptr>() -> usize
 }
 
 // The pointer with this index and generation.
-fn pointer_at<P: Ptr>(index: NonZeroUsize, generation: P::Gen) -> P
+pub(crate) fn pointer_at<P: Ptr>(index: NonZeroUsize, generation: P::Gen) -> P
     requires { non_zero_usize_get index ≤ P.Inx.greatest }
     ensures has_index { P.index result ≡ non_zero_usize_get index }
     ensures has_generation { P.generation result ≡ P.Gen.number generation }
@@ -248,6 +251,7 @@ impl<P: Ptr, T: Drop, S: NonZeroInxGenericStack<ArenaSlot<P, T>>> Arena<P, T, S>
 
     // Makes room for one entry more, as a stack does: at first for 4, then for the double, and never past the
     // greatest capacity.
+    #[inline]
     pub(crate) fn make_room(&mut self) -> Result<(), ReallocationError>
         ensures ok { OnOk result (live_count self.new < room_for self.new) }
         ensures kept { live_count self.old < room_for self.old → self.new ≡ self.old }
@@ -258,31 +262,30 @@ impl<P: Ptr, T: Drop, S: NonZeroInxGenericStack<ArenaSlot<P, T>>> Arena<P, T, S>
         ensures formed { IsWellFormed self.new }
         ensures was_formed { IsWellFormed self.old }
     {
-        let capacity = self.room_for();
-        if self.live() < capacity {
+        if self.live() < self.room_for() {
             return Ok(());
         }
+        self.grow()
+    }
+
+    // The growth, which few insertions need.
+    #[cold]
+    #[inline(never)]
+    fn grow(&mut self) -> Result<(), ReallocationError>
+        requires { live_count self.old ≡ room_for self.old }
+        ensures ok { OnOk result (live_count self.new < room_for self.new) }
+        ensures grown { OnOk result (self.new ≡ in_room self.old (grown self.old.room)) }
+        ensures beyond { IsErrOf result ReallocationError.BeyondMaxCapacity ↔ (self.old.room.limit ≡ Some (live_count self.old)) }
+        ensures err { OnErr result (self.new ≡ self.old) }
+        ensures formed { IsWellFormed self.new }
+        ensures was_formed { IsWellFormed self.old }
+    {
+        let capacity = self.room_for();
         let wanted = capacity.saturating_mul(2).max(4);
         match self.limit() {
             None => self.reallocate(wanted),
             Some(limit) if capacity < limit => self.reallocate(wanted.min(limit)),
             Some(_) => Err(ReallocationError::BeyondMaxCapacity),
-        }
-    }
-
-    // The pointer of the next entry.
-    pub(crate) fn next_ptr(&self) -> P
-        requires { live_count self.now < room_for self.now }
-        ensures has_index { P.index result ≡ next_index self.now }
-        ensures has_generation { P.generation result ≡ self.now.counter }
-    {
-        let _ = self.slots.capacity();
-        if let Some(index) = self.head {
-            return pointer_at(index, self.counter);
-        }
-        match NonZeroUsize::new(self.slots.len() + 1) {
-            Some(index) => pointer_at(index, self.counter),
-            None => unreachable!(),
         }
     }
 
@@ -446,6 +449,26 @@ impl<P: Ptr, T: Drop, S: NonZeroInxGenericStack<ArenaSlot<P, T>>> Arena<P, T, S>
         self.slots.clear();
         self.head = None;
         self.len = 0;
+    }
+
+    // Moves the live entries to the first indexes, each with what `f` makes of its value, and gives the entries and
+    // the counter this generation.
+    pub(crate) fn compact<F: FnMut(P, T, P) -> T>(&mut self, generation: P::Gen, f: F)
+        requires { F.IsAlwaysCallable f }
+        ensures mapped { IsMapped P.index P.generation F.step f (live_entries self.old) (live_entries self.new) }
+        ensures value { self.new ≡ compacted (P.Gen.number generation) (live_values self.new) self.old }
+        ensures compact { IsCompact (live_entries self.new) }
+        ensures entries { (k : ℕ) → entry_at self.new (k + 1) ≡ option_map entry_of_listed (slice_get (live_entries self.new) k) }
+        ensures generations { map generation_of (live_entries self.new) ≡ map (λ _. P.Gen.number generation) (live_entries self.old) }
+        ensures live { live_count self.new ≡ live_count self.old }
+        ensures formed { IsWellFormed self.new }
+        ensures was_formed { IsWellFormed self.old }
+    {
+        // The slots are within the capacity, and so are their indexes.
+        let _ = self.room_for();
+        compact(&mut self.slots, generation, f);
+        self.counter = generation;
+        self.head = None;
     }
 
     // Steps the counter, and says whether the generations started again.

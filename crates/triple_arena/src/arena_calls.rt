@@ -1,5 +1,5 @@
 //! The calls of an `Arena` that every arena has.
-ghost use Rattle.std.specs.Prelude.{◌≡◌, ℕ, ◌+◌, ◌<◌, ◌≤◌, ◌↔◌, true, [], Some, None, IsOk, IsSome, IfSome, IfNone, IfOk, OnOk, OnErr, IsErrOf, option_copied, refl};
+ghost use Rattle.std.specs.Prelude.{◌≡◌, ℕ, ◌+◌, ◌<◌, ◌≤◌, ◌↔◌, true, [], Some, None, IsOk, IsSome, IfSome, IfNone, IfOk, OnOk, OnErr, IsErrOf, option_copied, refl, map as list_map, slice_get};
 ghost use Rattle.std.specs.Borrow.{sem, Lends};
 ghost use Rattle.std.specs.Option.{option_map};
 ghost use Rattle.triple_arena_ptr.specs.Generation.{second_generation, next_generation, next_wraps};
@@ -10,10 +10,12 @@ ghost use Rattle.triple_arena.specs.ArenaRoom.{room_of};
 ghost use Rattle.triple_arena.specs.Entries.{without, with_generation_at};
 ghost use Rattle.triple_arena.specs.Content.{get, entry_at as entry_of_index, live_count as live_of, room_for, removed, invalidated, cleared, with_value as with_value_of, in_room, IsWellFormed};
 ghost use Rattle.triple_arena.specs.ContentLaws.{entry-with_value, counted-with_value, room-with_value};
+ghost use Rattle.triple_arena.specs.LiveEntries.{live_entries as live_entries_of, entry-listed, live_entries-increase, live_entries-length};
+ghost use Rattle.triple_arena.specs.Compression.{renewed, renewal_wraps, entry_of_listed, generation_of, live_values, compacted, IsCompact};
 
 use crate::advancer::PtrAdvancer;
 use crate::arena::{ValueAtMut, max_index};
-use crate::{Arena, ArenaSlot, ArenaTrait};
+use crate::{Arena, ArenaSlot, ArenaTrait, CompactArenaTrait};
 use triple_arena_ptr::{InvalidationOption, InvalidationResult, Ptr, PtrInx, ReallocationError};
 use triple_arena_stack::NonZeroInxGenericStack;
 
@@ -43,11 +45,19 @@ impl<P: Ptr, T: Drop, S: NonZeroInxGenericStack<ArenaSlot<P, T>> + Drop> ArenaTr
 
     ghost advances = { λ before c given after step. step };
 
+    ghost live_entries = { live_entries_of };
+
     ghost entry_with_value = { entry-with_value };
 
     ghost counter_with_value = { counted-with_value };
 
     ghost room_with_value = { room-with_value };
+
+    ghost entry_listed = { entry-listed };
+
+    ghost live_entries_increase = { live_entries-increase };
+
+    ghost live_entries_counted = { live_entries-length };
 
     fn new(alloc: S::Alloc) -> Self
         ensures slots { result.slots ≡ [] }
@@ -247,4 +257,30 @@ impl<P: Ptr, T: Drop, S: NonZeroInxGenericStack<ArenaSlot<P, T>> + Drop> ArenaTr
             InvalidationOption::Success(())
         }
     }
+
+    fn compress_with<F: FnMut(P, T, P) -> T>(
+        &mut self,
+        reset: bool,
+        map: F,
+    ) -> InvalidationOption<()> {
+        // The inherent method, whose contract says more.
+        self.compress_with(reset, map)
+    }
+
+    fn compress(&mut self, reset: bool) -> InvalidationOption<()>
+        ensures content { self.new ≡ compacted (renewed P.Gen.last reset self.old.counter) (live_values self.old) self.old }
+        ensures values { live_values self.new ≡ live_values self.old }
+        ensures compact { IsCompact (live_entries_of self.new) }
+        ensures entries { (k : ℕ) → entry_of_index self.new (k + 1) ≡ option_map entry_of_listed (slice_get (live_entries_of self.new) k) }
+        ensures generations { list_map generation_of (live_entries_of self.new) ≡ list_map (λ e. renewed P.Gen.last reset self.old.counter) (live_entries_of self.old) }
+        ensures overflow { overflowed result ≡ renewal_wraps P.Gen.last reset self.old.counter }
+        ensures live { live_of self.new ≡ live_of self.old }
+        ensures formed { IsWellFormed self.new }
+        ensures was_formed { IsWellFormed self.old }
+    {
+        self.compress_with(reset, |_, value, _| value)
+    }
 }
+
+impl<P: Ptr, T: Drop, S: NonZeroInxGenericStack<ArenaSlot<P, T>> + Drop> CompactArenaTrait<P, T>
+    for Arena<P, T, S> {}

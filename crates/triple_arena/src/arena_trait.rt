@@ -1,13 +1,15 @@
 //! What every arena does.
-ghost use Rattle.std.specs.Prelude.{◌≡◌, ◌≢◌, ℕ, ◌+◌, ◌-◌, ◌*◌, ◌^◌, ◌<◌, ◌≤◌, ◌↔◌, Bool, Some, None, IsTrue, IsOk, IsSome, IfSome, IfNone, IfOk, OnOk, OnErr, IsErrOf, Option, option_copied, unwrap_or, true, false, min, if◌then◌else◌};
+ghost use Rattle.std.specs.Prelude.{◌≡◌, ◌≢◌, ℕ, ◌+◌, ◌-◌, ◌*◌, ◌^◌, ◌<◌, ◌≤◌, ◌↔◌, Bool, Some, None, IsTrue, IsOk, IsSome, IfSome, IfNone, IfOk, OnOk, OnErr, IsErrOf, Option, option_copied, unwrap_or, true, false, min, if◌then◌else◌, List, map as list_map, length, slice_get};
 ghost use Rattle.std.specs.Borrow.{sem, Lends, LendsIf};
 ghost use Rattle.std.specs.Option.{option_map, option_copied_mut};
 ghost use Rattle.triple_arena_ptr.specs.Generation.{second_generation, next_generation, next_wraps};
 ghost use Rattle.triple_arena_ptr.specs.InvalidationOption.{value_of, overflowed};
 ghost use Rattle.triple_arena_ptr.specs.InvalidationResult.{answer_of};
 ghost use Rattle.triple_arena_stack.specs.Room.{Room, capacity as capacity_of, with_reserved, IsBeyond};
-ghost use Rattle.triple_arena.specs.Entries.{number_if, value_if, counter_wraps, without, with_value_at, with_generation_at, generation_at};
+ghost use Rattle.triple_arena.specs.Entries.{number_if, value_if, counter_wraps, without, with_value_at, with_generation_at, generation_at, look_up};
 ghost use Rattle.triple_arena.specs.Walk.{Walk, Steps};
+ghost use Rattle.std.specs.List.Sorted.{IsStrictlyIncreasing};
+ghost use Rattle.triple_arena.specs.Compression.{renewed, generation_given, compression_wraps, index_of, entry_of_listed, generation_of, value_of as value_of_entry, IsCompact, IsMapped};
 
 use triple_arena_ptr::{Advancer, InvalidationOption, InvalidationResult, Ptr, ReallocationError};
 
@@ -42,6 +44,9 @@ pub trait ArenaTrait<P: Ptr, T: Drop> {
 
     // The indexes that an advancer has left to look at.
     ghost walk: { Self.PtrAdvancer → Walk };
+
+    // The index, generation and value of each live entry, in the order of the indexes.
+    ghost live_entries: { Self → List (ℕ × (ℕ × T)) };
 
     /// An empty arena, which takes no memory.
     fn new(alloc: Self::Alloc) -> Self
@@ -188,6 +193,47 @@ pub trait ArenaTrait<P: Ptr, T: Drop> {
         → Self.PtrAdvancer.advance_gives before s given after
         → Steps (entry_at s) (walk before) (option_map (λ p. (P.index p, P.generation p)) given) (walk after) };
 
+    /// Moves the live entries, in the order of their indexes, to the indexes from 1 on, and gives each what `map` makes
+    /// of its value. `map` is called once for each, in that order, with the old pointer, the value and the new
+    /// pointer. No memory is taken.
+    ///
+    /// With `reset` the generations start again at the second one, and the answer is `Success`; an old pointer may then
+    /// find an entry that it was not given for. Else the counter steps once, every entry gets the stepped generation,
+    /// and the answer is `GenerationOverflow` where that step started the generations again. An arena without a
+    /// counter steps each entry's own generation.
+    fn compress_with<F: FnMut(P, T, P) -> T>(
+        &mut self,
+        reset: bool,
+        map: F,
+    ) -> InvalidationOption<()>
+        requires { F.IsAlwaysCallable map }
+        ensures mapped { IsMapped P.index P.generation F.step map (live_entries self.old) (live_entries self.new) }
+        ensures compact { IsCompact (live_entries self.new) }
+        ensures entries { (k : ℕ) → entry_at self.new (k + 1) ≡ option_map entry_of_listed (slice_get (live_entries self.new) k) }
+        ensures generations { list_map generation_of (live_entries self.new) ≡ list_map (λ e. generation_given P.Gen.last reset (counter self.old) (generation_of e)) (live_entries self.old) }
+        ensures overflow { overflowed result ≡ compression_wraps P.Gen.last reset (counter self.old) (list_map generation_of (live_entries self.old)) }
+        ensures live { live_count self.new ≡ live_count self.old }
+        ensures counter { counter self.new ≡ option_map (renewed P.Gen.last reset) (counter self.old) }
+        ensures room { room self.new ≡ room self.old };
+
+    /// The same with the values as they are.
+    fn compress(&mut self, reset: bool) -> InvalidationOption<()>
+        ensures values { list_map value_of_entry (live_entries self.new) ≡ list_map value_of_entry (live_entries self.old) }
+        ensures compact { IsCompact (live_entries self.new) }
+        ensures entries { (k : ℕ) → entry_at self.new (k + 1) ≡ option_map entry_of_listed (slice_get (live_entries self.new) k) }
+        ensures generations { list_map generation_of (live_entries self.new) ≡ list_map (λ e. generation_given P.Gen.last reset (counter self.old) (generation_of e)) (live_entries self.old) }
+        ensures overflow { overflowed result ≡ compression_wraps P.Gen.last reset (counter self.old) (list_map generation_of (live_entries self.old)) }
+        ensures live { live_count self.new ≡ live_count self.old }
+        ensures counter { counter self.new ≡ option_map (renewed P.Gen.last reset) (counter self.old) }
+        ensures room { room self.new ≡ room self.old };
+
+    // The list has exactly what stands at the indexes, each index once.
+    ghost entry_listed: { (s : Self) (i : ℕ) → entry_at s i ≡ look_up (live_entries s) i };
+
+    ghost live_entries_increase: { (s : Self) → IsStrictlyIncreasing (list_map index_of (live_entries s)) };
+
+    ghost live_entries_counted: { (s : Self) → length (live_entries s) ≡ live_count s };
+
     // A write of a value changes nothing else.
     ghost entry_with_value: { (s : Self) (i : ℕ) (t : T) (j : ℕ) → entry_at (with_value s i t) j ≡ with_value_at (entry_at s) i t j };
 
@@ -232,3 +278,6 @@ pub trait ArenaTrait<P: Ptr, T: Drop> {
         }
     }
 }
+
+/// The arenas that a compression leaves with every index from 1 to the number of entries live.
+pub trait CompactArenaTrait<P: Ptr, T: Drop>: ArenaTrait<P, T> {}

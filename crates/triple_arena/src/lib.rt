@@ -6,6 +6,7 @@ mod arena;
 mod arena_calls;
 mod arena_index;
 mod arena_trait;
+mod compression;
 mod disjointable;
 mod entry;
 mod insertion;
@@ -17,7 +18,7 @@ pub mod arena_iterators {
 }
 
 pub use arena::Arena;
-pub use arena_trait::ArenaTrait;
+pub use arena_trait::{ArenaTrait, CompactArenaTrait};
 pub use disjointable::DisjointableArenaTrait;
 pub use entry::{ArenaInsertEntries, ArenaInsertEntry, ArenaInsertEntryTrait};
 pub use insertion::ArenaInsertTrait;

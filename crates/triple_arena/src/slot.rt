@@ -147,6 +147,17 @@ impl<P: Ptr, T> ArenaSlot<P, T> {
         }
     }
 
+    // The generation and the value, if the slot is allocated.
+    pub(crate) fn into_live(self) -> Option<(P::Gen, T)>
+        ensures { option_map (λ e. (P.Gen.number e.0, e.1)) result ≡ entry_of self }
+    {
+        let ArenaSlot { entry } = self;
+        match entry {
+            Entry::Used(generation, value) => Some((generation, value)),
+            Entry::Free(_) => None,
+        }
+    }
+
     // The generation and the value. The slot must be allocated.
     pub(crate) fn into_entry(self) -> (P::Gen, T)
         requires { IsSome (entry_of self) }

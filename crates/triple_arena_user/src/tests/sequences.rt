@@ -11,22 +11,26 @@ use triple_arena_stack::{
     NonZeroInxArray, NonZeroInxBoxedSlice, NonZeroInxLimitedVec, NonZeroInxVec,
 };
 
-pub type InVec<P> = Arena<P, u64, NonZeroInxVec<ArenaSlot<P, u64>, Global>>;
+pub(super) type InVec<P> = Arena<P, u64, NonZeroInxVec<ArenaSlot<P, u64>, Global>>;
 
-type InLimited<P> = Arena<P, u64, NonZeroInxLimitedVec<ArenaSlot<P, u64>, Global>>;
+pub(super) type InLimited<P> = Arena<P, u64, NonZeroInxLimitedVec<ArenaSlot<P, u64>, Global>>;
 
-type InBoxed<P> = Arena<P, u64, NonZeroInxBoxedSlice<ArenaSlot<P, u64>, Global>>;
+pub(super) type InBoxed<P> = Arena<P, u64, NonZeroInxBoxedSlice<ArenaSlot<P, u64>, Global>>;
 
-pub type InArray<P, const LIMIT: usize> = Arena<P, u64, NonZeroInxArray<ArenaSlot<P, u64>, LIMIT>>;
+pub(super) type InArray<P, const LIMIT: usize> = Arena<
+    P,
+    u64,
+    NonZeroInxArray<ArenaSlot<P, u64>, LIMIT>,
+>;
 
-pub fn shows<P: Ptr>(rt: &(impl Abort + Alloc), p: P, text: &str) {
+pub(super) fn shows<P: Ptr>(rt: &(impl Abort + Alloc), p: P, text: &str) {
     match format!(in rt.alloc(); "{p:?}") {
         Ok(shown) => assert_eq!(rt; shown.as_str(), text),
         Err(_) => panic!(rt; "no memory for a text"),
     }
 }
 
-pub fn insert<P: Ptr, A: ArenaInsertTrait<P, u64>>(
+pub(super) fn insert<P: Ptr, A: ArenaInsertTrait<P, u64>>(
     rt: &impl Abort,
     arena: &mut A,
     value: u64,
