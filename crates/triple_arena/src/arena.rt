@@ -289,6 +289,22 @@ impl<P: Ptr, T: Drop, S: NonZeroInxGenericStack<ArenaSlot<P, T>>> Arena<P, T, S>
         }
     }
 
+    // The pointer of the next entry.
+    pub(crate) fn next_ptr(&self) -> P
+        requires { live_count self.now < room_for self.now }
+        ensures has_index { P.index result ≡ next_index self.now }
+        ensures has_generation { P.generation result ≡ self.now.counter }
+    {
+        let _ = self.slots.capacity();
+        if let Some(index) = self.head {
+            return pointer_at(index, self.counter);
+        }
+        match NonZeroUsize::new(self.slots.len() + 1) {
+            Some(index) => pointer_at(index, self.counter),
+            None => unreachable!(),
+        }
+    }
+
     // Stores `t` at the first free index, or in a slot more.
     pub(crate) fn insert_in_room(&mut self, t: T) -> P
         requires { live_count self.old < room_for self.old }
