@@ -1,5 +1,6 @@
 //! What no clause of the arena says: whole pointers at concrete types, that memory is had where there is some, and
 //! what each call answers where it is refused.
+mod entries;
 mod n3;
 mod refusals;
 mod sequences;
