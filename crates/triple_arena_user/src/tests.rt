@@ -2,6 +2,7 @@
 //! what each call answers where it is refused.
 mod advancers;
 mod compress;
+mod entries;
 mod n3;
 mod refusals;
 mod sequences;

@@ -4,9 +4,15 @@ use std::alloc::Allocator;
 use std::num::NonZeroUsize;
 use std::process::Abort;
 use std::test::Fail;
-use triple_arena::{Arena, ArenaInsertTrait, ArenaSlot, ArenaTrait};
+use triple_arena::{
+    Arena, ArenaInsertEntries, ArenaInsertEntryTrait, ArenaInsertTrait, ArenaSlot, ArenaTrait,
+};
 use triple_arena_ptr::{P0, Ptr, PtrGen, ReallocationError};
-use triple_arena_stack::{NonZeroInxBoxedSlice, NonZeroInxLimitedVec, NonZeroInxVec};
+use triple_arena_stack::{
+    NonZeroInxBoxedSlice, NonZeroInxGenericStack, NonZeroInxLimitedVec, NonZeroInxVec,
+};
+
+type Slot = ArenaSlot<P0, u64>;
 
 // The arena holds this many entries, whose values are their places, and has this capacity.
 fn holds<A: ArenaInsertTrait<P0, u64>>(rt: &impl Abort, arena: &A, len: usize, capacity: usize) {
@@ -32,18 +38,50 @@ fn is_as_before<T: Drop, A: ArenaInsertTrait<P0, u64>>(
     }
 }
 
-// Each call that can take memory.
-fn grows<A: ArenaInsertTrait<P0, u64>>(rt: &impl Abort, arena: &mut A) {
-    for _ in 0..6 {
-        let len = arena.len();
-        let capacity = arena.capacity();
-        let inserted = arena.insert(len as u64);
-        is_as_before(rt, arena, inserted, len, capacity);
+// Takes all the room that there is.
+fn fills<A: ArenaInsertTrait<P0, u64>>(rt: &impl Abort, arena: &mut A) {
+    for len in arena.len()..arena.capacity() {
+        assert!(rt; arena.insert_within_capacity(len as u64).is_ok());
+    }
+}
 
+// Stores `t` by an entry.
+fn insert_by_entry<S: NonZeroInxGenericStack<Slot>>(
+    arena: &mut Arena<P0, u64, S>,
+    t: u64,
+) -> Result<P0, ReallocationError> {
+    Ok(arena.entry_insert()?.insert(t))
+}
+
+fn insert_by_reallocating_entry<S: NonZeroInxGenericStack<Slot>>(
+    arena: &mut Arena<P0, u64, S>,
+    t: u64,
+) -> Result<P0, ReallocationError> {
+    Ok(arena.entry_insert_reallocating()?.insert(t))
+}
+
+// Each call that can take memory, at an arena that is full.
+fn grows<S: NonZeroInxGenericStack<Slot> + Drop>(rt: &impl Abort, arena: &mut Arena<P0, u64, S>) {
+    for _ in 0..2 {
+        fills(rt, arena);
         let len = arena.len();
-        let capacity = arena.capacity();
+        let inserted = arena.insert(len as u64);
+        is_as_before(rt, arena, inserted, len, len);
+
+        fills(rt, arena);
+        let len = arena.len();
         let inserted = arena.insert_reallocating(len as u64);
-        is_as_before(rt, arena, inserted, len, capacity);
+        is_as_before(rt, arena, inserted, len, len);
+
+        fills(rt, arena);
+        let len = arena.len();
+        let inserted = insert_by_entry(arena, len as u64);
+        is_as_before(rt, arena, inserted, len, len);
+
+        fills(rt, arena);
+        let len = arena.len();
+        let inserted = insert_by_reallocating_entry(arena, len as u64);
+        is_as_before(rt, arena, inserted, len, len);
 
         let len = arena.len();
         let capacity = arena.capacity();
@@ -55,6 +93,7 @@ fn grows<A: ArenaInsertTrait<P0, u64>>(rt: &impl Abort, arena: &mut A) {
     // What has room takes no memory.
     arena.clear();
     let capacity = arena.capacity();
+    assert_eq!(rt; arena.entry_insert_within_capacity().is_ok(), 0 < capacity);
     assert_eq!(rt; arena.insert_within_capacity(0).is_ok(), 0 < capacity);
 }
 
@@ -66,24 +105,22 @@ fn makes<H: Allocator, A: ArenaInsertTrait<P0, u64, Alloc = H> + Drop>(rt: &impl
     }
 }
 
-fn runs<H: Allocator, A: ArenaInsertTrait<P0, u64, Alloc = H> + Drop>(
+fn runs<H: Allocator, S: NonZeroInxGenericStack<Slot, Alloc = H> + Drop>(
     rt: &impl Abort,
     heap: H,
     other: H,
 ) {
-    let mut arena = A::new(heap);
+    let mut arena = Arena::<P0, u64, S>::new(heap);
     grows(rt, &mut arena);
-    makes::<H, A>(rt, other);
+    makes::<H, Arena<P0, u64, S>>(rt, other);
 }
 
-type Slot = ArenaSlot<P0, u64>;
-
 fn in_vec<H: Allocator>(rt: &impl Abort, heap: H, other: H) {
-    runs::<H, Arena<P0, u64, NonZeroInxVec<Slot, H>>>(rt, heap, other);
+    runs::<H, NonZeroInxVec<Slot, H>>(rt, heap, other);
 }
 
 fn in_limited<H: Allocator>(rt: &impl Abort, heap: H, other: H) {
-    runs::<H, Arena<P0, u64, NonZeroInxLimitedVec<Slot, H>>>(rt, heap, other);
+    runs::<H, NonZeroInxLimitedVec<Slot, H>>(rt, heap, other);
 }
 
 fn in_boxed<H: Allocator>(rt: &impl Abort, heap: H) {
