@@ -116,11 +116,9 @@ where
         let old = NonZeroUsize::MIN.saturating_add(at);
         if let Some(entry) = take_entry(slots, old) {
             let new = NonZeroUsize::MIN.saturating_add(live);
-            let given = map(
-                pointer_at(old, entry.0),
-                entry.1,
-                pointer_at(new, generation),
-            );
+            let from = pointer_at(old, entry.0);
+            let to = pointer_at(new, generation);
+            let given = map(from, entry.1, to);
             put_entry(slots, new, generation, given);
             live += 1;
         }

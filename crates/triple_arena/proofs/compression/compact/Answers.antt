@@ -1,4 +1,4 @@
-use Rattle.std.proofs.Common.{◌≡◌, ◌+◌, ◌-◌, ◌<◌, ◌≤◌, map, length, Some, None, ap, sym, refl, ◌∙◌, subst, arith, of_calls}
+use Rattle.std.proofs.Common.{◌≡◌, ◌+◌, ◌<◌, ◌≤◌, map, length, ap, sym, refl, ◌∙◌, subst, arith, of_calls}
 use Rattle.std.proofs.lemmas.List.{length-map, take-map}
 use Rattle.std.specs.Int.NonZero.{non_zero_usize_get}
 use Rattle.triple_arena.specs.Slot.{entry_of}
@@ -27,7 +27,7 @@ loop-at-preserved g c =
           let stood = stood_some g.P.Gen.PtrGen.number _ _ _ _ _ _ c.take_entry.ensures.entry old_is w.in-Some.is in (
             subst (λ f. goal.F-IsAlwaysCallable g f) (sym w.map-is) (search of_calls),
             partly_same _ _ _ _ _ _ _ _ _ _ _ _ _ w.map-is (ap (λ s. map entry_of (g.S.NonZeroInxGenericStack.items s)) w.slots-is) w.live-is
-                (partly_live _ _ _ _ _ _ _ _ _ _ _ _ _ _ _ _ _ _ _ _ p stood within old_is c.take_entry.ensures.slots new_is w.put_entry.ensures.slots w.pointer_at.ensures.has_index w.pointer_at.ensures.has_generation w.pointer_at-in-Some.ensures.has_index w.pointer_at-in-Some.ensures.has_generation w.map-given.ensures),
+                (partly_live _ _ _ _ _ _ _ _ _ _ _ _ _ _ _ _ _ _ _ _ p stood within old_is c.take_entry.ensures.slots new_is w.put_entry.ensures.slots w.pointer_at-from.ensures.has_index w.pointer_at-from.ensures.has_generation w.pointer_at-to.ensures.has_index w.pointer_at-to.ensures.has_generation w.map-given.ensures),
             ap g.S.NonZeroInxGenericStack.room w.slots-is ∙ w.put_entry.ensures.room ∙ c.take_entry.ensures.room ∙ at.invariant.2,
           )
       | in_default w ↦

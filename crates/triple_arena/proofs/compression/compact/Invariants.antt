@@ -1,4 +1,4 @@
-use Rattle.std.proofs.Common.{◌≡◌, ◌≤◌, length, map}
+use Rattle.std.proofs.Common.{◌≡◌, map}
 use Rattle.triple_arena.specs.Slot.{entry_of}
 use Rattle.triple_arena.proofs.CompressionLemmas.{Partly}
 use Rattle.triple_arena.proofs.compression.compact.Given as goal
