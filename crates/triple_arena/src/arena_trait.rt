@@ -186,13 +186,6 @@ pub trait ArenaTrait<P: Ptr, T: Drop> {
         ensures counter { counter self.new ≡ option_map (next_generation P.Gen.last) (counter self.old) }
         ensures room { room self.new ≡ room self.old };
 
-    ghost none_at_zero: { (s : Self) → entry_at s 0 ≡ None };
-
-    // What a step of an advancer gives and leaves.
-    ghost advances: { (before : Self.PtrAdvancer) (s : Self) (given : Option P) (after : Self.PtrAdvancer)
-        → Self.PtrAdvancer.advance_gives before s given after
-        → Steps (entry_at s) (walk before) (option_map (λ p. (P.index p, P.generation p)) given) (walk after) };
-
     /// Moves the live entries, in the order of their indexes, to the indexes from 1 on, and gives each what `map` makes
     /// of its value. `map` is called once for each, in that order, with the old pointer, the value and the new
     /// pointer. No memory is taken.
@@ -226,6 +219,13 @@ pub trait ArenaTrait<P: Ptr, T: Drop> {
         ensures live { live_count self.new ≡ live_count self.old }
         ensures counter { counter self.new ≡ option_map (renewed P.Gen.last reset) (counter self.old) }
         ensures room { room self.new ≡ room self.old };
+
+    ghost none_at_zero: { (s : Self) → entry_at s 0 ≡ None };
+
+    // What a step of an advancer gives and leaves.
+    ghost advances: { (before : Self.PtrAdvancer) (s : Self) (given : Option P) (after : Self.PtrAdvancer)
+        → Self.PtrAdvancer.advance_gives before s given after
+        → Steps (entry_at s) (walk before) (option_map (λ p. (P.index p, P.generation p)) given) (walk after) };
 
     // The list has exactly what stands at the indexes, each index once.
     ghost entry_listed: { (s : Self) (i : ℕ) → entry_at s i ≡ look_up (live_entries s) i };
