@@ -1,12 +1,11 @@
 -- The entry at each index after two values changed places.
-use Rattle.std.proofs.Common.{◌≡◌, ◌≢◌, ℕ, ◌-◌, ◌<◌, ◌≤◌, List, length, set, get_or, cond, Option, Some, None, IsSome, is_some, true≢false, inl, inr, refl, sym, ap, ◌∙◌, arith}
+use Rattle.std.proofs.Common.{◌≡◌, ◌≢◌, ℕ, ◌-◌, List, set, cond, Option, Some, None, IsSome, is_some, inl, inr, refl, sym, ap, ◌∙◌, arith}
 use Rattle.std.proofs.lemmas.Bool.{ne_eqb}
 use Rattle.std.proofs.lemmas.Bool.Decides.{eqb_tells}
-use Rattle.std.proofs.lemmas.List.{set-get_or}
 use Rattle.std.proofs.lemmas.List.Sums.{sum_by-set}
-use Rattle.triple_arena.specs.Entries.{with_value_at, with_values_exchanged}
+use Rattle.triple_arena.specs.Entries.{with_values_exchanged}
 use Rattle.triple_arena.specs.Content.{Content, entry_at, live_count, with_value, with_value_from, with_exchange}
-use Rattle.triple_arena.specs.ContentLaws.{live_of, entry-with_value, counter-with_value, room-with_value}
+use Rattle.triple_arena.specs.ContentLaws.{live_of, entry-with_value}
 use Rattle.triple_arena_stack.specs.Room.{Room}
 use Rattle.triple_arena_stack.specs.Stack.{item_at, with_item}
 use Rattle.triple_arena.specs.Layout.{content_of, IsSound}
@@ -35,8 +34,6 @@ module _ {T : Type 0} where
   pub record Exchanges (c d : Content T) (i j : ℕ) : Type 0 where
     pub entries : (k : ℕ) → entry_at d k ≡ with_values_exchanged (entry_at c) i j k
     pub live : live_count d ≡ live_count c
-    pub counter : d.counter ≡ c.counter
-    pub room : d.room ≡ c.room
 
   -- the values at two indexes
   pub exchange_two : (c d : Content T) (i j : ℕ) → IsSome (entry_at c i) → IsSome (entry_at c j) → i ≢ j → d ≡ with_exchange c i j → Exchanges c d i j
@@ -46,84 +43,45 @@ module _ {T : Type 0} where
       let whole = is ∙ exchange-is c i j x.0 y.0 x.1 y.1 in
       rw whole (both x.0 y.0 x.1 y.1)
     where
+      entries : (x y : ℕ × T) → entry_at c i ≡ Some x → entry_at c j ≡ Some y → (k : ℕ) → entry_at (with_value (with_value c i y.1) j x.1) k ≡ with_values_exchanged (entry_at c) i j k
+      entries x y at_i at_j k =
+          let last = entry-with_value (with_value c i y.1) j x.1 k in
+          let first = entry-with_value c i y.1 k in
+          let here = entry-with_value c i y.1 j in
+          elim (eqb_tells j i) [
+            | inl same ↦ absurd (two (sym same.1))
+            | inr differs ↦
+                let stays : entry_at (with_value c i y.1) j ≡ Some y = here ∙ rw differs.0 at_j in
+                elim (eqb_tells k j) [
+                  | inl same ↦
+                      elim (eqb_tells k i) [
+                        | inl again ↦ absurd (two (sym again.1 ∙ same.1))
+                        | inr other ↦ last ∙ rw (same.0, other.0, stays, at_i, at_j) refl
+                      ]
+                  | inr other ↦
+                      elim (eqb_tells k i) [
+                        | inl again ↦ last ∙ rw other.0 (first ∙ rw (again.0, at_i, at_j) refl)
+                        | inr away ↦ last ∙ rw other.0 (first ∙ rw away.0 refl)
+                      ]
+                ]
+          ]
+
       both : (x y : ℕ × T) → entry_at c i ≡ Some x → entry_at c j ≡ Some y → Exchanges c (with_value (with_value c i y.1) j x.1) i j
       both x y at_i at_j =
           record {
             entries = entries x y at_i at_j;
             live = live-with_value (with_value c i y.1) j x.1 ∙ live-with_value c i y.1;
-            counter = counter-with_value (with_value c i y.1) j x.1 ∙ counter-with_value c i y.1;
-            room = room-with_value (with_value c i y.1) j x.1 ∙ room-with_value c i y.1;
           }
-        where
-          entries : (x y : ℕ × T) → entry_at c i ≡ Some x → entry_at c j ≡ Some y → (k : ℕ) → entry_at (with_value (with_value c i y.1) j x.1) k ≡ with_values_exchanged (entry_at c) i j k
-          entries x y at_i at_j k =
-              let last = entry-with_value (with_value c i y.1) j x.1 k in
-              let first = entry-with_value c i y.1 k in
-              let here = entry-with_value c i y.1 j in
-              elim (eqb_tells j i) [
-                | inl same ↦ absurd (two (sym same.1))
-                | inr differs ↦
-                    let stays : entry_at (with_value c i y.1) j ≡ Some y = here ∙ rw differs.0 at_j in
-                    elim (eqb_tells k j) [
-                      | inl same ↦
-                          elim (eqb_tells k i) [
-                            | inl again ↦ absurd (two (sym again.1 ∙ same.1))
-                            | inr other ↦ last ∙ rw (same.0, other.0, stays, at_i, at_j) refl
-                          ]
-                      | inr other ↦
-                          elim (eqb_tells k i) [
-                            | inl again ↦ last ∙ rw other.0 (first ∙ rw (again.0, at_i, at_j) refl)
-                            | inr away ↦ last ∙ rw other.0 (first ∙ rw away.0 refl)
-                          ]
-                    ]
-              ]
 
-  -- the value at one index
-  pub exchange_one : (c d : Content T) (i j : ℕ) → IsSome (entry_at c i) → i ≡ j → d ≡ c → Exchanges c d i j
-  exchange_one c d i j some same is =
-      let x = the_some _ some in
-      rw (is, ← same)
-      record {
-        entries = λ k. entries k x.0 x.1;
-        live = refl;
-        counter = refl;
-        room = refl;
-      }
-    where
-      entries : (k : ℕ) (x : ℕ × T) → entry_at c i ≡ Some x → entry_at c k ≡ with_values_exchanged (entry_at c) i i k
-      entries k x at =
-          elim (eqb_tells k i) [
-            | inl here ↦ rw here.0 (ap (entry_at c) here.1 ∙ at ∙ rw at refl)
-            | inr other ↦ rw other.0 refl
-          ]
-
-  -- the value at one index stays where it is
-  pub exchange_same : (c : Content T) (i j : ℕ) → IsSome (entry_at c i) → i ≡ j → with_exchange c i j ≡ c
-  exchange_same c i j some same =
-      let x = the_some _ some in
-      let once = kept x.0 x.1 in
-      ap (with_exchange c i) (sym same) ∙ exchange-is c i i x.0 x.0 x.1 x.1 ∙ ap (λ d. with_value d i x.0.1) once ∙ once
-    where
-      kept : (x : ℕ × T) → entry_at c i ≡ Some x → with_value c i x.1 ≡ c
-      kept x at =
-          let l = live_of c i some in
-          let read : get_or c.slots (i - 1) None ≡ Some x = l.read ∙ sym l.is ∙ at in
-          let slots : set c.slots (i - 1) (Some (x.0, x.1)) ≡ c.slots = rw (← read) (set-get_or c.slots (i - 1) None) in
-          rw at (rw slots refl)
-
-  -- the slot at a live index is allocated, and one of the slots
-  pub record IsUsed (es : List (Slot T)) (i : ℕ) : Type 0 where
-    pub within : i ≤ length es
-    pub value : (x : Slot T) → Some x ≡ item_at es i → IsSome (value_of x)
-
-  pub used_at : (es : List (Slot T)) (room : Room) (g : ℕ) (head : Option ℕ) (c : Content T) (i : ℕ) → content_of es room g head ≡ c → IsSome (entry_at c i) → IsUsed es i
-  used_at es room g head c i seen some =
+  -- the slot at a live index is allocated
+  pub used_at : (es : List (Slot T)) (room : Room) (g : ℕ) (head : Option ℕ) (c : Content T) (i : ℕ) → content_of es room g head ≡ c → IsSome (entry_at c i) → (x : Slot T) → Some x ≡ item_at es i → IsSome (value_of x)
+  used_at es room g head c i seen some x at =
       let e = the_some _ some in
       let f = finds es room g head c i e.0 seen e.1 in
-      record { within = f.within; value = λ x at. value e.0 x (at ∙ f.found) }
+      value e.0 (at ∙ f.found)
     where
-      value : (e : ℕ × T) (x : Slot T) → Some x ≡ Some (used e.0 e.1) → IsSome (value_of x)
-      value e x same = let is : x ≡ used e.0 e.1 = cc in rw is refl
+      value : (e : ℕ × T) → Some x ≡ Some (used e.0 e.1) → IsSome (value_of x)
+      value e same = let is : x ≡ used e.0 e.1 = cc in rw is refl
 
   -- slots whose values changed places
   pub exchanged : (es es' : List (Slot T)) (len i j : ℕ) (head : Option ℕ) (room room' : Room) (g : ℕ) (c : Content T) → IsSound es len head room → content_of es room g head ≡ c → IsSome (entry_at c i) → IsSome (entry_at c j) → i ≢ j

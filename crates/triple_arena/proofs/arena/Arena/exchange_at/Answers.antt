@@ -5,10 +5,10 @@ use Rattle.triple_arena.proofs.ExchangeLemmas.{used_at, exchanged, exchange_two}
 use Rattle.triple_arena.proofs.arena.Arena.exchange_at.Goals as goal
 
 pub exchange_values-requires-clause-i_is_used : goal.exchange_values-requires-clause-i_is_used
-exchange_values-requires-clause-i_is_used g c = (used_at _ _ _ _ _ _ c.self.view_is c.requires.i_is_live).value
+exchange_values-requires-clause-i_is_used g c = used_at _ _ _ _ _ _ c.self.view_is c.requires.i_is_live
 
 pub exchange_values-requires-clause-j_is_used : goal.exchange_values-requires-clause-j_is_used
-exchange_values-requires-clause-j_is_used g c = (used_at _ _ _ _ _ _ c.self.view_is c.requires.j_is_live).value
+exchange_values-requires-clause-j_is_used g c = used_at _ _ _ _ _ _ c.self.view_is c.requires.j_is_live
 
 pub invariant_of-self : goal.invariant_of-self
 invariant_of-self g c =
