@@ -66,7 +66,9 @@ impl<P: Ptr> PtrAdvancer<P> {
 impl<P: Ptr, T: Drop, S: NonZeroInxGenericStack<ArenaSlot<P, T>>> Arena<P, T, S> {
     // The pointer to the first live entry at the indexes after `start`, up to `end`.
     pub(crate) fn first_live(&self, start: usize, end: usize) -> Option<P>
-        ensures found { Finds (entry_at self.now) (record { low = start + 1; high = end; falls = false }) (option_map (λ p. (P.index p, P.generation p)) result) }
+        ensures found { Finds (entry_at self.now)
+            (record { low = start + 1; high = end; falls = false })
+            (option_map (λ p. (P.index p, P.generation p)) result) }
         ensures number { IfSome result (λ p. P.index p < 2 ^ 64) }
     {
         let last = end.min(self.slot_count());
@@ -81,7 +83,9 @@ impl<P: Ptr, T: Drop, S: NonZeroInxGenericStack<ArenaSlot<P, T>>> Arena<P, T, S>
 
     // The pointer to the last live entry at the indexes after `start`, up to `end`.
     pub(crate) fn last_live(&self, start: usize, end: usize) -> Option<P>
-        ensures found { Finds (entry_at self.now) (record { low = start + 1; high = end; falls = true }) (option_map (λ p. (P.index p, P.generation p)) result) }
+        ensures found { Finds (entry_at self.now)
+            (record { low = start + 1; high = end; falls = true })
+            (option_map (λ p. (P.index p, P.generation p)) result) }
         ensures number { IfSome result (λ p. P.index p < 2 ^ 64) }
     {
         let mut last = end.min(self.slot_count());
@@ -97,7 +101,8 @@ impl<P: Ptr, T: Drop, S: NonZeroInxGenericStack<ArenaSlot<P, T>>> Arena<P, T, S>
 
     // What the next step of an advancer gives.
     fn next_live(&self, advancer: &PtrAdvancer<P>) -> Option<P>
-        ensures found { Finds (entry_at self.now) advancer.now (option_map (λ p. (P.index p, P.generation p)) result) }
+        ensures found { Finds (entry_at self.now) advancer.now
+            (option_map (λ p. (P.index p, P.generation p)) result) }
         ensures number { IfSome result (λ p. P.index p < 2 ^ 64) }
     {
         if advancer.rev {
@@ -114,7 +119,8 @@ impl<P: Ptr, T: Drop, S: NonZeroInxGenericStack<ArenaSlot<P, T>>> Advancer<Arena
 
     ghost remaining = { λ a _. to_come a };
 
-    ghost advance_gives = { λ before c given after. Steps (entry_at c) before (option_map (λ p. (P.index p, P.generation p)) given) after };
+    ghost advance_gives = { λ before c given after. Steps (entry_at c) before
+        (option_map (λ p. (P.index p, P.generation p)) given) after };
 
     fn advance(&mut self, arena: &Arena<P, T, S>) -> Option<P> {
         let given = arena.next_live(self);

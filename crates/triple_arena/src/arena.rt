@@ -53,9 +53,11 @@ impl<P: Ptr, T: Drop, S: NonZeroInxGenericStack<ArenaSlot<P, T>>> Model for Aren
 
     ghost coded = { content_code T.code };
 
-    ghost view = { λ a. content_of (S.items a.slots) (room_of P.Inx.greatest (S.room a.slots)) (P.Gen.number a.counter) (option_map non_zero_usize_get a.head) };
+    ghost view = { λ a. content_of (S.items a.slots) (room_of P.Inx.greatest (S.room a.slots))
+        (P.Gen.number a.counter) (option_map non_zero_usize_get a.head) };
 
-    ghost invariant = { λ a. IsSound (S.items a.slots) a.len (option_map non_zero_usize_get a.head) (room_of P.Inx.greatest (S.room a.slots)) };
+    ghost invariant = { λ a. IsSound (S.items a.slots) a.len (option_map non_zero_usize_get a.head)
+        (room_of P.Inx.greatest (S.room a.slots)) };
 }
 
 // The greatest index that is a number.
@@ -152,7 +154,8 @@ impl<P: Ptr, T: Drop, S: NonZeroInxGenericStack<ArenaSlot<P, T>>> Arena<P, T, S>
 
     // The generation and the value at an index, if it is live.
     pub(crate) fn entry(&self, inx: P::Inx) -> Option<(P::Gen, &T)>
-        ensures { option_map (λ e. (P.Gen.number e.0, e.1.now)) result ≡ entry_at self.now (P.Inx.number inx) }
+        ensures { option_map (λ e. (P.Gen.number e.0, e.1.now)) result
+            ≡ entry_at self.now (P.Inx.number inx) }
     {
         // The number of slots is a `usize`, so no index past that is live.
         let _ = self.slots.len();
@@ -218,7 +221,8 @@ impl<P: Ptr, T: Drop, S: NonZeroInxGenericStack<ArenaSlot<P, T>>> Arena<P, T, S>
 
     // The pointer to the entry at `i`, if it is live.
     pub(crate) fn pointer(&self, i: NonZeroUsize) -> Option<P>
-        ensures { option_map (λ p. (P.index p, P.generation p)) result ≡ pointer_of_entry (entry_at self.now) (non_zero_usize_get i) }
+        ensures { option_map (λ p. (P.index p, P.generation p)) result
+            ≡ pointer_of_entry (entry_at self.now) (non_zero_usize_get i) }
     {
         match self.slots.get(i) {
             Some(slot) => match slot.entry() {
@@ -232,10 +236,12 @@ impl<P: Ptr, T: Drop, S: NonZeroInxGenericStack<ArenaSlot<P, T>>> Arena<P, T, S>
     // Makes room for `min` entries, by a growth to exactly that where there is less.
     pub(crate) fn reallocate(&mut self, min: usize) -> Result<(), ReallocationError>
         ensures kept { min ≤ room_for self.old → self.new ≡ self.old }
-        ensures grown { room_for self.old < min → OnOk result (self.new ≡ in_room self.old (with_reserved self.old.room min)) }
+        ensures grown { room_for self.old < min
+            → OnOk result (self.new ≡ in_room self.old (with_reserved self.old.room min)) }
         ensures fits { OnOk result (min ≤ room_for self.new) }
         ensures succeeds { min ≤ room_for self.old → IsOk result }
-        ensures beyond { IsErrOf result ReallocationError.BeyondMaxCapacity ↔ IsBeyond self.old.room.limit min }
+        ensures beyond { IsErrOf result ReallocationError.BeyondMaxCapacity
+            ↔ IsBeyond self.old.room.limit min }
         ensures err { OnErr result (self.new ≡ self.old) }
         ensures was_formed { IsWellFormed self.old }
     {
@@ -255,9 +261,11 @@ impl<P: Ptr, T: Drop, S: NonZeroInxGenericStack<ArenaSlot<P, T>>> Arena<P, T, S>
     pub(crate) fn make_room(&mut self) -> Result<(), ReallocationError>
         ensures ok { OnOk result (live_count self.new < room_for self.new) }
         ensures kept { live_count self.old < room_for self.old → self.new ≡ self.old }
-        ensures grown { live_count self.old ≡ room_for self.old → OnOk result (self.new ≡ in_room self.old (grown self.old.room)) }
+        ensures grown { live_count self.old ≡ room_for self.old
+            → OnOk result (self.new ≡ in_room self.old (grown self.old.room)) }
         ensures succeeds { live_count self.old < room_for self.old → IsOk result }
-        ensures beyond { IsErrOf result ReallocationError.BeyondMaxCapacity ↔ (self.old.room.limit ≡ Some (live_count self.old)) }
+        ensures beyond { IsErrOf result ReallocationError.BeyondMaxCapacity
+            ↔ (self.old.room.limit ≡ Some (live_count self.old)) }
         ensures err { OnErr result (self.new ≡ self.old) }
         ensures formed { IsWellFormed self.new }
         ensures was_formed { IsWellFormed self.old }
@@ -275,7 +283,8 @@ impl<P: Ptr, T: Drop, S: NonZeroInxGenericStack<ArenaSlot<P, T>>> Arena<P, T, S>
         requires { live_count self.old ≡ room_for self.old }
         ensures ok { OnOk result (live_count self.new < room_for self.new) }
         ensures grown { OnOk result (self.new ≡ in_room self.old (grown self.old.room)) }
-        ensures beyond { IsErrOf result ReallocationError.BeyondMaxCapacity ↔ (self.old.room.limit ≡ Some (live_count self.old)) }
+        ensures beyond { IsErrOf result ReallocationError.BeyondMaxCapacity
+            ↔ (self.old.room.limit ≡ Some (live_count self.old)) }
         ensures err { OnErr result (self.new ≡ self.old) }
         ensures formed { IsWellFormed self.new }
         ensures was_formed { IsWellFormed self.old }
@@ -337,7 +346,8 @@ impl<P: Ptr, T: Drop, S: NonZeroInxGenericStack<ArenaSlot<P, T>>> Arena<P, T, S>
     pub(crate) fn take_at(&mut self, i: NonZeroUsize) -> (P::Gen, T)
         requires { IsSome (entry_at self.old (non_zero_usize_get i)) }
         ensures value { self.new ≡ vacated self.old (non_zero_usize_get i) }
-        ensures entry { Some (P.Gen.number result.0, result.1) ≡ entry_at self.old (non_zero_usize_get i) }
+        ensures entry { Some (P.Gen.number result.0, result.1)
+            ≡ entry_at self.old (non_zero_usize_get i) }
         ensures formed { IsWellFormed self.new }
         ensures was_formed { IsWellFormed self.old }
     {
@@ -361,9 +371,11 @@ impl<P: Ptr, T: Drop, S: NonZeroInxGenericStack<ArenaSlot<P, T>>> Arena<P, T, S>
     pub(crate) fn remove_at(&mut self, i: NonZeroUsize) -> InvalidationOption<(P::Gen, T)>
         requires { IsSome (entry_at self.old (non_zero_usize_get i)) }
         ensures value { self.new ≡ removed P.Gen.last self.old (non_zero_usize_get i) }
-        ensures entry { Some (P.Gen.number (value_of result).0, (value_of result).1) ≡ entry_at self.old (non_zero_usize_get i) }
+        ensures entry { Some (P.Gen.number (value_of result).0, (value_of result).1)
+            ≡ entry_at self.old (non_zero_usize_get i) }
         ensures overflow { overflowed result ≡ next_wraps P.Gen.last self.old.counter }
-        ensures entries { (j : ℕ) → entry_at self.new j ≡ without (entry_at self.old) (non_zero_usize_get i) j }
+        ensures entries { (j : ℕ) → entry_at self.new j
+            ≡ without (entry_at self.old) (non_zero_usize_get i) j }
         ensures live { live_count self.new + 1 ≡ live_count self.old }
         ensures counter { self.new.counter ≡ next_generation P.Gen.last self.old.counter }
         ensures room { self.new.room ≡ self.old.room }
@@ -385,7 +397,8 @@ impl<P: Ptr, T: Drop, S: NonZeroInxGenericStack<ArenaSlot<P, T>>> Arena<P, T, S>
         ensures has_index { P.index result ≡ next_index self.old }
         ensures has_generation { P.generation result ≡ self.old.counter }
         ensures vacant { entry_at self.old (next_index self.old) ≡ None }
-        ensures entries { (j : ℕ) → entry_at self.new j ≡ with_entry (entry_at self.old) (next_index self.old) (self.old.counter, t) j }
+        ensures entries { (j : ℕ) → entry_at self.new j
+            ≡ with_entry (entry_at self.old) (next_index self.old) (self.old.counter, t) j }
         ensures live { live_count self.new ≡ live_count self.old + 1 }
         ensures counter { self.new.counter ≡ self.old.counter }
         ensures room { self.new.room ≡ self.old.room }
@@ -398,7 +411,8 @@ impl<P: Ptr, T: Drop, S: NonZeroInxGenericStack<ArenaSlot<P, T>>> Arena<P, T, S>
     // Gives the entry at `i`, which is live, the generation of the counter.
     pub(crate) fn renew_at(&mut self, i: NonZeroUsize) -> P
         requires { IsSome (entry_at self.old (non_zero_usize_get i)) }
-        ensures value { self.new ≡ with_generation self.old (non_zero_usize_get i) self.old.counter }
+        ensures value { self.new ≡ with_generation self.old
+            (non_zero_usize_get i) self.old.counter }
         ensures has_index { P.index result ≡ non_zero_usize_get i }
         ensures has_generation { P.generation result ≡ self.old.counter }
         ensures formed { IsWellFormed self.new }
@@ -413,10 +427,15 @@ impl<P: Ptr, T: Drop, S: NonZeroInxGenericStack<ArenaSlot<P, T>>> Arena<P, T, S>
         requires { IsSome (entry_at self.old (non_zero_usize_get i)) }
         ensures valid { IsSome (answer_of result) }
         ensures value { self.new ≡ invalidated P.Gen.last self.old (non_zero_usize_get i) }
-        ensures overflow { IfSome (answer_of result) (λ a. overflowed a ≡ next_wraps P.Gen.last self.old.counter) }
-        ensures has_index { IfSome (answer_of result) (λ a. P.index (value_of a) ≡ non_zero_usize_get i) }
-        ensures has_generation { IfSome (answer_of result) (λ a. P.generation (value_of a) ≡ next_generation P.Gen.last self.old.counter) }
-        ensures entries { (j : ℕ) → entry_at self.new j ≡ with_generation_at (entry_at self.old) (non_zero_usize_get i) (next_generation P.Gen.last self.old.counter) j }
+        ensures overflow { IfSome (answer_of result)
+            (λ a. overflowed a ≡ next_wraps P.Gen.last self.old.counter) }
+        ensures has_index { IfSome (answer_of result)
+            (λ a. P.index (value_of a) ≡ non_zero_usize_get i) }
+        ensures has_generation { IfSome (answer_of result)
+            (λ a. P.generation (value_of a) ≡ next_generation P.Gen.last self.old.counter) }
+        ensures entries { (j : ℕ) → entry_at self.new j
+            ≡ with_generation_at (entry_at self.old) (non_zero_usize_get i)
+            (next_generation P.Gen.last self.old.counter) j }
         ensures live { live_count self.new ≡ live_count self.old }
         ensures counter { self.new.counter ≡ next_generation P.Gen.last self.old.counter }
         ensures room { self.new.room ≡ self.old.room }
@@ -437,8 +456,11 @@ impl<P: Ptr, T: Drop, S: NonZeroInxGenericStack<ArenaSlot<P, T>>> Arena<P, T, S>
         requires i_is_live { IsSome (entry_at self.old (non_zero_usize_get i)) }
         requires j_is_live { IsSome (entry_at self.old (non_zero_usize_get j)) }
         requires two { non_zero_usize_get i ≢ non_zero_usize_get j }
-        ensures value { self.new ≡ with_exchange self.old (non_zero_usize_get i) (non_zero_usize_get j) }
-        ensures entries { (k : ℕ) → entry_at self.new k ≡ with_values_exchanged (entry_at self.old) (non_zero_usize_get i) (non_zero_usize_get j) k }
+        ensures value { self.new ≡ with_exchange self.old (non_zero_usize_get i)
+            (non_zero_usize_get j) }
+        ensures entries { (k : ℕ) → entry_at self.new k
+            ≡ with_values_exchanged (entry_at self.old) (non_zero_usize_get i)
+            (non_zero_usize_get j) k }
         ensures live { live_count self.new ≡ live_count self.old }
         ensures counter { self.new.counter ≡ self.old.counter }
         ensures room { self.new.room ≡ self.old.room }
@@ -471,11 +493,15 @@ impl<P: Ptr, T: Drop, S: NonZeroInxGenericStack<ArenaSlot<P, T>>> Arena<P, T, S>
     // the counter this generation.
     pub(crate) fn compact<F: FnMut(P, T, P) -> T>(&mut self, generation: P::Gen, f: F)
         requires { F.IsAlwaysCallable f }
-        ensures mapped { IsMapped P.index P.generation F.step f (live_entries self.old) (live_entries self.new) }
-        ensures value { self.new ≡ compacted (P.Gen.number generation) (live_values self.new) self.old }
+        ensures mapped { IsMapped P.index P.generation F.step f (live_entries self.old)
+            (live_entries self.new) }
+        ensures value { self.new ≡ compacted (P.Gen.number generation)
+            (live_values self.new) self.old }
         ensures compact { IsCompact (live_entries self.new) }
-        ensures entries { (k : ℕ) → entry_at self.new (k + 1) ≡ option_map entry_of_listed (slice_get (live_entries self.new) k) }
-        ensures generations { map generation_of (live_entries self.new) ≡ map (λ _. P.Gen.number generation) (live_entries self.old) }
+        ensures entries { (k : ℕ) → entry_at self.new (k + 1)
+            ≡ option_map entry_of_listed (slice_get (live_entries self.new) k) }
+        ensures generations { map generation_of (live_entries self.new)
+            ≡ map (λ _. P.Gen.number generation) (live_entries self.old) }
         ensures live { live_count self.new ≡ live_count self.old }
         ensures formed { IsWellFormed self.new }
         ensures was_formed { IsWellFormed self.old }
@@ -553,7 +579,8 @@ pub(crate) trait ValueAtMut<T> {
     // The value at an index that is live, for writing.
     fn value_at_mut(&mut self, i: NonZeroUsize) -> &mut T
         requires { has_value self.old (non_zero_usize_get i) }
-        ensures* writes_back { sem 𝓛 (Lends Self.row T.row self.entry result (with_value_at self.old (non_zero_usize_get i))) }
+        ensures* writes_back { sem 𝓛 (Lends Self.row T.row self.entry result
+            (with_value_at self.old (non_zero_usize_get i))) }
         ensures value { value_at self.old (non_zero_usize_get i) ≡ Some result.now };
 }
 

@@ -79,7 +79,8 @@ impl<P: Ptr, T: Drop, S: NonZeroInxGenericStack<ArenaSlot<P, T>> + Drop> ArenaTr
         ensures formed { IfOk result (λ a. IsWellFormed a) }
         ensures fits { IfOk result (λ a. min ≤ room_for a) }
         ensures succeeds { min ≤ capacity_of (room_of P.Inx.greatest (S.room_at 0)) → IsOk result }
-        ensures beyond { IsErrOf result ReallocationError.BeyondMaxCapacity ↔ IsBeyond (room_of P.Inx.greatest (S.room_at min)).limit min }
+        ensures beyond { IsErrOf result ReallocationError.BeyondMaxCapacity
+            ↔ IsBeyond (room_of P.Inx.greatest (S.room_at min)).limit min }
     {
         if min > max_index::<P>() {
             drop(Self::new(alloc));
@@ -103,13 +104,15 @@ impl<P: Ptr, T: Drop, S: NonZeroInxGenericStack<ArenaSlot<P, T>> + Drop> ArenaTr
 
     fn reallocate_min_capacity(&mut self, min: usize) -> Result<(), ReallocationError>
         ensures kept { min ≤ room_for self.old → self.new ≡ self.old }
-        ensures grown { room_for self.old < min → OnOk result (self.new ≡ in_room self.old (with_reserved self.old.room min)) }
+        ensures grown { room_for self.old < min
+            → OnOk result (self.new ≡ in_room self.old (with_reserved self.old.room min)) }
         ensures fits { OnOk result (min ≤ room_for self.new) }
         ensures entries { (j : ℕ) → entry_of_index self.new j ≡ entry_of_index self.old j }
         ensures live { live_of self.new ≡ live_of self.old }
         ensures counter { self.new.counter ≡ self.old.counter }
         ensures succeeds { min ≤ room_for self.old → IsOk result }
-        ensures beyond { IsErrOf result ReallocationError.BeyondMaxCapacity ↔ IsBeyond self.old.room.limit min }
+        ensures beyond { IsErrOf result ReallocationError.BeyondMaxCapacity
+            ↔ IsBeyond self.old.room.limit min }
         ensures err { OnErr result (self.new ≡ self.old) }
         ensures formed { IsWellFormed self.new }
         ensures was_formed { IsWellFormed self.old }
@@ -174,12 +177,18 @@ impl<P: Ptr, T: Drop, S: NonZeroInxGenericStack<ArenaSlot<P, T>> + Drop> ArenaTr
     }
 
     fn remove(&mut self, p: P) -> InvalidationResult<T>
-        ensures value { option_map value_of (answer_of result) ≡ get self.old (P.index p) (P.generation p) }
-        ensures overflow { IfSome (answer_of result) (λ a. overflowed a ≡ next_wraps P.Gen.last self.old.counter) }
-        ensures content { IfSome (answer_of result) (λ a. self.new ≡ removed P.Gen.last self.old (P.index p)) }
-        ensures entries { IfSome (answer_of result) (λ a. (j : ℕ) → entry_of_index self.new j ≡ without (entry_of_index self.old) (P.index p) j) }
+        ensures value { option_map value_of (answer_of result)
+            ≡ get self.old (P.index p) (P.generation p) }
+        ensures overflow { IfSome (answer_of result)
+            (λ a. overflowed a ≡ next_wraps P.Gen.last self.old.counter) }
+        ensures content { IfSome (answer_of result)
+            (λ a. self.new ≡ removed P.Gen.last self.old (P.index p)) }
+        ensures entries { IfSome (answer_of result)
+            (λ a. (j : ℕ) → entry_of_index self.new j
+            ≡ without (entry_of_index self.old) (P.index p) j) }
         ensures live { IfSome (answer_of result) (λ a. live_of self.new + 1 ≡ live_of self.old) }
-        ensures counter { IfSome (answer_of result) (λ a. self.new.counter ≡ next_generation P.Gen.last self.old.counter) }
+        ensures counter { IfSome (answer_of result)
+            (λ a. self.new.counter ≡ next_generation P.Gen.last self.old.counter) }
         ensures room { self.new.room ≡ self.old.room }
         ensures invalid { IfNone (answer_of result) (self.new ≡ self.old) }
         ensures formed { IsWellFormed self.new }
@@ -198,12 +207,18 @@ impl<P: Ptr, T: Drop, S: NonZeroInxGenericStack<ArenaSlot<P, T>> + Drop> ArenaTr
     }
 
     fn remove_inx(&mut self, i: P::Inx) -> InvalidationResult<(P::Gen, T)>
-        ensures value { option_map (λ a. (P.Gen.number (value_of a).0, (value_of a).1)) (answer_of result) ≡ entry_of_index self.old (P.Inx.number i) }
-        ensures overflow { IfSome (answer_of result) (λ a. overflowed a ≡ next_wraps P.Gen.last self.old.counter) }
-        ensures content { IfSome (answer_of result) (λ a. self.new ≡ removed P.Gen.last self.old (P.Inx.number i)) }
-        ensures entries { IfSome (answer_of result) (λ a. (j : ℕ) → entry_of_index self.new j ≡ without (entry_of_index self.old) (P.Inx.number i) j) }
+        ensures value { option_map (λ a. (P.Gen.number (value_of a).0, (value_of a).1))
+            (answer_of result) ≡ entry_of_index self.old (P.Inx.number i) }
+        ensures overflow { IfSome (answer_of result)
+            (λ a. overflowed a ≡ next_wraps P.Gen.last self.old.counter) }
+        ensures content { IfSome (answer_of result)
+            (λ a. self.new ≡ removed P.Gen.last self.old (P.Inx.number i)) }
+        ensures entries { IfSome (answer_of result)
+            (λ a. (j : ℕ) → entry_of_index self.new j
+            ≡ without (entry_of_index self.old) (P.Inx.number i) j) }
         ensures live { IfSome (answer_of result) (λ a. live_of self.new + 1 ≡ live_of self.old) }
-        ensures counter { IfSome (answer_of result) (λ a. self.new.counter ≡ next_generation P.Gen.last self.old.counter) }
+        ensures counter { IfSome (answer_of result)
+            (λ a. self.new.counter ≡ next_generation P.Gen.last self.old.counter) }
         ensures room { self.new.room ≡ self.old.room }
         ensures invalid { IfNone (answer_of result) (self.new ≡ self.old) }
         ensures formed { IsWellFormed self.new }
@@ -222,14 +237,22 @@ impl<P: Ptr, T: Drop, S: NonZeroInxGenericStack<ArenaSlot<P, T>> + Drop> ArenaTr
     }
 
     fn invalidate(&mut self, p: P) -> InvalidationResult<P>
-        ensures variant { IsSome (answer_of result) ↔ IsSome (get self.old (P.index p) (P.generation p)) }
-        ensures overflow { IfSome (answer_of result) (λ a. overflowed a ≡ next_wraps P.Gen.last self.old.counter) }
-        ensures content { IfSome (answer_of result) (λ a. self.new ≡ invalidated P.Gen.last self.old (P.index p)) }
+        ensures variant { IsSome (answer_of result)
+            ↔ IsSome (get self.old (P.index p) (P.generation p)) }
+        ensures overflow { IfSome (answer_of result)
+            (λ a. overflowed a ≡ next_wraps P.Gen.last self.old.counter) }
+        ensures content { IfSome (answer_of result)
+            (λ a. self.new ≡ invalidated P.Gen.last self.old (P.index p)) }
         ensures index { IfSome (answer_of result) (λ a. P.index (value_of a) ≡ P.index p) }
-        ensures generation { IfSome (answer_of result) (λ a. P.generation (value_of a) ≡ next_generation P.Gen.last self.old.counter) }
-        ensures entries { IfSome (answer_of result) (λ a. (j : ℕ) → entry_of_index self.new j ≡ with_generation_at (entry_of_index self.old) (P.index p) (P.generation (value_of a)) j) }
+        ensures generation { IfSome (answer_of result)
+            (λ a. P.generation (value_of a) ≡ next_generation P.Gen.last self.old.counter) }
+        ensures entries { IfSome (answer_of result)
+            (λ a. (j : ℕ) → entry_of_index self.new j
+            ≡ with_generation_at (entry_of_index self.old) (P.index p)
+            (P.generation (value_of a)) j) }
         ensures live { live_of self.new ≡ live_of self.old }
-        ensures counter { IfSome (answer_of result) (λ a. self.new.counter ≡ next_generation P.Gen.last self.old.counter) }
+        ensures counter { IfSome (answer_of result)
+            (λ a. self.new.counter ≡ next_generation P.Gen.last self.old.counter) }
         ensures room { self.new.room ≡ self.old.room }
         ensures invalid { IfNone (answer_of result) (self.new ≡ self.old) }
         ensures formed { IsWellFormed self.new }
@@ -268,11 +291,14 @@ impl<P: Ptr, T: Drop, S: NonZeroInxGenericStack<ArenaSlot<P, T>> + Drop> ArenaTr
     }
 
     fn compress(&mut self, reset: bool) -> InvalidationOption<()>
-        ensures content { self.new ≡ compacted (renewed P.Gen.last reset self.old.counter) (live_values self.old) self.old }
+        ensures content { self.new ≡ compacted (renewed P.Gen.last reset self.old.counter)
+            (live_values self.old) self.old }
         ensures values { live_values self.new ≡ live_values self.old }
         ensures compact { IsCompact (live_entries_of self.new) }
-        ensures entries { (k : ℕ) → entry_of_index self.new (k + 1) ≡ option_map entry_of_listed (slice_get (live_entries_of self.new) k) }
-        ensures generations { list_map generation_of (live_entries_of self.new) ≡ list_map (λ e. renewed P.Gen.last reset self.old.counter) (live_entries_of self.old) }
+        ensures entries { (k : ℕ) → entry_of_index self.new (k + 1)
+            ≡ option_map entry_of_listed (slice_get (live_entries_of self.new) k) }
+        ensures generations { list_map generation_of (live_entries_of self.new)
+            ≡ list_map (λ e. renewed P.Gen.last reset self.old.counter) (live_entries_of self.old) }
         ensures overflow { overflowed result ≡ renewal_wraps P.Gen.last reset self.old.counter }
         ensures live { live_of self.new ≡ live_of self.old }
         ensures formed { IsWellFormed self.new }

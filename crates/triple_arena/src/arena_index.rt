@@ -33,7 +33,12 @@ impl<P: Ptr, T: Drop, S: NonZeroInxGenericStack<ArenaSlot<P, T>> + Drop> IndexMu
 
     fn index_mut(&mut self, p: P) -> &mut T
         requires { IsSome (get self.old (P.index p) (P.generation p)) }
-        ensures* writes_back { sem 𝓛 (Lends (the_row P.row T.row S.row P.Inx.row P.Gen.row S.Alloc.row P.Ptr.own P.Debug P.Hash.own P.PartialEq P.Ord.own P.PartialOrd.own P.Inx.PtrInx.own P.Inx.Debug P.Inx.Hash.own P.Inx.PartialEq P.Inx.Ord.own P.Inx.PartialOrd.own P.Gen.PtrGen.own P.Gen.Debug P.Gen.Hash.own P.Gen.PartialEq P.Gen.Ord.own P.Gen.PartialOrd.own S.NonZeroInxGenericStack) T.row self.entry result (with_value_of self.old (P.index p))) }
+        ensures* writes_back { sem 𝓛 (Lends
+            (the_row P.row T.row S.row P.Inx.row P.Gen.row S.Alloc.row P.Ptr.own P.Debug P.Hash.own
+            P.PartialEq P.Ord.own P.PartialOrd.own P.Inx.PtrInx.own P.Inx.Debug P.Inx.Hash.own
+            P.Inx.PartialEq P.Inx.Ord.own P.Inx.PartialOrd.own P.Gen.PtrGen.own P.Gen.Debug
+            P.Gen.Hash.own P.Gen.PartialEq P.Gen.Ord.own P.Gen.PartialOrd.own
+            S.NonZeroInxGenericStack) T.row self.entry result (with_value_of self.old (P.index p))) }
         ensures value { get self.old (P.index p) (P.generation p) ≡ Some result.now }
     {
         self.get_inx_mut_unwrap(p.inx())

@@ -60,13 +60,15 @@ pub trait ArenaTrait<P: Ptr, T: Drop> {
     fn with_min_capacity(alloc: Self::Alloc, min: usize) -> Result<Self, ReallocationError>
         ensures entries { IfOk result (λ a. (j : ℕ) → entry_at a j ≡ None) }
         ensures live { IfOk result (λ a. live_count a ≡ 0) }
-        ensures counter { IfOk result (λ a. counter a ≡ number_if counts (second_generation P.Gen.last)) }
+        ensures counter { IfOk result (λ a. counter a
+            ≡ number_if counts (second_generation P.Gen.last)) }
         ensures room { IfOk result (λ a. room a ≡ room_at min) }
         ensures fits { IfOk result (λ a. min ≤ capacity_of (room a)) }
 
         // No memory is asked for where a new arena has the room already.
         ensures succeeds { min ≤ capacity_of (room_at 0) → IsOk result }
-        ensures beyond { IsErrOf result ReallocationError.BeyondMaxCapacity ↔ IsBeyond (room_at min).limit min };
+        ensures beyond { IsErrOf result ReallocationError.BeyondMaxCapacity
+            ↔ IsBeyond (room_at min).limit min };
 
     /// How many entries fit with no growth.
     fn capacity(&self) -> usize
@@ -89,7 +91,8 @@ pub trait ArenaTrait<P: Ptr, T: Drop> {
         ensures live { live_count self.new ≡ live_count self.old }
         ensures counter { counter self.new ≡ counter self.old }
         ensures succeeds { min ≤ capacity_of (room self.old) → IsOk result }
-        ensures beyond { IsErrOf result ReallocationError.BeyondMaxCapacity ↔ IsBeyond (room self.old).limit min }
+        ensures beyond { IsErrOf result ReallocationError.BeyondMaxCapacity
+            ↔ IsBeyond (room self.old).limit min }
         ensures err { OnErr result (self.new ≡ self.old) };
 
     /// How many entries are live.
@@ -103,27 +106,33 @@ pub trait ArenaTrait<P: Ptr, T: Drop> {
 
     /// The value that `p` points to, if it is live.
     fn get(&self, p: P) -> Option<&T>
-        ensures { option_copied result ≡ value_if (P.generation p) (entry_at self.now (P.index p)) };
+        ensures { option_copied result ≡ value_if (P.generation p)
+            (entry_at self.now (P.index p)) };
 
     /// The generation and the value at an index, if it is live.
     fn get_inx(&self, i: P::Inx) -> Option<(P::Gen, &T)>
-        ensures { option_map (λ e. (P.Gen.number e.0, e.1.now)) result ≡ entry_at self.now (P.Inx.number i) };
+        ensures { option_map (λ e. (P.Gen.number e.0, e.1.now)) result
+            ≡ entry_at self.now (P.Inx.number i) };
 
     /// The value at an index that is live, for writing.
     fn get_inx_mut_unwrap(&mut self, i: P::Inx) -> &mut T
         requires { IsSome (entry_at self.old (P.Inx.number i)) }
-        ensures* writes_back { sem 𝓛 (Lends Self.row T.row self.entry result (with_value self.old (P.Inx.number i))) }
-        ensures value { option_map (λ e. e.1) (entry_at self.old (P.Inx.number i)) ≡ Some result.now };
+        ensures* writes_back { sem 𝓛 (Lends Self.row T.row self.entry result
+            (with_value self.old (P.Inx.number i))) }
+        ensures value { option_map (λ e. e.1) (entry_at self.old (P.Inx.number i))
+            ≡ Some result.now };
 
     /// The pointer to the entry with the least index, or `None` where no index is live.
     fn find_first_inx_ptr(&self) -> Option<P>
-        ensures live { IfSome result (λ p. generation_at (entry_at self.now) (P.index p) ≡ Some (P.generation p)) }
+        ensures live { IfSome result (λ p. generation_at (entry_at self.now) (P.index p)
+            ≡ Some (P.generation p)) }
         ensures first { IfSome result (λ p. (j : ℕ) → j < P.index p → entry_at self.now j ≡ None) }
         ensures none { IfNone result ((j : ℕ) → entry_at self.now j ≡ None) };
 
     /// The pointer to the entry with the greatest index, or `None` where no index is live.
     fn find_last_inx_ptr(&self) -> Option<P>
-        ensures live { IfSome result (λ p. generation_at (entry_at self.now) (P.index p) ≡ Some (P.generation p)) }
+        ensures live { IfSome result (λ p. generation_at (entry_at self.now) (P.index p)
+            ≡ Some (P.generation p)) }
         ensures last { IfSome result (λ p. (j : ℕ) → P.index p < j → entry_at self.now j ≡ None) }
         ensures none { IfNone result ((j : ℕ) → entry_at self.now j ≡ None) };
 
@@ -138,28 +147,40 @@ pub trait ArenaTrait<P: Ptr, T: Drop> {
     fn advancer_inx(&self, i: P::Inx, rev: bool) -> Self::PtrAdvancer
         ensures direction { (walk result).falls ≡ rev }
         ensures low { (walk result).low ≡ (if rev then 1 else min (P.Inx.number i) (2 ^ 64)) }
-        ensures rising_to { rev ≡ false → (j : ℕ) → IsSome (entry_at self.now j) → j ≤ (walk result).high }
-        ensures falling_from { rev ≡ true → (walk result).high ≡ min (P.Inx.number i) (2 ^ 64 - 1) };
+        ensures rising_to { rev ≡ false → (j : ℕ) → IsSome (entry_at self.now j)
+            → j ≤ (walk result).high }
+        ensures falling_from { rev ≡ true
+            → (walk result).high ≡ min (P.Inx.number i) (2 ^ 64 - 1) };
 
     /// Removes the value that `p` points to, and steps the counter. It answers `InvalidPtr`, and changes nothing,
     /// where `p` points to none.
     fn remove(&mut self, p: P) -> InvalidationResult<T>
-        ensures value { option_map value_of (answer_of result) ≡ value_if (P.generation p) (entry_at self.old (P.index p)) }
-        ensures overflow { IfSome (answer_of result) (λ a. overflowed a ≡ counter_wraps P.Gen.last (counter self.old)) }
-        ensures entries { IfSome (answer_of result) (λ a. (j : ℕ) → entry_at self.new j ≡ without (entry_at self.old) (P.index p) j) }
-        ensures live { IfSome (answer_of result) (λ a. live_count self.new + 1 ≡ live_count self.old) }
-        ensures counter { IfSome (answer_of result) (λ a. counter self.new ≡ option_map (next_generation P.Gen.last) (counter self.old)) }
+        ensures value { option_map value_of (answer_of result)
+            ≡ value_if (P.generation p) (entry_at self.old (P.index p)) }
+        ensures overflow { IfSome (answer_of result)
+            (λ a. overflowed a ≡ counter_wraps P.Gen.last (counter self.old)) }
+        ensures entries { IfSome (answer_of result)
+            (λ a. (j : ℕ) → entry_at self.new j ≡ without (entry_at self.old) (P.index p) j) }
+        ensures live { IfSome (answer_of result)
+            (λ a. live_count self.new + 1 ≡ live_count self.old) }
+        ensures counter { IfSome (answer_of result)
+            (λ a. counter self.new ≡ option_map (next_generation P.Gen.last) (counter self.old)) }
         ensures room { room self.new ≡ room self.old }
         ensures invalid { IfNone (answer_of result) (self.new ≡ self.old) };
 
     /// Removes the entry at an index, and steps the counter. It answers `InvalidPtr`, and changes nothing, where the
     /// index is not live.
     fn remove_inx(&mut self, i: P::Inx) -> InvalidationResult<(P::Gen, T)>
-        ensures value { option_map (λ a. (P.Gen.number (value_of a).0, (value_of a).1)) (answer_of result) ≡ entry_at self.old (P.Inx.number i) }
-        ensures overflow { IfSome (answer_of result) (λ a. overflowed a ≡ counter_wraps P.Gen.last (counter self.old)) }
-        ensures entries { IfSome (answer_of result) (λ a. (j : ℕ) → entry_at self.new j ≡ without (entry_at self.old) (P.Inx.number i) j) }
-        ensures live { IfSome (answer_of result) (λ a. live_count self.new + 1 ≡ live_count self.old) }
-        ensures counter { IfSome (answer_of result) (λ a. counter self.new ≡ option_map (next_generation P.Gen.last) (counter self.old)) }
+        ensures value { option_map (λ a. (P.Gen.number (value_of a).0, (value_of a).1))
+            (answer_of result) ≡ entry_at self.old (P.Inx.number i) }
+        ensures overflow { IfSome (answer_of result)
+            (λ a. overflowed a ≡ counter_wraps P.Gen.last (counter self.old)) }
+        ensures entries { IfSome (answer_of result)
+            (λ a. (j : ℕ) → entry_at self.new j ≡ without (entry_at self.old) (P.Inx.number i) j) }
+        ensures live { IfSome (answer_of result)
+            (λ a. live_count self.new + 1 ≡ live_count self.old) }
+        ensures counter { IfSome (answer_of result)
+            (λ a. counter self.new ≡ option_map (next_generation P.Gen.last) (counter self.old)) }
         ensures room { room self.new ≡ room self.old }
         ensures invalid { IfNone (answer_of result) (self.new ≡ self.old) };
 
@@ -168,13 +189,21 @@ pub trait ArenaTrait<P: Ptr, T: Drop> {
     /// nothing, where `p` points to no entry. The step is the counter's, or that of the entry's own generation in an
     /// arena without a counter.
     fn invalidate(&mut self, p: P) -> InvalidationResult<P>
-        ensures variant { IsSome (answer_of result) ↔ IsSome (value_if (P.generation p) (entry_at self.old (P.index p))) }
-        ensures overflow { IfSome (answer_of result) (λ a. overflowed a ≡ next_wraps P.Gen.last (unwrap_or (counter self.old) (P.generation p))) }
+        ensures variant { IsSome (answer_of result)
+            ↔ IsSome (value_if (P.generation p) (entry_at self.old (P.index p))) }
+        ensures overflow { IfSome (answer_of result)
+            (λ a. overflowed a ≡ next_wraps P.Gen.last
+            (unwrap_or (counter self.old) (P.generation p))) }
         ensures index { IfSome (answer_of result) (λ a. P.index (value_of a) ≡ P.index p) }
-        ensures generation { IfSome (answer_of result) (λ a. P.generation (value_of a) ≡ next_generation P.Gen.last (unwrap_or (counter self.old) (P.generation p))) }
-        ensures entries { IfSome (answer_of result) (λ a. (j : ℕ) → entry_at self.new j ≡ with_generation_at (entry_at self.old) (P.index p) (P.generation (value_of a)) j) }
+        ensures generation { IfSome (answer_of result)
+            (λ a. P.generation (value_of a)
+            ≡ next_generation P.Gen.last (unwrap_or (counter self.old) (P.generation p))) }
+        ensures entries { IfSome (answer_of result)
+            (λ a. (j : ℕ) → entry_at self.new j
+            ≡ with_generation_at (entry_at self.old) (P.index p) (P.generation (value_of a)) j) }
         ensures live { live_count self.new ≡ live_count self.old }
-        ensures counter { IfSome (answer_of result) (λ a. counter self.new ≡ option_map (next_generation P.Gen.last) (counter self.old)) }
+        ensures counter { IfSome (answer_of result)
+            (λ a. counter self.new ≡ option_map (next_generation P.Gen.last) (counter self.old)) }
         ensures room { room self.new ≡ room self.old }
         ensures invalid { IfNone (answer_of result) (self.new ≡ self.old) };
 
@@ -183,7 +212,8 @@ pub trait ArenaTrait<P: Ptr, T: Drop> {
         ensures overflow { overflowed result ≡ counter_wraps P.Gen.last (counter self.old) }
         ensures entries { (j : ℕ) → entry_at self.new j ≡ None }
         ensures live { live_count self.new ≡ 0 }
-        ensures counter { counter self.new ≡ option_map (next_generation P.Gen.last) (counter self.old) }
+        ensures counter { counter self.new
+            ≡ option_map (next_generation P.Gen.last) (counter self.old) }
         ensures room { room self.new ≡ room self.old };
 
     /// Moves the live entries, in the order of their indexes, to the indexes from 1 on, and gives each what `map` makes
@@ -200,24 +230,38 @@ pub trait ArenaTrait<P: Ptr, T: Drop> {
         map: F,
     ) -> InvalidationOption<()>
         requires { F.IsAlwaysCallable map }
-        ensures mapped { IsMapped P.index P.generation F.step map (live_entries self.old) (live_entries self.new) }
+        ensures mapped { IsMapped P.index P.generation F.step map (live_entries self.old)
+            (live_entries self.new) }
         ensures compact { IsCompact (live_entries self.new) }
-        ensures entries { (k : ℕ) → entry_at self.new (k + 1) ≡ option_map entry_of_listed (slice_get (live_entries self.new) k) }
-        ensures generations { list_map generation_of (live_entries self.new) ≡ list_map (λ e. generation_given P.Gen.last reset (counter self.old) (generation_of e)) (live_entries self.old) }
-        ensures overflow { overflowed result ≡ compression_wraps P.Gen.last reset (counter self.old) (list_map generation_of (live_entries self.old)) }
+        ensures entries { (k : ℕ) → entry_at self.new (k + 1)
+            ≡ option_map entry_of_listed (slice_get (live_entries self.new) k) }
+        ensures generations { list_map generation_of (live_entries self.new)
+            ≡ list_map (λ e. generation_given P.Gen.last reset (counter self.old) (generation_of e))
+            (live_entries self.old) }
+        ensures overflow { overflowed result
+            ≡ compression_wraps P.Gen.last reset (counter self.old)
+            (list_map generation_of (live_entries self.old)) }
         ensures live { live_count self.new ≡ live_count self.old }
-        ensures counter { counter self.new ≡ option_map (renewed P.Gen.last reset) (counter self.old) }
+        ensures counter { counter self.new
+            ≡ option_map (renewed P.Gen.last reset) (counter self.old) }
         ensures room { room self.new ≡ room self.old };
 
     /// The same with the values as they are.
     fn compress(&mut self, reset: bool) -> InvalidationOption<()>
-        ensures values { list_map value_of_entry (live_entries self.new) ≡ list_map value_of_entry (live_entries self.old) }
+        ensures values { list_map value_of_entry (live_entries self.new)
+            ≡ list_map value_of_entry (live_entries self.old) }
         ensures compact { IsCompact (live_entries self.new) }
-        ensures entries { (k : ℕ) → entry_at self.new (k + 1) ≡ option_map entry_of_listed (slice_get (live_entries self.new) k) }
-        ensures generations { list_map generation_of (live_entries self.new) ≡ list_map (λ e. generation_given P.Gen.last reset (counter self.old) (generation_of e)) (live_entries self.old) }
-        ensures overflow { overflowed result ≡ compression_wraps P.Gen.last reset (counter self.old) (list_map generation_of (live_entries self.old)) }
+        ensures entries { (k : ℕ) → entry_at self.new (k + 1)
+            ≡ option_map entry_of_listed (slice_get (live_entries self.new) k) }
+        ensures generations { list_map generation_of (live_entries self.new)
+            ≡ list_map (λ e. generation_given P.Gen.last reset (counter self.old) (generation_of e))
+            (live_entries self.old) }
+        ensures overflow { overflowed result
+            ≡ compression_wraps P.Gen.last reset (counter self.old)
+            (list_map generation_of (live_entries self.old)) }
         ensures live { live_count self.new ≡ live_count self.old }
-        ensures counter { counter self.new ≡ option_map (renewed P.Gen.last reset) (counter self.old) }
+        ensures counter { counter self.new
+            ≡ option_map (renewed P.Gen.last reset) (counter self.old) }
         ensures room { room self.new ≡ room self.old };
 
     ghost none_at_zero: { (s : Self) → entry_at s 0 ≡ None };
@@ -225,19 +269,23 @@ pub trait ArenaTrait<P: Ptr, T: Drop> {
     // What a step of an advancer gives and leaves.
     ghost advances: { (before : Self.PtrAdvancer) (s : Self) (given : Option P) (after : Self.PtrAdvancer)
         → Self.PtrAdvancer.advance_gives before s given after
-        → Steps (entry_at s) (walk before) (option_map (λ p. (P.index p, P.generation p)) given) (walk after) };
+        → Steps (entry_at s) (walk before) (option_map (λ p. (P.index p, P.generation p)) given)
+        (walk after) };
 
     // The list has exactly what stands at the indexes, each index once.
     ghost entry_listed: { (s : Self) (i : ℕ) → entry_at s i ≡ look_up (live_entries s) i };
 
-    ghost live_entries_increase: { (s : Self) → IsStrictlyIncreasing (list_map index_of (live_entries s)) };
+    ghost live_entries_increase: { (s : Self)
+        → IsStrictlyIncreasing (list_map index_of (live_entries s)) };
 
     ghost live_entries_counted: { (s : Self) → length (live_entries s) ≡ live_count s };
 
     // A write of a value changes nothing else.
-    ghost entry_with_value: { (s : Self) (i : ℕ) (t : T) (j : ℕ) → entry_at (with_value s i t) j ≡ with_value_at (entry_at s) i t j };
+    ghost entry_with_value: { (s : Self) (i : ℕ) (t : T) (j : ℕ)
+        → entry_at (with_value s i t) j ≡ with_value_at (entry_at s) i t j };
 
-    ghost counter_with_value: { (s : Self) (i : ℕ) (t : T) → counter (with_value s i t) ≡ counter s };
+    ghost counter_with_value: { (s : Self) (i : ℕ) (t : T)
+        → counter (with_value s i t) ≡ counter s };
 
     ghost room_with_value: { (s : Self) (i : ℕ) (t : T) → room (with_value s i t) ≡ room s };
 
@@ -250,7 +298,8 @@ pub trait ArenaTrait<P: Ptr, T: Drop> {
 
     /// Whether `p` points to a live entry.
     final fn contains(&self, p: P) -> bool
-        ensures { IsTrue result ↔ IsSome (value_if (P.generation p) (entry_at self.now (P.index p))) }
+        ensures { IsTrue result ↔ IsSome
+            (value_if (P.generation p) (entry_at self.now (P.index p))) }
     {
         self.get(p).is_some()
     }
@@ -268,8 +317,10 @@ pub trait ArenaTrait<P: Ptr, T: Drop> {
 
     /// The value that `p` points to for writing, if it is live.
     final fn get_mut(&mut self, p: P) -> Option<&mut T>
-        ensures* writes_back { sem 𝓛 (LendsIf Self.row T.row self.entry result (with_value self.old (P.index p)) self.old) }
-        ensures value { option_copied_mut result ≡ value_if (P.generation p) (entry_at self.old (P.index p)) }
+        ensures* writes_back { sem 𝓛 (LendsIf Self.row T.row self.entry result
+            (with_value self.old (P.index p)) self.old) }
+        ensures value { option_copied_mut result
+            ≡ value_if (P.generation p) (entry_at self.old (P.index p)) }
     {
         if self.contains(p) {
             Some(self.get_inx_mut_unwrap(p.inx()))

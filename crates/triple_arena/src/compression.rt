@@ -24,11 +24,15 @@ impl<P: Ptr, T: Drop, S: NonZeroInxGenericStack<ArenaSlot<P, T>>> Arena<P, T, S>
         map: F,
     ) -> InvalidationOption<()>
         requires { F.IsAlwaysCallable map }
-        ensures content { self.new ≡ compacted (renewed P.Gen.last reset self.old.counter) (live_values self.new) self.old }
-        ensures mapped { IsMapped P.index P.generation F.step map (live_entries self.old) (live_entries self.new) }
+        ensures content { self.new ≡ compacted (renewed P.Gen.last reset self.old.counter)
+            (live_values self.new) self.old }
+        ensures mapped { IsMapped P.index P.generation F.step map (live_entries self.old)
+            (live_entries self.new) }
         ensures compact { IsCompact (live_entries self.new) }
-        ensures entries { (k : ℕ) → entry_at self.new (k + 1) ≡ option_map entry_of_listed (slice_get (live_entries self.new) k) }
-        ensures generations { list_map generation_of (live_entries self.new) ≡ list_map (λ e. renewed P.Gen.last reset self.old.counter) (live_entries self.old) }
+        ensures entries { (k : ℕ) → entry_at self.new (k + 1)
+            ≡ option_map entry_of_listed (slice_get (live_entries self.new) k) }
+        ensures generations { list_map generation_of (live_entries self.new)
+            ≡ list_map (λ e. renewed P.Gen.last reset self.old.counter) (live_entries self.old) }
         ensures overflow { overflowed result ≡ renewal_wraps P.Gen.last reset self.old.counter }
         ensures live { live_count self.new ≡ live_count self.old }
         ensures formed { IsWellFormed self.new }
@@ -62,8 +66,10 @@ fn take_entry<P: Ptr, T: Drop, S: NonZeroInxGenericStack<ArenaSlot<P, T>>>(
     i: NonZeroUsize,
 ) -> Option<(P::Gen, T)>
     requires { non_zero_usize_get i ≤ length (S.items slots.old) }
-    ensures entry { Some (option_map (λ e. (P.Gen.number e.0, e.1)) result) ≡ slice_get (list_map entry_of (S.items slots.old)) (non_zero_usize_get i - 1) }
-    ensures slots { list_map entry_of (S.items slots.new) ≡ slice_set (list_map entry_of (S.items slots.old)) (non_zero_usize_get i - 1) None }
+    ensures entry { Some (option_map (λ e. (P.Gen.number e.0, e.1)) result)
+        ≡ slice_get (list_map entry_of (S.items slots.old)) (non_zero_usize_get i - 1) }
+    ensures slots { list_map entry_of (S.items slots.new)
+        ≡ slice_set (list_map entry_of (S.items slots.old)) (non_zero_usize_get i - 1) None }
     ensures room { S.room slots.new ≡ S.room slots.old }
 {
     mem::replace(slots.item_mut(i), ArenaSlot::free(None)).into_live()
@@ -77,7 +83,9 @@ fn put_entry<P: Ptr, T: Drop, S: NonZeroInxGenericStack<ArenaSlot<P, T>>>(
     value: T,
 )
     requires { non_zero_usize_get i ≤ length (S.items slots.old) }
-    ensures slots { list_map entry_of (S.items slots.new) ≡ slice_set (list_map entry_of (S.items slots.old)) (non_zero_usize_get i - 1) (Some (P.Gen.number generation, value)) }
+    ensures slots { list_map entry_of (S.items slots.new)
+        ≡ slice_set (list_map entry_of (S.items slots.old)) (non_zero_usize_get i - 1)
+        (Some (P.Gen.number generation, value)) }
     ensures room { S.room slots.new ≡ S.room slots.old }
 {
     *slots.item_mut(i) = ArenaSlot::used(generation, value);
@@ -108,7 +116,8 @@ where
     F: FnMut(P, T, P) -> T,
     requires fits { length (S.items slots.old) ≤ P.Inx.greatest }
     requires callable { F.IsAlwaysCallable map }
-    ensures moved { Compacts P.index P.generation F.step map (P.Gen.number generation) (list_map entry_of (S.items slots.old)) (list_map entry_of (S.items slots.new)) }
+    ensures moved { Compacts P.index P.generation F.step map (P.Gen.number generation)
+        (list_map entry_of (S.items slots.old)) (list_map entry_of (S.items slots.new)) }
     ensures room { S.room slots.new ≡ S.room slots.old }
 {
     let mut live = 0;

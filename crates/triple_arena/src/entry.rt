@@ -58,9 +58,11 @@ impl<'a, P: Ptr, T: Drop, S: NonZeroInxGenericStack<ArenaSlot<P, T>>> ArenaInser
 
         // `self.exit.0.now` is the arena as it is left.
         ensures content { self.exit.0.now ≡ inserted (entry_arena self.entry) t }
-        ensures vacant { entry_at (entry_arena self.entry) (next_index (entry_arena self.entry)) ≡ None }
+        ensures vacant { entry_at (entry_arena self.entry) (next_index (entry_arena self.entry))
+            ≡ None }
         ensures entries { (j : ℕ) → entry_at self.exit.0.now j
-            ≡ with_entry (entry_at (entry_arena self.entry)) (P.index result) (P.generation result, t) j }
+            ≡ with_entry (entry_at (entry_arena self.entry)) (P.index result)
+            (P.generation result, t) j }
         ensures live { live_count self.exit.0.now ≡ live_count (entry_arena self.entry) + 1 }
         ensures counter { self.exit.0.now.counter ≡ (entry_arena self.entry).counter }
         ensures room { self.exit.0.now.room ≡ (entry_arena self.entry).room }

@@ -96,7 +96,8 @@ impl<P: Ptr, T: Drop, S: NonZeroInxGenericStack<ArenaSlot<P, T>> + Drop> ArenaIn
     }
 
     fn insert_reallocating(&mut self, t: T) -> Result<P, ReallocationError>
-        ensures content { live_of self.old < room_for self.old → OnOk result (self.new ≡ inserted self.old t) }
+        ensures content { live_of self.old < room_for self.old
+            → OnOk result (self.new ≡ inserted self.old t) }
         ensures content_grown { live_of self.old ≡ room_for self.old
             → OnOk result (self.new ≡ inserted (in_room self.old (grown self.old.room)) t) }
         ensures index { IfOk result (λ p. P.index p ≡ next_of self.old) }
@@ -121,7 +122,8 @@ impl<P: Ptr, T: Drop, S: NonZeroInxGenericStack<ArenaSlot<P, T>> + Drop> ArenaIn
     }
 
     fn insert(&mut self, t: T) -> Result<P, ReallocationError>
-        ensures content { live_of self.old < room_for self.old → OnOk result (self.new ≡ inserted self.old t) }
+        ensures content { live_of self.old < room_for self.old
+            → OnOk result (self.new ≡ inserted self.old t) }
         ensures content_grown { live_of self.old ≡ room_for self.old
             → OnOk result (self.new ≡ inserted (in_room self.old (grown self.old.room)) t) }
         ensures index { IfOk result (λ p. P.index p ≡ next_of self.old) }

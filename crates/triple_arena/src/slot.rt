@@ -190,12 +190,16 @@ pub(crate) fn exchange_values<P: Ptr, T: Drop, S: NonZeroInxGenericStack<ArenaSl
     requires i_in_bounds { non_zero_usize_get i ≤ length (S.items slots.old) }
     requires j_in_bounds { non_zero_usize_get j ≤ length (S.items slots.old) }
     requires two { non_zero_usize_get i ≢ non_zero_usize_get j }
-    requires i_is_used { (x : Slot T) → Some x ≡ item_at (S.items slots.old) (non_zero_usize_get i) → IsSome (value_of x) }
-    requires j_is_used { (y : Slot T) → Some y ≡ item_at (S.items slots.old) (non_zero_usize_get j) → IsSome (value_of y) }
+    requires i_is_used { (x : Slot T) → Some x ≡ item_at (S.items slots.old) (non_zero_usize_get i)
+        → IsSome (value_of x) }
+    requires j_is_used { (y : Slot T) → Some y ≡ item_at (S.items slots.old) (non_zero_usize_get j)
+        → IsSome (value_of y) }
     ensures items { (x y : Slot T)
         → Some x ≡ item_at (S.items slots.old) (non_zero_usize_get i)
         → Some y ≡ item_at (S.items slots.old) (non_zero_usize_get j)
-        → S.items slots.new ≡ with_item (with_item (S.items slots.old) (non_zero_usize_get i) (with_value_of x y)) (non_zero_usize_get j) (with_value_of y x) }
+        → S.items slots.new ≡ with_item
+        (with_item (S.items slots.old) (non_zero_usize_get i) (with_value_of x y))
+        (non_zero_usize_get j) (with_value_of y x) }
     ensures room { S.room slots.new ≡ S.room slots.old }
 {
     let (first, second) = get_disjoint_mut(slots.as_mut_slice(), i, j);

@@ -1,5 +1,5 @@
 -- What a contract sees of the nodes.
-use Rattle.std.specs.Prelude.{◌≡◌, ℕ, Option, Some, None, IsSome, IfSome}
+use Rattle.std.specs.Prelude.{ℕ, Option}
 use Rattle.std.specs.Option.{option_map}
 use Rattle.triple_arena.specs.Content.{Content, get}
 use Rattle.triple_arena_user.specs.Node.{NodeView}
@@ -13,7 +13,3 @@ module _ {T : Type 0} where
   -- the value of the node that a pointer finds
   abbrev pub value_at : Nodes T → ℕ → ℕ → Option T
   value_at n index g = option_map (λ node. node.value) (get n.arena index g)
-
-  -- the top one is live
-  abbrev pub TopIsLive : Content (NodeView T) → Option (ℕ × ℕ) → Type 0
-  TopIsLive c top = IfSome top (λ p. IsSome (get c p.0 p.1))

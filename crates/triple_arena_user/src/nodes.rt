@@ -1,7 +1,7 @@
 //! Nodes in an arena.
-ghost use Rattle.std.specs.Prelude.{◌≡◌, ℕ, ◌+◌, ◌<◌, ◌↔◌, [], Some, None, IsOk, IsTrue, IsSome, IfOk, IfSome, OnOk, OnErr, option_copied};
-ghost use Rattle.triple_arena_ptr.specs.InvalidationResult.{answer_of};
-ghost use Rattle.triple_arena.specs.Content.{live_count, room_for, get};
+ghost use Rattle.std.specs.Prelude.{◌≡◌, ◌≢◌, ℕ, ◌+◌, ◌<◌, ◌↔◌, Some, None, IsOk, IsTrue, IsSome, IsNone, IfOk, OnOk, OnErr, option_copied};
+ghost use Rattle.triple_arena.specs.Content.{entry_at, live_count, room_for};
+ghost use Rattle.triple_arena.specs.Entries.{with_entry, without};
 ghost use Rattle.triple_arena_user.specs.Nodes.{value_at};
 
 use std::marker::Model;
@@ -22,7 +22,11 @@ impl<P: Ptr, T> Model for Node<P, T> {
 
     ghost Value = { NodeView T };
 
-    ghost view = { λ n. record { below = option_map (λ p. (P.index p, P.generation p)) n.below; value = n.value } };
+    ghost view = { λ n. record {
+      below = option_map
+          (λ p. (P.index p, P.generation p)) n.below;
+      value = n.value;
+    } };
 }
 
 /// Nodes, and the top one.
@@ -34,12 +38,16 @@ pub struct Nodes<P: Ptr, T: Drop, S: NonZeroInxGenericStack<ArenaSlot<P, Node<P,
 
 impl<P: Ptr, T: Drop, S: NonZeroInxGenericStack<ArenaSlot<P, Node<P, T>>>> Model
     for Nodes<P, T, S> {
-    ghost use Rattle.triple_arena_user.specs.Nodes.{Nodes as View, TopIsLive};
+    ghost use Rattle.triple_arena_user.specs.Nodes.{Nodes as View};
     ghost use Rattle.std.specs.Option.{option_map};
 
     ghost Value = { View T };
 
-    ghost view = { λ n. record { arena = n.arena; top = option_map (λ p. (P.index p, P.generation p)) n.top } };
+    ghost view = { λ n. record {
+      arena = n.arena;
+      top = option_map
+          (λ p. (P.index p, P.generation p)) n.top;
+    } };
 }
 
 impl<P: Ptr, T: Drop, S: NonZeroInxGenericStack<ArenaSlot<P, Node<P, T>>> + Drop> Nodes<P, T, S> {
@@ -67,7 +75,11 @@ impl<P: Ptr, T: Drop, S: NonZeroInxGenericStack<ArenaSlot<P, Node<P, T>>> + Drop
     /// Stores `value` in a node on top of the others.
     pub fn push(&mut self, value: T) -> Result<P, NotWithinCapacityError>
         ensures variant { IsOk result ↔ (live_count self.old.arena < room_for self.old.arena) }
-        ensures stored { IfOk result (λ p. value_at self.new (P.index p) (P.generation p) ≡ Some value) }
+        ensures stored { IfOk result (λ p. value_at self.new (P.index p) (P.generation p)
+            ≡ Some value) }
+        ensures nodes { IfOk result (λ p. (j : ℕ) → entry_at self.new.arena j
+            ≡ with_entry (entry_at self.old.arena) (P.index p)
+            (P.generation p, record { below = self.old.top; value = value }) j) }
         ensures top { IfOk result (λ p. self.new.top ≡ Some (P.index p, P.generation p)) }
         ensures count { OnOk result (live_count self.new.arena ≡ live_count self.old.arena + 1) }
         ensures err { OnErr result (self.new ≡ self.old) }
@@ -84,7 +96,10 @@ impl<P: Ptr, T: Drop, S: NonZeroInxGenericStack<ArenaSlot<P, Node<P, T>>> + Drop
     /// Removes the node at `p`, and forgets the top.
     pub fn remove(&mut self, p: P) -> Option<T>
         ensures value { result ≡ value_at self.old (P.index p) (P.generation p) }
-        ensures gone { IsSome result → value_at self.new (P.index p) (P.generation p) ≡ None }
+        ensures nodes { IsSome result → (j : ℕ) → entry_at self.new.arena j
+            ≡ without (entry_at self.old.arena) (P.index p) j }
+        ensures top { IsSome result → self.new.top ≡ None }
+        ensures none { IsNone result → self.new ≡ self.old }
     {
         match self.arena.remove(p).allow() {
             Some(node) => {
@@ -99,7 +114,11 @@ impl<P: Ptr, T: Drop, S: NonZeroInxGenericStack<ArenaSlot<P, Node<P, T>>> + Drop
     /// Changes the value at `p`, and says whether there was one.
     pub fn set(&mut self, p: P, value: T) -> bool
         ensures variant { IsTrue result ↔ IsSome (value_at self.old (P.index p) (P.generation p)) }
-        ensures written { IsTrue result → value_at self.new (P.index p) (P.generation p) ≡ Some value }
+        ensures written { IsTrue result
+            → value_at self.new (P.index p) (P.generation p) ≡ Some value }
+        ensures others { (j : ℕ) → j ≢ P.index p
+            → entry_at self.new.arena j ≡ entry_at self.old.arena j }
+        ensures top { self.new.top ≡ self.old.top }
     {
         match self.arena.get_mut(p) {
             Some(node) => {

@@ -20,7 +20,8 @@ fn remove_each<P: Ptr, T: Drop, A: ArenaTrait<P, T>>(arena: &mut A)
 
 // The last pointer that an advancer comes to, over an arena that stays as it is.
 fn last_by_steps<P: Ptr, T: Drop, A: ArenaTrait<P, T>>(arena: &A) -> Option<P>
-    ensures live { IfSome result (λ p. generation_at (A.entry_at arena.now) (P.index p) ≡ Some (P.generation p)) }
+    ensures live { IfSome result (λ p. generation_at (A.entry_at arena.now) (P.index p)
+        ≡ Some (P.generation p)) }
     ensures last { IfSome result (λ p. (j : ℕ) → P.index p < j → A.entry_at arena.now j ≡ None) }
     ensures none { IfNone result ((j : ℕ) → A.entry_at arena.now j ≡ None) }
 {

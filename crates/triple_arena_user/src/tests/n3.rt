@@ -134,7 +134,8 @@ impl Ptr for N3 {
 }
 
 impl fmt::Debug for N3 {
-    ghost debug_output = { λ p. Some (pointer_text (codes "N3") (Some 3) (non_zero_u8_get p.inx) (non_zero_u8_get p.generation)) };
+    ghost debug_output = { λ p. Some
+        (pointer_text (codes "N3") (Some 3) (non_zero_u8_get p.inx) (non_zero_u8_get p.generation)) };
 
     fn fmt<W: fmt::Write>(&self, f: &mut fmt::Formatter<W>) -> fmt::Result {
         fmt_pointer(Self::name(), self.inx, self.generation, f)
