@@ -112,6 +112,12 @@ module _ {T : Type 0} where
             | inr other ↦ rw (ne_eqb (suc k) i (λ at. other.1 (omega (arith, at)))) (take_other c.slots (i - 1) k e other.1)
           ]
 
+  -- each live index is within the capacity
+  pub live-within : (c : Content T) → IsWellFormed c → (j : ℕ) → IsSome (entry_at c j) → j ≤ room_for c
+  live-within c formed j some =
+      let l = live_of c j some in
+      omega (arith, l.positive, l.within, formed.fits)
+
   -- the entries are those of the slots
   pub entry-same_slots : (c d : Content T) → c.slots ≡ d.slots → (j : ℕ) → entry_at c j ≡ entry_at d j
   entry-same_slots c d same zero = refl

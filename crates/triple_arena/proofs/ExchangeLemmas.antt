@@ -5,7 +5,7 @@ use Rattle.std.proofs.lemmas.Bool.Decides.{eqb_tells}
 use Rattle.std.proofs.lemmas.List.Sums.{sum_by-set}
 use Rattle.triple_arena.specs.Entries.{with_values_exchanged}
 use Rattle.triple_arena.specs.Content.{Content, entry_at, live_count, with_value, with_value_from, with_exchange}
-use Rattle.triple_arena.specs.ContentLaws.{live_of, entry-with_value}
+use Rattle.triple_arena.specs.ContentLaws.{live_of, entry-with_value, live-with_value}
 use Rattle.triple_arena_stack.specs.Room.{Room}
 use Rattle.triple_arena_stack.specs.Stack.{item_at, with_item}
 use Rattle.triple_arena.specs.Layout.{content_of, IsSound}
@@ -13,18 +13,6 @@ use Rattle.triple_arena.specs.Slot.{Slot, used, value_of, with_value_of}
 use Rattle.triple_arena.proofs.FreeListLemmas.{the_some, Becomes, finds, rewritten}
 
 module _ {T : Type 0} where
-  -- a write of a value keeps the number of live entries
-  live-with_value : (c : Content T) (i : ℕ) (t : T) → live_count (with_value c i t) ≡ live_count c
-  live-with_value c i t = by_entry (entry_at c i) refl
-    where
-      by_entry : (o : Option (ℕ × T)) → entry_at c i ≡ o → live_count (with_value c i t) ≡ live_count c
-      by_entry None e = rw e refl
-      by_entry (Some x) e =
-          let some : IsSome (entry_at c i) = rw e refl in
-          let l = live_of c i some in
-          let counted = rw l.read at (sum_by-set (λ o. cond (is_some o) 1 0) c.slots (i - 1) (Some (x.0, t)) None l.within) in
-          rw e (omega (arith, counted))
-
   -- an exchange is a write at each index
   exchange-is : (c : Content T) (i j : ℕ) (x y : ℕ × T) → entry_at c i ≡ Some x → entry_at c j ≡ Some y → with_exchange c i j ≡ with_value (with_value c i y.1) j x.1
   exchange-is c i j x y at_i at_j =

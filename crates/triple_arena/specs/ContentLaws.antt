@@ -1,10 +1,11 @@
 -- The laws of a write of a value, which each arena proves.
-use Rattle.std.proofs.Common.{◌≡◌, ◌≢◌, ◌==◌, if◌then◌else◌, ℕ, zero, suc, ◌-◌, ◌<◌, List, [], ◌∷◌, length, get_or, set, Option, Some, None, IsSome, true≢false, inl, inr, refl, sym, ap, subst, ◌∙◌, arith}
+use Rattle.std.proofs.Common.{◌≡◌, ◌≢◌, ◌==◌, if◌then◌else◌, ℕ, zero, suc, ◌-◌, ◌<◌, List, [], ◌∷◌, length, get_or, set, cond, Option, Some, None, IsSome, is_some, true≢false, inl, inr, refl, sym, ap, subst, ◌∙◌, arith}
 use Rattle.std.proofs.lemmas.Bool.{ne_eqb}
 use Rattle.std.proofs.lemmas.Bool.Decides.{eqb_tells}
-use Rattle.std.proofs.lemmas.List.{get_or-set_same, get_or-set_other}
+use Rattle.std.proofs.lemmas.List.{get_or-set_same, get_or-set_other, length-set}
+use Rattle.std.proofs.lemmas.List.Sums.{sum_by-set}
 use Rattle.triple_arena.specs.Entries.{with_value_at}
-use Rattle.triple_arena.specs.Content.{Content, entry_at, with_value}
+use Rattle.triple_arena.specs.Content.{Content, entry_at, live_count, with_value}
 
 module _ {T : Type 0} where
   -- the entry at an index from 1 on
@@ -69,7 +70,18 @@ module _ {T : Type 0} where
           let l = live_of c i some in
           rw e (entry-set c (record c { slots = set c.slots (i - 1) (Some (x.0, t)) }) i j (Some (x.0, t)) l.positive l.within refl)
 
-  -- a write keeps the counter, the room and the number of live entries
+  -- a write keeps the number of live entries, the counter, the room, the free indexes and the number of slots
+  pub live-with_value : (c : Content T) (i : ℕ) (t : T) → live_count (with_value c i t) ≡ live_count c
+  live-with_value c i t = by_entry (entry_at c i) refl
+    where
+      by_entry : (o : Option (ℕ × T)) → entry_at c i ≡ o → live_count (with_value c i t) ≡ live_count c
+      by_entry None e = rw e refl
+      by_entry (Some x) e =
+          let some : IsSome (entry_at c i) = rw e refl in
+          let l = live_of c i some in
+          let counted = rw l.read at (sum_by-set (λ o. cond (is_some o) 1 0) c.slots (i - 1) (Some (x.0, t)) None l.within) in
+          rw e (omega (arith, counted))
+
   pub counter-with_value : (c : Content T) (i : ℕ) (t : T) → (with_value c i t).counter ≡ c.counter
   counter-with_value c i t = by_entry (entry_at c i) refl
     where
@@ -84,5 +96,19 @@ module _ {T : Type 0} where
       by_entry None e = rw e refl
       by_entry (Some x) e = rw e refl
 
-  pub counted-with_value : (c : Content T) (i : ℕ) (t : T) → Some (with_value c i t).counter ≡ Some c.counter
-  counted-with_value c i t = ap Some (counter-with_value c i t)
+  pub free-with_value : (c : Content T) (i : ℕ) (t : T) → (with_value c i t).free ≡ c.free
+  free-with_value c i t = by_entry (entry_at c i) refl
+    where
+      by_entry : (o : Option (ℕ × T)) → entry_at c i ≡ o → (with_value c i t).free ≡ c.free
+      by_entry None e = rw e refl
+      by_entry (Some x) e = rw e refl
+
+  pub slots-with_value : (c : Content T) (i : ℕ) (t : T) → length (with_value c i t).slots ≡ length c.slots
+  slots-with_value c i t = by_entry (entry_at c i) refl
+    where
+      by_entry : (o : Option (ℕ × T)) → entry_at c i ≡ o → length (with_value c i t).slots ≡ length c.slots
+      by_entry None e = rw e refl
+      by_entry (Some x) e = rw e (length-set c.slots (i - 1) (Some (x.0, t)))
+
+  pub some_counter-with_value : (c : Content T) (i : ℕ) (t : T) → Some (with_value c i t).counter ≡ Some c.counter
+  some_counter-with_value c i t = ap Some (counter-with_value c i t)

@@ -105,6 +105,7 @@ impl<P: Ptr, T: Drop, S: NonZeroInxGenericStack<ArenaSlot<P, T>>> Arena<P, T, S>
     pub(crate) fn room_for(&self) -> usize
         ensures value { result ≡ room_for self.now }
         ensures can_double { self.now.room.limit ≡ None → result < 2 ^ 63 }
+        ensures bounded { result ≤ max_index_of P.Inx.greatest }
         ensures formed { IsWellFormed self.now }
     {
         self.slots.capacity().min(max_index::<P>())

@@ -3,13 +3,14 @@ ghost use Rattle.std.specs.Prelude.{◌≡◌, ℕ, ◌+◌, ◌<◌, ◌≤◌,
 ghost use Rattle.std.specs.Borrow.{sem, Lends};
 ghost use Rattle.std.specs.Option.{option_map};
 ghost use Rattle.triple_arena_ptr.specs.Generation.{second_generation, next_generation, next_wraps};
+ghost use Rattle.triple_arena_ptr.specs.Index.{max_index_of};
 ghost use Rattle.triple_arena_ptr.specs.InvalidationOption.{value_of, overflowed};
 ghost use Rattle.triple_arena_ptr.specs.InvalidationResult.{answer_of};
 ghost use Rattle.triple_arena_stack.specs.Room.{capacity as capacity_of, with_reserved, IsBeyond};
 ghost use Rattle.triple_arena.specs.ArenaRoom.{room_of};
 ghost use Rattle.triple_arena.specs.Entries.{without, with_generation_at};
 ghost use Rattle.triple_arena.specs.Content.{get, entry_at as entry_of_index, live_count as live_of, room_for, removed, invalidated, cleared, with_value as with_value_of, in_room, IsWellFormed};
-ghost use Rattle.triple_arena.specs.ContentLaws.{entry-with_value, counted-with_value, room-with_value};
+ghost use Rattle.triple_arena.specs.ContentLaws.{entry-with_value, live-with_value, some_counter-with_value, room-with_value};
 ghost use Rattle.triple_arena.specs.LiveEntries.{live_entries as live_entries_of, entry-listed, live_entries-increase, live_entries-length};
 ghost use Rattle.triple_arena.specs.Compression.{renewed, renewal_wraps, entry_of_listed, generation_of, live_values, compacted, IsCompact};
 
@@ -41,6 +42,8 @@ impl<P: Ptr, T: Drop, S: NonZeroInxGenericStack<ArenaSlot<P, T>> + Drop> ArenaTr
 
     ghost walk = { λ a. a };
 
+    ghost counter_if_counts = { λ c. refl };
+
     ghost none_at_zero = { λ c. refl };
 
     ghost advances = { λ before c given after step. step };
@@ -49,7 +52,9 @@ impl<P: Ptr, T: Drop, S: NonZeroInxGenericStack<ArenaSlot<P, T>> + Drop> ArenaTr
 
     ghost entry_with_value = { entry-with_value };
 
-    ghost counter_with_value = { counted-with_value };
+    ghost live_with_value = { live-with_value };
+
+    ghost counter_with_value = { some_counter-with_value };
 
     ghost room_with_value = { room-with_value };
 
@@ -93,6 +98,8 @@ impl<P: Ptr, T: Drop, S: NonZeroInxGenericStack<ArenaSlot<P, T>> + Drop> ArenaTr
     fn capacity(&self) -> usize
         ensures value { result ≡ room_for self.now }
         ensures holds_all { live_of self.now ≤ result }
+        ensures indexes { (j : ℕ) → IsSome (entry_of_index self.now j) → j ≤ result }
+        ensures bounded { result ≤ max_index_of P.Inx.greatest }
         ensures formed { IsWellFormed self.now }
     {
         self.room_for()

@@ -1,8 +1,9 @@
 //! What every arena does.
-ghost use Rattle.std.specs.Prelude.{◌≡◌, ◌≢◌, ℕ, ◌+◌, ◌-◌, ◌*◌, ◌^◌, ◌<◌, ◌≤◌, ◌↔◌, Bool, Some, None, IsTrue, IsOk, IsSome, IfSome, IfNone, IfOk, OnOk, OnErr, IsErrOf, Option, option_copied, unwrap_or, true, false, min, if◌then◌else◌, List, map as list_map, length, slice_get};
+ghost use Rattle.std.specs.Prelude.{◌≡◌, ◌≢◌, ℕ, ◌+◌, ◌-◌, ◌*◌, ◌^◌, ◌<◌, ◌≤◌, ◌↔◌, Bool, Some, None, IsTrue, IsOk, IsSome, IfSome, IfNone, IfOk, OnOk, OnErr, IsErrOf, Option, is_some, option_copied, unwrap_or, true, false, min, if◌then◌else◌, List, map as list_map, length, slice_get};
 ghost use Rattle.std.specs.Borrow.{sem, Lends, LendsIf};
 ghost use Rattle.std.specs.Option.{option_map, option_copied_mut};
 ghost use Rattle.triple_arena_ptr.specs.Generation.{second_generation, next_generation, next_wraps};
+ghost use Rattle.triple_arena_ptr.specs.Index.{max_index_of};
 ghost use Rattle.triple_arena_ptr.specs.InvalidationOption.{value_of, overflowed};
 ghost use Rattle.triple_arena_ptr.specs.InvalidationResult.{answer_of};
 ghost use Rattle.triple_arena_stack.specs.Room.{Room, capacity as capacity_of, with_reserved, IsBeyond};
@@ -73,7 +74,11 @@ pub trait ArenaTrait<P: Ptr, T: Drop> {
     /// How many entries fit with no growth.
     fn capacity(&self) -> usize
         ensures value { result ≡ capacity_of (room self.now) }
-        ensures holds_all { live_count self.now ≤ result };
+        ensures holds_all { live_count self.now ≤ result }
+
+        // Each live index is within it, and is one of the pointers' indexes.
+        ensures indexes { (j : ℕ) → IsSome (entry_at self.now j) → j ≤ result }
+        ensures bounded { result ≤ max_index_of P.Inx.greatest };
 
     /// The capacity that no growth passes, if there is one.
     fn max_capacity(&self) -> Option<usize>
@@ -264,6 +269,8 @@ pub trait ArenaTrait<P: Ptr, T: Drop> {
             ≡ option_map (renewed P.Gen.last reset) (counter self.old) }
         ensures room { room self.new ≡ room self.old };
 
+    ghost counter_if_counts: { (s : Self) → is_some (counter s) ≡ counts };
+
     ghost none_at_zero: { (s : Self) → entry_at s 0 ≡ None };
 
     // What a step of an advancer gives and leaves.
@@ -283,6 +290,8 @@ pub trait ArenaTrait<P: Ptr, T: Drop> {
     // A write of a value changes nothing else.
     ghost entry_with_value: { (s : Self) (i : ℕ) (t : T) (j : ℕ)
         → entry_at (with_value s i t) j ≡ with_value_at (entry_at s) i t j };
+
+    ghost live_with_value: { (s : Self) (i : ℕ) (t : T) → live_count (with_value s i t) ≡ live_count s };
 
     ghost counter_with_value: { (s : Self) (i : ℕ) (t : T)
         → counter (with_value s i t) ≡ counter s };

@@ -207,6 +207,8 @@ pub(crate) fn exchange_values<P: Ptr, T: Drop, S: NonZeroInxGenericStack<ArenaSl
 }
 
 impl<P: Ptr, T> Default for ArenaSlot<P, T> {
+    ghost is_default = { λ s. s ≡ free None };
+
     /// A free slot without a link.
     fn default() -> Self {
         ArenaSlot::free(None)

@@ -1,5 +1,5 @@
 //! Nodes in an arena.
-ghost use Rattle.std.specs.Prelude.{◌≡◌, ◌≢◌, ℕ, ◌+◌, ◌<◌, ◌↔◌, Some, None, IsOk, IsTrue, IsSome, IsNone, IfOk, OnOk, OnErr, option_copied};
+ghost use Rattle.std.specs.Prelude.{false, ◌≡◌, ◌≢◌, ℕ, ◌+◌, ◌<◌, ◌↔◌, Some, None, IsOk, IsTrue, IsSome, IsNone, IfOk, OnOk, OnErr, option_copied};
 ghost use Rattle.triple_arena.specs.Content.{entry_at, live_count, room_for};
 ghost use Rattle.triple_arena.specs.Entries.{with_entry, without};
 ghost use Rattle.triple_arena_user.specs.Nodes.{value_at};
@@ -99,6 +99,8 @@ impl<P: Ptr, T: Drop, S: NonZeroInxGenericStack<ArenaSlot<P, Node<P, T>>> + Drop
         ensures nodes { IsSome result → (j : ℕ) → entry_at self.new.arena j
             ≡ without (entry_at self.old.arena) (P.index p) j }
         ensures top { IsSome result → self.new.top ≡ None }
+        ensures count { IsSome result
+            → live_count self.new.arena + 1 ≡ live_count self.old.arena }
         ensures none { IsNone result → self.new ≡ self.old }
     {
         match self.arena.remove(p).allow() {
@@ -116,6 +118,7 @@ impl<P: Ptr, T: Drop, S: NonZeroInxGenericStack<ArenaSlot<P, Node<P, T>>> + Drop
         ensures variant { IsTrue result ↔ IsSome (value_at self.old (P.index p) (P.generation p)) }
         ensures written { IsTrue result
             → value_at self.new (P.index p) (P.generation p) ≡ Some value }
+        ensures missed { result ≡ false → self.new ≡ self.old }
         ensures others { (j : ℕ) → j ≢ P.index p
             → entry_at self.new.arena j ≡ entry_at self.old.arena j }
         ensures top { self.new.top ≡ self.old.top }

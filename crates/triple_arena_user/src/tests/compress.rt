@@ -7,6 +7,10 @@ use std::test::Fail;
 use triple_arena::{ArenaInsertTrait, ArenaTrait, CompactArenaTrait};
 use triple_arena_ptr::{InvalidationOption, P0, P1, P5, Ptr, PtrInx};
 
+fn remove<P: Ptr, A: ArenaInsertTrait<P, u64>>(rt: &impl Abort, arena: &mut A, p: P) {
+    assert!(rt; !arena.remove(p).is_invalid());
+}
+
 // Six entries with the values from 10 on, of which the second and the fourth stay: there are free slots in front,
 // between the two and behind them.
 fn with_holes<P: Ptr, A: ArenaInsertTrait<P, u64>>(rt: &impl Abort, arena: &mut A) {
@@ -16,9 +20,10 @@ fn with_holes<P: Ptr, A: ArenaInsertTrait<P, u64>>(rt: &impl Abort, arena: &mut 
     insert(rt, arena, 13);
     let e = insert(rt, arena, 14);
     let f = insert(rt, arena, 15);
-    for p in [a, c, e, f] {
-        assert!(rt; !arena.remove(p).is_invalid());
-    }
+    remove(rt, arena, a);
+    remove(rt, arena, c);
+    remove(rt, arena, e);
+    remove(rt, arena, f);
 }
 
 // The map gets the two entries in order, each with its old and its new pointer, and changes the value.

@@ -1,6 +1,6 @@
 //! Each call that can take memory, with each of its requests refused in turn.
 use refusing_allocator::RefusingAllocator;
-use std::alloc::Allocator;
+use std::alloc::{Allocator, Global};
 use std::num::NonZeroUsize;
 use std::process::Abort;
 use std::test::Fail;
@@ -14,6 +14,8 @@ use triple_arena_stack::{
 
 type Slot = ArenaSlot<P0, u64>;
 
+type Heap = RefusingAllocator<Global>;
+
 // The arena holds this many entries, whose values are their places, and has this capacity.
 fn holds<A: ArenaInsertTrait<P0, u64>>(rt: &impl Abort, arena: &A, len: usize, capacity: usize) {
     assert_eq!(rt; arena.len(), len);
@@ -24,17 +26,34 @@ fn holds<A: ArenaInsertTrait<P0, u64>>(rt: &impl Abort, arena: &A, len: usize, c
     }
 }
 
-// A call that was refused was refused for memory, and left the arena as it was.
-fn is_as_before<T: Drop, A: ArenaInsertTrait<P0, u64>>(
-    rt: &impl Abort,
-    arena: &A,
-    answer: Result<T, ReallocationError>,
+// What a call finds.
+#[derive(Drop)]
+struct Before {
+    has_refused: bool,
     len: usize,
     capacity: usize,
+}
+
+fn seen<A: ArenaTrait<P0, u64>>(heap: &Heap, arena: &A) -> Before {
+    Before {
+        has_refused: heap.has_refused(),
+        len: arena.len(),
+        capacity: arena.capacity(),
+    }
+}
+
+// The call was refused exactly where the heap refused it the memory, and left the arena as it was.
+fn is_refused_with_the_heap<T: Drop, A: ArenaInsertTrait<P0, u64>>(
+    rt: &impl Abort,
+    heap: &Heap,
+    arena: &A,
+    was: &Before,
+    answer: Result<T, ReallocationError>,
 ) {
+    assert_eq!(rt; answer.is_err(), heap.has_refused() != was.has_refused);
     if let Err(refused) = answer {
         assert_eq!(rt; refused, ReallocationError::AllocError);
-        holds(rt, arena, len, capacity);
+        holds(rt, arena, was.len, was.capacity);
     }
 }
 
@@ -61,34 +80,35 @@ fn insert_by_reallocating_entry<S: NonZeroInxGenericStack<Slot>>(
 }
 
 // Each call that can take memory, at an arena that is full.
-fn grows<S: NonZeroInxGenericStack<Slot> + Drop>(rt: &impl Abort, arena: &mut Arena<P0, u64, S>) {
+fn grows<S: NonZeroInxGenericStack<Slot> + Drop>(
+    rt: &impl Abort,
+    heap: &Heap,
+    arena: &mut Arena<P0, u64, S>,
+) {
     for _ in 0..2 {
         fills(rt, arena);
-        let len = arena.len();
-        let inserted = arena.insert(len as u64);
-        is_as_before(rt, arena, inserted, len, len);
+        let was = seen(heap, arena);
+        let inserted = arena.insert(was.len as u64);
+        is_refused_with_the_heap(rt, heap, arena, &was, inserted);
 
         fills(rt, arena);
-        let len = arena.len();
-        let inserted = arena.insert_reallocating(len as u64);
-        is_as_before(rt, arena, inserted, len, len);
+        let was = seen(heap, arena);
+        let inserted = arena.insert_reallocating(was.len as u64);
+        is_refused_with_the_heap(rt, heap, arena, &was, inserted);
 
         fills(rt, arena);
-        let len = arena.len();
-        let inserted = insert_by_entry(arena, len as u64);
-        is_as_before(rt, arena, inserted, len, len);
+        let was = seen(heap, arena);
+        let inserted = insert_by_entry(arena, was.len as u64);
+        is_refused_with_the_heap(rt, heap, arena, &was, inserted);
 
         fills(rt, arena);
-        let len = arena.len();
-        let inserted = insert_by_reallocating_entry(arena, len as u64);
-        is_as_before(rt, arena, inserted, len, len);
+        let was = seen(heap, arena);
+        let inserted = insert_by_reallocating_entry(arena, was.len as u64);
+        is_refused_with_the_heap(rt, heap, arena, &was, inserted);
 
-        let len = arena.len();
-        let capacity = arena.capacity();
-        if capacity < usize::MAX {
-            let grown = arena.reallocate_min_capacity(capacity + 1);
-            is_as_before(rt, arena, grown, len, capacity);
-        }
+        let was = seen(heap, arena);
+        let grown = arena.reallocate_min_capacity(was.capacity.saturating_add(1));
+        is_refused_with_the_heap(rt, heap, arena, &was, grown);
     }
     // What has room takes no memory.
     arena.clear();
@@ -98,33 +118,42 @@ fn grows<S: NonZeroInxGenericStack<Slot> + Drop>(rt: &impl Abort, arena: &mut Ar
 }
 
 // An arena for three entries, whose one request the heap may refuse.
-fn makes<H: Allocator, A: ArenaInsertTrait<P0, u64, Alloc = H> + Drop>(rt: &impl Abort, heap: H) {
-    match A::with_min_capacity(heap, 3) {
+fn makes<H: Allocator, A: ArenaInsertTrait<P0, u64, Alloc = H> + Drop>(
+    rt: &impl Abort,
+    heap: &Heap,
+    alloc: H,
+) {
+    let had_refused = heap.has_refused();
+    let made = A::with_min_capacity(alloc, 3);
+    assert_eq!(rt; made.is_err(), heap.has_refused() != had_refused);
+    match made {
         Ok(made) => holds(rt, &made, 0, 3),
         Err(refused) => assert_eq!(rt; refused, ReallocationError::AllocError),
     }
 }
 
+// `alloc` and `other` are the heap, as an arena takes it.
 fn runs<H: Allocator, S: NonZeroInxGenericStack<Slot, Alloc = H> + Drop>(
     rt: &impl Abort,
-    heap: H,
+    heap: &Heap,
+    alloc: H,
     other: H,
 ) {
-    let mut arena = Arena::<P0, u64, S>::new(heap);
-    grows(rt, &mut arena);
-    makes::<H, Arena<P0, u64, S>>(rt, other);
+    let mut arena = Arena::<P0, u64, S>::new(alloc);
+    grows(rt, heap, &mut arena);
+    makes::<H, Arena<P0, u64, S>>(rt, heap, other);
 }
 
-fn in_vec<H: Allocator>(rt: &impl Abort, heap: H, other: H) {
-    runs::<H, NonZeroInxVec<Slot, H>>(rt, heap, other);
+fn in_vec<H: Allocator>(rt: &impl Abort, heap: &Heap, alloc: H, other: H) {
+    runs::<H, NonZeroInxVec<Slot, H>>(rt, heap, alloc, other);
 }
 
-fn in_limited<H: Allocator>(rt: &impl Abort, heap: H, other: H) {
-    runs::<H, NonZeroInxLimitedVec<Slot, H>>(rt, heap, other);
+fn in_limited<H: Allocator>(rt: &impl Abort, heap: &Heap, alloc: H, other: H) {
+    runs::<H, NonZeroInxLimitedVec<Slot, H>>(rt, heap, alloc, other);
 }
 
-fn in_boxed<H: Allocator>(rt: &impl Abort, heap: H) {
-    makes::<H, Arena<P0, u64, NonZeroInxBoxedSlice<Slot, H>>>(rt, heap);
+fn in_boxed<H: Allocator>(rt: &impl Abort, heap: &Heap, alloc: H) {
+    makes::<H, Arena<P0, u64, NonZeroInxBoxedSlice<Slot, H>>>(rt, heap, alloc);
 }
 
 #[test]
@@ -132,12 +161,12 @@ fn each_request_in_turn(rt: HostRuntime) -> Result<(), Fail> {
     let mut refusals = 0;
     for nth in 1..100u64 {
         let first = RefusingAllocator::new(rt.alloc(), nth);
-        in_vec(&rt, &first, &first);
+        in_vec(&rt, &first, &first, &first);
         let second = RefusingAllocator::new(rt.alloc(), nth);
-        in_limited(&rt, &second, &second);
+        in_limited(&rt, &second, &second, &second);
         assert_eq!(rt; first.has_refused(), second.has_refused());
         let third = RefusingAllocator::new(rt.alloc(), nth);
-        in_boxed(&rt, &third);
+        in_boxed(&rt, &third, &third);
         assert_eq!(rt; third.has_refused(), nth == 1);
         if !first.has_refused() {
             break;
