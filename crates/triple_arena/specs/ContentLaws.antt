@@ -1,4 +1,4 @@
--- The laws of a write of a value, which each arena proves.
+-- What a write of a value changes and what it keeps.
 use Rattle.std.proofs.Common.{◌≡◌, ◌≢◌, ◌==◌, if◌then◌else◌, ℕ, zero, suc, ◌-◌, ◌<◌, List, [], ◌∷◌, length, get_or, set, cond, Option, Some, None, IsSome, is_some, true≢false, inl, inr, refl, sym, ap, subst, ◌∙◌, arith}
 use Rattle.std.proofs.lemmas.Bool.{ne_eqb}
 use Rattle.std.proofs.lemmas.Bool.Decides.{eqb_tells}
@@ -70,7 +70,33 @@ module _ {T : Type 0} where
           let l = live_of c i some in
           rw e (entry-set c (record c { slots = set c.slots (i - 1) (Some (x.0, t)) }) i j (Some (x.0, t)) l.positive l.within refl)
 
-  -- a write keeps the number of live entries, the counter, the room, the free indexes and the number of slots
+  -- a write of a value changes the slots alone, and keeps their number and how many are live
+  slots-changed : (c : Content T) (i : ℕ) (t : T) → with_value c i t ≡ record c { slots = (with_value c i t).slots }
+  slots-changed c i t = by_entry (entry_at c i) refl
+    where
+      by_entry : (o : Option (ℕ × T)) → entry_at c i ≡ o → with_value c i t ≡ record c { slots = (with_value c i t).slots }
+      by_entry None e = rw e refl
+      by_entry (Some x) e = rw e refl
+
+  pub counter-with_value : (c : Content T) (i : ℕ) (t : T) → (with_value c i t).counter ≡ c.counter
+  counter-with_value c i t = ap (λ d. d.counter) (slots-changed c i t)
+
+  pub some_counter-with_value : (c : Content T) (i : ℕ) (t : T) → Some (with_value c i t).counter ≡ Some c.counter
+  some_counter-with_value c i t = ap Some (counter-with_value c i t)
+
+  pub room-with_value : (c : Content T) (i : ℕ) (t : T) → (with_value c i t).room ≡ c.room
+  room-with_value c i t = ap (λ d. d.room) (slots-changed c i t)
+
+  pub free-with_value : (c : Content T) (i : ℕ) (t : T) → (with_value c i t).free ≡ c.free
+  free-with_value c i t = ap (λ d. d.free) (slots-changed c i t)
+
+  pub slots-with_value : (c : Content T) (i : ℕ) (t : T) → length (with_value c i t).slots ≡ length c.slots
+  slots-with_value c i t = by_entry (entry_at c i) refl
+    where
+      by_entry : (o : Option (ℕ × T)) → entry_at c i ≡ o → length (with_value c i t).slots ≡ length c.slots
+      by_entry None e = rw e refl
+      by_entry (Some x) e = rw e (length-set c.slots (i - 1) (Some (x.0, t)))
+
   pub live-with_value : (c : Content T) (i : ℕ) (t : T) → live_count (with_value c i t) ≡ live_count c
   live-with_value c i t = by_entry (entry_at c i) refl
     where
@@ -81,34 +107,3 @@ module _ {T : Type 0} where
           let l = live_of c i some in
           let counted = rw l.read at (sum_by-set (λ o. cond (is_some o) 1 0) c.slots (i - 1) (Some (x.0, t)) None l.within) in
           rw e (omega (arith, counted))
-
-  pub counter-with_value : (c : Content T) (i : ℕ) (t : T) → (with_value c i t).counter ≡ c.counter
-  counter-with_value c i t = by_entry (entry_at c i) refl
-    where
-      by_entry : (o : Option (ℕ × T)) → entry_at c i ≡ o → (with_value c i t).counter ≡ c.counter
-      by_entry None e = rw e refl
-      by_entry (Some x) e = rw e refl
-
-  pub room-with_value : (c : Content T) (i : ℕ) (t : T) → (with_value c i t).room ≡ c.room
-  room-with_value c i t = by_entry (entry_at c i) refl
-    where
-      by_entry : (o : Option (ℕ × T)) → entry_at c i ≡ o → (with_value c i t).room ≡ c.room
-      by_entry None e = rw e refl
-      by_entry (Some x) e = rw e refl
-
-  pub free-with_value : (c : Content T) (i : ℕ) (t : T) → (with_value c i t).free ≡ c.free
-  free-with_value c i t = by_entry (entry_at c i) refl
-    where
-      by_entry : (o : Option (ℕ × T)) → entry_at c i ≡ o → (with_value c i t).free ≡ c.free
-      by_entry None e = rw e refl
-      by_entry (Some x) e = rw e refl
-
-  pub slots-with_value : (c : Content T) (i : ℕ) (t : T) → length (with_value c i t).slots ≡ length c.slots
-  slots-with_value c i t = by_entry (entry_at c i) refl
-    where
-      by_entry : (o : Option (ℕ × T)) → entry_at c i ≡ o → length (with_value c i t).slots ≡ length c.slots
-      by_entry None e = rw e refl
-      by_entry (Some x) e = rw e (length-set c.slots (i - 1) (Some (x.0, t)))
-
-  pub some_counter-with_value : (c : Content T) (i : ℕ) (t : T) → Some (with_value c i t).counter ≡ Some c.counter
-  some_counter-with_value c i t = ap Some (counter-with_value c i t)

@@ -324,6 +324,20 @@ pub trait ArenaTrait<P: Ptr, T: Drop> {
         }
     }
 
+    /// The value at an index for writing, if it is live. `get_inx` tells its generation.
+    final fn get_inx_mut(&mut self, i: P::Inx) -> Option<&mut T>
+        ensures* writes_back { sem 𝓛 (LendsIf Self.row T.row self.entry result
+            (with_value self.old (P.Inx.number i)) self.old) }
+        ensures value { option_copied_mut result
+            ≡ option_map (λ e. e.1) (entry_at self.old (P.Inx.number i)) }
+    {
+        if self.get_inx(i).is_some() {
+            Some(self.get_inx_mut_unwrap(i))
+        } else {
+            None
+        }
+    }
+
     /// The value that `p` points to for writing, if it is live.
     final fn get_mut(&mut self, p: P) -> Option<&mut T>
         ensures* writes_back { sem 𝓛 (LendsIf Self.row T.row self.entry result

@@ -164,7 +164,13 @@ pub trait NonZeroInxGenericStack<T: Drop> {
     final fn get(&self, i: NonZeroUsize) -> Option<&T>
         ensures { option_copied result ≡ item_at (items self.now) (non_zero_usize_get i) }
     {
-        self.as_slice().get(i.get() - 1)
+        // The index is compared as it is: the step to a place is then part of the address.
+        let items = self.as_slice();
+        if i.get() <= items.len() {
+            Some(&items[i.get() - 1])
+        } else {
+            None
+        }
     }
 
     /// The item at `i` for writing, if there is one.
