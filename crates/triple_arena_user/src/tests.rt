@@ -6,3 +6,4 @@ mod entries;
 mod n3;
 mod refusals;
 mod sequences;
+mod writes;
