@@ -149,11 +149,12 @@ fn with_generations(rt: HostRuntime) -> Result<(), Fail> {
 
     let texts = ["P0[1](4)", "P0[2](4)"];
     pops_the_last_slot(&rt, &mut InVec::<P0>::new(rt.alloc()), &texts);
-    let mut boxed = InBoxed::<P0>::with_min_capacity(rt.alloc(), 2)?;
+    let texts = ["P1[1](4)", "P1[2](4)"];
+    let mut boxed = InBoxed::<P1>::with_min_capacity(rt.alloc(), 2)?;
     pops_the_last_slot(&rt, &mut boxed, &texts);
     is_at_limit(&rt, &mut boxed);
     let mut array = InArray::<P1, 2>::new(());
-    pops_the_last_slot(&rt, &mut array, &["P1[1](4)", "P1[2](4)"]);
+    pops_the_last_slot(&rt, &mut array, &texts);
     is_at_limit(&rt, &mut array);
 
     // The pointer's indexes end before the stack does.
@@ -172,6 +173,9 @@ fn with_generations(rt: HostRuntime) -> Result<(), Fail> {
 fn without_generations(rt: HostRuntime) -> Result<(), Fail> {
     let texts = ["P5[2]", "P5[1]", "P5[4]"];
     takes_the_last_freed_first(&rt, &mut InVec::<P5>::new(rt.alloc()), &texts);
+    let mut boxed = InBoxed::<P5>::with_min_capacity(rt.alloc(), 4)?;
+    takes_the_last_freed_first(&rt, &mut boxed, &texts);
+    is_at_limit(&rt, &mut boxed);
     let mut array = InArray::<P5, 4>::new(());
     takes_the_last_freed_first(&rt, &mut array, &texts);
     is_at_limit(&rt, &mut array);
@@ -196,9 +200,13 @@ fn starts_again<P: Ptr, A: ArenaInsertTrait<P, u64>>(rt: &(impl Abort + Alloc), 
 }
 
 #[test]
-fn generations_that_start_again(rt: HostRuntime) {
+fn generations_that_start_again(rt: HostRuntime) -> Result<(), Fail> {
     starts_again(&rt, &mut InVec::<N3>::new(rt.alloc()));
+    let mut boxed = InBoxed::<N3>::with_min_capacity(rt.alloc(), 1)?;
+    starts_again(&rt, &mut boxed);
+    is_at_limit(&rt, &mut boxed);
     let mut array = InArray::<N3, 1>::new(());
     starts_again(&rt, &mut array);
     is_at_limit(&rt, &mut array);
+    Ok(())
 }
