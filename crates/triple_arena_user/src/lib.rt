@@ -3,8 +3,10 @@
 #![tactic(auto)]
 
 mod nodes;
+mod renumbered;
 
 pub use nodes::{Node, Nodes};
+pub use renumbered::{Moved, compress_and_follow, map_values, raise, sum_up};
 
 #[cfg(test)]
 mod tests;
