@@ -1,9 +1,9 @@
 //! Arenas whose entries move to the first indexes and get other values.
-ghost use Rattle.std.specs.Prelude.{◌≡◌, ◌≢◌, ℕ, ◌+◌, ◌%◌, ◌^◌, ◌↔◌, Some, IsSome, IfSome, IfNone, map as list_map};
+ghost use Rattle.std.specs.Prelude.{◌≡◌, ◌≢◌, ℕ, ◌+◌, ◌-◌, ◌%◌, ◌^◌, ◌↔◌, Some, IsSome, IfSome, IfNone, map as list_map, slice_get};
 ghost use Rattle.std.specs.Option.{option_map};
 ghost use Rattle.std.specs.List.{AllZip};
 ghost use Rattle.triple_arena.specs.Entries.{value_if};
-ghost use Rattle.triple_arena.specs.Compression.{value_of, IsCompact};
+ghost use Rattle.triple_arena.specs.Compression.{index_of, value_of, IsCompact};
 ghost use Rattle.triple_arena_user.specs.Renumbered.{given_in_turn};
 
 use triple_arena::ArenaTrait;
@@ -85,6 +85,8 @@ pub fn compress_and_follow<P: Ptr, T: Drop, A: ArenaTrait<P, Moved<P, T>>>(
         (value_if (P.generation q) (A.entry_at arena.new (P.index q)))
         ≡ option_map (λ m. m.value)
         (value_if (P.generation p) (A.entry_at arena.old (P.index p)))) }
+    ensures place { IfSome result (λ q. option_map index_of
+        (slice_get (A.live_entries arena.old) (P.index q - 1)) ≡ Some (P.index p)) }
     ensures values { list_map (λ m. m.value) (list_map value_of (A.live_entries arena.new))
         ≡ list_map (λ m. m.value) (list_map value_of (A.live_entries arena.old)) }
     ensures compact { IsCompact (A.live_entries arena.new) }
