@@ -5,4 +5,5 @@ mod compress;
 mod entries;
 mod n3;
 mod refusals;
+mod renumbered;
 mod sequences;
