@@ -8,6 +8,7 @@ use Rattle.std.proofs.lemmas.Bool.Decides.{eqb_tells}
 use Rattle.std.proofs.lemmas.List.Kept.{AllPairs-from_increasing}
 use Rattle.triple_arena.specs.Entries.{value_if, look_up}
 use Rattle.triple_arena.specs.Compression.{index_of, value_of, IsCompact, IsMapped}
+use Rattle.triple_arena_user.specs.Renumbered.{IsFollowed, IsNamed, IsNamedBy, Keeps}
 use Rattle.triple_arena_user.proofs.MappedLemmas.{entries_related}
 
 module _ {T : Type 0} (R : ℕ × (ℕ × T) → ℕ × (ℕ × T) → Type 0) where
@@ -92,13 +93,9 @@ module _ {M P : Type 0} (was : M → P) where
   named_by o found b p copied is names = ap (option_map was) (sym copied ∙ ap option_copied is) ∙ ap Some names
 
 module _ {P M V : Type 0} (index generation : P → ℕ) (was : M → P) (value : M → V) where
-  -- an entry moved: what is new names the old pointer, and has the old value
-  abbrev pub Keeps : ℕ × (ℕ × M) → ℕ × (ℕ × M) → Type 0
-  Keeps old new = (index (was new.1.1) ≡ old.0) × (generation (was new.1.1) ≡ old.1.0) × (value new.1.1 ≡ value old.1.1)
-
   -- an arena before and after its entries moved: the lists are what stands at the indexes
   pub record Moves (before after : ℕ → Option (ℕ × M)) (old new : List (ℕ × (ℕ × M))) : Type 0 where
-    pub kept : AllZip Keeps old new
+    pub kept : AllZip (Keeps index generation was value) old new
     pub old_listed : (i : ℕ) → before i ≡ look_up old i
     pub new_listed : (i : ℕ) → after i ≡ look_up new i
     pub old_rises : IsStrictlyIncreasing (map index_of old)
@@ -106,12 +103,12 @@ module _ {P M V : Type 0} (index generation : P → ℕ) (was : M → P) (value 
     pub compact : IsCompact new
 
   -- where each call of a map keeps the pointer and the value that it got
-  pub kept_by : {F : Type 0} {step : F → P → M → P → M → F → Type 0} {f : F} {old new : List (ℕ × (ℕ × M))} → IsMapped index generation step f old new → ((h : F) (from : P) (t : M) (to : P) (u : M) (k : F) → step h from t to u k → (was u ≡ from) × (value u ≡ value t)) → AllZip Keeps old new
+  pub kept_by : {F : Type 0} {step : F → P → M → P → M → F → Type 0} {f : F} {old new : List (ℕ × (ℕ × M))} → IsMapped index generation step f old new → ((h : F) (from : P) (t : M) (to : P) (u : M) (k : F) → step h from t to u k → (was u ≡ from) × (value u ≡ value t)) → AllZip (Keeps index generation was value) old new
   kept_by m one =
-      entries_related m (λ _. Unit {0}) Keeps tt
+      entries_related m (λ _. Unit {0}) (Keeps index generation was value) tt
       (λ h from t to u k all s. let r = one h from t to u k s in ((ap index r.0, ap generation r.0, r.1), tt))
 
-  values_kept : (old new : List (ℕ × (ℕ × M))) → AllZip Keeps old new → map value (map value_of new) ≡ map value (map value_of old)
+  pub values_kept : (old new : List (ℕ × (ℕ × M))) → AllZip (Keeps index generation was value) old new → map value (map value_of new) ≡ map value (map value_of old)
   values_kept [] [] kept = refl
   values_kept [] (y ∷ new) kept = absurd kept
   values_kept (x ∷ old) [] kept = absurd kept
@@ -175,7 +172,6 @@ module _ {P M V : Type 0} (index generation : P → ℕ) (was : M → P) (value 
     pub variant : (IsSome answer → IsSome (value_if (generation p) (before (index p)))) × (IsSome (value_if (generation p) (before (index p))) → IsSome answer)
     pub follows : IfSome answer (λ q. option_map value (value_if (generation q) (after (index q))) ≡ option_map value (value_if (generation p) (before (index p))))
     pub place : IfSome answer (λ q. option_map index_of (slice_get old (index q - 1)) ≡ Some (index p))
-    pub values : map value (map value_of new) ≡ map value (map value_of old)
 
   pub followed : (p : P) (answer : Option P) → IfSome answer (λ q. option_map was (value_if (generation q) (after (index q))) ≡ Some p) → IfNone answer ((j : ℕ) → IfSome (after j) (λ e. was e.1 ≢ p)) → Followed p answer
   followed p None found none =
@@ -183,7 +179,6 @@ module _ {P M V : Type 0} (index generation : P → ℕ) (was : M → P) (value 
         variant = (λ some. absurd (true≢false (sym some)), λ some. absurd (none_followed p none some));
         follows = tt;
         place = tt;
-        values = values_kept index generation was value old new m.kept;
       }
   followed p (Some q) found none =
       let q_follows = follows_to p q found in
@@ -194,5 +189,16 @@ module _ {P M V : Type 0} (index generation : P → ℕ) (was : M → P) (value 
         variant = (λ _. some, λ _. refl);
         follows = q_follows.follows;
         place = q_follows.place;
-        values = values_kept index generation was value old new m.kept;
       }
+
+  -- and for a pointer of a table
+  pub pointer_followed : (o answer : Option P) → IsNamedBy was index generation after o answer → IsFollowed (λ p. option_map value (value_if (generation p) (before (index p)))) (λ p. option_map value (value_if (generation p) (after (index p)))) o answer
+  pointer_followed None answer named = named
+  pointer_followed (Some p) None named = nothing (value_if (generation p) (before (index p))) (none_followed p named)
+    where
+      nothing : (found : Option M) → (IsSome found → ⊥) → option_map value found ≡ None
+      nothing None none = refl
+      nothing (Some t) none = absurd (none refl)
+  pointer_followed (Some p) (Some q) named =
+      let told = followed p (Some q) named tt in
+      (some_still value (value_if (generation p) (before (index p))) ∙ told.variant.0 refl, told.follows)

@@ -6,7 +6,7 @@ mod nodes;
 mod renumbered;
 
 pub use nodes::{Node, Nodes};
-pub use renumbered::{Moved, compress_and_follow, map_values, raise, sum_up};
+pub use renumbered::{Moved, compress_and_follow, compress_with_table, map_values, raise, sum_up};
 
 #[cfg(test)]
 mod tests;

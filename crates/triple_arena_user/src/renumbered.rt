@@ -1,10 +1,10 @@
 //! Arenas whose entries move to the first indexes and get other values.
-ghost use Rattle.std.specs.Prelude.{◌≡◌, ◌≢◌, ℕ, ◌+◌, ◌-◌, ◌%◌, ◌^◌, ◌↔◌, Some, IsSome, IfSome, IfNone, map as list_map, slice_get};
+ghost use Rattle.std.specs.Prelude.{◌≡◌, ◌≢◌, ℕ, ◌+◌, ◌-◌, ◌%◌, ◌^◌, ◌↔◌, Some, IsSome, IfSome, IfNone, map as list_map, slice_get, slice_index_or, None};
 ghost use Rattle.std.specs.Option.{option_map};
 ghost use Rattle.std.specs.List.{AllZip};
 ghost use Rattle.triple_arena.specs.Entries.{value_if};
 ghost use Rattle.triple_arena.specs.Compression.{index_of, value_of, IsCompact};
-ghost use Rattle.triple_arena_user.specs.Renumbered.{given_in_turn};
+ghost use Rattle.triple_arena_user.specs.Renumbered.{given_in_turn, IsFollowed, IsNamedBy, Keeps};
 
 use triple_arena::ArenaTrait;
 use triple_arena_ptr::{Advancer, InvalidationOption, Ptr};
@@ -55,6 +55,24 @@ pub struct Moved<P: Ptr, T> {
     pub value: T,
 }
 
+// Moves the entries to the first indexes, and has each keep the pointer that it had.
+fn remember<P: Ptr, T: Drop, A: ArenaTrait<P, Moved<P, T>>>(arena: &mut A)
+    ensures kept { AllZip (Keeps P.index P.generation (λ m. m.was) (λ m. m.value))
+        (A.live_entries arena.old) (A.live_entries arena.new) }
+    ensures values { list_map (λ m. m.value) (list_map value_of (A.live_entries arena.new))
+        ≡ list_map (λ m. m.value) (list_map value_of (A.live_entries arena.old)) }
+    ensures compact { IsCompact (A.live_entries arena.new) }
+    ensures count { A.live_count arena.new ≡ A.live_count arena.old }
+{
+    arena.compress_with(
+        false,
+        |from, moved, _| Moved {
+            was: from,
+            value: moved.value,
+        },
+    );
+}
+
 // The pointer to the entry that has `p` as its old pointer.
 fn find_moved<P: Ptr, T: Drop, A: ArenaTrait<P, Moved<P, T>>>(arena: &A, p: P) -> Option<P>
     ensures found { IfSome result (λ q. option_map (λ m. m.was)
@@ -92,12 +110,43 @@ pub fn compress_and_follow<P: Ptr, T: Drop, A: ArenaTrait<P, Moved<P, T>>>(
     ensures compact { IsCompact (A.live_entries arena.new) }
     ensures count { A.live_count arena.new ≡ A.live_count arena.old }
 {
-    arena.compress_with(
-        false,
-        |from, moved, _| Moved {
-            was: from,
-            value: moved.value,
-        },
-    );
+    remember(arena);
     find_moved(arena, p)
+}
+
+// Replaces each pointer of `table` by the one to the entry that has it as its old pointer.
+fn find_all_moved<P: Ptr, T: Drop, A: ArenaTrait<P, Moved<P, T>>>(
+    arena: &A,
+    table: &mut [Option<P>],
+)
+    ensures { (k : ℕ) → IsNamedBy (λ m. m.was) P.index P.generation (A.entry_at arena.now)
+        (slice_index_or table.old k None) (slice_index_or table.new k None) }
+{
+    for at in 0..table.len() {
+        table[at] = match table[at] {
+            Some(p) => find_moved(arena, p),
+            None => None,
+        };
+    }
+}
+
+/// Moves the entries to the first indexes, and has the pointers of `table` follow them: a pointer that found no entry
+/// becomes `None`.
+pub fn compress_with_table<P: Ptr, T: Drop, A: ArenaTrait<P, Moved<P, T>>>(
+    arena: &mut A,
+    table: &mut [Option<P>],
+)
+    ensures table { (k : ℕ) → IsFollowed
+        (λ p. option_map (λ m. m.value)
+        (value_if (P.generation p) (A.entry_at arena.old (P.index p))))
+        (λ p. option_map (λ m. m.value)
+        (value_if (P.generation p) (A.entry_at arena.new (P.index p))))
+        (slice_index_or table.old k None) (slice_index_or table.new k None) }
+    ensures values { list_map (λ m. m.value) (list_map value_of (A.live_entries arena.new))
+        ≡ list_map (λ m. m.value) (list_map value_of (A.live_entries arena.old)) }
+    ensures compact { IsCompact (A.live_entries arena.new) }
+    ensures count { A.live_count arena.new ≡ A.live_count arena.old }
+{
+    remember(arena);
+    find_all_moved(arena, table);
 }

@@ -1,30 +1,30 @@
 use Rattle.std.proofs.Common.{rules}
-use Rattle.triple_arena_user.proofs.FollowLemmas.{kept_by, followed}
+use Rattle.triple_arena_user.proofs.FollowLemmas.{followed}
 use Rattle.triple_arena_user.proofs.renumbered.compress_and_follow.Goals as goal
 
 pub returns : goal.returns
 returns g c =
     let old = c.args.arena.now in
-    let new = c.compress_with.new.self in
+    let new = c.remember.new.arena in
     let entries = g.A.ArenaTrait.entry_at in
     let live = g.A.ArenaTrait.live_entries in
     let laws = g.met.A.ArenaTrait in
     let told =
-    followed g.P.Ptr.index g.P.Ptr.generation (λ m. m.was) (λ m. m.value) g.met.P.Ptr.determined (entries old) (entries new) (live old) (live new)
-    record {
-      kept = kept_by g.P.Ptr.index g.P.Ptr.generation (λ m. m.was) (λ m. m.value) c.compress_with.ensures.mapped (λ h from t to u k s. search rules);
-      old_listed = laws.entry_listed old;
-      new_listed = laws.entry_listed new;
-      old_rises = laws.live_entries_increase old;
-      new_rises = laws.live_entries_increase new;
-      compact = c.compress_with.ensures.compact;
-    }
-    c.args.p c.find_moved.result c.find_moved.ensures.found c.find_moved.ensures.none in
+        followed g.P.Ptr.index g.P.Ptr.generation (λ m. m.was) (λ m. m.value) g.met.P.Ptr.determined (entries old) (entries new) (live old) (live new)
+        record {
+          kept = c.remember.ensures.kept;
+          old_listed = laws.entry_listed old;
+          new_listed = laws.entry_listed new;
+          old_rises = laws.live_entries_increase old;
+          new_rises = laws.live_entries_increase new;
+          compact = c.remember.ensures.compact;
+        }
+        c.args.p c.find_moved.result c.find_moved.ensures.found c.find_moved.ensures.none in
     record {
       variant = told.variant;
       follows = told.follows;
       place = told.place;
-      values = told.values;
-      compact = search rules;
-      count = search rules;
+      values = c.remember.ensures.values;
+      compact = c.remember.ensures.compact;
+      count = c.remember.ensures.count;
     }
