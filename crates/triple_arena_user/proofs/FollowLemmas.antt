@@ -1,5 +1,5 @@
 -- Entries that keep the pointers that they had.
-use Rattle.std.proofs.Common.{◌≡◌, ◌≢◌, ◌==◌, ◌&&◌, if◌then◌else◌, ℕ, zero, suc, ◌+◌, ◌-◌, ◌<◌, Bool, true, List, [], ◌∷◌, map, length, get_or, Option, Some, None, slice_get, is_some, IsSome, IfSome, IfNone, Bor, inl, inr, refl, sym, ap, ◌∙◌, arith, true≢false}
+use Rattle.std.proofs.Common.{◌≡◌, ◌≢◌, ◌==◌, ◌&&◌, if◌then◌else◌, ℕ, zero, suc, ◌+◌, ◌-◌, ◌<◌, Bool, true, List, [], ◌∷◌, map, length, get_or, Option, Some, None, slice_get, is_some, IsSome, IfSome, Bor, inl, inr, refl, sym, ap, ◌∙◌, arith, true≢false}
 use Rattle.std.specs.Option.{option_map, option_copied}
 use Rattle.std.specs.List.{AllZip}
 use Rattle.std.specs.List.Sorted.{IsStrictlyIncreasing}
@@ -173,18 +173,18 @@ module _ {P M V : Type 0} (index generation : P → ℕ) (was : M → P) (value 
     pub follows : IfSome answer (λ q. option_map value (value_if (generation q) (after (index q))) ≡ option_map value (value_if (generation p) (before (index p))))
     pub place : IfSome answer (λ q. option_map index_of (slice_get old (index q - 1)) ≡ Some (index p))
 
-  pub followed : (p : P) (answer : Option P) → IfSome answer (λ q. option_map was (value_if (generation q) (after (index q))) ≡ Some p) → IfNone answer ((j : ℕ) → IfSome (after j) (λ e. was e.1 ≢ p)) → Followed p answer
-  followed p None found none =
+  pub followed : (p : P) (answer : Option P) → IsNamed was index generation after p answer → Followed p answer
+  followed p None named =
       record {
-        variant = (λ some. absurd (true≢false (sym some)), λ some. absurd (none_followed p none some));
+        variant = (λ some. absurd (true≢false (sym some)), λ some. absurd (none_followed p named some));
         follows = tt;
         place = tt;
       }
-  followed p (Some q) found none =
-      let q_follows = follows_to p q found in
+  followed p (Some q) named =
+      let q_follows = follows_to p q named in
       let stood = value_if (generation p) (before (index p)) in
       let stands = value_if (generation q) (after (index q)) in
-      let some : is_some stood ≡ true = sym (some_still value stood) ∙ sym (ap is_some q_follows.follows) ∙ some_still value stands ∙ sym (some_still was stands) ∙ ap is_some found in
+      let some : is_some stood ≡ true = sym (some_still value stood) ∙ sym (ap is_some q_follows.follows) ∙ some_still value stands ∙ sym (some_still was stands) ∙ ap is_some named in
       record {
         variant = (λ _. some, λ _. refl);
         follows = q_follows.follows;
@@ -200,5 +200,5 @@ module _ {P M V : Type 0} (index generation : P → ℕ) (was : M → P) (value 
       nothing None none = refl
       nothing (Some t) none = absurd (none refl)
   pointer_followed (Some p) (Some q) named =
-      let told = followed p (Some q) named tt in
+      let told = followed p (Some q) named in
       (some_still value (value_if (generation p) (before (index p))) ∙ told.variant.0 refl, told.follows)

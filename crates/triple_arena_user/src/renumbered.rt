@@ -4,7 +4,7 @@ ghost use Rattle.std.specs.Option.{option_map};
 ghost use Rattle.std.specs.List.{AllZip};
 ghost use Rattle.triple_arena.specs.Entries.{value_if};
 ghost use Rattle.triple_arena.specs.Compression.{index_of, value_of, IsCompact};
-ghost use Rattle.triple_arena_user.specs.Renumbered.{given_in_turn, IsFollowed, IsNamedBy, Keeps};
+ghost use Rattle.triple_arena_user.specs.Renumbered.{given_in_turn, IsFollowed, IsNamed, IsNamedBy, Keeps};
 
 use triple_arena::ArenaTrait;
 use triple_arena_ptr::{Advancer, InvalidationOption, Ptr};
@@ -75,10 +75,7 @@ fn remember<P: Ptr, T: Drop, A: ArenaTrait<P, Moved<P, T>>>(arena: &mut A)
 
 // The pointer to the entry that has `p` as its old pointer.
 fn find_moved<P: Ptr, T: Drop, A: ArenaTrait<P, Moved<P, T>>>(arena: &A, p: P) -> Option<P>
-    ensures found { IfSome result (λ q. option_map (λ m. m.was)
-        (value_if (P.generation q) (A.entry_at arena.now (P.index q))) ≡ Some p) }
-    ensures none { IfNone result ((j : ℕ) → IfSome (A.entry_at arena.now j)
-        (λ e. e.1.was ≢ p)) }
+    ensures { IsNamed (λ m. m.was) P.index P.generation (A.entry_at arena.now) p result }
 {
     let mut advancer = arena.advancer();
     while let Some(q) = advancer.advance(arena) {

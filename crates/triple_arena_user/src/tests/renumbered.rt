@@ -1,7 +1,7 @@
 //! The callers of a compression, at concrete arenas.
 use super::compress::value_at;
 use super::sequences::{InVec, insert, shows};
-use crate::{Moved, compress_and_follow, map_values, raise, sum_up};
+use crate::{Moved, compress_and_follow, compress_with_table, map_values, raise, sum_up};
 use std::alloc::Global;
 use std::process::Abort;
 use triple_arena::{Arena, ArenaInsertTrait, ArenaSlot, ArenaTrait};
@@ -62,4 +62,25 @@ fn follows_pointers(rt: HostRuntime) {
     }
     assert_eq!(rt; compress_and_follow(&mut arena, third), None);
     assert_eq!(rt; compress_and_follow(&mut arena, first), None);
+}
+
+#[test]
+fn a_table_follows(rt: HostRuntime) {
+    let mut arena = InMoved::new(rt.alloc());
+    let first = keep(&rt, &mut arena, 10);
+    let second = keep(&rt, &mut arena, 11);
+    let third = keep(&rt, &mut arena, 12);
+    assert!(rt; !arena.remove(second).is_invalid());
+    let mut table = [Some(third), None, Some(second), Some(first)];
+    compress_with_table(&mut arena, &mut table);
+    let [follows_third, none, follows_second, follows_first] = table;
+    assert_eq!(rt; none, None);
+    assert_eq!(rt; follows_second, None);
+    match (follows_first, follows_third) {
+        (Some(p), Some(q)) => {
+            shows(&rt, p, "P0[1](4)");
+            shows(&rt, q, "P0[2](4)");
+        }
+        _ => panic!(rt; "the pointers are not followed"),
+    }
 }

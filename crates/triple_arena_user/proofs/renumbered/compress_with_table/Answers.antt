@@ -1,4 +1,3 @@
-use Rattle.std.proofs.Common.{rules}
 use Rattle.triple_arena_user.proofs.FollowLemmas.{pointer_followed}
 use Rattle.triple_arena_user.proofs.renumbered.compress_with_table.Goals as goal
 
