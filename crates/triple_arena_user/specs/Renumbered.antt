@@ -10,7 +10,7 @@ module _ {S T : Type 0} (given : S → T → T) (next : S → T → S) where
   given_in_turn s (t ∷ values) = given s t ∷ given_in_turn (next s t) values
 
 module _ {P T : Type 0} (before after : P → Option T) where
-  -- what became of a pointer, if there is one: one that finds after what it found before, or none where it found nothing
+  -- what became of a pointer, if there is one: one that finds the same after, or none where it found nothing
   abbrev pub IsFollowed : Option P → Option P → Type 0
   IsFollowed None q = q ≡ None
   IsFollowed (Some p) None = before p ≡ None

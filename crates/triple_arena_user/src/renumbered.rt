@@ -1,5 +1,5 @@
 //! Arenas whose entries move to the first indexes and get other values.
-ghost use Rattle.std.specs.Prelude.{◌≡◌, ◌≢◌, ℕ, ◌+◌, ◌-◌, ◌%◌, ◌^◌, ◌↔◌, Some, IsSome, IfSome, IfNone, map as list_map, slice_get, slice_index_or, None};
+ghost use Rattle.std.specs.Prelude.{◌≡◌, ℕ, ◌+◌, ◌-◌, ◌%◌, ◌^◌, ◌↔◌, Some, None, IsSome, IfSome, map as list_map, slice_get, slice_index_or};
 ghost use Rattle.std.specs.Option.{option_map};
 ghost use Rattle.std.specs.List.{AllZip};
 ghost use Rattle.triple_arena.specs.Entries.{value_if};
@@ -139,8 +139,12 @@ pub fn compress_with_table<P: Ptr, T: Drop, A: ArenaTrait<P, Moved<P, T>>>(
         (λ p. option_map (λ m. m.value)
         (value_if (P.generation p) (A.entry_at arena.new (P.index p))))
         (slice_index_or table.old k None) (slice_index_or table.new k None) }
-    ensures values { list_map (λ m. m.value) (list_map value_of (A.live_entries arena.new))
-        ≡ list_map (λ m. m.value) (list_map value_of (A.live_entries arena.old)) }
+
+    // Which entry that is: the one that has the old pointer now.
+    ensures named { (k : ℕ) → IsNamedBy (λ m. m.was) P.index P.generation (A.entry_at arena.new)
+        (slice_index_or table.old k None) (slice_index_or table.new k None) }
+    ensures kept { AllZip (Keeps P.index P.generation (λ m. m.was) (λ m. m.value))
+        (A.live_entries arena.old) (A.live_entries arena.new) }
     ensures compact { IsCompact (A.live_entries arena.new) }
     ensures count { A.live_count arena.new ≡ A.live_count arena.old }
 {
