@@ -3,8 +3,10 @@
 #![tactic(auto)]
 
 mod nodes;
+mod renumbered;
 
 pub use nodes::{Node, Nodes};
+pub use renumbered::{Moved, compress_and_follow, compress_with_table, map_values, raise, sum_up};
 
 #[cfg(test)]
 mod tests;

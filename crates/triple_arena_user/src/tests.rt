@@ -5,5 +5,6 @@ mod compress;
 mod entries;
 mod n3;
 mod refusals;
+mod renumbered;
 mod sequences;
 mod writes;

@@ -75,7 +75,7 @@ fn moves_to_the_first_indexes(rt: HostRuntime) -> Result<(), Fail> {
 }
 
 // The value at an index, by its number.
-fn value_at<P: Ptr, A: ArenaTrait<P, u64>>(arena: &A, index: usize) -> Option<u64> {
+pub(super) fn value_at<P: Ptr, A: ArenaTrait<P, u64>>(arena: &A, index: usize) -> Option<u64> {
     let inx = P::Inx::try_from_usize(NonZeroUsize::new(index)?)?;
     match arena.get_inx(inx) {
         Some((_, value)) => Some(*value),

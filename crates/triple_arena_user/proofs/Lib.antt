@@ -1,0 +1,2 @@
+mod MappedLemmas
+mod FollowLemmas
