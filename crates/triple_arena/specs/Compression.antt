@@ -1,5 +1,5 @@
 -- The live entries at the first indexes, in the order of the indexes that they had.
-use Rattle.std.specs.Prelude.{◌≡◌, ℕ, ◌+◌, Bool, false, List, [], map, slice_get, Option, Some, None, if◌then◌else◌}
+use Rattle.std.specs.Prelude.{◌≡◌, ℕ, ◌+◌, Bool, false, List, [], ◌∷◌, map, slice_get, Option, Some, None, if◌then◌else◌}
 use Rattle.std.specs.List.{FoldsTo, list_any}
 use Rattle.triple_arena_ptr.specs.Generation.{second_generation, next_generation, next_wraps}
 use Rattle.triple_arena.specs.Content.{Content}
@@ -71,3 +71,9 @@ module _ {P T : Type 0} (index generation : P → ℕ) where
     pub calls : FoldsTo (λ g move h. step g move.from move.value move.to move.given h) f moves last
     pub before : map entry_before moves ≡ old
     pub after : map entry_after moves ≡ new
+
+module _ {S T : Type 0} (given : S → T → T) (next : S → T → S) where
+  -- the values that are given one after another, where each call leaves the state of the next one
+  abbrev pub given_in_turn : S → List T → List T
+  given_in_turn s [] = []
+  given_in_turn s (t ∷ values) = given s t ∷ given_in_turn (next s t) values

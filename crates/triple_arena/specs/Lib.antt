@@ -9,4 +9,5 @@ pub mod ContentLaws
 pub mod InsertEntry
 pub mod LiveEntries
 pub mod Compression
+pub mod CompressionLaws
 pub mod SlotCompression

@@ -1,2 +1,1 @@
-mod MappedLemmas
-mod FollowLemmas
+mod RenumberedLemmas

@@ -1,13 +1,7 @@
--- What a map that is called at each entry in turn leaves.
-use Rattle.std.specs.Prelude.{◌≡◌, ◌≢◌, ℕ, List, [], ◌∷◌, Option, Some, None, IsSome, IfSome}
+-- Pointers that follow their entries through a compression.
+use Rattle.std.specs.Prelude.{◌≡◌, ◌≢◌, ℕ, Option, Some, None, IsSome, IfSome}
 use Rattle.std.specs.Option.{option_map}
 use Rattle.triple_arena.specs.Entries.{value_if}
-
-module _ {S T : Type 0} (given : S → T → T) (next : S → T → S) where
-  -- the values that are given one after another, where each call leaves the state of the next one
-  abbrev pub given_in_turn : S → List T → List T
-  given_in_turn s [] = []
-  given_in_turn s (t ∷ values) = given s t ∷ given_in_turn (next s t) values
 
 module _ {P T : Type 0} (before after : P → Option T) where
   -- what became of a pointer, if there is one: one that finds the same after, or none where it found nothing

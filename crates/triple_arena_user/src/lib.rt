@@ -1,5 +1,5 @@
-//! A stack of nodes that are linked by pointers, kept in an arena: what a crate above the arena can prove by the
-//! arena's public contracts alone.
+//! What a crate above the arena can prove by the arena's public contracts alone: of a stack of nodes that are linked by
+//! pointers, and of values and pointers that go through a compression.
 #![tactic(auto)]
 
 mod nodes;

@@ -3,8 +3,8 @@ ghost use Rattle.std.specs.Prelude.{◌≡◌, ℕ, ◌+◌, ◌-◌, ◌%◌, �
 ghost use Rattle.std.specs.Option.{option_map};
 ghost use Rattle.std.specs.List.{AllZip};
 ghost use Rattle.triple_arena.specs.Entries.{value_if};
-ghost use Rattle.triple_arena.specs.Compression.{index_of, value_of, IsCompact};
-ghost use Rattle.triple_arena_user.specs.Renumbered.{given_in_turn, IsFollowed, IsNamed, IsNamedBy, Keeps};
+ghost use Rattle.triple_arena.specs.Compression.{index_of, value_of, given_in_turn, IsCompact};
+ghost use Rattle.triple_arena_user.specs.Renumbered.{IsFollowed, IsNamed, IsNamedBy, Keeps};
 
 use triple_arena::ArenaTrait;
 use triple_arena_ptr::{Advancer, InvalidationOption, Ptr};

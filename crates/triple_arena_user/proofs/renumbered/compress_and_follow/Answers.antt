@@ -1,4 +1,4 @@
-use Rattle.triple_arena_user.proofs.FollowLemmas.{followed}
+use Rattle.triple_arena_user.proofs.RenumberedLemmas.{followed}
 use Rattle.triple_arena_user.proofs.renumbered.compress_and_follow.Goals as goal
 
 pub returns : goal.returns

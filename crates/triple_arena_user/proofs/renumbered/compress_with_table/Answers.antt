@@ -1,4 +1,4 @@
-use Rattle.triple_arena_user.proofs.FollowLemmas.{pointer_followed}
+use Rattle.triple_arena_user.proofs.RenumberedLemmas.{pointer_followed}
 use Rattle.triple_arena_user.proofs.renumbered.compress_with_table.Goals as goal
 
 pub returns-clause-table : goal.returns-clause-table

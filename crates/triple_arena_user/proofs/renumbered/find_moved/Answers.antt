@@ -1,4 +1,4 @@
-use Rattle.triple_arena_user.proofs.FollowLemmas.{same_pointer, named_by}
+use Rattle.triple_arena_user.proofs.RenumberedLemmas.{same_pointer, named_by}
 use Rattle.triple_arena_user.proofs.renumbered.find_moved.Goals as goal
 
 pub returns-then-eq : goal.returns-then-eq

@@ -1,5 +1,5 @@
 use Rattle.std.proofs.Common.{rules, of_calls}
-use Rattle.triple_arena_user.proofs.MappedLemmas.{values_related_same}
+use Rattle.triple_arena.specs.CompressionLaws.{values_related_same}
 use Rattle.triple_arena_user.proofs.renumbered.map_values.Goals as goal
 
 pub returns-clause-values : goal.returns-clause-values

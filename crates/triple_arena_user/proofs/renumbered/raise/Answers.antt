@@ -1,5 +1,5 @@
 use Rattle.std.proofs.Common.{◌+◌, ◌%◌, ◌^◌, rules}
-use Rattle.triple_arena_user.proofs.MappedLemmas.{values_same}
+use Rattle.triple_arena.specs.CompressionLaws.{values_same}
 use Rattle.triple_arena_user.proofs.renumbered.raise.Goals as goal
 
 pub returns-clause-values : goal.returns-clause-values

@@ -1,5 +1,5 @@
 use Rattle.std.proofs.Common.{rules}
-use Rattle.triple_arena_user.proofs.FollowLemmas.{kept_by, values_kept}
+use Rattle.triple_arena_user.proofs.RenumberedLemmas.{kept_by, values_kept}
 use Rattle.triple_arena_user.proofs.renumbered.remember.Goals as goal
 
 pub returns-clause-kept : goal.returns-clause-kept

@@ -1,5 +1,5 @@
 use Rattle.std.proofs.Common.{◌+◌, ◌%◌, ◌^◌, rules}
-use Rattle.triple_arena_user.proofs.MappedLemmas.{values_in_turn}
+use Rattle.triple_arena.specs.CompressionLaws.{values_in_turn}
 use Rattle.triple_arena_user.proofs.renumbered.sum_up.Goals as goal
 
 pub returns-clause-values : goal.returns-clause-values

@@ -9,7 +9,7 @@ use Rattle.std.proofs.lemmas.List.Kept.{AllPairs-from_increasing}
 use Rattle.triple_arena.specs.Entries.{value_if, look_up}
 use Rattle.triple_arena.specs.Compression.{index_of, value_of, IsCompact, IsMapped}
 use Rattle.triple_arena_user.specs.Renumbered.{IsFollowed, IsNamed, IsNamedBy, Keeps}
-use Rattle.triple_arena_user.proofs.MappedLemmas.{entries_related}
+use Rattle.triple_arena.specs.CompressionLaws.{entries_related}
 
 module _ {T : Type 0} (R : ℕ × (ℕ × T) → ℕ × (ℕ × T) → Type 0) where
   -- two entries at one place of two lists

@@ -1,8 +1,7 @@
--- What the calls of a compression's map leave, by what one call does.
+-- What the calls of a compression's map leave, by what one call does. Each law takes the clause `mapped` first.
 use Rattle.std.proofs.Common.{◌≡◌, ℕ, List, [], ◌∷◌, map, refl, ap, ◌∙◌}
 use Rattle.std.specs.List.{FoldsTo, AllZip}
-use Rattle.triple_arena.specs.Compression.{Move, value_of, entry_before, entry_after, IsMapped}
-use Rattle.triple_arena_user.specs.Renumbered.{given_in_turn}
+use Rattle.triple_arena.specs.Compression.{Move, value_of, given_in_turn, entry_before, entry_after, IsMapped}
 
 module _ {P T F : Type 0} {index generation : P → ℕ} {step : F → P → T → P → T → F → Type 0} {f : F} {old new : List (ℕ × (ℕ × T))} (m : IsMapped index generation step f old new) where
   -- the entries are related one by one as each call relates the one that it was made at and the one that it left, where
