@@ -1,11 +1,10 @@
 -- The entry at each index after two values changed places.
-use Rattle.std.proofs.Common.{◌≡◌, ◌≢◌, ℕ, ◌-◌, List, set, cond, Option, Some, None, IsSome, is_some, inl, inr, refl, sym, ap, ◌∙◌, arith}
+use Rattle.std.proofs.Common.{◌≡◌, ◌≢◌, ℕ, ◌-◌, List, set, Option, Some, IsSome, inl, inr, refl, sym, ap, ◌∙◌}
 use Rattle.std.proofs.lemmas.Bool.{ne_eqb}
 use Rattle.std.proofs.lemmas.Bool.Decides.{eqb_tells}
-use Rattle.std.proofs.lemmas.List.Sums.{sum_by-set}
 use Rattle.triple_arena.specs.Entries.{with_values_exchanged}
 use Rattle.triple_arena.specs.Content.{Content, entry_at, live_count, with_value, with_value_from, with_exchange}
-use Rattle.triple_arena.specs.ContentLaws.{live_of, entry-with_value, live-with_value}
+use Rattle.triple_arena.specs.ContentLaws.{entry-with_value, live-with_value}
 use Rattle.triple_arena_stack.specs.Room.{Room}
 use Rattle.triple_arena_stack.specs.Stack.{item_at, with_item}
 use Rattle.triple_arena.specs.Layout.{content_of, IsSound}

@@ -4,7 +4,7 @@ use Rattle.std.proofs.lemmas.Bool.Decides.{leb_tells}
 use Rattle.std.specs.Option.{option_map}
 use Rattle.triple_arena.specs.Content.{Content, entry_at}
 use Rattle.triple_arena.specs.Entries.{pointer_at}
-use Rattle.triple_arena.specs.Walk.{Walk, Finds}
+use Rattle.triple_arena.specs.Walk.{Finds}
 
 module _ {T : Type 0} where
   -- no index past the slots is live

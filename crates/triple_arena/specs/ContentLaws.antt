@@ -5,7 +5,8 @@ use Rattle.std.proofs.lemmas.Bool.Decides.{eqb_tells}
 use Rattle.std.proofs.lemmas.List.{get_or-set_same, get_or-set_other, length-set}
 use Rattle.std.proofs.lemmas.List.Sums.{sum_by-set}
 use Rattle.triple_arena.specs.Entries.{with_value_at}
-use Rattle.triple_arena.specs.Content.{Content, entry_at, live_count, with_value}
+use Rattle.triple_arena_stack.specs.Room.{capacity}
+use Rattle.triple_arena.specs.Content.{Content, entry_at, live_count, with_value, AllVacant, IsWellFormed}
 
 module _ {T : Type 0} where
   -- the entry at an index from 1 on
@@ -107,3 +108,34 @@ module _ {T : Type 0} where
           let l = live_of c i some in
           let counted = rw l.read at (sum_by-set (λ o. cond (is_some o) 1 0) c.slots (i - 1) (Some (x.0, t)) None l.within) in
           rw e (omega (arith, counted))
+
+  vacant-with_value : (c : Content T) (i : ℕ) (t : T) (l : List ℕ) → AllVacant c l → AllVacant (with_value c i t) l
+  vacant-with_value c i t [] all = tt
+  vacant-with_value c i t (j ∷ l) all =
+      let kept = slots-with_value c i t in
+      let none : with_value_at (entry_at c) i t j ≡ None = elim (eqb_tells j i) [
+        | inl same ↦ let at : entry_at c i ≡ None = subst (λ n. entry_at c n ≡ None) same.1 all.0.vacant in rw (same.0, at) refl
+        | inr other ↦ rw other.0 all.0.vacant
+      ] in (
+        record { positive = all.0.positive; within = omega (arith, kept, all.0.within); vacant = entry-with_value c i t j ∙ none },
+        (all.1.0, vacant-with_value c i t l all.1.1),
+      )
+
+  -- a write of a value keeps a content well-formed
+  pub formed-with_value : (c : Content T) (i : ℕ) (t : T) → IsWellFormed c → IsWellFormed (with_value c i t)
+  formed-with_value c i t formed =
+      let slots = slots-with_value c i t in
+      let live = live-with_value c i t in
+      let free = free-with_value c i t in
+      let lists = ap length free in
+      let room = ap capacity (room-with_value c i t) in
+      let counted = formed.counted in
+      let fits = formed.fits in
+      record {
+        free = rw free (vacant-with_value c i t c.free formed.free);
+        counted = omega (arith, slots, live, lists, counted);
+        fits = omega (arith, slots, room, fits);
+      }
+
+-- what a write of a value changes and what it keeps
+pub ruleset writes = (formed-with_value, entry-with_value, live-with_value, slots-with_value, counter-with_value, free-with_value, room-with_value)

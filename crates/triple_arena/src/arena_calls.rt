@@ -18,7 +18,7 @@ use crate::advancer::PtrAdvancer;
 use crate::arena::{ValueAtMut, max_index};
 use crate::{Arena, ArenaSlot, ArenaTrait, CompactArenaTrait};
 use triple_arena_ptr::{InvalidationOption, InvalidationResult, Ptr, PtrInx, ReallocationError};
-use triple_arena_stack::NonZeroInxGenericStack;
+use triple_arena_stack::{NonZeroInxArray, NonZeroInxGenericStack};
 
 impl<P: Ptr, T: Drop, S: NonZeroInxGenericStack<ArenaSlot<P, T>> + Drop> ArenaTrait<P, T>
     for Arena<P, T, S> {
@@ -317,3 +317,15 @@ impl<P: Ptr, T: Drop, S: NonZeroInxGenericStack<ArenaSlot<P, T>> + Drop> ArenaTr
 
 impl<P: Ptr, T: Drop, S: NonZeroInxGenericStack<ArenaSlot<P, T>> + Drop> CompactArenaTrait<P, T>
     for Arena<P, T, S> {}
+
+impl<P: Ptr, T: Drop, const LIMIT: usize> Default
+    for Arena<P, T, NonZeroInxArray<ArenaSlot<P, T>, LIMIT>> {
+    ghost is_default = { λ c. (c.slots ≡ []) × (c.free ≡ [])
+        × (c.counter ≡ second_generation P.Gen.last)
+        × (c.room ≡ room_of P.Inx.greatest (record { reserved = LIMIT; limit = Some LIMIT })) };
+
+    /// An empty arena in an array.
+    fn default() -> Self {
+        Arena::new(())
+    }
+}

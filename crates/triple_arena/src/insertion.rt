@@ -13,7 +13,8 @@ pub trait ArenaInsertTrait<P: Ptr, T: Drop>: ArenaTrait<P, T> {
     // The index of the next entry.
     ghost next_index: { Self → ℕ };
 
-    /// Stores `t` where there is room. Else the arena stays as it is, and `t` is dropped.
+    /// Stores `t` where there is room. Else it answers `NotWithinCapacityError`, the arena stays as it is, and `t` is
+    /// dropped.
     fn insert_within_capacity(&mut self, t: T) -> Result<P, NotWithinCapacityError>
         ensures variant { IsOk result
             ↔ (Self.live_count self.old < capacity_of (Self.room self.old)) }

@@ -39,6 +39,7 @@ pub struct Nodes<P: Ptr, T: Drop, S: NonZeroInxGenericStack<ArenaSlot<P, Node<P,
 impl<P: Ptr, T: Drop, S: NonZeroInxGenericStack<ArenaSlot<P, Node<P, T>>>> Model
     for Nodes<P, T, S> {
     ghost use Rattle.triple_arena_user.specs.Nodes.{Nodes as View};
+    ghost use Rattle.triple_arena.specs.Content.{IsWellFormed};
     ghost use Rattle.std.specs.Option.{option_map};
 
     ghost Value = { View T };
@@ -48,6 +49,8 @@ impl<P: Ptr, T: Drop, S: NonZeroInxGenericStack<ArenaSlot<P, Node<P, T>>>> Model
       top = option_map
           (λ p. (P.index p, P.generation p)) n.top;
     } };
+
+    ghost invariant = { λ n. IsWellFormed n.arena };
 }
 
 impl<P: Ptr, T: Drop, S: NonZeroInxGenericStack<ArenaSlot<P, Node<P, T>>> + Drop> Nodes<P, T, S> {
@@ -114,6 +117,7 @@ impl<P: Ptr, T: Drop, S: NonZeroInxGenericStack<ArenaSlot<P, Node<P, T>>> + Drop
     }
 
     /// Changes the value at `p`, and says whether there was one.
+    #[tactic(auto, using(triple_arena::specs::ContentLaws::writes))]
     pub fn set(&mut self, p: P, value: T) -> bool
         ensures variant { IsTrue result ↔ IsSome (value_at self.old (P.index p) (P.generation p)) }
         ensures written { IsTrue result

@@ -181,7 +181,7 @@ fn without_generations(rt: HostRuntime) -> Result<(), Fail> {
     is_at_limit(&rt, &mut array);
     pops_the_last_slot(&rt, &mut InVec::<P5>::new(rt.alloc()), &["P5[1]", "P5[2]"]);
     keeps_its_pointer(&rt, &mut InVec::<P5>::new(rt.alloc()));
-    keeps_its_pointer(&rt, &mut InArray::<P5, 1>::new(()));
+    keeps_its_pointer(&rt, &mut InArray::<P5, 1>::default());
     Ok(())
 }
 
