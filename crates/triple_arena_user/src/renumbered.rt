@@ -1,9 +1,11 @@
 //! Arenas whose entries move to the first indexes and get other values.
-ghost use Rattle.std.specs.Prelude.{◌≡◌, ℕ, ◌+◌, ◌-◌, ◌%◌, ◌^◌, ◌↔◌, Some, None, IsSome, IfSome, map as list_map, slice_get, slice_index_or};
+ghost use Rattle.std.specs.Prelude.{◌≡◌, ℕ, ◌+◌, ◌-◌, ◌%◌, ◌^◌, ◌↔◌, Some, None, false, IsSome, IfSome, map as list_map, slice_get, slice_index_or};
 ghost use Rattle.std.specs.Option.{option_map};
 ghost use Rattle.std.specs.List.{AllZip};
 ghost use Rattle.triple_arena.specs.Entries.{value_if};
-ghost use Rattle.triple_arena.specs.Compression.{index_of, value_of, given_in_turn, IsCompact};
+ghost use Rattle.triple_arena_ptr.specs.Generation.{next_generation};
+ghost use Rattle.triple_arena_ptr.specs.InvalidationOption.{overflowed};
+ghost use Rattle.triple_arena.specs.Compression.{index_of, value_of, generation_of, generation_given, compression_wraps, given_in_turn, IsCompact};
 ghost use Rattle.triple_arena_user.specs.Renumbered.{IsFollowed, IsNamed, IsNamedBy, Keeps};
 
 use triple_arena::ArenaTrait;
@@ -15,6 +17,14 @@ pub fn raise<P: Ptr, A: ArenaTrait<P, u64>>(arena: &mut A, by: u64) -> Invalidat
         ≡ list_map (λ v. (v + by) % 2 ^ 64) (list_map value_of (A.live_entries arena.old)) }
     ensures compact { IsCompact (A.live_entries arena.new) }
     ensures count { A.live_count arena.new ≡ A.live_count arena.old }
+    ensures overflow { overflowed result ≡ compression_wraps P.Gen.last false (A.counter arena.old)
+        (list_map generation_of (A.live_entries arena.old)) }
+    ensures generations { list_map generation_of (A.live_entries arena.new)
+        ≡ list_map (λ e. generation_given P.Gen.last false (A.counter arena.old) (generation_of e))
+        (A.live_entries arena.old) }
+    ensures counter { A.counter arena.new
+        ≡ option_map (next_generation P.Gen.last) (A.counter arena.old) }
+    ensures room { A.room arena.new ≡ A.room arena.old }
 {
     arena.compress_with(false, |_, value, _| value.wrapping_add(by))
 }
@@ -29,6 +39,14 @@ pub fn map_values<P: Ptr, T: Drop, A: ArenaTrait<P, T>, F: Fn(T) -> T>(
         (list_map value_of (A.live_entries arena.new)) }
     ensures compact { IsCompact (A.live_entries arena.new) }
     ensures count { A.live_count arena.new ≡ A.live_count arena.old }
+    ensures overflow { overflowed result ≡ compression_wraps P.Gen.last false (A.counter arena.old)
+        (list_map generation_of (A.live_entries arena.old)) }
+    ensures generations { list_map generation_of (A.live_entries arena.new)
+        ≡ list_map (λ e. generation_given P.Gen.last false (A.counter arena.old) (generation_of e))
+        (A.live_entries arena.old) }
+    ensures counter { A.counter arena.new
+        ≡ option_map (next_generation P.Gen.last) (A.counter arena.old) }
+    ensures room { A.room arena.new ≡ A.room arena.old }
 {
     arena.compress_with(false, |_, value, _| f(value))
 }
@@ -40,6 +58,14 @@ pub fn sum_up<P: Ptr, A: ArenaTrait<P, u64>>(arena: &mut A) -> InvalidationOptio
         (list_map value_of (A.live_entries arena.old)) }
     ensures compact { IsCompact (A.live_entries arena.new) }
     ensures count { A.live_count arena.new ≡ A.live_count arena.old }
+    ensures overflow { overflowed result ≡ compression_wraps P.Gen.last false (A.counter arena.old)
+        (list_map generation_of (A.live_entries arena.old)) }
+    ensures generations { list_map generation_of (A.live_entries arena.new)
+        ≡ list_map (λ e. generation_given P.Gen.last false (A.counter arena.old) (generation_of e))
+        (A.live_entries arena.old) }
+    ensures counter { A.counter arena.new
+        ≡ option_map (next_generation P.Gen.last) (A.counter arena.old) }
+    ensures room { A.room arena.new ≡ A.room arena.old }
 {
     let mut sum = 0u64;
     arena.compress_with(false, |_, value, _| {
@@ -63,6 +89,12 @@ fn remember<P: Ptr, T: Drop, A: ArenaTrait<P, Moved<P, T>>>(arena: &mut A)
         ≡ list_map (λ m. m.value) (list_map value_of (A.live_entries arena.old)) }
     ensures compact { IsCompact (A.live_entries arena.new) }
     ensures count { A.live_count arena.new ≡ A.live_count arena.old }
+    ensures generations { list_map generation_of (A.live_entries arena.new)
+        ≡ list_map (λ e. generation_given P.Gen.last false (A.counter arena.old) (generation_of e))
+        (A.live_entries arena.old) }
+    ensures counter { A.counter arena.new
+        ≡ option_map (next_generation P.Gen.last) (A.counter arena.old) }
+    ensures room { A.room arena.new ≡ A.room arena.old }
 {
     arena.compress_with(
         false,
@@ -106,6 +138,12 @@ pub fn compress_and_follow<P: Ptr, T: Drop, A: ArenaTrait<P, Moved<P, T>>>(
         ≡ list_map (λ m. m.value) (list_map value_of (A.live_entries arena.old)) }
     ensures compact { IsCompact (A.live_entries arena.new) }
     ensures count { A.live_count arena.new ≡ A.live_count arena.old }
+    ensures generations { list_map generation_of (A.live_entries arena.new)
+        ≡ list_map (λ e. generation_given P.Gen.last false (A.counter arena.old) (generation_of e))
+        (A.live_entries arena.old) }
+    ensures counter { A.counter arena.new
+        ≡ option_map (next_generation P.Gen.last) (A.counter arena.old) }
+    ensures room { A.room arena.new ≡ A.room arena.old }
 {
     remember(arena);
     find_moved(arena, p)
@@ -147,6 +185,12 @@ pub fn compress_with_table<P: Ptr, T: Drop, A: ArenaTrait<P, Moved<P, T>>>(
         (A.live_entries arena.old) (A.live_entries arena.new) }
     ensures compact { IsCompact (A.live_entries arena.new) }
     ensures count { A.live_count arena.new ≡ A.live_count arena.old }
+    ensures generations { list_map generation_of (A.live_entries arena.new)
+        ≡ list_map (λ e. generation_given P.Gen.last false (A.counter arena.old) (generation_of e))
+        (A.live_entries arena.old) }
+    ensures counter { A.counter arena.new
+        ≡ option_map (next_generation P.Gen.last) (A.counter arena.old) }
+    ensures room { A.room arena.new ≡ A.room arena.old }
 {
     remember(arena);
     find_all_moved(arena, table);

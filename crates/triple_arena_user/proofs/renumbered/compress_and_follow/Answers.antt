@@ -26,4 +26,7 @@ returns g c =
       values = c.remember.ensures.values;
       compact = c.remember.ensures.compact;
       count = c.remember.ensures.count;
+      generations = c.remember.ensures.generations;
+      counter = c.remember.ensures.counter;
+      room = c.remember.ensures.room;
     }
