@@ -6,6 +6,10 @@ pub mod Content
 pub mod Layout
 pub mod Walk
 pub mod ContentLaws
+pub mod InsertionLaws
+pub mod RemovalLaws
+pub mod GenerationLaws
+pub mod ExchangeLaws
 pub mod InsertEntry
 pub mod LiveEntries
 pub mod Compression

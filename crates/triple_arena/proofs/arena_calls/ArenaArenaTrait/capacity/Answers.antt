@@ -1,5 +1,5 @@
 use Rattle.std.proofs.Common.{arith}
-use Rattle.triple_arena.proofs.ContentLemmas.{live-within}
+use Rattle.triple_arena.specs.ContentLaws.{live-within}
 use Rattle.triple_arena.proofs.arena_calls.ArenaArenaTrait.capacity.Goals as goal
 
 pub returns-clause-indexes : goal.returns-clause-indexes
