@@ -6,12 +6,13 @@ ghost use Rattle.std.specs.Option.{option_map};
 ghost use Rattle.triple_arena_ptr.specs.Generation.{second_generation, next_generation, next_wraps};
 ghost use Rattle.triple_arena_ptr.specs.InvalidationOption.{value_of, overflowed};
 ghost use Rattle.triple_arena_ptr.specs.InvalidationResult.{answer_of};
-ghost use Rattle.triple_arena.specs.Entries.{with_entry, without, with_values_exchanged, with_generation_at, pointer_at as pointer_of_entry};
+ghost use Rattle.triple_arena.specs.Changes.{IsInserted, IsRemoved, IsInvalidated};
+ghost use Rattle.triple_arena.specs.Entries.{with_values_exchanged, pointer_at as pointer_of_entry};
 ghost use Rattle.triple_arena_ptr.specs.Index.{max_index_of};
 ghost use Rattle.triple_arena_stack.specs.Room.{grown, with_reserved, IsBeyond};
 ghost use Rattle.triple_arena.specs.ArenaRoom.{room_of};
 ghost use Rattle.triple_arena.specs.Slot.{entry_of};
-ghost use Rattle.triple_arena.specs.Content.{get, entry_at, live_count, room_for, next_index, inserted, with_value, with_exchange, with_generation, with_counter, invalidated, vacated, removed, stepped, emptied, in_room, IsWellFormed};
+ghost use Rattle.triple_arena.specs.Content.{get, entry_at, some_counter, live_count, room_for, next_index, inserted, grown_if_full, with_value, with_exchange, with_generation, with_counter, invalidated, vacated, removed, stepped, emptied, in_room, IsWellFormed};
 ghost use Rattle.triple_arena.specs.LiveEntries.{live_entries};
 ghost use Rattle.triple_arena.specs.Compression.{entry_of_listed, generation_of, live_values, compacted, IsCompact, IsMapped};
 
@@ -24,7 +25,7 @@ use std::num::NonZeroUsize;
 use triple_arena_ptr::{
     InvalidationOption, InvalidationResult, Ptr, PtrGen, PtrInx, ReallocationError,
 };
-use triple_arena_stack::NonZeroInxGenericStack;
+use triple_arena_stack::{NonZeroInxGenericStack, NonZeroInxVec};
 
 /// A generational arena, which keeps its slots in the stack `S`.
 ///
@@ -59,6 +60,9 @@ impl<P: Ptr, T: Drop, S: NonZeroInxGenericStack<ArenaSlot<P, T>>> Model for Aren
     ghost invariant = { λ a. IsSound (S.items a.slots) a.len (option_map non_zero_usize_get a.head)
         (room_of P.Inx.greatest (S.room a.slots)) };
 }
+
+/// An arena in a vector.
+pub type HeapArena<P, T, A> = Arena<P, T, NonZeroInxVec<ArenaSlot<P, T>, A>>;
 
 // The greatest index that is a number.
 pub(crate) fn max_index<P: Ptr>() -> usize
@@ -261,9 +265,8 @@ impl<P: Ptr, T: Drop, S: NonZeroInxGenericStack<ArenaSlot<P, T>>> Arena<P, T, S>
     #[inline]
     pub(crate) fn make_room(&mut self) -> Result<(), ReallocationError>
         ensures ok { OnOk result (live_count self.new < room_for self.new) }
+        ensures exact { OnOk result (self.new ≡ grown_if_full self.old) }
         ensures kept { live_count self.old < room_for self.old → self.new ≡ self.old }
-        ensures grown { live_count self.old ≡ room_for self.old
-            → OnOk result (self.new ≡ in_room self.old (grown self.old.room)) }
         ensures succeeds { live_count self.old < room_for self.old → IsOk result }
         ensures beyond { IsErrOf result ReallocationError.BeyondMaxCapacity
             ↔ (self.old.room.limit ≡ Some (live_count self.old)) }
@@ -375,11 +378,8 @@ impl<P: Ptr, T: Drop, S: NonZeroInxGenericStack<ArenaSlot<P, T>>> Arena<P, T, S>
         ensures entry { Some (P.Gen.number (value_of result).0, (value_of result).1)
             ≡ entry_at self.old (non_zero_usize_get i) }
         ensures overflow { overflowed result ≡ next_wraps P.Gen.last self.old.counter }
-        ensures entries { (j : ℕ) → entry_at self.new j
-            ≡ without (entry_at self.old) (non_zero_usize_get i) j }
-        ensures live { live_count self.new + 1 ≡ live_count self.old }
-        ensures counter { self.new.counter ≡ next_generation P.Gen.last self.old.counter }
-        ensures room { self.new.room ≡ self.old.room }
+        ensures removed { IsRemoved entry_at live_count some_counter (λ c. c.room) P.Gen.last
+            (non_zero_usize_get i) self.old self.new }
         ensures formed { IsWellFormed self.new }
         ensures was_formed { IsWellFormed self.old }
     {
@@ -395,13 +395,8 @@ impl<P: Ptr, T: Drop, S: NonZeroInxGenericStack<ArenaSlot<P, T>>> Arena<P, T, S>
     pub(crate) fn insert_entry(&mut self, t: T) -> P
         requires { live_count self.old < room_for self.old }
         ensures value { self.new ≡ inserted self.old t }
-        ensures has_index { P.index result ≡ next_index self.old }
-        ensures has_generation { P.generation result ≡ self.old.counter }
-        ensures vacant { entry_at self.old (next_index self.old) ≡ None }
-        ensures entries { (j : ℕ) → entry_at self.new j
-            ≡ with_entry (entry_at self.old) (next_index self.old) (self.old.counter, t) j }
-        ensures live { live_count self.new ≡ live_count self.old + 1 }
-        ensures counter { self.new.counter ≡ self.old.counter }
+        ensures inserted { IsInserted entry_at live_count some_counter (next_index self.old)
+            (P.index result) (P.generation result) t self.old self.new }
         ensures room { self.new.room ≡ self.old.room }
         ensures formed { IsWellFormed self.new }
         ensures was_formed { IsWellFormed self.old }
@@ -434,12 +429,9 @@ impl<P: Ptr, T: Drop, S: NonZeroInxGenericStack<ArenaSlot<P, T>>> Arena<P, T, S>
             (λ a. P.index (value_of a) ≡ non_zero_usize_get i) }
         ensures has_generation { IfSome (answer_of result)
             (λ a. P.generation (value_of a) ≡ next_generation P.Gen.last self.old.counter) }
-        ensures entries { (j : ℕ) → entry_at self.new j
-            ≡ with_generation_at (entry_at self.old) (non_zero_usize_get i)
-            (next_generation P.Gen.last self.old.counter) j }
-        ensures live { live_count self.new ≡ live_count self.old }
-        ensures counter { self.new.counter ≡ next_generation P.Gen.last self.old.counter }
-        ensures room { self.new.room ≡ self.old.room }
+        ensures invalidated { IsInvalidated entry_at live_count some_counter (λ c. c.room)
+            P.Gen.last (non_zero_usize_get i) (next_generation P.Gen.last self.old.counter)
+            self.old self.new }
         ensures formed { IsWellFormed self.new }
         ensures was_formed { IsWellFormed self.old }
     {

@@ -2,14 +2,12 @@
 ghost use Rattle.std.specs.Prelude.{◌≡◌, ℕ, ◌+◌, ◌<◌, ◌≤◌, ◌↔◌, true, [], Some, None, IsOk, IsSome, IfSome, IfNone, IfOk, OnOk, OnErr, IsErrOf, option_copied, refl, map as list_map, slice_get};
 ghost use Rattle.std.specs.Borrow.{sem, Lends};
 ghost use Rattle.std.specs.Option.{option_map};
-ghost use Rattle.triple_arena_ptr.specs.Generation.{second_generation, next_generation, next_wraps};
+ghost use Rattle.triple_arena_ptr.specs.Generation.{second_generation};
 ghost use Rattle.triple_arena_ptr.specs.Index.{max_index_of};
-ghost use Rattle.triple_arena_ptr.specs.InvalidationOption.{value_of, overflowed};
-ghost use Rattle.triple_arena_ptr.specs.InvalidationResult.{answer_of};
+ghost use Rattle.triple_arena_ptr.specs.InvalidationOption.{overflowed};
 ghost use Rattle.triple_arena_stack.specs.Room.{capacity as capacity_of, with_reserved, IsBeyond};
 ghost use Rattle.triple_arena.specs.ArenaRoom.{room_of};
-ghost use Rattle.triple_arena.specs.Entries.{without, with_generation_at};
-ghost use Rattle.triple_arena.specs.Content.{get, entry_at as entry_of_index, live_count as live_of, room_for, removed, invalidated, cleared, with_value as with_value_of, in_room, IsWellFormed};
+ghost use Rattle.triple_arena.specs.Content.{some_counter, entry_at as entry_of_index, live_count as live_of, room_for, removed as removed_of, invalidated as invalidated_of, cleared as cleared_of, with_value as with_value_of, in_room, IsWellFormed};
 ghost use Rattle.triple_arena.specs.ContentLaws.{entry-with_value, live-with_value, some_counter-with_value, room-with_value};
 ghost use Rattle.triple_arena.specs.LiveEntries.{live_entries as live_entries_of, entry-listed, live_entries-increase, live_entries-length};
 ghost use Rattle.triple_arena.specs.Compression.{renewed, renewal_wraps, entry_of_listed, generation_of, live_values, compacted, IsCompact};
@@ -30,7 +28,7 @@ impl<P: Ptr, T: Drop, S: NonZeroInxGenericStack<ArenaSlot<P, T>> + Drop> ArenaTr
 
     ghost live_count = { live_of };
 
-    ghost counter = { λ c. Some c.counter };
+    ghost counter = { some_counter };
 
     ghost counts = { true };
 
@@ -39,6 +37,14 @@ impl<P: Ptr, T: Drop, S: NonZeroInxGenericStack<ArenaSlot<P, T>> + Drop> ArenaTr
     ghost room_at = { λ n. room_of P.Inx.greatest (S.room_at n) };
 
     ghost with_value = { with_value_of };
+
+    ghost is_formed = { IsWellFormed };
+
+    ghost removed = { removed_of P.Gen.last };
+
+    ghost invalidated = { invalidated_of P.Gen.last };
+
+    ghost cleared = { cleared_of P.Gen.last };
 
     ghost walk = { λ a. a };
 
@@ -127,11 +133,7 @@ impl<P: Ptr, T: Drop, S: NonZeroInxGenericStack<ArenaSlot<P, T>> + Drop> ArenaTr
         self.reallocate(min)
     }
 
-    fn len(&self) -> usize
-        ensures value { result ≡ live_of self.now }
-        ensures fits { result ≤ room_for self.now }
-        ensures formed { IsWellFormed self.now }
-    {
+    fn len(&self) -> usize {
         self.live()
     }
 
@@ -183,24 +185,7 @@ impl<P: Ptr, T: Drop, S: NonZeroInxGenericStack<ArenaSlot<P, T>> + Drop> ArenaTr
         PtrAdvancer::over(start, self.slot_count(), false)
     }
 
-    fn remove(&mut self, p: P) -> InvalidationResult<T>
-        ensures value { option_map value_of (answer_of result)
-            ≡ get self.old (P.index p) (P.generation p) }
-        ensures overflow { IfSome (answer_of result)
-            (λ a. overflowed a ≡ next_wraps P.Gen.last self.old.counter) }
-        ensures content { IfSome (answer_of result)
-            (λ a. self.new ≡ removed P.Gen.last self.old (P.index p)) }
-        ensures entries { IfSome (answer_of result)
-            (λ a. (j : ℕ) → entry_of_index self.new j
-            ≡ without (entry_of_index self.old) (P.index p) j) }
-        ensures live { IfSome (answer_of result) (λ a. live_of self.new + 1 ≡ live_of self.old) }
-        ensures counter { IfSome (answer_of result)
-            (λ a. self.new.counter ≡ next_generation P.Gen.last self.old.counter) }
-        ensures room { self.new.room ≡ self.old.room }
-        ensures invalid { IfNone (answer_of result) (self.new ≡ self.old) }
-        ensures formed { IsWellFormed self.new }
-        ensures was_formed { IsWellFormed self.old }
-    {
+    fn remove(&mut self, p: P) -> InvalidationResult<T> {
         let _ = self.live();
         match self.live_index(p) {
             Some(i) => match self.remove_at(i) {
@@ -213,24 +198,7 @@ impl<P: Ptr, T: Drop, S: NonZeroInxGenericStack<ArenaSlot<P, T>> + Drop> ArenaTr
         }
     }
 
-    fn remove_inx(&mut self, i: P::Inx) -> InvalidationResult<(P::Gen, T)>
-        ensures value { option_map (λ a. (P.Gen.number (value_of a).0, (value_of a).1))
-            (answer_of result) ≡ entry_of_index self.old (P.Inx.number i) }
-        ensures overflow { IfSome (answer_of result)
-            (λ a. overflowed a ≡ next_wraps P.Gen.last self.old.counter) }
-        ensures content { IfSome (answer_of result)
-            (λ a. self.new ≡ removed P.Gen.last self.old (P.Inx.number i)) }
-        ensures entries { IfSome (answer_of result)
-            (λ a. (j : ℕ) → entry_of_index self.new j
-            ≡ without (entry_of_index self.old) (P.Inx.number i) j) }
-        ensures live { IfSome (answer_of result) (λ a. live_of self.new + 1 ≡ live_of self.old) }
-        ensures counter { IfSome (answer_of result)
-            (λ a. self.new.counter ≡ next_generation P.Gen.last self.old.counter) }
-        ensures room { self.new.room ≡ self.old.room }
-        ensures invalid { IfNone (answer_of result) (self.new ≡ self.old) }
-        ensures formed { IsWellFormed self.new }
-        ensures was_formed { IsWellFormed self.old }
-    {
+    fn remove_inx(&mut self, i: P::Inx) -> InvalidationResult<(P::Gen, T)> {
         let _ = self.live();
         match self.live_inx(i) {
             Some(i) => match self.remove_at(i) {
@@ -243,28 +211,7 @@ impl<P: Ptr, T: Drop, S: NonZeroInxGenericStack<ArenaSlot<P, T>> + Drop> ArenaTr
         }
     }
 
-    fn invalidate(&mut self, p: P) -> InvalidationResult<P>
-        ensures variant { IsSome (answer_of result)
-            ↔ IsSome (get self.old (P.index p) (P.generation p)) }
-        ensures overflow { IfSome (answer_of result)
-            (λ a. overflowed a ≡ next_wraps P.Gen.last self.old.counter) }
-        ensures content { IfSome (answer_of result)
-            (λ a. self.new ≡ invalidated P.Gen.last self.old (P.index p)) }
-        ensures index { IfSome (answer_of result) (λ a. P.index (value_of a) ≡ P.index p) }
-        ensures generation { IfSome (answer_of result)
-            (λ a. P.generation (value_of a) ≡ next_generation P.Gen.last self.old.counter) }
-        ensures entries { IfSome (answer_of result)
-            (λ a. (j : ℕ) → entry_of_index self.new j
-            ≡ with_generation_at (entry_of_index self.old) (P.index p)
-            (P.generation (value_of a)) j) }
-        ensures live { live_of self.new ≡ live_of self.old }
-        ensures counter { IfSome (answer_of result)
-            (λ a. self.new.counter ≡ next_generation P.Gen.last self.old.counter) }
-        ensures room { self.new.room ≡ self.old.room }
-        ensures invalid { IfNone (answer_of result) (self.new ≡ self.old) }
-        ensures formed { IsWellFormed self.new }
-        ensures was_formed { IsWellFormed self.old }
-    {
+    fn invalidate(&mut self, p: P) -> InvalidationResult<P> {
         let _ = self.live();
         match self.live_index(p) {
             Some(i) => self.invalidate_at(i),
@@ -272,13 +219,7 @@ impl<P: Ptr, T: Drop, S: NonZeroInxGenericStack<ArenaSlot<P, T>> + Drop> ArenaTr
         }
     }
 
-    fn clear(&mut self) -> InvalidationOption<()>
-        ensures content { self.new ≡ cleared P.Gen.last self.old }
-        ensures overflow { overflowed result ≡ next_wraps P.Gen.last self.old.counter }
-        ensures entries { (j : ℕ) → entry_of_index self.new j ≡ None }
-        ensures formed { IsWellFormed self.new }
-        ensures was_formed { IsWellFormed self.old }
-    {
+    fn clear(&mut self) -> InvalidationOption<()> {
         let _ = self.live();
         self.empty();
         if self.step() {

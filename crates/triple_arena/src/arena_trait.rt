@@ -1,5 +1,5 @@
 //! What every arena does.
-ghost use Rattle.std.specs.Prelude.{◌≡◌, ◌≢◌, ℕ, ◌+◌, ◌-◌, ◌*◌, ◌^◌, ◌<◌, ◌≤◌, ◌↔◌, Bool, Some, None, IsTrue, IsOk, IsSome, IfSome, IfNone, IfOk, OnOk, OnErr, IsErrOf, Option, is_some, option_copied, unwrap_or, true, false, min, if◌then◌else◌, List, map as list_map, length, slice_get};
+ghost use Rattle.std.specs.Prelude.{◌≡◌, ◌≢◌, ℕ, ◌+◌, ◌-◌, ◌*◌, ◌^◌, ◌<◌, ◌≤◌, ◌↔◌, Bool, Some, None, IsTrue, IsOk, IsSome, IfSome, IfNone, IfOk, OnSome, OnOk, OnErr, IsErrOf, Option, is_some, option_copied, unwrap_or, true, false, min, if◌then◌else◌, List, map as list_map, length, slice_get};
 ghost use Rattle.std.specs.Borrow.{sem, Lends, LendsIf};
 ghost use Rattle.std.specs.Option.{option_map, option_copied_mut};
 ghost use Rattle.triple_arena_ptr.specs.Generation.{second_generation, next_generation, next_wraps};
@@ -7,7 +7,8 @@ ghost use Rattle.triple_arena_ptr.specs.Index.{max_index_of};
 ghost use Rattle.triple_arena_ptr.specs.InvalidationOption.{value_of, overflowed};
 ghost use Rattle.triple_arena_ptr.specs.InvalidationResult.{answer_of};
 ghost use Rattle.triple_arena_stack.specs.Room.{Room, capacity as capacity_of, with_reserved, IsBeyond};
-ghost use Rattle.triple_arena.specs.Entries.{number_if, value_if, counter_wraps, without, with_value_at, with_generation_at, generation_at, look_up};
+ghost use Rattle.triple_arena.specs.Changes.{IsRemoved, IsInvalidated, IsCleared};
+ghost use Rattle.triple_arena.specs.Entries.{number_if, value_if, counter_wraps, with_value_at, generation_at, look_up};
 ghost use Rattle.triple_arena.specs.Walk.{Walk, Steps};
 ghost use Rattle.std.specs.List.Sorted.{IsStrictlyIncreasing};
 ghost use Rattle.triple_arena.specs.Compression.{renewed, generation_given, compression_wraps, index_of, entry_of_listed, generation_of, value_of as value_of_entry, IsCompact, IsMapped};
@@ -42,6 +43,16 @@ pub trait ArenaTrait<P: Ptr, T: Drop> {
 
     // The arena with another value at an index, if it is live.
     ghost with_value: { Self → ℕ → T → Self };
+
+    // The arena without the entry at an index, with the entry at an index under the stepped counter, and without any.
+    ghost removed: { Self → ℕ → Self };
+
+    ghost invalidated: { Self → ℕ → Self };
+
+    ghost cleared: { Self → Self };
+
+    // What holds of each arena that a call leaves.
+    ghost is_formed: { Self → Type 0 };
 
     // The indexes that an advancer has left to look at.
     ghost walk: { Self.PtrAdvancer → Walk };
@@ -103,7 +114,8 @@ pub trait ArenaTrait<P: Ptr, T: Drop> {
     /// How many entries are live.
     fn len(&self) -> usize
         ensures value { result ≡ live_count self.now }
-        ensures fits { result ≤ capacity_of (room self.now) };
+        ensures fits { result ≤ capacity_of (room self.now) }
+        ensures formed { is_formed self.now };
 
     /// The counter, which is the generation of the next entry, in an arena that has one.
     fn singular_generation(&self) -> Option<P::Gen>
@@ -164,13 +176,10 @@ pub trait ArenaTrait<P: Ptr, T: Drop> {
             ≡ value_if (P.generation p) (entry_at self.old (P.index p)) }
         ensures overflow { IfSome (answer_of result)
             (λ a. overflowed a ≡ counter_wraps P.Gen.last (counter self.old)) }
-        ensures entries { IfSome (answer_of result)
-            (λ a. (j : ℕ) → entry_at self.new j ≡ without (entry_at self.old) (P.index p) j) }
-        ensures live { IfSome (answer_of result)
-            (λ a. live_count self.new + 1 ≡ live_count self.old) }
-        ensures counter { IfSome (answer_of result)
-            (λ a. counter self.new ≡ option_map (next_generation P.Gen.last) (counter self.old)) }
-        ensures room { room self.new ≡ room self.old }
+        ensures removed { OnSome (answer_of result) (IsRemoved entry_at live_count counter room
+            P.Gen.last (P.index p) self.old self.new) }
+        ensures exact { OnSome (answer_of result) (self.new ≡ removed self.old (P.index p)) }
+        ensures formed { is_formed self.new }
         ensures invalid { IfNone (answer_of result) (self.new ≡ self.old) };
 
     /// Removes the entry at an index, and steps the counter. It answers `InvalidPtr`, and changes nothing, where the
@@ -180,13 +189,10 @@ pub trait ArenaTrait<P: Ptr, T: Drop> {
             (answer_of result) ≡ entry_at self.old (P.Inx.number i) }
         ensures overflow { IfSome (answer_of result)
             (λ a. overflowed a ≡ counter_wraps P.Gen.last (counter self.old)) }
-        ensures entries { IfSome (answer_of result)
-            (λ a. (j : ℕ) → entry_at self.new j ≡ without (entry_at self.old) (P.Inx.number i) j) }
-        ensures live { IfSome (answer_of result)
-            (λ a. live_count self.new + 1 ≡ live_count self.old) }
-        ensures counter { IfSome (answer_of result)
-            (λ a. counter self.new ≡ option_map (next_generation P.Gen.last) (counter self.old)) }
-        ensures room { room self.new ≡ room self.old }
+        ensures removed { OnSome (answer_of result) (IsRemoved entry_at live_count counter room
+            P.Gen.last (P.Inx.number i) self.old self.new) }
+        ensures exact { OnSome (answer_of result) (self.new ≡ removed self.old (P.Inx.number i)) }
+        ensures formed { is_formed self.new }
         ensures invalid { IfNone (answer_of result) (self.new ≡ self.old) };
 
     /// Ends `p` and gives the entry another pointer, with the stepped generation, so that `p` finds nothing where
@@ -203,23 +209,20 @@ pub trait ArenaTrait<P: Ptr, T: Drop> {
         ensures generation { IfSome (answer_of result)
             (λ a. P.generation (value_of a)
             ≡ next_generation P.Gen.last (unwrap_or (counter self.old) (P.generation p))) }
-        ensures entries { IfSome (answer_of result)
-            (λ a. (j : ℕ) → entry_at self.new j
-            ≡ with_generation_at (entry_at self.old) (P.index p) (P.generation (value_of a)) j) }
-        ensures live { live_count self.new ≡ live_count self.old }
-        ensures counter { IfSome (answer_of result)
-            (λ a. counter self.new ≡ option_map (next_generation P.Gen.last) (counter self.old)) }
-        ensures room { room self.new ≡ room self.old }
+        ensures invalidated { IfSome (answer_of result)
+            (λ a. IsInvalidated entry_at live_count counter room P.Gen.last (P.index p)
+            (P.generation (value_of a)) self.old self.new) }
+        ensures exact { OnSome (answer_of result) (self.new ≡ invalidated self.old (P.index p)) }
+        ensures formed { is_formed self.new }
         ensures invalid { IfNone (answer_of result) (self.new ≡ self.old) };
 
     /// Removes every entry and every slot, and steps the counter once, also where there was no entry.
     fn clear(&mut self) -> InvalidationOption<()>
         ensures overflow { overflowed result ≡ counter_wraps P.Gen.last (counter self.old) }
-        ensures entries { (j : ℕ) → entry_at self.new j ≡ None }
-        ensures live { live_count self.new ≡ 0 }
-        ensures counter { counter self.new
-            ≡ option_map (next_generation P.Gen.last) (counter self.old) }
-        ensures room { room self.new ≡ room self.old };
+        ensures cleared { IsCleared entry_at live_count counter room P.Gen.last
+            self.old self.new }
+        ensures exact { self.new ≡ cleared self.old }
+        ensures formed { is_formed self.new };
 
     /// Moves the live entries, in the order of their indexes, to the indexes from 1 on, and gives each what `map` makes
     /// of its value. `map` is called once for each, in that order, with the old pointer, the value and the new

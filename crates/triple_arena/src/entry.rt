@@ -1,10 +1,9 @@
 //! A place for one entry more, which tells its pointer before the value is there.
-ghost use Rattle.std.specs.Prelude.{◌≡◌, ℕ, ◌+◌, ◌<◌, ◌↔◌, Some, None, IsOk, IfOk, IsErrOf};
+ghost use Rattle.std.specs.Prelude.{◌≡◌, ℕ, ◌<◌, ◌↔◌, Some, IsOk, IfOk, IsErrOf};
 ghost use Rattle.std.specs.Borrow.{sem, RestsIfErr};
-ghost use Rattle.triple_arena_stack.specs.Room.{grown};
+ghost use Rattle.triple_arena.specs.Changes.{IsInserted};
 ghost use Rattle.triple_arena.specs.InsertEntry.{entry_arena, entry_lender};
-ghost use Rattle.triple_arena.specs.Entries.{with_entry};
-ghost use Rattle.triple_arena.specs.Content.{Content, entry_at, live_count, room_for, next_index, inserted, in_room, IsWellFormed};
+ghost use Rattle.triple_arena.specs.Content.{Content, entry_at, some_counter, live_count, room_for, next_index, inserted, grown_if_full, IsWellFormed};
 
 use crate::{Arena, ArenaSlot};
 use triple_arena_ptr::{NotWithinCapacityError, Ptr, ReallocationError};
@@ -53,21 +52,14 @@ impl<'a, P: Ptr, T: Drop, S: NonZeroInxGenericStack<ArenaSlot<P, T>>> ArenaInser
 
     fn insert(self, t: T) -> P
         requires { live_count (entry_arena self) < room_for (entry_arena self) }
-        ensures index { P.index result ≡ next_index (entry_arena self.entry) }
-        ensures generation { P.generation result ≡ (entry_arena self.entry).counter }
 
         // `self.exit.0.now` is the arena as it is left.
-        ensures content { self.exit.0.now ≡ inserted (entry_arena self.entry) t }
-        ensures vacant { entry_at (entry_arena self.entry) (next_index (entry_arena self.entry))
-            ≡ None }
-        ensures entries { (j : ℕ) → entry_at self.exit.0.now j
-            ≡ with_entry (entry_at (entry_arena self.entry)) (P.index result)
-            (P.generation result, t) j }
-        ensures live { live_count self.exit.0.now ≡ live_count (entry_arena self.entry) + 1 }
-        ensures counter { self.exit.0.now.counter ≡ (entry_arena self.entry).counter }
+        ensures inserted { IsInserted entry_at live_count some_counter
+            (next_index (entry_arena self.entry)) (P.index result) (P.generation result) t
+            (entry_arena self.entry) self.exit.0.now }
+        ensures exact { self.exit.0.now ≡ inserted (entry_arena self.entry) t }
         ensures room { self.exit.0.now.room ≡ (entry_arena self.entry).room }
         ensures formed { IsWellFormed self.exit.0.now }
-        ensures was_formed { IsWellFormed (entry_arena self.entry) }
     {
         let ArenaInsertEntry { arena } = self;
         arena.insert_entry(t)
@@ -102,11 +94,7 @@ pub trait ArenaInsertEntries<P: Ptr, T: Drop> {
     ) -> Result<ArenaInsertEntry<'_, P, T, Self::Stack>, ReallocationError>
         ensures same_reference { IfOk result (λ e. entry_lender e ≡ self.entry.ghost_name) }
         ensures has_room { IfOk result (λ e. live_count (entry_arena e) < room_for (entry_arena e)) }
-        ensures kept { live_count (content self.old) < room_for (content self.old)
-            → IfOk result (λ e. entry_arena e ≡ content self.old) }
-        ensures grown { live_count (content self.old) ≡ room_for (content self.old)
-            → IfOk result (λ e. entry_arena e
-            ≡ in_room (content self.old) (grown (content self.old).room)) }
+        ensures arena { IfOk result (λ e. entry_arena e ≡ grown_if_full (content self.old)) }
         ensures succeeds { live_count (content self.old) < room_for (content self.old)
             → IsOk result }
         ensures beyond { IsErrOf result ReallocationError.BeyondMaxCapacity
@@ -119,11 +107,7 @@ pub trait ArenaInsertEntries<P: Ptr, T: Drop> {
     fn entry_insert(&mut self) -> Result<ArenaInsertEntry<'_, P, T, Self::Stack>, ReallocationError>
         ensures same_reference { IfOk result (λ e. entry_lender e ≡ self.entry.ghost_name) }
         ensures has_room { IfOk result (λ e. live_count (entry_arena e) < room_for (entry_arena e)) }
-        ensures kept { live_count (content self.old) < room_for (content self.old)
-            → IfOk result (λ e. entry_arena e ≡ content self.old) }
-        ensures grown { live_count (content self.old) ≡ room_for (content self.old)
-            → IfOk result (λ e. entry_arena e
-            ≡ in_room (content self.old) (grown (content self.old).room)) }
+        ensures arena { IfOk result (λ e. entry_arena e ≡ grown_if_full (content self.old)) }
         ensures succeeds { live_count (content self.old) < room_for (content self.old)
             → IsOk result }
         ensures beyond { IsErrOf result ReallocationError.BeyondMaxCapacity

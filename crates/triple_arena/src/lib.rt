@@ -29,9 +29,12 @@ pub mod arena_iterators {
     pub use crate::advancer::PtrAdvancer;
 }
 
-pub use arena::Arena;
+pub use arena::{Arena, HeapArena};
 pub use arena_trait::{ArenaTrait, CompactArenaTrait};
 pub use disjointable::DisjointableArenaTrait;
 pub use entry::{ArenaInsertEntries, ArenaInsertEntry, ArenaInsertEntryTrait};
 pub use insertion::ArenaInsertTrait;
 pub use slot::ArenaSlot;
+pub use triple_arena_ptr::{
+    InvalidationOption, InvalidationResult, NotWithinCapacityError, P0, P1, Ptr, ReallocationError,
+};

@@ -1,0 +1,5 @@
+//! What callers could use before.
+#![tactic(auto)]
+
+mod concrete;
+mod generic;
