@@ -1,14 +1,28 @@
 -- What an insertion leaves, and a growth before it.
-use Rattle.std.proofs.Common.{◌≡◌, ◌≢◌, ℕ, zero, suc, ◌+◌, ◌-◌, ◌<◌, ◌≤◌, List, [], ◌∷◌, ◌++◌, length, drop, max, get_or, set, cond, Option, Some, None, is_some, inl, inr, refl, sym, ap, ◌∙◌, arith}
+use Rattle.std.specs.Prelude.{nat_lt}
+use Rattle.std.proofs.Common.{Bool, true, false, if◌then◌else◌, ◌≡◌, ◌≢◌, ℕ, zero, suc, ◌+◌, ◌-◌, ◌*◌, ◌<◌, ◌≤◌, List, [], ◌∷◌, ◌++◌, length, drop, max, get_or, set, cond, Option, Some, None, is_some, inl, inr, refl, sym, ap, ◌∙◌, arith}
 use Rattle.std.proofs.lemmas.Bool.{eq-eqb, ne_eqb}
 use Rattle.std.proofs.lemmas.Bool.Decides.{eqb_tells}
 use Rattle.std.proofs.lemmas.List.{length-set, length_push, get_or-set_other}
 use Rattle.std.proofs.lemmas.List.Sums.{sum_by-set, sum_by_push}
 use Rattle.std.proofs.Math.Seq.{get_or-append_seam}
-use Rattle.triple_arena_stack.specs.Room.{Room, capacity}
+use Rattle.triple_arena_stack.specs.Room.{Room, within, capacity, grown}
+use Rattle.triple_arena.specs.Changes.{room_after}
 use Rattle.triple_arena.specs.Entries.{with_entry}
-use Rattle.triple_arena.specs.Content.{Content, entry_at, live_count, room_for, next_index, inserted, in_room, Lacks, AllVacant, IsWellFormed}
-use Rattle.triple_arena.specs.ContentLaws.{entry_at_slot, entry-set, vacant-kept, vacant-others}
+use Rattle.triple_arena.specs.Content.{Content, entry_at, live_count, room_for, next_index, inserted, in_room, grown_if_full, Lacks, AllVacant, IsWellFormed}
+use Rattle.triple_arena.specs.ContentLaws.{entry_at_slot, entry-set, entry-same_slots, vacant-kept, vacant-others}
+
+-- the room that a growth leaves is no smaller
+capacity-grown : (limit : Option ℕ) (n : ℕ) → within limit n ≤ within limit (within limit (max 4 (2 * n)))
+capacity-grown None n = omega arith
+capacity-grown (Some limit) n = omega arith
+
+pub capacity-room_after : (live : ℕ) (r : Room) → capacity r ≤ capacity (room_after live r)
+capacity-room_after live r = by_test (nat_lt live (capacity r))
+  where
+    by_test : (fits : Bool) → capacity r ≤ capacity (if fits then r else grown r)
+    by_test true = omega arith
+    by_test false = capacity-grown r.limit r.reserved
 
 module _ {T : Type 0} where
   -- the first of the free indexes is vacant, and the index past the slots too
@@ -139,6 +153,16 @@ module _ {T : Type 0} where
         fits = omega (arith, formed.fits, more);
       }
 
+
+  pub formed-grown : (c : Content T) → IsWellFormed c → IsWellFormed (grown_if_full c)
+  formed-grown c formed = formed-in_room c (room_after (live_count c) c.room) (capacity-room_after (live_count c) c.room) formed
+
+  -- and it changes nothing else
+  pub entry-in_room : (c : Content T) (r : Room) (j : ℕ) → entry_at (in_room c r) j ≡ entry_at c j
+  entry-in_room c r j = entry-same_slots (in_room c r) c refl j
+
+-- what a growth changes and keeps: the rest is kept by computation
+pub ruleset growths = (formed-grown, formed-in_room, entry-in_room, capacity-room_after)
 
 -- what an insertion changes and keeps
 pub ruleset insertions = (formed-inserted, entry-inserted, live-inserted, slots-inserted, counter-inserted, free-inserted, room-inserted)
