@@ -1,5 +1,5 @@
 //! A place for one item more, which tells its index before the item is there.
-ghost use Rattle.std.specs.Prelude.{◌≡◌, ℕ, ◌+◌, ◌<◌, ◌↔◌, Some, [], ◌∷◌, ◌++◌, length, IsOk, IfOk, IsErrOf};
+ghost use Rattle.std.specs.Prelude.{◌≡◌, ℕ, ◌+◌, ◌<◌, ◌↔◌, Some, [], ◌∷◌, ◌++◌, length, IsTrue, IsOk, IfOk, IsErrOf};
 ghost use Rattle.std.specs.Borrow.{sem, RestsIfErr};
 ghost use Rattle.std.specs.Int.NonZero.{non_zero_usize_get};
 ghost use Rattle.triple_arena_stack.specs.Entry.{entry_stack, entry_lender};
@@ -40,6 +40,7 @@ pub trait NonZeroInxGenericStackEntries<T: Drop>: NonZeroInxGenericStack<T> {
             → IsOk result }
         ensures beyond { IsErrOf result ReallocationError.BeyondMaxCapacity
             ↔ ((Self.room self.old).limit ≡ Some (length (Self.items self.old))) }
+        ensures memory { IsErrOf result ReallocationError.AllocError → IsTrue Self.takes_memory }
         ensures* err { sem 𝓛 (RestsIfErr Self.row self.entry entry_lender result
             (λ s. s ≡ self.old)) };
 
@@ -58,6 +59,7 @@ pub trait NonZeroInxGenericStackEntries<T: Drop>: NonZeroInxGenericStack<T> {
             → IsOk result }
         ensures beyond { IsErrOf result ReallocationError.BeyondMaxCapacity
             ↔ ((Self.room self.old).limit ≡ Some (length (Self.items self.old))) }
+        ensures memory { IsErrOf result ReallocationError.AllocError → IsTrue Self.takes_memory }
         ensures* err { sem 𝓛 (RestsIfErr Self.row self.entry entry_lender result
             (λ s. s ≡ self.old)) };
 }

@@ -1,5 +1,5 @@
 //! What every stack does.
-ghost use Rattle.std.specs.Prelude.{◌≡◌, ◌≢◌, ℕ, ◌+◌, ◌-◌, ◌*◌, ◌^◌, ◌<◌, ◌≤◌, ◌↔◌, List, [], ◌∷◌, ◌++◌, Some, None, length, max, IsTrue, IsOk, IsSome, IfOk, OnOk, OnErr, IsErrOf};
+ghost use Rattle.std.specs.Prelude.{◌≡◌, ◌≢◌, ℕ, ◌+◌, ◌-◌, ◌*◌, ◌^◌, ◌<◌, ◌≤◌, ◌↔◌, Bool, List, [], ◌∷◌, ◌++◌, Some, None, length, max, IsTrue, IsOk, IsSome, IfOk, OnOk, OnErr, IsErrOf};
 ghost use Rattle.std.specs.Borrow.{sem, Lends, LendsIf, Array};
 ghost use Rattle.std.specs.Int.NonZero.{non_zero_usize_get};
 ghost use Rattle.std.specs.List.{refill};
@@ -24,6 +24,9 @@ pub trait NonZeroInxGenericStack<T: Drop> {
     // The room of a stack that is made for so many items.
     ghost room_at: { ℕ → Room };
 
+    // Whether stacks of this type take memory. Where none does, no call answers `AllocError`.
+    ghost takes_memory: { Bool };
+
     // The stack with other items in the same room.
     ghost with_items: { Self → List T → Self };
 
@@ -42,7 +45,8 @@ pub trait NonZeroInxGenericStack<T: Drop> {
         // No memory is asked for where a new stack has the room already.
         ensures succeeds { min ≤ capacity_of (room_at 0) → IsOk result }
         ensures beyond { IsErrOf result ReallocationError.BeyondMaxCapacity
-            ↔ IsBeyond (room_at min).limit min };
+            ↔ IsBeyond (room_at min).limit min }
+        ensures memory { IsErrOf result ReallocationError.AllocError → IsTrue takes_memory };
 
     /// How many items fit with no growth.
     fn capacity(&self) -> usize
@@ -72,6 +76,7 @@ pub trait NonZeroInxGenericStack<T: Drop> {
         ensures succeeds { min ≤ capacity_of (room self.old) → IsOk result }
         ensures beyond { IsErrOf result ReallocationError.BeyondMaxCapacity
             ↔ IsBeyond (room self.old).limit min }
+        ensures memory { IsErrOf result ReallocationError.AllocError → IsTrue takes_memory }
         ensures err { OnErr result (self.new ≡ self.old) };
 
     /// Appends `value`, and answers its index. Where all slots are taken the stack stays as it is,
@@ -138,6 +143,7 @@ pub trait NonZeroInxGenericStack<T: Drop> {
         ensures succeeds { length (items self.old) < capacity_of (room self.old) → IsOk result }
         ensures beyond { IsErrOf result ReallocationError.BeyondMaxCapacity
             ↔ ((room self.old).limit ≡ Some (length (items self.old))) }
+        ensures memory { IsErrOf result ReallocationError.AllocError → IsTrue takes_memory }
         ensures err { OnErr result (self.new ≡ self.old) }
     {
         make_room(self)?;
@@ -155,6 +161,7 @@ pub trait NonZeroInxGenericStack<T: Drop> {
         ensures succeeds { length (items self.old) < capacity_of (room self.old) → IsOk result }
         ensures beyond { IsErrOf result ReallocationError.BeyondMaxCapacity
             ↔ ((room self.old).limit ≡ Some (length (items self.old))) }
+        ensures memory { IsErrOf result ReallocationError.AllocError → IsTrue takes_memory }
         ensures err { OnErr result (self.new ≡ self.old) }
     {
         self.push_reallocating(value)
@@ -246,6 +253,7 @@ pub(crate) fn make_room<T: Drop, S: NonZeroInxGenericStack<T>>(
     ensures succeeds { length (S.items stack.old) < capacity_of (S.room stack.old) → IsOk result }
     ensures beyond { IsErrOf result ReallocationError.BeyondMaxCapacity
         ↔ ((S.room stack.old).limit ≡ Some (length (S.items stack.old))) }
+    ensures memory { IsErrOf result ReallocationError.AllocError → IsTrue S.takes_memory }
     ensures err { OnErr result (stack.new ≡ stack.old) }
 {
     let capacity = stack.capacity();
