@@ -4,7 +4,8 @@ ghost use Rattle.std.specs.Borrow.{sem, Lends, LendsIf, Array};
 ghost use Rattle.std.specs.Int.NonZero.{non_zero_usize_get};
 ghost use Rattle.std.specs.List.{refill};
 ghost use Rattle.std.specs.Option.{option_copied, option_copied_mut, option_to_list};
-ghost use Rattle.triple_arena_stack.specs.Room.{Room, capacity as capacity_of, grown, with_reserved, IsBeyond};
+ghost use Rattle.triple_arena_stack.specs.Push.{IsRefusal, IsPushed, HasFreeSlot, IsGrowingPush};
+ghost use Rattle.triple_arena_stack.specs.Room.{Room, capacity as capacity_of, with_reserved, IsBeyond};
 ghost use Rattle.triple_arena_stack.specs.Stack.{item_at, with_item, exchanged};
 
 use std::num::NonZeroUsize;
@@ -134,17 +135,7 @@ pub trait NonZeroInxGenericStack<T: Drop> {
     /// It answers `BeyondMaxCapacity` where the length is the greatest capacity, and `AllocError`
     /// where the memory was refused. The stack is then as it was, and `value` is dropped.
     final fn push_reallocating(&mut self, value: T) -> Result<NonZeroUsize, ReallocationError>
-        ensures index { IfOk result (λ i. non_zero_usize_get i ≡ length (items self.old) + 1) }
-        ensures items { OnOk result (items self.new ≡ items self.old ++ value ∷ []) }
-        ensures kept { length (items self.old) < capacity_of (room self.old)
-            → room self.new ≡ room self.old }
-        ensures grown { length (items self.old) ≡ capacity_of (room self.old)
-            → OnOk result (room self.new ≡ grown (room self.old)) }
-        ensures succeeds { length (items self.old) < capacity_of (room self.old) → IsOk result }
-        ensures beyond { IsErrOf result ReallocationError.BeyondMaxCapacity
-            ↔ ((room self.old).limit ≡ Some (length (items self.old))) }
-        ensures memory { IsErrOf result ReallocationError.AllocError → IsTrue takes_memory }
-        ensures err { OnErr result (self.new ≡ self.old) }
+        ensures { IsGrowingPush items room takes_memory value self.old result self.new }
     {
         make_room(self)?;
         Ok(push_in_room(self, value))
@@ -152,17 +143,7 @@ pub trait NonZeroInxGenericStack<T: Drop> {
 
     /// The same as `push_reallocating`.
     final fn push(&mut self, value: T) -> Result<NonZeroUsize, ReallocationError>
-        ensures index { IfOk result (λ i. non_zero_usize_get i ≡ length (items self.old) + 1) }
-        ensures items { OnOk result (items self.new ≡ items self.old ++ value ∷ []) }
-        ensures kept { length (items self.old) < capacity_of (room self.old)
-            → room self.new ≡ room self.old }
-        ensures grown { length (items self.old) ≡ capacity_of (room self.old)
-            → OnOk result (room self.new ≡ grown (room self.old)) }
-        ensures succeeds { length (items self.old) < capacity_of (room self.old) → IsOk result }
-        ensures beyond { IsErrOf result ReallocationError.BeyondMaxCapacity
-            ↔ ((room self.old).limit ≡ Some (length (items self.old))) }
-        ensures memory { IsErrOf result ReallocationError.AllocError → IsTrue takes_memory }
-        ensures err { OnErr result (self.new ≡ self.old) }
+        ensures { IsGrowingPush items room takes_memory value self.old result self.new }
     {
         self.push_reallocating(value)
     }
@@ -244,16 +225,9 @@ fn doubled(capacity: usize) -> usize
 pub(crate) fn make_room<T: Drop, S: NonZeroInxGenericStack<T>>(
     stack: &mut S,
 ) -> Result<(), ReallocationError>
-    ensures items { S.items stack.new ≡ S.items stack.old }
-    ensures fits { OnOk result (length (S.items stack.new) < capacity_of (S.room stack.new)) }
-    ensures kept { length (S.items stack.old) < capacity_of (S.room stack.old)
-        → S.room stack.new ≡ S.room stack.old }
-    ensures grown { length (S.items stack.old) ≡ capacity_of (S.room stack.old)
-        → OnOk result (S.room stack.new ≡ grown (S.room stack.old)) }
-    ensures succeeds { length (S.items stack.old) < capacity_of (S.room stack.old) → IsOk result }
-    ensures beyond { IsErrOf result ReallocationError.BeyondMaxCapacity
-        ↔ ((S.room stack.old).limit ≡ Some (length (S.items stack.old))) }
-    ensures memory { IsErrOf result ReallocationError.AllocError → IsTrue S.takes_memory }
+    ensures free { OnOk result (HasFreeSlot S.items S.room stack.old stack.new) }
+    ensures refusal { IsRefusal S.takes_memory (length (S.items stack.old)) (S.room stack.old)
+        result }
     ensures err { OnErr result (stack.new ≡ stack.old) }
 {
     let capacity = stack.capacity();
@@ -274,9 +248,8 @@ pub(crate) fn push_in_room<T: Drop, S: NonZeroInxGenericStack<T>>(
     value: T,
 ) -> NonZeroUsize
     requires { length (S.items stack.old) < capacity_of (S.room stack.old) }
-    ensures index { non_zero_usize_get result ≡ length (S.items stack.old) + 1 }
-    ensures items { S.items stack.new ≡ S.items stack.old ++ value ∷ [] }
-    ensures room { S.room stack.new ≡ S.room stack.old }
+    ensures { IsPushed S.items S.room (non_zero_usize_get result) value (S.room stack.old)
+        stack.old stack.new }
 {
     match stack.push_within_capacity(value) {
         Ok(i) => i,
