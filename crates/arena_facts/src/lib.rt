@@ -3,3 +3,4 @@
 
 mod concrete;
 mod generic;
+mod one_crate;
