@@ -6,8 +6,7 @@ use Rattle.std.proofs.lemmas.Bool.Decides.{eqb_tells}
 use Rattle.std.proofs.lemmas.List.{length-set, length_push, get_or-set_other}
 use Rattle.std.proofs.lemmas.List.Sums.{sum_by-set, sum_by_push}
 use Rattle.std.proofs.Math.Seq.{get_or-append_seam}
-use Rattle.triple_arena_stack.specs.Room.{Room, within, capacity, grown}
-use Rattle.triple_arena.specs.Changes.{room_after}
+use Rattle.triple_arena_stack.specs.Room.{Room, within, capacity, grown, room_after}
 use Rattle.triple_arena.specs.Entries.{with_entry}
 use Rattle.triple_arena.specs.Content.{Content, entry_at, live_count, room_for, next_index, inserted, in_room, grown_if_full, Lacks, AllVacant, IsWellFormed}
 use Rattle.triple_arena.specs.ContentLaws.{entry_at_slot, entry-set, entry-same_slots, vacant-kept, vacant-others}
