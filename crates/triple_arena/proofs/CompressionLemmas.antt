@@ -1,16 +1,17 @@
 -- What a compression has done after so many slots, and what it leaves.
-use Rattle.std.proofs.Common.{◌≡◌, ℕ, zero, suc, ◌+◌, ◌-◌, ◌<◌, ◌≤◌, List, [], ◌∷◌, ◌++◌, map, length, get_or, set, take, Option, Some, None, slice_get, refl, sym, ap, subst, ◌∙◌, arith, append_assoc, append-nil, add-zero, length-append, length-set}
+use Rattle.std.proofs.Common.{◌≡◌, ℕ, Bool, zero, suc, ◌+◌, ◌-◌, ◌<◌, ◌≤◌, List, [], ◌∷◌, ◌++◌, map, length, get_or, set, take, Option, Some, None, slice_get, refl, sym, ap, subst, ◌∙◌, arith, append_assoc, append-nil, add-zero, length-append, length-set}
 use Rattle.std.specs.List.{FoldsTo}
 use Rattle.std.specs.Option.{option_map}
 use Rattle.std.proofs.lemmas.Fn.{FoldsTo-push}
 use Rattle.std.proofs.lemmas.List.{map_push, take_at, length-map, length_push}
 use Rattle.triple_arena_stack.specs.Room.{Room}
 use Rattle.triple_arena.specs.Slot.{Slot, entry_of}
-use Rattle.triple_arena.specs.Content.{Content, entry_at, live_count}
+use Rattle.triple_arena.specs.Changes.{IsCompressed}
+use Rattle.triple_arena.specs.Content.{Content, entry_at, live_count, some_counter}
 use Rattle.triple_arena.specs.Layout.{content_of, IsSound}
 use Rattle.triple_arena.specs.ContentLaws.{entry_at_slot}
 use Rattle.triple_arena.specs.LiveEntries.{listed_from, listed-length, live_entries}
-use Rattle.triple_arena.specs.Compression.{Move, index_of, entry_of_listed, generation_of, value_of, IsCompact, compacted, live_values, entry_before, entry_after, IsMapped}
+use Rattle.triple_arena.specs.Compression.{renewed, Move, index_of, entry_of_listed, generation_of, value_of, IsCompact, compacted, live_values, entry_before, entry_after, IsMapped}
 use Rattle.triple_arena.specs.SlotCompression.{Compacts}
 use Rattle.triple_arena.proofs.FreeListLemmas.{sound_of}
 
@@ -297,3 +298,31 @@ module _ {P T F : Type 0} (index generation : P → ℕ) (step : F → P → T �
           let same = keeps h calls.0 x.from x.to x.value x.given calls.1 in
           let rest = by_moves moves calls.0 calls.2 in
           rw same (ap (λ l. x.value ∷ l) rest)
+
+module _ {T : Type 0} where
+  -- what an arena is after a compression
+  pub record Compressed (last : Option ℕ) (reset : Bool) (c : Content T) (es : List (Slot T)) (len : ℕ) (room : Room) (new : Content T) : Type 0 where
+    pub sound : IsSound es len None room
+    pub compressed : IsCompressed entry_at live_count some_counter (λ d. d.room) last live_entries reset c new
+    pub exact : new ≡ compacted (renewed last reset c.counter) (live_values new) c
+
+module _ {P T F : Type 0} {index generation : P → ℕ} {step : F → P → T → P → T → F → Type 0} where
+  -- its slots are compacted, and its counter is renewed
+  pub compressed_arena : {f : F} {last : Option ℕ} {reset : Bool} {g g0 : ℕ} {es es' : List (Slot T)} {len : ℕ} {head : Option ℕ} {room room' : Room} {c : Content T}
+      → Compacts index generation step f g (map entry_of es) (map entry_of es') → IsSound es len head room → content_of es room g0 head ≡ c → room' ≡ room → g ≡ renewed last reset g0
+      → Compressed last reset c es' len room' (content_of es' room' g None)
+  compressed_arena {f} {last} {reset} {g} {g0} {es} {es'} {len} {head} {room} {room'} {c} k s seen kept is =
+      let d = compacted_arena index generation step f g g0 es es' len head room room' c k s seen kept in
+      let next : g ≡ renewed last reset c.counter = is ∙ ap (λ x. renewed last reset x.counter) seen in
+      record {
+        sound = d.sound;
+        compressed = record {
+          compact = d.compact;
+          entries = d.entries;
+          generations = d.generations ∙ ap (λ n. map (λ _. n) (live_entries c)) next;
+          live = d.live;
+          counter = ap Some next;
+          room = kept ∙ ap (λ x. x.room) seen;
+        };
+        exact = d.content ∙ ap (λ n. compacted n (live_values (content_of es' room' g None)) c) next;
+      }

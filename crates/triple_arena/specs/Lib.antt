@@ -2,6 +2,7 @@ pub mod ArenaRoom
 pub mod Slot
 pub mod Entry
 pub mod Entries
+pub mod Changes
 pub mod Content
 pub mod Layout
 pub mod Walk

@@ -15,13 +15,9 @@
 
 mod advancer;
 mod arena;
-mod arena_calls;
-mod arena_index;
 mod arena_trait;
-mod compression;
-mod disjointable;
-mod entry;
-mod insertion;
+mod disjointable_trait;
+mod insert_trait;
 mod slot;
 
 /// The advancers of the arenas.
@@ -29,9 +25,20 @@ pub mod arena_iterators {
     pub use crate::advancer::PtrAdvancer;
 }
 
-pub use arena::Arena;
+pub use arena::{
+    Arena, ArenaInsertEntries, ArenaInsertEntry, ArenaInsertEntryTrait, ArrayArena, BoxedArena,
+    HeapArena, LimitedArena,
+};
 pub use arena_trait::{ArenaTrait, CompactArenaTrait};
-pub use disjointable::DisjointableArenaTrait;
-pub use entry::{ArenaInsertEntries, ArenaInsertEntry, ArenaInsertEntryTrait};
-pub use insertion::ArenaInsertTrait;
+pub use disjointable_trait::DisjointableArenaTrait;
+pub use insert_trait::ArenaInsertTrait;
 pub use slot::ArenaSlot;
+pub use triple_arena_ptr::{
+    Advancer, AllocError, GetDisjointMutError, InvalidationOption, InvalidationResult,
+    MaxCapacityReductionError, NotWithinCapacityError, P0, P1, P2, P3, P4, P5, Ptr, PtrGen, PtrInx,
+    PtrNoGen, Q2, ReallocationError,
+};
+pub use triple_arena_stack::{
+    NonZeroInxArray, NonZeroInxBoxedSlice, NonZeroInxGenericStack, NonZeroInxLimitedStack,
+    NonZeroInxLimitedVec, NonZeroInxVec, SetMaxCapacity,
+};

@@ -1,6 +1,5 @@
-use Rattle.std.proofs.Common.{ap, refl}
+use Rattle.std.proofs.Common.{Some, ap, ◌∙◌}
 use Rattle.triple_arena.specs.ArenaRoom.{room_of}
-use Rattle.triple_arena.proofs.FreeListLemmas.{formed}
 use Rattle.triple_arena.proofs.ExchangeLemmas.{used_at, exchanged, exchange_two}
 use Rattle.triple_arena.proofs.arena.Arena.exchange_at.Goals as goal
 
@@ -18,14 +17,12 @@ pub returns-clause-value : goal.returns-clause-value
 returns-clause-value g c =
     (exchanged _ _ _ _ _ _ _ _ _ _ c.self.invariant c.self.view_is c.requires.i_is_live c.requires.j_is_live c.requires.two c.exchange_values.ensures.items (ap (room_of g.P.Inx.PtrInx.greatest) c.exchange_values.ensures.room)).content
 
-pub returns-clause-entries : goal.returns-clause-entries
-returns-clause-entries g c = (exchange_two _ _ _ _ c.requires.i_is_live c.requires.j_is_live c.requires.two (returns-clause-value g c)).entries
-
-pub returns-clause-live : goal.returns-clause-live
-returns-clause-live g c = (exchange_two _ _ _ _ c.requires.i_is_live c.requires.j_is_live c.requires.two (returns-clause-value g c)).live
-
-pub returns-clause-formed : goal.returns-clause-formed
-returns-clause-formed g c = formed _ _ _ _ _ _ (invariant_of-self g c) refl
-
-pub returns-clause-was_formed : goal.returns-clause-was_formed
-returns-clause-was_formed g c = formed _ _ _ _ _ _ c.self.invariant c.self.view_is
+pub returns-clause-exchanged : goal.returns-clause-exchanged
+returns-clause-exchanged g c =
+    let e = exchange_two _ _ _ _ c.requires.i_is_live c.requires.j_is_live c.requires.two (returns-clause-value g c) in
+    record {
+      entries = e.entries;
+      live = e.live;
+      counter = ap (λ x. Some x.counter) c.self.view_is;
+      room = ap (room_of g.P.Inx.PtrInx.greatest) c.exchange_values.ensures.room ∙ ap (λ x. x.room) c.self.view_is;
+    }

@@ -2,7 +2,7 @@ use Rattle.std.proofs.Common.{Some, sym, ap, refl, ◌∙◌}
 use Rattle.std.specs.Int.NonZero.{non_zero_usize_get}
 use Rattle.triple_arena_stack.specs.Stack.{with_item}
 use Rattle.triple_arena.specs.ArenaRoom.{room_of}
-use Rattle.triple_arena.proofs.FreeListLemmas.{popped, freed, formed, the_some, entry_of_slot}
+use Rattle.triple_arena.proofs.FreeListLemmas.{popped, freed, the_some, entry_of_slot}
 use Rattle.triple_arena.proofs.arena.Arena.take_at.Goals as goal
 
 pub invariant_of-self : goal.invariant_of-self
@@ -27,12 +27,6 @@ returns-in-Some-clause-value g c =
     let live = the_some _ c.requires in
     (popped _ _ _ _ _ _ _ _ _ live.0 _ c.self.invariant (sym c.get.ensures.value ∙ c.if-get-len.true ∙ c.len.ensures.value) c.self.view_is live.1 c.in-Some.ensures.items (ap (room_of g.P.Inx.PtrInx.greatest) c.pop.ensures.room)).content
 
-pub returns-in-Some-clause-formed : goal.returns-in-Some-clause-formed
-returns-in-Some-clause-formed g c = formed _ _ _ _ _ _ (invariant_of-self g c) refl
-
-pub returns-in-Some-clause-was_formed : goal.returns-in-Some-clause-was_formed
-returns-in-Some-clause-was_formed g c = formed _ _ _ _ _ _ c.self.invariant c.self.view_is
-
 pub returns-else-get-len-clause-value : goal.returns-else-get-len-clause-value
 returns-else-get-len-clause-value g c =
     let live = the_some _ c.requires in
@@ -45,9 +39,3 @@ pub returns-else-get-len-clause-entry : goal.returns-else-get-len-clause-entry
 returns-else-get-len-clause-entry g c =
     c.into_entry-else-get-len.ensures
     ∙ sym (entry_of_slot _ _ _ _ _ _ _ c.self.view_is c.args.i.ok (sym c.item_mut.ensures.value ∙ ap Some (sym c.replace-slot.ensures.value)))
-
-pub returns-else-get-len-clause-formed : goal.returns-else-get-len-clause-formed
-returns-else-get-len-clause-formed g c = formed _ _ _ _ _ _ (invariant_of-self-else-get-len g c) refl
-
-pub returns-else-get-len-clause-was_formed : goal.returns-else-get-len-clause-was_formed
-returns-else-get-len-clause-was_formed g c = formed _ _ _ _ _ _ c.self.invariant c.self.view_is
