@@ -1,15 +1,31 @@
-//! A pointer type whose generations start again soon.
-ghost use Rattle.std.specs.Prelude.{Some, codes, refl};
+//! A pointer type for tests, with 255 indexes and the generations 1 to 3, which start again soon.
+#![tactic(auto)]
+
+ghost use Rattle.std.specs.Prelude.{Some, codes};
 ghost use Rattle.std.specs.Cmp.Rules.{comparing};
 ghost use Rattle.std.specs.Int.NonZero.{non_zero_u8_get};
 ghost use Rattle.std.proofs.Common.{rules};
 ghost use Rattle.triple_arena_ptr.specs.NonZeros.{u8_determined};
-ghost use Rattle.triple_arena_ptr.specs.Pointer.{pointer_text};
 
 use std::fmt;
 use std::marker::Model;
 use std::num::NonZeroU8;
-use triple_arena_ptr::{Ptr, PtrGen, PtrInx, fmt_pointer};
+use triple_arena_ptr::{Pointer, PtrGen, PtrKind};
+
+/// A pointer with a `u8` index and a generation from 1 to 3.
+pub type N3 = Pointer<NonZeroU8, Gen3, N3Kind>;
+
+/// The kind of `N3`.
+#[derive(Clone, Copy, PartialEq, Eq, PartialOrd, Ord, Hash)]
+pub struct N3Kind;
+
+impl PtrKind for N3Kind {
+    ghost name = { codes "N3" };
+
+    fn name() -> &'static str {
+        "N3"
+    }
+}
 
 /// A generation from 1 to 3.
 #[derive(Clone, Copy, Debug, PartialEq, Eq, PartialOrd, Ord, Hash)]
@@ -46,6 +62,10 @@ impl PtrGen for Gen3 {
 
     ghost equal = { λ a b. Prim.search (comparing, rules) };
 
+    ghost cloned = { λ a b same. same };
+
+    ghost always_clones = { λ a. Prim.search rules };
+
     fn one() -> Self {
         Gen3 {
             number: NonZeroU8::MIN,
@@ -73,71 +93,23 @@ impl PtrGen for Gen3 {
     }
 }
 
-/// A pointer whose generations start again soon.
-#[derive(Clone, Copy, PartialEq, Eq, PartialOrd, Ord, Hash)]
-pub struct N3 {
-    inx: NonZeroU8,
-    generation: Gen3,
-}
+#[cfg(test)]
+mod tests {
+    use crate::{Gen3, N3};
+    use std::num::NonZeroU8;
+    use std::test::Fail;
+    use triple_arena_ptr::{Ptr, PtrGen};
 
-impl Ptr for N3 {
-    type Inx = NonZeroU8;
-
-    type Gen = Gen3;
-
-    ghost index = { λ p. non_zero_u8_get p.inx };
-
-    ghost generation = { λ p. non_zero_u8_get p.generation };
-
-    ghost name = { codes "N3" };
-
-    ghost index_positive = { λ p. p.inx.ok };
-
-    ghost generation_positive = { λ p. p.generation.ok };
-
-    ghost determined = { λ p q e g k. record {
-      inx = u8_determined p.inx q.inx e k;
-      generation = u8_determined p.generation q.generation g k;
-    } };
-
-    ghost ordered = { λ p q. Prim.search (comparing, rules) };
-
-    ghost equal = { λ p q. Prim.search (comparing, rules) };
-
-    ghost shown = { λ p. refl };
-
-    fn name() -> &'static str {
-        "N3"
-    }
-
-    fn invalid() -> Self {
-        N3 {
-            inx: PtrInx::best_effort_invalid(),
-            generation: PtrGen::one(),
+    #[test]
+    fn generations_start_again_at_two(rt: HostRuntime) -> Result<(), Fail> {
+        let mut generation = Gen3::one();
+        for want in [(2, false), (3, false), (2, true), (3, false)] {
+            let (next, wrapped) = generation.generational_inc();
+            assert_eq!(rt; (next.number.get(), wrapped), want);
+            generation = next;
         }
-    }
-
-    fn inx(self) -> NonZeroU8 {
-        self.inx
-    }
-
-    fn generation(self) -> Gen3 {
-        self.generation
-    }
-
-    fn _from_raw(inx: NonZeroU8, gen_raw: Gen3) -> Self {
-        N3 {
-            inx,
-            generation: gen_raw,
-        }
-    }
-}
-
-impl fmt::Debug for N3 {
-    ghost debug_output = { λ p. Some
-        (pointer_text (codes "N3") (Some 3) (non_zero_u8_get p.inx) (non_zero_u8_get p.generation)) };
-
-    fn fmt<W: fmt::Write>(&self, f: &mut fmt::Formatter<W>) -> fmt::Result {
-        fmt_pointer(Self::name(), self.inx, self.generation, f)
+        let p = N3::_from_raw(NonZeroU8::MIN, generation);
+        assert_eq!(rt; format!(in rt.alloc(); "{p:?}")?.as_str(), "N3[1](3)");
+        Ok(())
     }
 }
