@@ -2,9 +2,9 @@
 use Rattle.std.specs.Prelude.{◌≡◌, ◌≢◌, ℕ, zero, suc, ◌+◌, ◌-◌, ◌<◌, ◌≤◌, ◌==◌, List, [], ◌∷◌, ◌++◌, length, take, Option, Some, None, is_some, count_by, slice_index_or, slice_set, if◌then◌else◌, refl}
 use Rattle.std.specs.Coded.{Coded, code_by, coded×, coded_ℕ, coded_list, coded_option}
 use Rattle.triple_arena_ptr.specs.Generation.{next_generation}
-use Rattle.triple_arena_stack.specs.Room.{Room, capacity}
+use Rattle.triple_arena_stack.specs.Room.{Room, capacity, room_after}
 use Rattle.triple_arena.specs.Entries.{value_if}
-use Rattle.triple_arena.specs.ArenaRoom.{room_after, room_with}
+use Rattle.triple_arena.specs.ArenaRoom.{room_with}
 
 -- the generation and the value at each index, from index 1 on, or nothing where it is free; the generation of the
 -- next entry; the free indexes, the next one to be taken first; and the room: the reserved slots, and the greatest

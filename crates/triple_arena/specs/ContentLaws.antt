@@ -1,13 +1,13 @@
 -- The entries of a content by their slots, what carries the free indexes over from one content to another, and what a
 -- write of a value changes and keeps.
-use Rattle.std.proofs.Common.{◌≡◌, ◌≢◌, ◌==◌, if◌then◌else◌, ℕ, zero, suc, ◌-◌, ◌<◌, ◌≤◌, List, [], ◌∷◌, length, get_or, set, cond, Option, Some, None, IsSome, is_some, true≢false, inl, inr, refl, sym, ap, subst, ◌∙◌, arith}
+use Rattle.std.proofs.Common.{◌≡◌, ◌≢◌, ◌==◌, if◌then◌else◌, ℕ, zero, suc, ◌+◌, ◌-◌, ◌<◌, ◌≤◌, List, [], ◌∷◌, length, get_or, set, cond, Option, Some, None, IsSome, is_some, true≢false, inl, inr, refl, sym, ap, subst, ◌∙◌, arith}
 use Rattle.std.proofs.lemmas.Bool.{ne_eqb}
 use Rattle.std.proofs.lemmas.Bool.Decides.{eqb_tells}
 use Rattle.std.proofs.lemmas.List.{get_or-set_same, get_or-set_other, length-set}
 use Rattle.std.proofs.lemmas.List.Sums.{sum_by-set}
 use Rattle.triple_arena.specs.Entries.{with_value_at}
 use Rattle.triple_arena_stack.specs.Room.{capacity}
-use Rattle.triple_arena.specs.Content.{Content, entry_at, live_count, room_for, with_value, Lacks, AllVacant, IsWellFormed}
+use Rattle.triple_arena.specs.Content.{Content, entry_at, live_count, room_for, next_index, with_value, Lacks, AllVacant, IsWellFormed}
 
 module _ {T : Type 0} where
   -- the entry at an index from 1 on
@@ -143,6 +143,18 @@ module _ {T : Type 0} where
       by_entry None e = rw e refl
       by_entry (Some x) e = rw e (length-set c.slots (i - 1) (Some (x.0, t)))
 
+  -- the next index is still free
+  pub next-with_value : (c : Content T) (i : ℕ) (t : T) → next_index (with_value c i t) ≡ next_index c
+  next-with_value c i t = by_entry (entry_at c i) refl
+    where
+      by_entry : (o : Option (ℕ × T)) → entry_at c i ≡ o → next_index (with_value c i t) ≡ next_index c
+      by_entry None e = rw e refl
+      by_entry (Some x) e = rw e (first_free c.free)
+        where
+          first_free : (l : List ℕ) → next_index (record c { slots = set c.slots (i - 1) (Some (x.0, t)); free = l }) ≡ next_index (record c { free = l })
+          first_free [] = ap (λ n. n + 1) (length-set c.slots (i - 1) (Some (x.0, t)))
+          first_free (j ∷ l) = refl
+
   pub live-with_value : (c : Content T) (i : ℕ) (t : T) → live_count (with_value c i t) ≡ live_count c
   live-with_value c i t = by_entry (entry_at c i) refl
     where
@@ -179,4 +191,4 @@ module _ {T : Type 0} where
       }
 
 -- what a write of a value changes and what it keeps
-pub ruleset writes = (formed-with_value, entry-with_value, live-with_value, slots-with_value, counter-with_value, free-with_value, room-with_value)
+pub ruleset writes = (formed-with_value, entry-with_value, next-with_value, live-with_value, slots-with_value, counter-with_value, free-with_value, room-with_value)

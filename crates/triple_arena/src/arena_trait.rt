@@ -2,7 +2,7 @@
 ghost use Rattle.std.specs.Prelude.{◌≡◌, ◌≢◌, ℕ, ◌+◌, ◌-◌, ◌*◌, ◌^◌, ◌<◌, ◌≤◌, ◌↔◌, Bool, Some, None, IsTrue, IsOk, IsSome, IfSome, IfNone, IfOk, OnSome, OnOk, OnErr, IsErrOf, Option, is_some, option_copied, unwrap_or, true, false, min, if◌then◌else◌, List, map as list_map, length, slice_get};
 ghost use Rattle.std.specs.Borrow.{sem, Lends, LendsIf};
 ghost use Rattle.std.specs.Option.{option_map, option_copied_mut};
-ghost use Rattle.triple_arena_ptr.specs.Generation.{second_generation, next_generation, next_wraps};
+ghost use Rattle.triple_arena_ptr.specs.Generation.{IsGeneration, second_generation, next_generation, next_wraps};
 ghost use Rattle.triple_arena_ptr.specs.Index.{max_index_of};
 ghost use Rattle.triple_arena_ptr.specs.InvalidationOption.{value_of, overflowed};
 ghost use Rattle.triple_arena_ptr.specs.InvalidationResult.{answer_of};
@@ -13,7 +13,9 @@ ghost use Rattle.triple_arena.specs.Walk.{Walk, Steps};
 ghost use Rattle.std.specs.List.Sorted.{IsStrictlyIncreasing};
 ghost use Rattle.triple_arena.specs.Compression.{compression_wraps, index_of, generation_of, value_of as value_of_entry, IsMapped};
 
-use triple_arena_ptr::{Advancer, InvalidationOption, InvalidationResult, Ptr, ReallocationError};
+use triple_arena_ptr::{
+    Advancer, InvalidationOption, InvalidationResult, Ptr, PtrGen, ReallocationError,
+};
 
 /// An arena of values of type `T`, to which pointers of type `P` point.
 pub trait ArenaTrait<P: Ptr, T: Drop> {
@@ -37,6 +39,9 @@ pub trait ArenaTrait<P: Ptr, T: Drop> {
 
     // The reserved slots and the greatest capacity.
     ghost room: { Self → Room };
+
+    // Whether arenas of this type take memory. Where none does, no call answers `AllocError`.
+    ghost takes_memory: { Bool };
 
     // The room of an arena that is made for so many entries.
     ghost room_at: { ℕ → Room };
@@ -88,7 +93,8 @@ pub trait ArenaTrait<P: Ptr, T: Drop> {
         // No memory is asked for where a new arena has the room already.
         ensures succeeds { min ≤ capacity_of (room_at 0) → IsOk result }
         ensures beyond { IsErrOf result ReallocationError.BeyondMaxCapacity
-            ↔ IsBeyond (room_at min).limit min };
+            ↔ IsBeyond (room_at min).limit min }
+        ensures memory { IsErrOf result ReallocationError.AllocError → IsTrue takes_memory };
 
     /// How many entries fit with no growth.
     fn capacity(&self) -> usize
@@ -116,6 +122,7 @@ pub trait ArenaTrait<P: Ptr, T: Drop> {
         ensures succeeds { min ≤ capacity_of (room self.old) → IsOk result }
         ensures beyond { IsErrOf result ReallocationError.BeyondMaxCapacity
             ↔ IsBeyond (room self.old).limit min }
+        ensures memory { IsErrOf result ReallocationError.AllocError → IsTrue takes_memory }
         ensures err { OnErr result (self.new ≡ self.old) };
 
     /// How many entries are live.
@@ -126,7 +133,8 @@ pub trait ArenaTrait<P: Ptr, T: Drop> {
 
     /// The counter, which is the generation of the next entry, in an arena that has one.
     fn singular_generation(&self) -> Option<P::Gen>
-        ensures { option_map P.Gen.number result ≡ counter self.now };
+        ensures value { option_map P.Gen.number result ≡ counter self.now }
+        ensures counted { IfSome result (λ g. IsGeneration P.Gen.last (P.Gen.number g)) };
 
     /// The value that `p` points to, if it is live.
     fn get(&self, p: P) -> Option<&T>
@@ -145,6 +153,13 @@ pub trait ArenaTrait<P: Ptr, T: Drop> {
             (with_value self.old (P.Inx.number i))) }
         ensures value { option_map (λ e. e.1) (entry_at self.old (P.Inx.number i))
             ≡ Some result.now };
+
+    /// The value that `p` points to for writing, if it is live.
+    fn get_mut(&mut self, p: P) -> Option<&mut T>
+        ensures* writes_back { sem 𝓛 (LendsIf Self.row T.row self.entry result
+            (with_value self.old (P.index p)) self.old) }
+        ensures value { option_copied_mut result
+            ≡ value_if (P.generation p) (entry_at self.old (P.index p)) };
 
     /// The pointer to the entry with the least index, or `None` where no index is live.
     fn find_first_inx_ptr(&self) -> Option<P>
@@ -216,6 +231,7 @@ pub trait ArenaTrait<P: Ptr, T: Drop> {
         ensures generation { IfSome (answer_of result)
             (λ a. P.generation (value_of a)
             ≡ next_generation P.Gen.last (unwrap_or (counter self.old) (P.generation p))) }
+        ensures same { P.Gen.last ≡ None → IfSome (answer_of result) (λ a. value_of a ≡ p) }
         ensures invalidated { IfSome (answer_of result)
             (λ a. IsInvalidated entry_at live_count counter room P.Gen.last (P.index p)
             (P.generation (value_of a)) self.old self.new) }
@@ -310,9 +326,12 @@ pub trait ArenaTrait<P: Ptr, T: Drop> {
 
     /// Whether `p` points to a live entry.
     final fn contains(&self, p: P) -> bool
-        ensures { IsTrue result ↔ IsSome
+        ensures value { IsTrue result ↔ IsSome
             (value_if (P.generation p) (entry_at self.now (P.index p))) }
+        ensures counted { IsGeneration P.Gen.last (P.generation p) }
     {
+        // It is one of the generations.
+        let _ = p.generation().generational_inc();
         self.get(p).is_some()
     }
 
@@ -336,20 +355,6 @@ pub trait ArenaTrait<P: Ptr, T: Drop> {
     {
         if self.get_inx(i).is_some() {
             Some(self.get_inx_mut_unwrap(i))
-        } else {
-            None
-        }
-    }
-
-    /// The value that `p` points to for writing, if it is live.
-    final fn get_mut(&mut self, p: P) -> Option<&mut T>
-        ensures* writes_back { sem 𝓛 (LendsIf Self.row T.row self.entry result
-            (with_value self.old (P.index p)) self.old) }
-        ensures value { option_copied_mut result
-            ≡ value_if (P.generation p) (entry_at self.old (P.index p)) }
-    {
-        if self.contains(p) {
-            Some(self.get_inx_mut_unwrap(p.inx()))
         } else {
             None
         }

@@ -1,7 +1,7 @@
 //! Insertion at an index that the arena chooses.
-ghost use Rattle.std.specs.Prelude.{◌≡◌, ℕ, ◌<◌, ◌↔◌, Some, IsOk, IfOk, OnOk, OnErr, IsErrOf};
-ghost use Rattle.triple_arena_stack.specs.Room.{capacity as capacity_of};
-ghost use Rattle.triple_arena.specs.ArenaRoom.{room_after};
+ghost use Rattle.std.specs.Prelude.{◌≡◌, ℕ, ◌<◌, ◌↔◌, IsOk, IfOk, OnOk, OnErr};
+ghost use Rattle.triple_arena_stack.specs.Push.{IsRefusal};
+ghost use Rattle.triple_arena_stack.specs.Room.{capacity as capacity_of, room_after};
 ghost use Rattle.triple_arena.specs.Changes.{IsInserted};
 
 use crate::ArenaTrait;
@@ -42,11 +42,15 @@ pub trait ArenaInsertTrait<P: Ptr, T: Drop>: ArenaTrait<P, T> {
         ensures room { OnOk result (Self.room self.new
             ≡ room_after (Self.live_count self.old) (Self.room self.old)) }
         ensures formed { Self.is_formed self.new }
-        ensures succeeds { Self.live_count self.old < capacity_of (Self.room self.old)
-            → IsOk result }
-        ensures beyond { IsErrOf result ReallocationError.BeyondMaxCapacity
-            ↔ ((Self.room self.old).limit ≡ Some (Self.live_count self.old)) }
+        ensures refusal { IsRefusal Self.takes_memory (Self.live_count self.old)
+            (Self.room self.old) result }
         ensures err { OnErr result (self.new ≡ self.old) };
+
+    // After a `clear` the next index is the first one, and a write of a value keeps it.
+    ghost next_index_cleared: { (s : Self) → next_index (Self.cleared s) ≡ 1 };
+
+    ghost next_index_with_value: { (s : Self) (i : ℕ) (t : T)
+        → next_index (Self.with_value s i t) ≡ next_index s };
 
     /// The same as `insert_reallocating`.
     final fn insert(&mut self, t: T) -> Result<P, ReallocationError>
@@ -56,10 +60,8 @@ pub trait ArenaInsertTrait<P: Ptr, T: Drop>: ArenaTrait<P, T> {
         ensures room { OnOk result (Self.room self.new
             ≡ room_after (Self.live_count self.old) (Self.room self.old)) }
         ensures formed { Self.is_formed self.new }
-        ensures succeeds { Self.live_count self.old < capacity_of (Self.room self.old)
-            → IsOk result }
-        ensures beyond { IsErrOf result ReallocationError.BeyondMaxCapacity
-            ↔ ((Self.room self.old).limit ≡ Some (Self.live_count self.old)) }
+        ensures refusal { IsRefusal Self.takes_memory (Self.live_count self.old)
+            (Self.room self.old) result }
         ensures err { OnErr result (self.new ≡ self.old) }
     {
         self.insert_reallocating(t)

@@ -10,9 +10,10 @@ ghost use Rattle.triple_arena.specs.Compression.{renewed, compacted};
 use crate::advancer::PtrAdvancer;
 use crate::arena::compression::{compact, renewal};
 use crate::arena::reading::ValueAtMut;
+use crate::arena::removal::equal_uncounted;
 use crate::arena::{Arena, max_index};
 use crate::{ArenaSlot, ArenaTrait, CompactArenaTrait};
-use triple_arena_ptr::{InvalidationOption, InvalidationResult, Ptr, PtrInx, ReallocationError};
+use triple_arena_ptr::{InvalidationOption, InvalidationResult, Ptr, PtrGen, PtrInx, ReallocationError};
 use triple_arena_stack::{NonZeroInxArray, NonZeroInxGenericStack};
 
 impl<P: Ptr, T: Drop, S: NonZeroInxGenericStack<ArenaSlot<P, T>> + Drop> ArenaTrait<P, T>
@@ -30,6 +31,8 @@ impl<P: Ptr, T: Drop, S: NonZeroInxGenericStack<ArenaSlot<P, T>> + Drop> ArenaTr
     ghost has_counter = { true };
 
     ghost room = { λ c. c.room };
+
+    ghost takes_memory = { S.takes_memory };
 
     ghost room_at = { λ n. room_of P.Inx.greatest (S.room_at n) };
 
@@ -106,6 +109,8 @@ impl<P: Ptr, T: Drop, S: NonZeroInxGenericStack<ArenaSlot<P, T>> + Drop> ArenaTr
     }
 
     fn singular_generation(&self) -> Option<P::Gen> {
+        // The counter is a generation.
+        let _ = self.counter.generational_inc();
         Some(self.counter)
     }
 
@@ -134,9 +139,18 @@ impl<P: Ptr, T: Drop, S: NonZeroInxGenericStack<ArenaSlot<P, T>> + Drop> ArenaTr
     }
 
     fn get_inx_mut_unwrap(&mut self, i: P::Inx) -> &mut T {
-        match self.live_inx(i) {
+        // The number of slots is a `usize`, so no index past that is live.
+        let _ = self.slots.len();
+        match i.try_into_usize() {
             Some(i) => self.value_at_mut(i),
             None => unreachable!(),
+        }
+    }
+
+    fn get_mut(&mut self, p: P) -> Option<&mut T> {
+        match self.live_index(p) {
+            Some(i) => Some(self.value_at_mut(i)),
+            None => None,
         }
     }
 
@@ -204,6 +218,7 @@ impl<P: Ptr, T: Drop, S: NonZeroInxGenericStack<ArenaSlot<P, T>> + Drop> ArenaTr
             Some(i) => {
                 let wrapped = self.step();
                 let renewed = self.renew_at(i);
+                equal_uncounted(renewed, p);
                 // And after.
                 let _ = self.live();
                 if wrapped {

@@ -1,6 +1,7 @@
 //! A place for one entry more, which tells its pointer before the value is there.
 ghost use Rattle.std.specs.Prelude.{◌≡◌, ℕ, ◌<◌, ◌↔◌, Some, IsOk, IfOk, IsErrOf};
 ghost use Rattle.std.specs.Borrow.{sem, RestsIfErr};
+ghost use Rattle.triple_arena_stack.specs.Push.{IsRefusal};
 ghost use Rattle.triple_arena.specs.Changes.{IsInserted};
 ghost use Rattle.triple_arena.specs.InsertEntry.{entry_arena, entry_lender};
 ghost use Rattle.triple_arena.specs.Content.{Content, entry_at, some_counter, live_count, room_for, next_index, inserted, grown_if_full, IsWellFormed};
@@ -94,10 +95,8 @@ pub trait ArenaInsertEntries<P: Ptr, T: Drop> {
         ensures same_reference { IfOk result (λ e. entry_lender e ≡ self.entry.ghost_name) }
         ensures has_room { IfOk result (λ e. live_count (entry_arena e) < room_for (entry_arena e)) }
         ensures arena { IfOk result (λ e. entry_arena e ≡ grown_if_full (content self.old)) }
-        ensures succeeds { live_count (content self.old) < room_for (content self.old)
-            → IsOk result }
-        ensures beyond { IsErrOf result ReallocationError.BeyondMaxCapacity
-            ↔ ((content self.old).room.limit ≡ Some (live_count (content self.old))) }
+        ensures refusal { IsRefusal Self.Stack.takes_memory (live_count (content self.old))
+            (content self.old).room result }
         ensures* err { sem 𝓛 (RestsIfErr Self.row self.entry entry_lender result
             (λ a. a ≡ self.old)) };
 
@@ -106,10 +105,8 @@ pub trait ArenaInsertEntries<P: Ptr, T: Drop> {
         ensures same_reference { IfOk result (λ e. entry_lender e ≡ self.entry.ghost_name) }
         ensures has_room { IfOk result (λ e. live_count (entry_arena e) < room_for (entry_arena e)) }
         ensures arena { IfOk result (λ e. entry_arena e ≡ grown_if_full (content self.old)) }
-        ensures succeeds { live_count (content self.old) < room_for (content self.old)
-            → IsOk result }
-        ensures beyond { IsErrOf result ReallocationError.BeyondMaxCapacity
-            ↔ ((content self.old).room.limit ≡ Some (live_count (content self.old))) }
+        ensures refusal { IsRefusal Self.Stack.takes_memory (live_count (content self.old))
+            (content self.old).room result }
         ensures* err { sem 𝓛 (RestsIfErr Self.row self.entry entry_lender result
             (λ a. a ≡ self.old)) };
 }

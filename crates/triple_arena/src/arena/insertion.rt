@@ -1,7 +1,8 @@
 //! Insertion at an index that the arena chooses.
-ghost use Rattle.std.specs.Prelude.{◌≡◌, ◌<◌};
+ghost use Rattle.std.specs.Prelude.{◌≡◌, ◌<◌, refl};
 ghost use Rattle.triple_arena.specs.Changes.{IsInserted};
 ghost use Rattle.triple_arena.specs.Content.{entry_at, some_counter, live_count, room_for, next_index as next_of, inserted as inserted_of, grown_if_full as grown_of, IsWellFormed};
+ghost use Rattle.triple_arena.specs.ContentLaws.{next-with_value};
 
 use crate::arena::{Arena, pointer_at};
 use crate::{ArenaInsertTrait, ArenaSlot};
@@ -17,6 +18,10 @@ impl<P: Ptr, T: Drop, S: NonZeroInxGenericStack<ArenaSlot<P, T>> + Drop> ArenaIn
     ghost inserted = { inserted_of };
 
     ghost grown_if_full = { grown_of };
+
+    ghost next_index_cleared = { λ c. refl };
+
+    ghost next_index_with_value = { next-with_value };
 
     fn insert_within_capacity(&mut self, t: T) -> Result<P, NotWithinCapacityError> {
         if self.live() == self.room_for() {

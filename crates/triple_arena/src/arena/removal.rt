@@ -1,5 +1,5 @@
 //! Removal, and the end of a pointer.
-ghost use Rattle.std.specs.Prelude.{◌≡◌, Some, IsSome};
+ghost use Rattle.std.specs.Prelude.{◌≡◌, Some, None, IsSome};
 ghost use Rattle.std.specs.Int.NonZero.{non_zero_usize_get};
 ghost use Rattle.triple_arena_ptr.specs.Generation.{next_wraps};
 ghost use Rattle.triple_arena_ptr.specs.InvalidationOption.{value_of, overflowed};
@@ -10,7 +10,7 @@ use crate::ArenaSlot;
 use crate::arena::{Arena, pointer_at};
 use std::mem;
 use std::num::NonZeroUsize;
-use triple_arena_ptr::{InvalidationOption, Ptr};
+use triple_arena_ptr::{InvalidationOption, Ptr, PtrGen};
 use triple_arena_stack::NonZeroInxGenericStack;
 
 impl<P: Ptr, T: Drop, S: NonZeroInxGenericStack<ArenaSlot<P, T>>> Arena<P, T, S> {
@@ -81,4 +81,13 @@ impl<P: Ptr, T: Drop, S: NonZeroInxGenericStack<ArenaSlot<P, T>>> Arena<P, T, S>
         self.head = None;
         self.len = 0;
     }
+}
+
+// Where generations are not counted, all are 1, and pointers with one index are equal.
+pub(crate) fn equal_uncounted<P: Ptr>(p: P, q: P)
+    ensures { P.Gen.last ≡ None → P.index p ≡ P.index q → p ≡ q }
+{
+    // Each is one of the generations.
+    let _ = p.generation().generational_inc();
+    let _ = q.generation().generational_inc();
 }

@@ -1,6 +1,7 @@
 //! The room of an arena, and its growth.
-ghost use Rattle.std.specs.Prelude.{◌≡◌, ◌^◌, ◌<◌, ◌≤◌, ◌↔◌, Some, None, IsOk, OnOk, OnErr, IsErrOf};
+ghost use Rattle.std.specs.Prelude.{◌≡◌, ◌^◌, ◌<◌, ◌≤◌, ◌↔◌, Some, None, IsOk, OnOk, OnErr, IsErrOf, IsTrue};
 ghost use Rattle.triple_arena_ptr.specs.Index.{max_index_of};
+ghost use Rattle.triple_arena_stack.specs.Push.{IsRefusal};
 ghost use Rattle.triple_arena_stack.specs.Room.{grown, IsBeyond};
 ghost use Rattle.triple_arena.specs.Content.{live_count, room_for, reallocated, grown_if_full, in_room, IsWellFormed};
 
@@ -39,6 +40,7 @@ impl<P: Ptr, T: Drop, S: NonZeroInxGenericStack<ArenaSlot<P, T>>> Arena<P, T, S>
         ensures succeeds { min ≤ room_for self.old → IsOk result }
         ensures beyond { IsErrOf result ReallocationError.BeyondMaxCapacity
             ↔ IsBeyond self.old.room.limit min }
+        ensures memory { IsErrOf result ReallocationError.AllocError → IsTrue S.takes_memory }
         ensures err { OnErr result (self.new ≡ self.old) }
     {
         if min <= self.room_for() {
@@ -57,9 +59,7 @@ impl<P: Ptr, T: Drop, S: NonZeroInxGenericStack<ArenaSlot<P, T>>> Arena<P, T, S>
     pub(crate) fn make_room(&mut self) -> Result<(), ReallocationError>
         ensures ok { OnOk result (live_count self.new < room_for self.new) }
         ensures exact { OnOk result (self.new ≡ grown_if_full self.old) }
-        ensures succeeds { live_count self.old < room_for self.old → IsOk result }
-        ensures beyond { IsErrOf result ReallocationError.BeyondMaxCapacity
-            ↔ (self.old.room.limit ≡ Some (live_count self.old)) }
+        ensures refusal { IsRefusal S.takes_memory (live_count self.old) self.old.room result }
         ensures err { OnErr result (self.new ≡ self.old) }
     {
         if self.live() < self.room_for() {
@@ -75,8 +75,7 @@ impl<P: Ptr, T: Drop, S: NonZeroInxGenericStack<ArenaSlot<P, T>>> Arena<P, T, S>
         requires { live_count self.old ≡ room_for self.old }
         ensures ok { OnOk result (live_count self.new < room_for self.new) }
         ensures grown { OnOk result (self.new ≡ in_room self.old (grown self.old.room)) }
-        ensures beyond { IsErrOf result ReallocationError.BeyondMaxCapacity
-            ↔ (self.old.room.limit ≡ Some (live_count self.old)) }
+        ensures refusal { IsRefusal S.takes_memory (live_count self.old) self.old.room result }
         ensures err { OnErr result (self.new ≡ self.old) }
     {
         let capacity = self.room_for();
