@@ -53,6 +53,7 @@ pub trait ArenaInsertTrait<P: Ptr, T: Drop>: ArenaTrait<P, T> {
         → next_index (Self.with_value s i t) ≡ next_index s };
 
     /// The same as `insert_reallocating`.
+    #[inline]
     final fn insert(&mut self, t: T) -> Result<P, ReallocationError>
         ensures inserted { IfOk result (λ p. IsInserted Self.entry_at Self.live_count Self.counter
             (next_index self.old) (P.index p) (P.generation p) t self.old self.new) }

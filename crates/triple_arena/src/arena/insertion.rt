@@ -23,6 +23,7 @@ impl<P: Ptr, T: Drop, S: NonZeroInxGenericStack<ArenaSlot<P, T>> + Drop> ArenaIn
 
     ghost next_index_with_value = { next-with_value };
 
+    #[inline]
     fn insert_within_capacity(&mut self, t: T) -> Result<P, NotWithinCapacityError> {
         if self.live() == self.room_for() {
             return Err(NotWithinCapacityError);
@@ -30,6 +31,7 @@ impl<P: Ptr, T: Drop, S: NonZeroInxGenericStack<ArenaSlot<P, T>> + Drop> ArenaIn
         Ok(self.insert_entry(t))
     }
 
+    #[inline]
     fn insert_reallocating(&mut self, t: T) -> Result<P, ReallocationError> {
         // Well-formed before.
         let _ = self.live();
@@ -56,6 +58,7 @@ impl<P: Ptr, T: Drop, S: NonZeroInxGenericStack<ArenaSlot<P, T>>> Arena<P, T, S>
     }
 
     // Stores `t` at the first free index, or in a slot more.
+    #[inline]
     pub(crate) fn insert_in_room(&mut self, t: T) -> P
         requires { live_count self.old < room_for self.old }
         ensures value { self.new ≡ inserted_of self.old t }
@@ -82,6 +85,7 @@ impl<P: Ptr, T: Drop, S: NonZeroInxGenericStack<ArenaSlot<P, T>>> Arena<P, T, S>
     }
 
     // Stores `t` as `insert_in_room` does, and says what is at each index then.
+    #[inline]
     pub(crate) fn insert_entry(&mut self, t: T) -> P
         requires { live_count self.old < room_for self.old }
         ensures value { self.new ≡ inserted_of self.old t }

@@ -15,6 +15,7 @@ use triple_arena_stack::NonZeroInxGenericStack;
 
 impl<P: Ptr, T: Drop, S: NonZeroInxGenericStack<ArenaSlot<P, T>>> Arena<P, T, S> {
     // Removes the entry at `i`, which is live, and steps the counter.
+    #[inline]
     pub(crate) fn remove_at(&mut self, i: NonZeroUsize) -> InvalidationOption<(P::Gen, T)>
         requires { IsSome (entry_at self.old (non_zero_usize_get i)) }
         ensures value { self.new ≡ removed P.Gen.last self.old (non_zero_usize_get i) }
@@ -39,6 +40,7 @@ impl<P: Ptr, T: Drop, S: NonZeroInxGenericStack<ArenaSlot<P, T>>> Arena<P, T, S>
     }
 
     // Takes the entry at `i`, which is live, and leaves the counter.
+    #[inline]
     pub(crate) fn take_at(&mut self, i: NonZeroUsize) -> (P::Gen, T)
         requires { IsSome (entry_at self.old (non_zero_usize_get i)) }
         ensures value { self.new ≡ vacated self.old (non_zero_usize_get i) }
