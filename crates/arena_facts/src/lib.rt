@@ -3,4 +3,5 @@
 
 mod concrete;
 mod generic;
+mod news;
 mod one_crate;
