@@ -13,7 +13,9 @@ use crate::arena::reading::ValueAtMut;
 use crate::arena::removal::equal_uncounted;
 use crate::arena::{Arena, max_index};
 use crate::{ArenaSlot, ArenaTrait, CompactArenaTrait};
-use triple_arena_ptr::{InvalidationOption, InvalidationResult, Ptr, PtrGen, PtrInx, ReallocationError};
+use triple_arena_ptr::{
+    InvalidationOption, InvalidationResult, Ptr, PtrGen, PtrInx, ReallocationError,
+};
 use triple_arena_stack::{NonZeroInxArray, NonZeroInxGenericStack};
 
 impl<P: Ptr, T: Drop, S: NonZeroInxGenericStack<ArenaSlot<P, T>> + Drop> ArenaTrait<P, T>
@@ -99,7 +101,7 @@ impl<P: Ptr, T: Drop, S: NonZeroInxGenericStack<ArenaSlot<P, T>> + Drop> ArenaTr
 
     fn reallocate_min_capacity(&mut self, min: usize) -> Result<(), ReallocationError> {
         let made = self.reallocate(min);
-        // Well-formed after.
+        // The arena is well-formed after.
         let _ = self.live();
         made
     }
@@ -184,7 +186,7 @@ impl<P: Ptr, T: Drop, S: NonZeroInxGenericStack<ArenaSlot<P, T>> + Drop> ArenaTr
     }
 
     fn remove(&mut self, p: P) -> InvalidationResult<T> {
-        // Well-formed before.
+        // The arena is well-formed before.
         let _ = self.live();
         match self.live_index(p) {
             Some(i) => match self.remove_at(i) {
@@ -198,7 +200,7 @@ impl<P: Ptr, T: Drop, S: NonZeroInxGenericStack<ArenaSlot<P, T>> + Drop> ArenaTr
     }
 
     fn remove_inx(&mut self, i: P::Inx) -> InvalidationResult<(P::Gen, T)> {
-        // Well-formed before.
+        // The arena is well-formed before.
         let _ = self.live();
         match self.live_inx(i) {
             Some(i) => match self.remove_at(i) {
@@ -212,7 +214,7 @@ impl<P: Ptr, T: Drop, S: NonZeroInxGenericStack<ArenaSlot<P, T>> + Drop> ArenaTr
     }
 
     fn invalidate(&mut self, p: P) -> InvalidationResult<P> {
-        // Well-formed before.
+        // The arena is well-formed before.
         let _ = self.live();
         match self.live_index(p) {
             Some(i) => {
@@ -234,7 +236,7 @@ impl<P: Ptr, T: Drop, S: NonZeroInxGenericStack<ArenaSlot<P, T>> + Drop> ArenaTr
     fn clear(&mut self) -> InvalidationOption<()> {
         self.empty();
         let wrapped = self.step();
-        // Well-formed after.
+        // The arena is well-formed after.
         let _ = self.live();
         if wrapped {
             InvalidationOption::GenerationOverflow(())
@@ -254,7 +256,7 @@ impl<P: Ptr, T: Drop, S: NonZeroInxGenericStack<ArenaSlot<P, T>> + Drop> ArenaTr
         compact(&mut self.slots, generation, map);
         self.counter = generation;
         self.head = None;
-        // Well-formed after.
+        // The arena is well-formed after.
         let _ = self.live();
         if wrapped {
             InvalidationOption::GenerationOverflow(())

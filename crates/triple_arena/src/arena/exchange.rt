@@ -18,7 +18,7 @@ impl<P: Ptr, T: Drop, S: NonZeroInxGenericStack<ArenaSlot<P, T>> + Drop> Disjoin
     ghost exchanged = { with_exchange };
 
     fn swap_inx(&mut self, i: P::Inx, j: P::Inx) {
-        // Well-formed before.
+        // The arena is well-formed before.
         let _ = self.live();
         match (self.live_inx(i), self.live_inx(j)) {
             (Some(i), Some(j)) => {
@@ -31,7 +31,7 @@ impl<P: Ptr, T: Drop, S: NonZeroInxGenericStack<ArenaSlot<P, T>> + Drop> Disjoin
     }
 
     fn swap(&mut self, p: P, q: P) -> Result<(), GetDisjointMutError> {
-        // Well-formed before.
+        // The arena is well-formed before.
         let _ = self.live();
         let (Some(i), Some(j)) = (self.live_index(p), self.live_index(q)) else {
             return Err(GetDisjointMutError::IndexOutOfBounds);
@@ -57,7 +57,7 @@ impl<P: Ptr, T: Drop, S: NonZeroInxGenericStack<ArenaSlot<P, T>>> Arena<P, T, S>
         ensures formed { IsWellFormed self.new }
     {
         exchange_values(&mut self.slots, i, j);
-        // Well-formed after.
+        // The arena is well-formed after.
         let _ = self.live();
     }
 }

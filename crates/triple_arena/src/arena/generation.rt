@@ -23,7 +23,7 @@ impl<P: Ptr, T: Drop, S: NonZeroInxGenericStack<ArenaSlot<P, T>>> Arena<P, T, S>
         ensures formed { IsWellFormed self.new }
     {
         self.counter = generation;
-        // Well-formed after.
+        // The arena is well-formed after.
         let _ = self.live();
     }
 
@@ -34,7 +34,7 @@ impl<P: Ptr, T: Drop, S: NonZeroInxGenericStack<ArenaSlot<P, T>>> Arena<P, T, S>
         ensures formed { IsWellFormed self.new }
     {
         let wrapped = self.step();
-        // Well-formed after.
+        // The arena is well-formed after.
         let _ = self.live();
         if wrapped {
             InvalidationOption::GenerationOverflow(())

@@ -33,7 +33,7 @@ impl<P: Ptr, T: Drop, S: NonZeroInxGenericStack<ArenaSlot<P, T>> + Drop> ArenaIn
 
     #[inline]
     fn insert_reallocating(&mut self, t: T) -> Result<P, ReallocationError> {
-        // Well-formed before.
+        // The arena is well-formed before.
         let _ = self.live();
         self.make_room()?;
         Ok(self.insert_entry(t))
@@ -47,6 +47,7 @@ impl<P: Ptr, T: Drop, S: NonZeroInxGenericStack<ArenaSlot<P, T>>> Arena<P, T, S>
         ensures has_index { P.index result ≡ next_of self.now }
         ensures has_generation { P.generation result ≡ self.now.counter }
     {
+        // The slots are within the capacity, and that is a `usize`.
         let _ = self.slots.capacity();
         if let Some(index) = self.head {
             return pointer_at(index, self.counter);
@@ -65,6 +66,7 @@ impl<P: Ptr, T: Drop, S: NonZeroInxGenericStack<ArenaSlot<P, T>>> Arena<P, T, S>
         ensures has_index { P.index result ≡ next_of self.old }
         ensures has_generation { P.generation result ≡ self.old.counter }
     {
+        // The slots are within the capacity, so one more can be counted.
         let _ = self.slots.len();
         let slot = ArenaSlot::used(self.counter, t);
         match self.head {
@@ -94,7 +96,7 @@ impl<P: Ptr, T: Drop, S: NonZeroInxGenericStack<ArenaSlot<P, T>>> Arena<P, T, S>
         ensures room { self.new.room ≡ self.old.room }
         ensures formed { IsWellFormed self.new }
     {
-        // Well-formed before.
+        // The arena is well-formed before.
         let _ = self.live();
         let p = self.insert_in_room(t);
         // And after.

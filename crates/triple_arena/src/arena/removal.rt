@@ -26,7 +26,7 @@ impl<P: Ptr, T: Drop, S: NonZeroInxGenericStack<ArenaSlot<P, T>>> Arena<P, T, S>
             (non_zero_usize_get i) self.old self.new }
         ensures formed { IsWellFormed self.new }
     {
-        // Well-formed before.
+        // The arena is well-formed before.
         let _ = self.live();
         let entry = self.take_at(i);
         let wrapped = self.step();
