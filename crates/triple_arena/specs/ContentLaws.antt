@@ -45,7 +45,8 @@ module _ {T : Type 0} where
           ]
 
   -- a write of the slot at an index from 1 on
-  pub entry-set : (c c' : Content T) (i j : ℕ) (o : Option (ℕ × T)) → 0 < i → i - 1 < length c.slots → c'.slots ≡ set c.slots (i - 1) o → entry_at c' j ≡ (if j == i then o else entry_at c j)
+  pub entry-set : (c c' : Content T) (i j : ℕ) (o : Option (ℕ × T)) → 0 < i → i - 1 < length c.slots → c'.slots ≡ set c.slots (i - 1) o
+      → entry_at c' j ≡ (if j == i then o else entry_at c j)
   entry-set c c' i zero o positive within written = rw (ne_eqb 0 i (λ e. omega arith)) refl
   entry-set c c' i (suc k) o positive within written =
       elim (eqb_tells (suc k) i) [
@@ -83,7 +84,8 @@ module _ {T : Type 0} where
       (differs, live-lacks c i some l all.1.1)
 
   -- free indexes stay free where the slots are no fewer and no entry comes
-  pub vacant-kept : (c d : Content T) → length c.slots ≤ length d.slots → ((j : ℕ) → entry_at c j ≡ None → entry_at d j ≡ None) → (l : List ℕ) → AllVacant c l → AllVacant d l
+  pub vacant-kept : (c d : Content T) → length c.slots ≤ length d.slots → ((j : ℕ) → entry_at c j ≡ None → entry_at d j ≡ None) → (l : List ℕ)
+      → AllVacant c l → AllVacant d l
   vacant-kept c d more none [] all = tt
   vacant-kept c d more none (j ∷ l) all =
       let first = all.0 in (
@@ -92,7 +94,8 @@ module _ {T : Type 0} where
       )
 
   -- the same of all indexes but one, which is none of them
-  pub vacant-others : (c d : Content T) (i : ℕ) → ((j : ℕ) → j ≢ i → j ≤ length c.slots → j ≤ length d.slots) → ((j : ℕ) → j ≢ i → entry_at c j ≡ None → entry_at d j ≡ None)
+  pub vacant-others : (c d : Content T) (i : ℕ) → ((j : ℕ) → j ≢ i → j ≤ length c.slots → j ≤ length d.slots)
+      → ((j : ℕ) → j ≢ i → entry_at c j ≡ None → entry_at d j ≡ None)
       → (l : List ℕ) → Lacks l i → AllVacant c l → AllVacant d l
   vacant-others c d i within none [] lacks all = tt
   vacant-others c d i within none (j ∷ l) lacks all =
@@ -191,4 +194,13 @@ module _ {T : Type 0} where
       }
 
 -- what a write of a value changes and what it keeps
-pub ruleset writes = (formed-with_value, entry-with_value, next-with_value, live-with_value, slots-with_value, counter-with_value, free-with_value, room-with_value)
+pub ruleset writes = (
+  formed-with_value,
+  entry-with_value,
+  next-with_value,
+  live-with_value,
+  slots-with_value,
+  counter-with_value,
+  free-with_value,
+  room-with_value,
+)

@@ -97,7 +97,8 @@ module _ {T : Type 0} where
       by_entry (Some x) e = rw (same, e) refl
 
   -- the generation of the entry after its pointer ended is the stepped counter
-  pub entry-invalidated : (last : Option ℕ) (c : Content T) (i j : ℕ) → entry_at (invalidated last c i) j ≡ with_generation_at (entry_at c) i (next_generation last c.counter) j
+  pub entry-invalidated : (last : Option ℕ) (c : Content T) (i j : ℕ)
+      → entry_at (invalidated last c i) j ≡ with_generation_at (entry_at c) i (next_generation last c.counter) j
   entry-invalidated last c i j =
       entry-same_slots (invalidated last c i) (with_generation c i (next_generation last c.counter)) refl j
       ∙ entry-with_generation c i (next_generation last c.counter) j
@@ -122,4 +123,12 @@ module _ {T : Type 0} where
       formed-stepped last (with_generation c i (next_generation last c.counter)) (formed-with_generation c i (next_generation last c.counter) formed)
 
 -- what the end of a pointer changes and keeps
-pub ruleset invalidations = (formed-invalidated, entry-invalidated, live-invalidated, slots-invalidated, counter-invalidated, free-invalidated, room-invalidated)
+pub ruleset invalidations = (
+  formed-invalidated,
+  entry-invalidated,
+  live-invalidated,
+  slots-invalidated,
+  counter-invalidated,
+  free-invalidated,
+  room-invalidated,
+)

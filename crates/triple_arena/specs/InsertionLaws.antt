@@ -49,11 +49,13 @@ module _ {T : Type 0} where
   pub entry-inserted : (c : Content T) (t : T) → IsWellFormed c → (j : ℕ) → entry_at (inserted c t) j ≡ with_entry (entry_at c) (next_index c) (c.counter, t) j
   entry-inserted c t formed j = by_list c.free refl formed.free
     where
-      behind : (j : ℕ) (d : Content T) → d.slots ≡ c.slots ++ Some (c.counter, t) ∷ [] → entry_at d j ≡ with_entry (entry_at c) (length c.slots + 1) (c.counter, t) j
+      behind : (j : ℕ) (d : Content T) → d.slots ≡ c.slots ++ Some (c.counter, t) ∷ []
+          → entry_at d j ≡ with_entry (entry_at c) (length c.slots + 1) (c.counter, t) j
       behind zero d grown = rw (ne_eqb 0 (length c.slots + 1) (λ e. omega arith)) refl
       behind (suc k) d grown =
           elim (eqb_tells k (length c.slots)) [
-            | inl same ↦ rw (grown, eq-eqb (suc k) (length c.slots + 1) (omega (arith, same.1))) (ap (λ n. get_or (c.slots ++ Some (c.counter, t) ∷ []) n None) same.1 ∙ get_or-append_seam c.slots (Some (c.counter, t)) [] None)
+            | inl same ↦ rw (grown, eq-eqb (suc k) (length c.slots + 1) (omega (arith, same.1))) (ap
+                (λ n. get_or (c.slots ++ Some (c.counter, t) ∷ []) n None) same.1 ∙ get_or-append_seam c.slots (Some (c.counter, t)) [] None)
             | inr other ↦ rw (grown, ne_eqb (suc k) (length c.slots + 1) (λ e. other.1 (omega (arith, e)))) (push_other c.slots (Some (c.counter, t)) k other.1)
           ]
 
@@ -61,7 +63,8 @@ module _ {T : Type 0} where
       by_list [] e all = rw e (behind j (record c { slots = c.slots ++ Some (c.counter, t) ∷ [] }) refl)
       by_list (i ∷ rest) e all =
           let first = all.0 in
-          rw e (entry-set c (record c { slots = set c.slots (i - 1) (Some (c.counter, t)); free = rest }) i j (Some (c.counter, t)) first.positive (omega (arith, first.positive, first.within)) refl)
+          rw e (entry-set c (record c { slots = set c.slots (i - 1) (Some (c.counter, t)); free = rest }) i j (Some (c.counter, t)) first.positive
+          (omega (arith, first.positive, first.within)) refl)
 
   -- an insertion adds one to what is live
   pub live-inserted : (c : Content T) (t : T) → IsWellFormed c → live_count (inserted c t) ≡ live_count c + 1
@@ -151,7 +154,6 @@ module _ {T : Type 0} where
         counted = formed.counted;
         fits = omega (arith, formed.fits, more);
       }
-
 
   pub formed-grown : (c : Content T) → IsWellFormed c → IsWellFormed (grown_if_full c)
   formed-grown c formed = formed-in_room c (room_after (live_count c) c.room) (capacity-room_after (live_count c) c.room) formed

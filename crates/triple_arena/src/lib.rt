@@ -39,8 +39,8 @@ pub use insert_trait::ArenaInsertTrait;
 pub use slot::ArenaSlot;
 pub use triple_arena_ptr::{
     Advancer, AllocError, GetDisjointMutError, InvalidationOption, InvalidationResult,
-    MaxCapacityReductionError, NotWithinCapacityError, P0, P1, P2, P3, P4, P5, Ptr, PtrGen, PtrInx,
-    PtrNoGen, Q2, ReallocationError,
+    MaxCapacityReductionError, NotWithinCapacityError, P0, P1, P2, P3, P4, P5, Pointer, Ptr,
+    PtrGen, PtrInx, PtrKind, PtrNoGen, Q2, ReallocationError,
 };
 pub use triple_arena_stack::{
     NonZeroInxArray, NonZeroInxBoxedSlice, NonZeroInxGenericStack, NonZeroInxLimitedStack,

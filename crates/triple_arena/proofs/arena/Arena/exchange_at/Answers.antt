@@ -14,11 +14,13 @@ exchange_values-requires-clause-j_is_used g c = used_at _ _ _ _ _ _ c.self.view_
 
 pub invariant_of-self : goal.invariant_of-self
 invariant_of-self g c =
-    (exchanged _ _ _ _ _ _ _ _ _ _ c.self.invariant c.self.view_is c.requires.i_is_live c.requires.j_is_live c.requires.two c.exchange_values.ensures.items (ap (room_of g.P.Inx.PtrInx.greatest) c.exchange_values.ensures.room)).sound
+    (exchanged _ _ _ _ _ _ _ _ _ _ c.self.invariant c.self.view_is c.requires.i_is_live c.requires.j_is_live c.requires.two
+    c.exchange_values.ensures.items (ap (room_of g.P.Inx.PtrInx.greatest) c.exchange_values.ensures.room)).sound
 
 pub returns-clause-value : goal.returns-clause-value
 returns-clause-value g c =
-    (exchanged _ _ _ _ _ _ _ _ _ _ c.self.invariant c.self.view_is c.requires.i_is_live c.requires.j_is_live c.requires.two c.exchange_values.ensures.items (ap (room_of g.P.Inx.PtrInx.greatest) c.exchange_values.ensures.room)).content
+    (exchanged _ _ _ _ _ _ _ _ _ _ c.self.invariant c.self.view_is c.requires.i_is_live c.requires.j_is_live c.requires.two
+    c.exchange_values.ensures.items (ap (room_of g.P.Inx.PtrInx.greatest) c.exchange_values.ensures.room)).content
 
 pub returns-clause-exchanged : goal.returns-clause-exchanged
 returns-clause-exchanged g c =

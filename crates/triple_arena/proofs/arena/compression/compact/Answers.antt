@@ -27,7 +27,9 @@ loop-at-preserved g c =
           let stood = stood_some g.P.Gen.PtrGen.number _ _ _ _ _ _ c.take_entry.ensures.entry old_is w.in-Some.is in (
             subst (λ f. goal.F-IsAlwaysCallable g f) (sym w.map-is) (search of_calls),
             partly_same _ _ _ _ _ _ _ _ _ _ _ _ _ w.map-is (ap (λ s. map entry_of (g.S.NonZeroInxGenericStack.items s)) w.slots-is) w.live-is
-                (partly_live _ _ _ _ _ _ _ _ _ _ _ _ _ _ _ _ _ _ _ _ p stood within old_is c.take_entry.ensures.slots new_is w.put_entry.ensures.slots w.pointer_at-from.ensures.has_index w.pointer_at-from.ensures.has_generation w.pointer_at-to.ensures.has_index w.pointer_at-to.ensures.has_generation w.map-given.ensures),
+                (partly_live _ _ _ _ _ _ _ _ _ _ _ _ _ _ _ _ _ _ _ _ p stood within old_is c.take_entry.ensures.slots
+                new_is w.put_entry.ensures.slots w.pointer_at-from.ensures.has_index w.pointer_at-from.ensures.has_generation
+                w.pointer_at-to.ensures.has_index w.pointer_at-to.ensures.has_generation w.map-given.ensures),
             ap g.S.NonZeroInxGenericStack.room w.slots-is ∙ w.put_entry.ensures.room ∙ c.take_entry.ensures.room ∙ at.invariant.2,
           )
       | in_default w ↦
@@ -46,4 +48,5 @@ returns-clause-moved g c =
     let sized = c.len-at-end.ensures.value in
     let counted = length-map (g.S.NonZeroInxGenericStack.items c.args.slots.now) entry_of in
     let past : length (map entry_of (g.S.NonZeroInxGenericStack.items c.loop-at.slots)) ≤ c.loop-at.at = omega (arith, c.loop-at-test.false) in
-    partly_all _ _ _ _ _ _ _ _ _ _ _ p past (ap (map entry_of) c.keep_first.ensures.slots ∙ sym (take-map entry_of c.loop-at.live (g.S.NonZeroInxGenericStack.items c.loop-at.slots)))
+    partly_all _ _ _ _ _ _ _ _ _ _ _ p past (ap (map entry_of) c.keep_first.ensures.slots ∙ sym
+    (take-map entry_of c.loop-at.live (g.S.NonZeroInxGenericStack.items c.loop-at.slots)))

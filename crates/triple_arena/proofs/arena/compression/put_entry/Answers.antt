@@ -7,6 +7,7 @@ use Rattle.triple_arena.proofs.arena.compression.put_entry.Goals as goal
 
 pub returns-clause-slots : goal.returns-clause-slots
 returns-clause-slots g c =
-    ap (map entry_of) (g.met.S.NonZeroInxGenericStack.items_with_items c.args.slots.now (with_item (g.S.NonZeroInxGenericStack.items c.args.slots.now) (non_zero_usize_get c.args.i) c.used.result))
+    ap (map entry_of) (g.met.S.NonZeroInxGenericStack.items_with_items c.args.slots.now
+    (with_item (g.S.NonZeroInxGenericStack.items c.args.slots.now) (non_zero_usize_get c.args.i) c.used.result))
     ∙ map-set entry_of _ _ _
     ∙ ap (λ s. set (map entry_of (g.S.NonZeroInxGenericStack.items c.args.slots.now)) (non_zero_usize_get c.args.i - 1) (entry_of s)) c.used.ensures
