@@ -1,6 +1,6 @@
 pub mod ArenaRoom
 pub mod Slot
-pub mod Entry
+pub mod SlotState
 pub mod Entries
 pub mod Changes
 pub mod Content
