@@ -75,9 +75,44 @@ impl<T> Arena<T> {
         }
     }
 
+    pub fn get_mut(&mut self, pointer: Pointer) -> Option<&mut T> {
+        match self.slots.get_mut(pointer.index.get() - 1) {
+            Some(Slot::Used(generation, value)) if *generation == pointer.generation => Some(value),
+            _ => None,
+        }
+    }
+
+    /// The pointers and values, in the order of the indexes.
+    pub fn iter(&self) -> impl Iterator<Item = (Pointer, &T)> {
+        self.slots
+            .iter()
+            .zip(1..)
+            .filter_map(|(slot, index)| match slot {
+                Slot::Used(generation, value) => {
+                    let index = NonZeroUsize::new(index)?;
+                    Some((
+                        Pointer {
+                            index,
+                            generation: *generation,
+                        },
+                        value,
+                    ))
+                }
+                Slot::Free(_) => None,
+            })
+    }
+
     pub fn remove(&mut self, pointer: Pointer) -> Option<T> {
         self.get(pointer)?;
-        let place = &mut self.slots[pointer.index.get() - 1];
+        self.remove_inx(pointer)
+    }
+
+    /// Removes by the index alone.
+    pub fn remove_inx(&mut self, pointer: Pointer) -> Option<T> {
+        let place = self.slots.get_mut(pointer.index.get() - 1)?;
+        if let Slot::Free(_) = place {
+            return None;
+        }
         let slot = std::mem::replace(place, Slot::Free(self.free));
         self.free = Some(pointer.index);
         self.len -= 1;

@@ -1,5 +1,5 @@
-//! usage: plain insert|remove|get|churn|loop STEPS, with the operations of the Rattle program `arena_bench`, over the
-//! plain arena, or over that of `slotmap` where it is built with `--cfg slotmap`.
+//! usage: plain insert|remove|remove_inx|get|write|iterate|churn|loop STEPS, with the operations of the Rattle program
+//! `arena_bench`, over the plain arena, or over that of `slotmap` where it is built with `--cfg slotmap`.
 #[cfg_attr(slotmap, path = "slotmap.rs")]
 mod arena;
 
@@ -7,7 +7,7 @@ use arena::{Arena, Pointer};
 use std::env;
 use std::process::ExitCode;
 
-/// How many pointers `get` and `churn` choose from.
+/// How many pointers a table has.
 const TABLE: usize = 4096;
 
 /// A linear congruential generator; its upper bits are the sequence.
@@ -73,16 +73,65 @@ fn remove(steps: usize) -> u64 {
     sum
 }
 
-fn get(steps: usize) -> u64 {
+fn remove_inx(steps: usize) -> u64 {
+    let (mut arena, mut pointers) = filled(steps);
+    let mut sequence = Sequence::new();
+    let mut sum = 0u64;
+    for _ in 0..steps {
+        let len = pointers.len();
+        if len == 0 {
+            break;
+        }
+        let place = (sequence.number() >> 33) as usize % len;
+        if let Some(value) = arena.remove_inx(pointers.swap_remove(place)) {
+            sum = sum.wrapping_mul(31).wrapping_add(value);
+        }
+    }
+    sum
+}
+
+/// The arena of a table without the entry of each fourth place, and the table.
+fn thinned_table() -> (Arena<u64>, [Pointer; TABLE]) {
     let (mut arena, table) = filled_table();
     for pointer in table.iter().step_by(4) {
         arena.remove(*pointer);
     }
+    (arena, table)
+}
+
+fn get(steps: usize) -> u64 {
+    let (arena, table) = thinned_table();
     let mut sequence = Sequence::new();
     let mut sum = 0u64;
     for _ in 0..steps {
         if let Some(value) = arena.get(table[sequence.place()]) {
             sum = sum.wrapping_add(*value);
+        }
+    }
+    sum
+}
+
+fn write(steps: usize) -> u64 {
+    let (mut arena, table) = thinned_table();
+    let mut sequence = Sequence::new();
+    let mut sum = 0u64;
+    for _ in 0..steps {
+        if let Some(value) = arena.get_mut(table[sequence.place()]) {
+            sum = sum.wrapping_add(*value);
+            *value = sum;
+        }
+    }
+    sum
+}
+
+fn iterate(steps: usize) -> u64 {
+    let (arena, _table) = thinned_table();
+    let mut entries = arena.iter();
+    let mut sum = 0u64;
+    for _ in 0..steps {
+        match entries.next() {
+            Some((_, value)) => sum = sum.wrapping_mul(31).wrapping_add(*value),
+            None => entries = arena.iter(),
         }
     }
     sum
@@ -119,7 +168,10 @@ fn run(operation: &str, steps: usize) -> Option<u64> {
     match operation {
         "insert" => Some(filled(steps).1.len() as u64),
         "remove" => Some(remove(steps)),
+        "remove_inx" => Some(remove_inx(steps)),
         "get" => Some(get(steps)),
+        "write" => Some(write(steps)),
+        "iterate" => Some(iterate(steps)),
         "churn" => Some(churn(steps)),
         "loop" => Some(read_table(steps)),
         _ => None,
@@ -138,7 +190,7 @@ fn main() -> ExitCode {
             ExitCode::SUCCESS
         }
         None => {
-            eprintln!("usage: plain insert|remove|get|churn|loop STEPS");
+            eprintln!("usage: plain insert|remove|remove_inx|get|write|iterate|churn|loop STEPS");
             ExitCode::from(2)
         }
     }

@@ -29,6 +29,19 @@ impl<T> Arena<T> {
         self.0.get(pointer.0)
     }
 
+    pub fn get_mut(&mut self, pointer: Pointer) -> Option<&mut T> {
+        self.0.get_mut(pointer.0)
+    }
+
+    pub fn iter(&self) -> impl Iterator<Item = (Pointer, &T)> {
+        self.0.iter().map(|(key, value)| (Pointer(key), value))
+    }
+
+    /// `slotmap` has no removal by an index, so this is one by the key.
+    pub fn remove_inx(&mut self, pointer: Pointer) -> Option<T> {
+        self.0.remove(pointer.0)
+    }
+
     pub fn remove(&mut self, pointer: Pointer) -> Option<T> {
         self.0.remove(pointer.0)
     }

@@ -14,7 +14,9 @@ fn main(rt: HostRuntime) -> io::Result<ExitCode> {
     let operation = args.next().and_then(|word| Operation::named(word.as_str()));
     let steps = args.next().and_then(|word| word.parse::<usize>().ok());
     let (Some(operation), Some(steps)) = (operation, steps) else {
-        eprintln!(rt; "usage: arena_bench insert|remove|get|churn|loop STEPS")?;
+        eprintln!(rt;
+            "usage: arena_bench insert|remove|remove_inx|get|write|iterate|churn|loop STEPS"
+        )?;
         return Ok(ExitCode::from(2));
     };
     match operation.run(rt.alloc(), steps) {

@@ -3,10 +3,13 @@ ghost use Rattle.std.specs.Prelude.{◌<◌};
 
 use std::alloc::Global;
 use triple_arena::{Arena, ArenaInsertTrait, ArenaSlot, ArenaTrait};
-use triple_arena_ptr::{InvalidationResult, P0, Ptr, ReallocationError};
+use triple_arena_ptr::{Advancer, InvalidationResult, P0, Ptr, ReallocationError};
 use triple_arena_stack::NonZeroInxVec;
 
-type Numbers = Arena<P0, u64, NonZeroInxVec<ArenaSlot<P0, u64>, Global>>;
+// `bench/run` also builds the program over `P3`.
+type Pointer = P0;
+
+type Numbers = Arena<Pointer, u64, NonZeroInxVec<ArenaSlot<Pointer, u64>, Global>>;
 
 /// What is counted.
 #[derive(Clone, Copy)]
@@ -15,8 +18,14 @@ pub enum Operation {
     Insert,
     /// As many insertions, and then the removal of all in another order.
     Remove,
+    /// The same by their indexes.
+    RemoveInx,
     /// Reads by pointers of which a quarter are no longer valid.
     Get,
+    /// Writes in place of those reads.
+    Write,
+    /// A walk over the arena of those reads, again and again, with a read of each entry.
+    Iterate,
     /// Each step reads one entry, and removes another or inserts one where it is gone.
     Churn,
     /// The loop of `Get` without its reads.
@@ -29,7 +38,10 @@ impl Operation {
         match name {
             "insert" => Some(Operation::Insert),
             "remove" => Some(Operation::Remove),
+            "remove_inx" => Some(Operation::RemoveInx),
             "get" => Some(Operation::Get),
+            "write" => Some(Operation::Write),
+            "iterate" => Some(Operation::Iterate),
             "churn" => Some(Operation::Churn),
             "loop" => Some(Operation::Loop),
             _ => None,
@@ -41,14 +53,17 @@ impl Operation {
         match self {
             Operation::Insert => Ok(filled(alloc, steps)?.1.len() as u64),
             Operation::Remove => remove(alloc, steps),
+            Operation::RemoveInx => remove_inx(alloc, steps),
             Operation::Get => get(alloc, steps),
+            Operation::Write => write(alloc, steps),
+            Operation::Iterate => iterate(alloc, steps),
             Operation::Churn => churn(alloc, steps),
             Operation::Loop => read_table(alloc, steps),
         }
     }
 }
 
-// How many pointers `get` and `churn` choose from.
+// How many pointers a table has.
 const TABLE: usize = 4096;
 
 // A linear congruential generator; its upper bits are the sequence.
@@ -79,7 +94,7 @@ impl Sequence {
 }
 
 // An arena with this many entries, and their pointers.
-fn filled(alloc: Global, len: usize) -> Result<(Numbers, Vec<P0>), ReallocationError> {
+fn filled(alloc: Global, len: usize) -> Result<(Numbers, Vec<Pointer>), ReallocationError> {
     let mut arena = Numbers::new(alloc);
     let mut pointers = Vec::with_capacity(alloc, len).map_err(|_| ReallocationError::AllocError)?;
     let mut sequence = Sequence::new();
@@ -93,9 +108,9 @@ fn filled(alloc: Global, len: usize) -> Result<(Numbers, Vec<P0>), ReallocationE
 }
 
 // An arena with an entry for each place of a table, and the table of their pointers.
-fn filled_table(alloc: Global) -> Result<(Numbers, [P0; TABLE]), ReallocationError> {
+fn filled_table(alloc: Global) -> Result<(Numbers, [Pointer; TABLE]), ReallocationError> {
     let mut arena = Numbers::new(alloc);
-    let mut table = [P0::invalid(); TABLE];
+    let mut table = [Pointer::invalid(); TABLE];
     let mut sequence = Sequence::new();
     for pointer in &mut table {
         *pointer = arena.insert(sequence.number())?;
@@ -120,16 +135,70 @@ fn remove(alloc: Global, steps: usize) -> Result<u64, ReallocationError> {
     Ok(sum)
 }
 
-fn get(alloc: Global, steps: usize) -> Result<u64, ReallocationError> {
+fn remove_inx(alloc: Global, steps: usize) -> Result<u64, ReallocationError> {
+    let (mut arena, mut pointers) = filled(alloc, steps)?;
+    let mut sequence = Sequence::new();
+    let mut sum = 0u64;
+    for _ in 0..steps {
+        let len = pointers.len();
+        if len == 0 {
+            break;
+        }
+        let place = (sequence.number() >> 33) as usize % len;
+        let index = pointers.swap_remove(place).inx();
+        if let InvalidationResult::Success((_, value)) = arena.remove_inx(index) {
+            sum = sum.wrapping_mul(31).wrapping_add(value);
+        }
+    }
+    Ok(sum)
+}
+
+// The arena of a table without the entry of each fourth place, and the table.
+fn thinned_table(alloc: Global) -> Result<(Numbers, [Pointer; TABLE]), ReallocationError> {
     let (mut arena, table) = filled_table(alloc)?;
     for pointer in table.iter().step_by(4) {
         drop(arena.remove(*pointer));
     }
+    Ok((arena, table))
+}
+
+fn get(alloc: Global, steps: usize) -> Result<u64, ReallocationError> {
+    let (arena, table) = thinned_table(alloc)?;
     let mut sequence = Sequence::new();
     let mut sum = 0u64;
     for _ in 0..steps {
         if let Some(value) = arena.get(table[sequence.place()]) {
             sum = sum.wrapping_add(*value);
+        }
+    }
+    Ok(sum)
+}
+
+fn write(alloc: Global, steps: usize) -> Result<u64, ReallocationError> {
+    let (mut arena, table) = thinned_table(alloc)?;
+    let mut sequence = Sequence::new();
+    let mut sum = 0u64;
+    for _ in 0..steps {
+        if let Some(value) = arena.get_mut(table[sequence.place()]) {
+            sum = sum.wrapping_add(*value);
+            *value = sum;
+        }
+    }
+    Ok(sum)
+}
+
+fn iterate(alloc: Global, steps: usize) -> Result<u64, ReallocationError> {
+    let (arena, _table) = thinned_table(alloc)?;
+    let mut advancer = arena.advancer();
+    let mut sum = 0u64;
+    for _ in 0..steps {
+        match advancer.advance(&arena) {
+            Some(pointer) => {
+                if let Some(value) = arena.get(pointer) {
+                    sum = sum.wrapping_mul(31).wrapping_add(*value);
+                }
+            }
+            None => advancer = arena.advancer(),
         }
     }
     Ok(sum)
@@ -159,7 +228,7 @@ fn read_table(alloc: Global, steps: usize) -> Result<u64, ReallocationError> {
     let mut sequence = Sequence::new();
     let mut sum = 0u64;
     for _ in 0..steps {
-        sum = sum.wrapping_add(table[sequence.place()].generation().get());
+        sum = sum.wrapping_add(u64::from(table[sequence.place()].generation().get()));
     }
     Ok(sum)
 }

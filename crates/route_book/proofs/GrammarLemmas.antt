@@ -1,24 +1,21 @@
 -- Lines, their fields, and the commands that they spell.
-use Rattle.std.proofs.Common.{lit≤, ◌≡◌, ℕ, ◌+◌, ◌-◌, ◌<◌, ◌≤◌, ◌==◌, ◌||◌, ◌⊎◌, inl, inr, Bool, true, false, List, [], ◌∷◌, ◌++◌, length, take, drop, Option, Some, None, cond, nat_lt, refl, sym, ap, subst, ◌∙◌, arith, decimal, IfSome, IfNone, position, All, Contains, option_map, option_and_then, codes, length-append}
+use Rattle.std.proofs.Common.{lit≤, ◌≡◌, ℕ, ◌+◌, ◌-◌, ◌<◌, ◌≤◌, ◌==◌, ◌⊎◌, inl, inr, Bool, true, false, List, [], ◌∷◌, ◌++◌, length, take, drop, Option, Some, None, cond, nat_lt, refl, sym, ap, subst, ◌∙◌, arith, decimal, IfSome, IfNone, position, All, Contains, option_map, option_and_then, codes}
 use Rattle.std.proofs.lemmas.Bool.Decides.{nat_tests}
-use Rattle.std.proofs.lemmas.Fmt.{decimal_is_IsNumeral, length-decimal-le}
 use Rattle.std.proofs.lemmas.List.Elements.{All-from_get_or}
-use Rattle.std.proofs.lemmas.List.Folds.{list_all-append}
 use Rattle.std.proofs.lemmas.List.Splits.{join_with_byte-slice_split, slice_split_at, slice_split_none, slice_split_first}
 use Rattle.std.proofs.lemmas.List.Sums.{AllPass-from_list_all, fails_before_first}
 use Rattle.std.proofs.lemmas.List.{length-drop, take_all}
 use Rattle.std.proofs.lemmas.Slice.Eq.{bytes_eq-Decides}
-use Rattle.std.proofs.lemmas.Str.Parse.{digit_from_value}
 use Rattle.std.specs.List.{position_or_len, join_with_byte, list_all}
-use Rattle.std.specs.Str.Parse.{AllDigits}
 use Rattle.std.specs.Str.{bytes_eq}
 use Rattle.route_book.specs.declared.command.Command.{Command}
 use Rattle.route_book.specs.declared.command.Command.TheVariants.{Place, Show, Find, All as Every}
 use Rattle.route_book.specs.Grammar.{Spells, command_of, command_of_fields, fields_of, command_of_one_field, command_of_two_fields, command_of_three_fields}
 use Rattle.route_book.specs.Number.{IsNumber, number_of}
 use Rattle.route_book.specs.Word.{IsWord, is_word, is_word_byte, word_of}
-use Rattle.route_book.proofs.NumberLemmas.{both, number_of-some, number_of-found}
-use Rattle.route_book.proofs.WordLemmas.{word_parts}
+use Rattle.route_book.proofs.NumberLemmas.{number_of-some, number_of-found}
+use Rattle.route_book.proofs.LineTextLemmas.{LineText, LineText-append, LineText-number, LineText-space, LineText-weaker, LineText-word, is_line_byte}
+use Rattle.route_book.proofs.WordLemmas.{word_bytes-decimal, word_parts}
 
 abbrev is_space : ℕ → Bool
 is_space b = b == 32
@@ -124,16 +121,6 @@ command_of-found line command e =
 
 -- the bytes of numbers and words are no spaces and no line ends
 
-word_bytes-from_digits : (ds : List ℕ) → AllDigits 10 ds → list_all is_word_byte ds ≡ true
-word_bytes-from_digits [] digits = refl
-word_bytes-from_digits (c ∷ cs) digits =
-    let range = digit_from_value c digits.0 in
-    let rest = word_bytes-from_digits cs digits.1 in
-    grind (arith, nat_tests)
-
-word_bytes-decimal : (n : ℕ) → IsNumber n → list_all is_word_byte (decimal n) ≡ true
-word_bytes-decimal n small = word_bytes-from_digits _ (decimal_is_IsNumeral n small).0.1
-
 no_space_in : (bytes : List ℕ) → list_all is_word_byte bytes ≡ true → All (λ b. is_space b ≡ false) bytes
 no_space_in bytes words =
     All-from_get_or (λ b. is_space b ≡ false) bytes 0 (λ k within. let word = AllPass-from_list_all is_word_byte bytes words k 0 within in grind (arith, nat_tests))
@@ -201,47 +188,19 @@ one_line first second (Place key word) a b = a.2 ∙ sym b.2
 
 -- how long a spelling is, and which bytes it has
 
-abbrev is_line_byte : ℕ → Bool
-is_line_byte b = is_word_byte b || b == 32
-
-line_bytes-from_word_bytes : (bytes : List ℕ) → list_all is_word_byte bytes ≡ true → list_all is_line_byte bytes ≡ true
-line_bytes-from_word_bytes [] words = refl
-line_bytes-from_word_bytes (b ∷ bs) words =
-    let parts = both (is_word_byte b) (list_all is_word_byte bs) words in
-    rw (parts.0, line_bytes-from_word_bytes bs parts.1) refl
-
-line_bytes-append : (front back : List ℕ) → list_all is_line_byte front ≡ true → list_all is_line_byte back ≡ true → list_all is_line_byte (front ++ back) ≡ true
-line_bytes-append front back first second = rw (list_all-append is_line_byte front back, first, second) refl
-
-record LineText (line : List ℕ) : Type 0 where
-  bytes : list_all is_line_byte line ≡ true
-  short : length line ≤ 69
-  some : 1 ≤ length line
-
-verb_number-text : (verb : List ℕ) (n : ℕ) → list_all is_line_byte verb ≡ true → length verb ≤ 49 → 1 ≤ length verb → IsNumber n → LineText (verb ++ decimal n)
-verb_number-text verb n bytes short some small =
-    let digits = length-decimal-le 20 n (omega arith) (omega arith) small in
-    record {
-      bytes = line_bytes-append verb (decimal n) bytes (line_bytes-from_word_bytes (decimal n) (word_bytes-decimal n small));
-      short = omega (arith, length-append verb (decimal n));
-      some = omega (arith, length-append verb (decimal n));
-    }
-
-line_text : (line : List ℕ) (command : Command) → Spells line command → LineText line
-line_text line Every spells = subst LineText (sym spells) (record { bytes = refl; short = lit≤ tt; some = lit≤ tt })
-line_text line (Show ticket) spells = subst LineText (sym spells.1) (verb_number-text (codes "show ") ticket refl (lit≤ tt) (lit≤ tt) spells.0)
-line_text line (Find key) spells = subst LineText (sym spells.1) (verb_number-text (codes "find ") key refl (lit≤ tt) (lit≤ tt) spells.0)
+line_text : (line : List ℕ) (command : Command) → Spells line command → LineText 69 line
+line_text line Every spells = subst (LineText 69) (sym spells) (record { bytes = refl; short = lit≤ tt; some = lit≤ tt })
+line_text line (Show ticket) spells =
+    let verb : LineText 5 (codes "show ") = record { bytes = refl; short = lit≤ tt; some = lit≤ tt } in
+    subst (LineText 69) (sym spells.1) (LineText-weaker (lit≤ tt) (LineText-append verb (LineText-number ticket spells.0)))
+line_text line (Find key) spells =
+    let verb : LineText 5 (codes "find ") = record { bytes = refl; short = lit≤ tt; some = lit≤ tt } in
+    subst (LineText 69) (sym spells.1) (LineText-weaker (lit≤ tt) (LineText-append verb (LineText-number key spells.0)))
 line_text line (Place key word) spells =
-    let digits = length-decimal-le 20 key (omega arith) (omega arith) spells.0 in
-    let parts = word_parts word spells.1 in
-    let front = verb_number-text (codes "place ") key refl (lit≤ tt) (lit≤ tt) spells.0 in
-    let size = length-append (codes "place " ++ decimal key) (32 ∷ word) in
-    let before = length-append (codes "place ") (decimal key) in
-    subst LineText (sym spells.2) (record {
-      bytes = line_bytes-append (codes "place " ++ decimal key) (32 ∷ word) front.bytes (line_bytes-from_word_bytes word parts.bytes);
-      short = omega arith;
-      some = omega arith;
-    })
+    let verb : LineText 6 (codes "place ") = record { bytes = refl; short = lit≤ tt; some = lit≤ tt } in
+    let number = LineText-append verb (LineText-number key spells.0) in
+    subst (LineText 69) (sym spells.2)
+    (LineText-weaker (lit≤ tt) (LineText-append number (LineText-append LineText-space (LineText-word word spells.1))))
 
 pub length-spelling : (line : List ℕ) (command : Command) → Spells line command → length line ≤ 69
 length-spelling line command spells = (line_text line command spells).short

@@ -2,8 +2,10 @@ pub mod BookLemmas
 pub mod CallLemmas
 pub mod CommandLineLemmas
 pub mod GrammarLemmas
+pub mod LineTextLemmas
 pub mod NumberLemmas
 pub mod PlaceLemmas
+pub mod ReplyLemmas
 pub mod RunLemmas
 pub mod SearchLemmas
 pub mod SoundLemmas

@@ -1,21 +1,22 @@
 -- What a store keeps as lines are carried out.
-use Rattle.std.proofs.Common.{◌≡◌, ◌≢◌, ◌∙◌, sym, ap, subst, refl, Bool, true, false, ◌||◌, ◌==◌, ℕ, suc, ◌+◌, ◌<◌, ◌≤◌, List, [], ◌∷◌, length, Option, Some, None, cond, nat_lt, arith}
+use Rattle.std.proofs.Common.{◌≡◌, ◌≢◌, ◌∙◌, sym, ap, subst, refl, Bool, true, false, ◌||◌, ◌==◌, ℕ, suc, ◌+◌, ◌<◌, ◌≤◌, List, [], ◌∷◌, length, Option, Some, None, cond, nat_lt, nat_le, arith}
 use Rattle.std.specs.List.{AllByRecursion}
 use Rattle.std.proofs.lemmas.Bool.{false≢true, eq-eqb, ltb-true, ltb-false, leb-false}
-use Rattle.route_book.specs.State.{Rooms, State, Place, with_key, empty, is_full_of_places}
+use Rattle.route_book.specs.State.{Rooms, State, Place, with_key, empty, is_full_of_places, last_ticket}
 use Rattle.route_book.specs.Calls.{put, reworded, after_place}
 use Rattle.route_book.specs.Grammar.{command_of}
 use Rattle.route_book.specs.Reply.{next}
 use Rattle.route_book.specs.Text.{Line, whole, unended, command_in, after_lines}
 use Rattle.route_book.specs.Word.{IsWord}
-use Rattle.route_book.specs.Sound.{KeysRise, TicketsDiffer, IsSound}
+use Rattle.route_book.specs.Number.{IsNumber}
+use Rattle.route_book.specs.Sound.{KeysRise, TicketsDiffer, IsSound, IsNumbered}
 use Rattle.route_book.specs.declared.command.Command.{Command}
 use Rattle.route_book.specs.declared.command.Command.TheVariants.{Place as PlaceLine, Show, Find, All}
 use Rattle.route_book.proofs.GrammarLemmas.{command_of-found}
 
 -- ---- a place more
 
-all_weaker : {X : Type 0} (P Q : X → Type 0) (xs : List X) → ((x : X) → P x → Q x) → AllByRecursion P xs → AllByRecursion Q xs
+pub all_weaker : {X : Type 0} (P Q : X → Type 0) (xs : List X) → ((x : X) → P x → Q x) → AllByRecursion P xs → AllByRecursion Q xs
 all_weaker P Q [] f h = tt
 all_weaker P Q (x ∷ xs) f h = (f x h.0, all_weaker P Q xs f h.1)
 
@@ -103,6 +104,17 @@ length-reworded key word (p ∷ ps) = ap suc (length-reworded key word ps)
 
 -- ---- lines
 
+-- where there is room for a place, there is a ticket for it
+pub next_ticket : (s : State) → is_full_of_places s ≡ false → IsNumber s.last → IsNumber (s.last + 1)
+next_ticket s room small =
+    let other : (s.last == last_ticket) ≡ false = right_false (nat_le s.rooms.places (length s.places)) (s.last == last_ticket) room in
+    let left : s.last ≢ last_ticket = λ same. false≢true (sym other ∙ eq-eqb s.last last_ticket same) in
+    omega (arith, small, left)
+  where
+    right_false : (a b : Bool) → (a || b) ≡ false → b ≡ false
+    right_false true b h = cc
+    right_false false b h = h
+
 IsSound-after_place : (s : State) (key : ℕ) (word : List ℕ) → IsWord word → IsSound s → IsSound (after_place s key word)
 IsSound-after_place s key word is_word sound = at (with_key key s.places) refl
   where
@@ -154,3 +166,48 @@ IsSound-after_lines s (line ∷ lines) sound = IsSound-after_lines (next s (comm
 pub IsSound-from_empty : (rooms : Rooms) (last : ℕ) (lines : List Line) → IsSound (after_lines (empty rooms last) lines)
 IsSound-from_empty rooms last lines =
     IsSound-after_lines (empty rooms last) lines (record { keys = tt; given = tt; tickets = tt; words = tt; fits = omega arith })
+
+-- ---- numbers
+
+IsNumbered-after_place : (s : State) (key : ℕ) (word : List ℕ) → IsNumber key → IsNumbered s → IsNumbered (after_place s key word)
+IsNumbered-after_place s key word small numbered = at (with_key key s.places) refl
+  where
+    new : Place
+    new = record { ticket = s.last + 1; key = key; word = word }
+
+    full : (b : Bool) → is_full_of_places s ≡ b → IsNumbered (cond b s (record s { last = s.last + 1; places = put new s.places }))
+    full true e = numbered
+    full false e = record {
+      last = next_ticket s e numbered.last;
+      keys = all_put (λ p. IsNumber p.key) new s.places small numbered.keys;
+      stops = numbered.stops;
+      marks = numbered.marks;
+    }
+
+    at : (o : Option Place) → with_key key s.places ≡ o → IsNumbered (after_place s key word)
+    at None e = rw e (full (is_full_of_places s) refl)
+    at (Some p) e = rw e (record {
+      last = numbered.last;
+      keys = all_reworded (λ q. IsNumber q.key) key word s.places (λ q h. h) numbered.keys;
+      stops = numbered.stops;
+      marks = numbered.marks;
+    })
+
+IsNumbered-next : (s : State) (line : Line) → IsNumbered s → IsNumbered (next s (command_in line))
+IsNumbered-next s (unended bytes) numbered = numbered
+IsNumbered-next s (whole bytes) numbered = at (command_of bytes) refl
+  where
+    at : (o : Option Command) → command_of bytes ≡ o → IsNumbered (next s o)
+    at None e = numbered
+    at (Some (PlaceLine key word)) e = IsNumbered-after_place s key word (command_of-found bytes (PlaceLine key word) e).0 numbered
+    at (Some (Show ticket)) e = numbered
+    at (Some (Find key)) e = numbered
+    at (Some All) e = numbered
+
+IsNumbered-after_lines : (s : State) (lines : List Line) → IsNumbered s → IsNumbered (after_lines s lines)
+IsNumbered-after_lines s [] numbered = numbered
+IsNumbered-after_lines s (line ∷ lines) numbered = IsNumbered-after_lines (next s (command_in line)) lines (IsNumbered-next s line numbered)
+
+pub IsNumbered-from_empty : (rooms : Rooms) (last : ℕ) (lines : List Line) → IsNumber last → IsNumbered (after_lines (empty rooms last) lines)
+IsNumbered-from_empty rooms last lines small =
+    IsNumbered-after_lines (empty rooms last) lines (record { last = small; keys = tt; stops = tt; marks = tt })

@@ -1,6 +1,7 @@
 -- What every state of a store keeps.
-use Rattle.std.specs.Prelude.{◌≢◌, ◌<◌, ◌≤◌, List, [], ◌∷◌, length}
+use Rattle.std.specs.Prelude.{◌≢◌, ◌<◌, ◌≤◌, List, [], ◌∷◌, IfSome, flat_map, length}
 use Rattle.std.specs.List.{AllByRecursion}
+use Rattle.route_book.specs.Number.{IsNumber}
 use Rattle.route_book.specs.State.{State, Place}
 use Rattle.route_book.specs.Word.{IsWord}
 
@@ -21,3 +22,10 @@ pub record IsSound (s : State) : Type 0 where
   pub tickets : TicketsDiffer s.places
   pub words : AllByRecursion (λ p. IsWord p.word) s.places
   pub fits : length s.places ≤ s.rooms.places
+
+-- the last ticket, every key and every ticket that is named are below 2^64
+pub record IsNumbered (s : State) : Type 0 where
+  pub last : IsNumber s.last
+  pub keys : AllByRecursion (λ p. IsNumber p.key) s.places
+  pub stops : AllByRecursion (λ t. IfSome t.place IsNumber) (flat_map (λ r. r.stops) s.routes)
+  pub marks : AllByRecursion (λ m. IfSome m.place IsNumber × IfSome m.stop IsNumber) s.marks

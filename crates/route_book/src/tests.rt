@@ -4,4 +4,6 @@ mod programs;
 mod rows;
 mod searches;
 mod streams;
+mod ticks;
+mod watching;
 mod writes;

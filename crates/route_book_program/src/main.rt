@@ -1,7 +1,8 @@
 //! The program `route_book PLACES STOPS MARKS`: a store with these rooms answers the lines of the standard input.
 #![tactic(auto)]
 
-ghost use Rattle.std.specs.Prelude.{◌≡◌, ◌≤◌, ◌^◌, ◌↔◌, IfSome, IsNone, map, string_bytes};
+ghost use Rattle.std.specs.Prelude.{◌≡◌, ◌≤◌, ◌^◌, ◌↔◌, IfErr, IfOk, IfSome, IsNone, map, string_bytes, vec_items};
+ghost use Rattle.std.specs.Process.{exit_status};
 ghost use Rattle.route_book.specs.CommandLine.{room_sum, rooms_of};
 
 use route_book::{RoomError, Watched, program};
@@ -10,15 +11,8 @@ use std::process::ExitCode;
 use std::{env, io};
 
 fn main(rt: HostRuntime) -> ExitCode {
-    ExitCode::from(match arguments(&rt) {
-        Ok(args) => answer_input(&rt, &args),
-        Err(error) if error.kind() == ErrorKind::OutOfMemory => {
-            let _ = writeln!(rt.stderr(), "room refused: {}", RoomError::Memory);
-            3
-        }
-        // An argument that is no text is no number either; without arguments `program` tells the usage.
-        Err(_) => answer_input(&rt, &[]),
-    })
+    let args = arguments(&rt);
+    exit_code(&rt, args)
 }
 
 // All arguments but the program's name.
@@ -30,6 +24,25 @@ fn arguments(rt: &HostRuntime) -> io::Result<Vec<String>> {
         rooms.push(arg)?;
     }
     Ok(rooms)
+}
+
+// The program's status over these arguments, where they could be read.
+fn exit_code(rt: &HostRuntime, args: io::Result<Vec<String>>) -> ExitCode
+    ensures status { exit_status result ≤ 3 }
+    ensures usage { IfOk args (λ args. (exit_status result ≡ 2) ↔ IsNone (rooms_of (map string_bytes (vec_items args)))) }
+    ensures index { IfOk args (λ args. IfSome (rooms_of (map string_bytes (vec_items args)))
+        (λ rooms. 2 ^ 64 ≤ room_sum rooms → exit_status result ≡ 3)) }
+    ensures refused { IfErr args (λ error. 2 ≤ exit_status result) }
+{
+    ExitCode::from(match args {
+        Ok(args) => answer_input(rt, &args),
+        Err(error) if error.kind() == ErrorKind::OutOfMemory => {
+            let _ = writeln!(rt.stderr(), "room refused: {}", RoomError::Memory);
+            3
+        }
+        // An argument that is no text is no number either; without arguments `program` tells the usage.
+        Err(_) => answer_input(rt, &[]),
+    })
 }
 
 // Answers the standard input on the standard output.

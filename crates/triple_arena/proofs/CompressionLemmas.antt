@@ -1,16 +1,17 @@
 -- What a compression has done after so many slots, and what it leaves.
-use Rattle.std.proofs.Common.{◌≡◌, ℕ, zero, suc, ◌+◌, ◌-◌, ◌<◌, ◌≤◌, List, [], ◌∷◌, ◌++◌, map, length, get_or, set, take, Option, Some, None, slice_get, refl, sym, ap, subst, ◌∙◌, arith, append_assoc, append-nil, add-zero, length-append, length-set}
+use Rattle.std.proofs.Common.{◌≡◌, ℕ, Bool, zero, suc, ◌+◌, ◌-◌, ◌<◌, ◌≤◌, List, [], ◌∷◌, ◌++◌, map, length, get_or, set, take, Option, Some, None, slice_get, refl, sym, ap, subst, ◌∙◌, arith, append_assoc, append-nil, add-zero, length-append, length-set}
 use Rattle.std.specs.List.{FoldsTo}
 use Rattle.std.specs.Option.{option_map}
 use Rattle.std.proofs.lemmas.Fn.{FoldsTo-push}
 use Rattle.std.proofs.lemmas.List.{map_push, take_at, length-map, length_push}
 use Rattle.triple_arena_stack.specs.Room.{Room}
 use Rattle.triple_arena.specs.Slot.{Slot, entry_of}
-use Rattle.triple_arena.specs.Content.{Content, entry_at, live_count}
+use Rattle.triple_arena.specs.Changes.{IsCompressed}
+use Rattle.triple_arena.specs.Content.{Content, entry_at, live_count, some_counter}
 use Rattle.triple_arena.specs.Layout.{content_of, IsSound}
 use Rattle.triple_arena.specs.ContentLaws.{entry_at_slot}
 use Rattle.triple_arena.specs.LiveEntries.{listed_from, listed-length, live_entries}
-use Rattle.triple_arena.specs.Compression.{Move, index_of, entry_of_listed, generation_of, value_of, IsCompact, compacted, live_values, entry_before, entry_after, IsMapped}
+use Rattle.triple_arena.specs.Compression.{renewed, Move, index_of, entry_of_listed, generation_of, value_of, IsCompact, compacted, live_values, entry_before, entry_after, IsMapped}
 use Rattle.triple_arena.specs.SlotCompression.{Compacts}
 use Rattle.triple_arena.proofs.FreeListLemmas.{sound_of}
 
@@ -60,18 +61,21 @@ module _ {T : Type 0} where
   pub compact_of : (g : ℕ) (values : List T) → IsCompact (listed_from 1 (map (λ t. Some (g, t)) values))
   compact_of g values k e found = let at = placed g 1 values k e found in omega arith
 
-  in_place : (g n : ℕ) (values : List T) (k : ℕ) → get_or (map (λ t. Some (g, t)) values) k None ≡ option_map entry_of_listed (slice_get (listed_from n (map (λ t. Some (g, t)) values)) k)
+  in_place : (g n : ℕ) (values : List T) (k : ℕ)
+      → get_or (map (λ t. Some (g, t)) values) k None ≡ option_map entry_of_listed (slice_get (listed_from n (map (λ t. Some (g, t)) values)) k)
   in_place g n [] k = refl
   in_place g n (t ∷ values) zero = refl
   in_place g n (t ∷ values) (suc k) = in_place g (n + 1) values k
 
   -- and are found in their order
-  pub entry-compact : (c : Content T) (g : ℕ) (values : List T) → c.slots ≡ map (λ t. Some (g, t)) values → (k : ℕ) → entry_at c (k + 1) ≡ option_map entry_of_listed (slice_get (live_entries c) k)
+  pub entry-compact : (c : Content T) (g : ℕ) (values : List T) → c.slots ≡ map (λ t. Some (g, t)) values → (k : ℕ)
+      → entry_at c (k + 1) ≡ option_map entry_of_listed (slice_get (live_entries c) k)
   entry-compact c g values slots k =
       let back : k + 1 - 1 ≡ k = omega arith in
       entry_at_slot c (k + 1) (omega arith) ∙ ap (λ n. get_or c.slots n None) back ∙ rw slots (in_place g 1 values k)
 
-  generations_of : {X : Type 0} (g n : ℕ) (values : List T) (xs : List X) → length values ≡ length xs → map generation_of (listed_from n (map (λ t. Some (g, t)) values)) ≡ map (λ _. g) xs
+  generations_of : {X : Type 0} (g n : ℕ) (values : List T) (xs : List X) → length values ≡ length xs
+      → map generation_of (listed_from n (map (λ t. Some (g, t)) values)) ≡ map (λ _. g) xs
   generations_of g n [] [] e = refl
   generations_of g n [] (x ∷ xs) e = absurd (omega arith)
   generations_of g n (t ∷ values) [] e = absurd (omega arith)
@@ -79,12 +83,15 @@ module _ {T : Type 0} where
 
 module _ {G T : Type 0} (number : G → ℕ) where
   -- what was taken out of a slot is what stood there
-  pub stood_some : (r : Option (G × T)) (slots : List (Option (ℕ × T))) (i at : ℕ) (own : G) (t : T) → Some (option_map (λ e. (number e.0, e.1)) r) ≡ slice_get slots (i - 1) → i ≡ at + 1 → r ≡ Some (own, t) → slice_get slots at ≡ Some (Some (number own, t))
+  pub stood_some : (r : Option (G × T)) (slots : List (Option (ℕ × T))) (i at : ℕ) (own : G) (t : T)
+      → Some (option_map (λ e. (number e.0, e.1)) r) ≡ slice_get slots (i - 1) → i ≡ at + 1 → r ≡ Some (own, t)
+      → slice_get slots at ≡ Some (Some (number own, t))
   stood_some r slots i at own t stood place is =
       let back : at ≡ i - 1 = omega arith in
       ap (slice_get slots) back ∙ sym stood ∙ ap (λ x. Some (option_map (λ (e : G × T). (number e.0, e.1)) x)) is
 
-  pub stood_none : (r : Option (G × T)) (slots : List (Option (ℕ × T))) (i at : ℕ) → Some (option_map (λ e. (number e.0, e.1)) r) ≡ slice_get slots (i - 1) → i ≡ at + 1 → r ≡ None → slice_get slots at ≡ Some None
+  pub stood_none : (r : Option (G × T)) (slots : List (Option (ℕ × T))) (i at : ℕ)
+      → Some (option_map (λ e. (number e.0, e.1)) r) ≡ slice_get slots (i - 1) → i ≡ at + 1 → r ≡ None → slice_get slots at ≡ Some None
   stood_none r slots i at stood place is =
       let back : at ≡ i - 1 = omega arith in
       ap (slice_get slots) back ∙ sym stood ∙ ap (λ x. Some (option_map (λ (e : G × T). (number e.0, e.1)) x)) is
@@ -111,7 +118,8 @@ module _ {P T F : Type 0} (index generation : P → ℕ) (step : F → P → T �
   partly_none f g old =
       record { moves = []; gap = []; rest = old; calls = refl; before = refl; after = refl; slots = refl; lives = refl; passed = refl; whole = refl }
 
-  pub partly_same : (f : F) (g : ℕ) (old : List (Option (ℕ × T))) (f' f'' : F) (now now' : List (Option (ℕ × T))) (at live live' : ℕ) → f'' ≡ f' → now' ≡ now → live' ≡ live → Partly f g old f' now at live → Partly f g old f'' now' at live'
+  pub partly_same : (f : F) (g : ℕ) (old : List (Option (ℕ × T))) (f' f'' : F) (now now' : List (Option (ℕ × T))) (at live live' : ℕ) → f'' ≡ f'
+      → now' ≡ now → live' ≡ live → Partly f g old f' now at live → Partly f g old f'' now' at live'
   partly_same f g old f' f'' now now' at live live' state slots count p = rw (state, slots, count) p
 
   -- the next slot, and what comes behind it
@@ -121,7 +129,8 @@ module _ {P T F : Type 0} (index generation : P → ℕ) (step : F → P → T �
     pub rest_is : p.rest ≡ o ∷ rest
     pub emptied : set now at None ≡ map (stored g) p.moves ++ ((p.gap ++ None ∷ []) ++ rest)
 
-  next_of : (f : F) (g : ℕ) (old : List (Option (ℕ × T))) (f' : F) (now : List (Option (ℕ × T))) (at live : ℕ) (o : Option (ℕ × T)) → Partly f g old f' now at live → slice_get now at ≡ Some o → at < length now → Next f g old f' now at live o
+  next_of : (f : F) (g : ℕ) (old : List (Option (ℕ × T))) (f' : F) (now : List (Option (ℕ × T))) (at live : ℕ) (o : Option (ℕ × T))
+      → Partly f g old f' now at live → slice_get now at ≡ Some o → at < length now → Next f g old f' now at live o
   next_of f g old f' now at live o p found below =
       let A = map (stored g) p.moves in
       let lives = p.lives in
@@ -147,7 +156,9 @@ module _ {P T F : Type 0} (index generation : P → ℕ) (step : F → P → T �
       }
 
   -- a free slot is passed
-  pub partly_free : (f : F) (g : ℕ) (old : List (Option (ℕ × T))) (f' : F) (now now' : List (Option (ℕ × T))) (at live i : ℕ) → Partly f g old f' now at live → slice_get now at ≡ Some None → at < length now → i ≡ at + 1 → now' ≡ set now (i - 1) None → Partly f g old f' now' (at + 1) live
+  pub partly_free : (f : F) (g : ℕ) (old : List (Option (ℕ × T))) (f' : F) (now now' : List (Option (ℕ × T))) (at live i : ℕ)
+      → Partly f g old f' now at live → slice_get now at ≡ Some None → at < length now → i ≡ at + 1 → now' ≡ set now (i - 1) None
+      → Partly f g old f' now' (at + 1) live
   partly_free f g old f' now now' at live i p found below place written =
       let emptied : now' ≡ set now at None = written ∙ ap (λ k. set now k None) (omega arith) in
       let n = next_of f g old f' now at live None p found below in
@@ -169,8 +180,12 @@ module _ {P T F : Type 0} (index generation : P → ℕ) (step : F → P → T �
       }
 
   -- a live slot is passed: `f'` was called there and left `f''`
-  pub partly_live : (f : F) (g : ℕ) (old : List (Option (ℕ × T))) (f' f'' : F) (now now' now'' : List (Option (ℕ × T))) (at live own i j : ℕ) (t u : T) (from to : P) → Partly f g old f' now at live → slice_get now at ≡ Some (Some (own, t)) → at < length now → i ≡ at + 1 → now' ≡ set now (i - 1) None → j ≡ live + 1 → now'' ≡ set now' (j - 1) (Some (g, u)) → index from ≡ i → generation from ≡ own → index to ≡ j → generation to ≡ g → step f' from t to u f'' → Partly f g old f'' now'' (at + 1) (live + 1)
-  partly_live f g old f' f'' now now' now'' at live own i j t u from to p found below old_place emptied new_place filled from_index from_generation to_index to_generation ran =
+  pub partly_live : (f : F) (g : ℕ) (old : List (Option (ℕ × T))) (f' f'' : F) (now now' now'' : List (Option (ℕ × T))) (at live own i j : ℕ)
+      (t u : T) (from to : P) → Partly f g old f' now at live → slice_get now at ≡ Some (Some (own, t)) → at < length now → i ≡ at + 1
+      → now' ≡ set now (i - 1) None → j ≡ live + 1 → now'' ≡ set now' (j - 1) (Some (g, u)) → index from ≡ i → generation from ≡ own → index to ≡ j
+      → generation to ≡ g → step f' from t to u f'' → Partly f g old f'' now'' (at + 1) (live + 1)
+  partly_live f g old f' f'' now now' now'' at live own i j t u from to p found below old_place emptied new_place filled
+      from_index from_generation to_index to_generation ran =
       let taken : now' ≡ set now at None = emptied ∙ ap (λ k. set now k None) (omega arith) in
       let put : now'' ≡ set now' live (Some (g, u)) = filled ∙ ap (λ k. set now' k (Some (g, u))) (omega arith) in
       let n = next_of f g old f' now at live (Some (own, t)) p found below in
@@ -185,8 +200,10 @@ module _ {P T F : Type 0} (index generation : P → ℕ) (step : F → P → T �
       let sizes = ap length put ∙ length-set now' live (Some (g, u)) ∙ ap length taken ∙ length-set now at None in
       let one_more = length_push n.p.moves m in
       let split : now' ≡ A ++ y.first ∷ (y.others ++ n.rest) = taken ∙ n.emptied ∙ ap (λ l. A ++ (l ++ n.rest)) y.is in
-      let stands : (at + 1, (own, t)) ≡ entry_before index generation m = ap (λ k. (k, (own, t))) (sym (from_index ∙ old_place)) ∙ ap (λ k. (index from, (k, t))) (sym from_generation) in
-      let goes : (1 + length A, (g, u)) ≡ entry_after index generation m = ap (λ k. (k, (g, u))) (omega (arith, to_index, new_place)) ∙ ap (λ k. (index to, (k, u))) (sym to_generation) in
+      let stands : (at + 1, (own, t)) ≡ entry_before index generation m = ap (λ k. (k, (own, t))) (sym (from_index ∙ old_place))
+      ∙ ap (λ k. (index from, (k, t))) (sym from_generation) in
+      let goes : (1 + length A, (g, u)) ≡ entry_after index generation m = ap (λ k. (k, (g, u))) (omega (arith, to_index, new_place))
+      ∙ ap (λ k. (index to, (k, u))) (sym to_generation) in
       record {
         moves = n.p.moves ++ m ∷ [];
         gap = y.others;
@@ -216,7 +233,8 @@ module _ {P T F : Type 0} (index generation : P → ℕ) (step : F → P → T �
       }
 
   -- all slots are passed, and those behind the live ones go
-  pub partly_all : (f : F) (g : ℕ) (old : List (Option (ℕ × T))) (f' : F) (now new : List (Option (ℕ × T))) (at live : ℕ) → Partly f g old f' now at live → length now ≤ at → new ≡ take live now → Compacts index generation step f g old new
+  pub partly_all : (f : F) (g : ℕ) (old : List (Option (ℕ × T))) (f' : F) (now new : List (Option (ℕ × T))) (at live : ℕ)
+      → Partly f g old f' now at live → length now ≤ at → new ≡ take live now → Compacts index generation step f g old new
   partly_all f g old f' now new at live p past kept =
       let A = map (stored g) p.moves in
       let lives = p.lives in
@@ -256,7 +274,9 @@ module _ {P T F : Type 0} (index generation : P → ℕ) (step : F → P → T �
     pub generations : map generation_of (live_entries new) ≡ map (λ _. g) (live_entries c)
     pub live : live_count new ≡ live_count c
 
-  pub compacted_arena : (f : F) (g g0 : ℕ) (es es' : List (Slot T)) (len : ℕ) (head : Option ℕ) (room room' : Room) (c : Content T) → Compacts index generation step f g (map entry_of es) (map entry_of es') → IsSound es len head room → content_of es room g0 head ≡ c → room' ≡ room → Compacted f g c es' len room' (content_of es' room' g None)
+  pub compacted_arena : (f : F) (g g0 : ℕ) (es es' : List (Slot T)) (len : ℕ) (head : Option ℕ) (room room' : Room) (c : Content T)
+      → Compacts index generation step f g (map entry_of es) (map entry_of es') → IsSound es len head room → content_of es room g0 head ≡ c
+      → room' ≡ room → Compacted f g c es' len room' (content_of es' room' g None)
   compacted_arena f g g0 es es' len head room room' c k s seen kept =
       let moves = k.moves in
       let counted = s.counted in
@@ -288,12 +308,44 @@ module _ {P T F : Type 0} (index generation : P → ℕ) (step : F → P → T �
       }
 
   -- a map that gives what it gets leaves the values
-  pub values_kept : (f : F) (old new : List (ℕ × (ℕ × T))) → ((h k : F) (from to : P) (t u : T) → step h from t to u k → u ≡ t) → IsMapped index generation step f old new → map value_of new ≡ map value_of old
+  pub values_kept : (f : F) (old new : List (ℕ × (ℕ × T))) → ((h k : F) (from to : P) (t u : T) → step h from t to u k → u ≡ t)
+      → IsMapped index generation step f old new → map value_of new ≡ map value_of old
   values_kept f old new keeps m = ap (map value_of) (sym m.after) ∙ by_moves m.moves f m.calls ∙ ap (map value_of) m.before
     where
-      by_moves : (moves : List (Move P T)) (h : F) → FoldsTo (λ h move k. step h move.from move.value move.to move.given k) h moves m.last → map value_of (map (entry_after index generation) moves) ≡ map value_of (map (entry_before index generation) moves)
+      by_moves : (moves : List (Move P T)) (h : F) → FoldsTo (λ h move k. step h move.from move.value move.to move.given k) h moves m.last
+          → map value_of (map (entry_after index generation) moves) ≡ map value_of (map (entry_before index generation) moves)
       by_moves [] h calls = refl
       by_moves (x ∷ moves) h calls =
           let same = keeps h calls.0 x.from x.to x.value x.given calls.1 in
           let rest = by_moves moves calls.0 calls.2 in
           rw same (ap (λ l. x.value ∷ l) rest)
+
+module _ {T : Type 0} where
+  -- what an arena is after a compression
+  pub record Compressed (last : Option ℕ) (reset : Bool) (c : Content T) (es : List (Slot T)) (len : ℕ) (room : Room) (new : Content T) : Type 0 where
+    pub sound : IsSound es len None room
+    pub compressed : IsCompressed entry_at live_count some_counter (λ d. d.room) last live_entries reset c new
+    pub exact : new ≡ compacted (renewed last reset c.counter) (live_values new) c
+
+module _ {P T F : Type 0} {index generation : P → ℕ} {step : F → P → T → P → T → F → Type 0} where
+  -- its slots are compacted, and its counter is renewed
+  pub compressed_arena : {f : F} {last : Option ℕ} {reset : Bool} {g g0 : ℕ} {es es' : List (Slot T)} {len : ℕ} {head : Option ℕ} {room
+      room' : Room} {c : Content T}
+      → Compacts index generation step f g (map entry_of es) (map entry_of es') → IsSound es len head room → content_of es room g0 head ≡ c
+      → room' ≡ room → g ≡ renewed last reset g0
+      → Compressed last reset c es' len room' (content_of es' room' g None)
+  compressed_arena {f} {last} {reset} {g} {g0} {es} {es'} {len} {head} {room} {room'} {c} k s seen kept is =
+      let d = compacted_arena index generation step f g g0 es es' len head room room' c k s seen kept in
+      let next : g ≡ renewed last reset c.counter = is ∙ ap (λ x. renewed last reset x.counter) seen in
+      record {
+        sound = d.sound;
+        compressed = record {
+          compact = d.compact;
+          entries = d.entries;
+          generations = d.generations ∙ ap (λ n. map (λ _. n) (live_entries c)) next;
+          live = d.live;
+          counter = ap Some next;
+          room = kept ∙ ap (λ x. x.room) seen;
+        };
+        exact = d.content ∙ ap (λ n. compacted n (live_values (content_of es' room' g None)) c) next;
+      }

@@ -1,10 +1,9 @@
--- The entry at each index after two values changed places.
+-- The slots after two values changed places.
 use Rattle.std.proofs.Common.{◌≡◌, ◌≢◌, ℕ, ◌-◌, List, set, Option, Some, IsSome, inl, inr, refl, sym, ap, ◌∙◌}
 use Rattle.std.proofs.lemmas.Bool.{ne_eqb}
-use Rattle.std.proofs.lemmas.Bool.Decides.{eqb_tells}
-use Rattle.triple_arena.specs.Entries.{with_values_exchanged}
-use Rattle.triple_arena.specs.Content.{Content, entry_at, live_count, with_value, with_value_from, with_exchange}
-use Rattle.triple_arena.specs.ContentLaws.{entry-with_value, live-with_value}
+use Rattle.triple_arena.specs.Content.{Content, entry_at, with_value, with_exchange}
+use Rattle.triple_arena.specs.ContentLaws.{entry-with_value}
+use Rattle.triple_arena.specs.ExchangeLaws.{exchange-is}
 use Rattle.triple_arena_stack.specs.Room.{Room}
 use Rattle.triple_arena_stack.specs.Stack.{item_at, with_item}
 use Rattle.triple_arena.specs.Layout.{content_of, IsSound}
@@ -12,56 +11,9 @@ use Rattle.triple_arena.specs.Slot.{Slot, used, value_of, with_value_of}
 use Rattle.triple_arena.proofs.FreeListLemmas.{the_some, Becomes, finds, rewritten}
 
 module _ {T : Type 0} where
-  -- an exchange is a write at each index
-  exchange-is : (c : Content T) (i j : ℕ) (x y : ℕ × T) → entry_at c i ≡ Some x → entry_at c j ≡ Some y → with_exchange c i j ≡ with_value (with_value c i y.1) j x.1
-  exchange-is c i j x y at_i at_j =
-      ap (λ o. with_value_from (with_value_from c i o) j (entry_at c i)) at_j ∙ ap (λ o. with_value_from (with_value c i y.1) j o) at_i
-
-  -- what an exchange of two values leaves
-  pub record Exchanges (c d : Content T) (i j : ℕ) : Type 0 where
-    pub entries : (k : ℕ) → entry_at d k ≡ with_values_exchanged (entry_at c) i j k
-    pub live : live_count d ≡ live_count c
-
-  -- the values at two indexes
-  pub exchange_two : (c d : Content T) (i j : ℕ) → IsSome (entry_at c i) → IsSome (entry_at c j) → i ≢ j → d ≡ with_exchange c i j → Exchanges c d i j
-  exchange_two c d i j first second two is =
-      let x = the_some _ first in
-      let y = the_some _ second in
-      let whole = is ∙ exchange-is c i j x.0 y.0 x.1 y.1 in
-      rw whole (both x.0 y.0 x.1 y.1)
-    where
-      entries : (x y : ℕ × T) → entry_at c i ≡ Some x → entry_at c j ≡ Some y → (k : ℕ) → entry_at (with_value (with_value c i y.1) j x.1) k ≡ with_values_exchanged (entry_at c) i j k
-      entries x y at_i at_j k =
-          let last = entry-with_value (with_value c i y.1) j x.1 k in
-          let first = entry-with_value c i y.1 k in
-          let here = entry-with_value c i y.1 j in
-          elim (eqb_tells j i) [
-            | inl same ↦ absurd (two (sym same.1))
-            | inr differs ↦
-                let stays : entry_at (with_value c i y.1) j ≡ Some y = here ∙ rw differs.0 at_j in
-                elim (eqb_tells k j) [
-                  | inl same ↦
-                      elim (eqb_tells k i) [
-                        | inl again ↦ absurd (two (sym again.1 ∙ same.1))
-                        | inr other ↦ last ∙ rw (same.0, other.0, stays, at_i, at_j) refl
-                      ]
-                  | inr other ↦
-                      elim (eqb_tells k i) [
-                        | inl again ↦ last ∙ rw other.0 (first ∙ rw (again.0, at_i, at_j) refl)
-                        | inr away ↦ last ∙ rw other.0 (first ∙ rw away.0 refl)
-                      ]
-                ]
-          ]
-
-      both : (x y : ℕ × T) → entry_at c i ≡ Some x → entry_at c j ≡ Some y → Exchanges c (with_value (with_value c i y.1) j x.1) i j
-      both x y at_i at_j =
-          record {
-            entries = entries x y at_i at_j;
-            live = live-with_value (with_value c i y.1) j x.1 ∙ live-with_value c i y.1;
-          }
-
   -- the slot at a live index is allocated
-  pub used_at : (es : List (Slot T)) (room : Room) (g : ℕ) (head : Option ℕ) (c : Content T) (i : ℕ) → content_of es room g head ≡ c → IsSome (entry_at c i) → (x : Slot T) → Some x ≡ item_at es i → IsSome (value_of x)
+  pub used_at : (es : List (Slot T)) (room : Room) (g : ℕ) (head : Option ℕ) (c : Content T) (i : ℕ) → content_of es room g head ≡ c
+      → IsSome (entry_at c i) → (x : Slot T) → Some x ≡ item_at es i → IsSome (value_of x)
   used_at es room g head c i seen some x at =
       let e = the_some _ some in
       let f = finds es room g head c i e.0 seen e.1 in
@@ -71,7 +23,8 @@ module _ {T : Type 0} where
       value e same = let is : x ≡ used e.0 e.1 = cc in rw is refl
 
   -- slots whose values changed places
-  pub exchanged : (es es' : List (Slot T)) (len i j : ℕ) (head : Option ℕ) (room room' : Room) (g : ℕ) (c : Content T) → IsSound es len head room → content_of es room g head ≡ c → IsSome (entry_at c i) → IsSome (entry_at c j) → i ≢ j
+  pub exchanged : (es es' : List (Slot T)) (len i j : ℕ) (head : Option ℕ) (room room' : Room) (g : ℕ) (c : Content T) → IsSound es len head room
+      → content_of es room g head ≡ c → IsSome (entry_at c i) → IsSome (entry_at c j) → i ≢ j
       → ((x y : Slot T) → Some x ≡ item_at es i → Some y ≡ item_at es j → es' ≡ with_item (with_item es i (with_value_of x y)) j (with_value_of y x))
       → room' ≡ room → Becomes es' len head room' g (with_exchange c i j)
   exchanged es es' len i j head room room' g c sound seen first second two written kept =
@@ -87,5 +40,6 @@ module _ {T : Type 0} where
           let one = rewritten es (set es (i - 1) (used e.0 f.1)) len i head room room g f.1 (used e.0 e.1) e c sound seen at_i old.found refl refl in
           let stays : entry_at (with_value c i f.1) j ≡ Some f = entry-with_value c i f.1 j ∙ rw (ne_eqb j i (λ same. two (sym same))) at_j in
           let there = finds (set es (i - 1) (used e.0 f.1)) room g head (with_value c i f.1) j f one.content stays in
-          let all = rewritten (set es (i - 1) (used e.0 f.1)) es' len j head room room' g e.1 (used f.0 f.1) f (with_value c i f.1) one.sound one.content stays there.found whole kept in
+          let all = rewritten (set es (i - 1) (used e.0 f.1)) es' len j head room room' g e.1 (used f.0 f.1) f (with_value c i
+          f.1) one.sound one.content stays there.found whole kept in
           record { sound = all.sound; content = all.content ∙ sym (exchange-is c i j e f at_i at_j) }

@@ -59,7 +59,8 @@ module _ {T : Type 0} where
       cc
 
   -- the first of a list comes once
-  pub off_shorter : (es : List (Slot T)) (i : ℕ) (m : List ℕ) (head : Option ℕ) (l : List ℕ) → IsChain es (Some i) m → length l < length m → IsChain es head l → Lacks l i
+  pub off_shorter : (es : List (Slot T)) (i : ℕ) (m : List ℕ) (head : Option ℕ) (l : List ℕ) → IsChain es (Some i) m → length l < length m
+      → IsChain es head l → Lacks l i
   off_shorter es i m head [] first h c = tt
   off_shorter es i m head (j ∷ l) first h c =
       let differs : j ≢ i =
@@ -68,7 +69,8 @@ module _ {T : Type 0} where
       (differs, off_shorter es i m c.2.0 l first (omega arith) c.2.2)
 
   -- a live slot is on no list
-  pub used_is_off : (es : List (Slot T)) (i g : ℕ) (t : T) → slice_get es (i - 1) ≡ Some (used g t) → (head : Option ℕ) (l : List ℕ) → IsChain es head l → Lacks l i
+  pub used_is_off : (es : List (Slot T)) (i g : ℕ) (t : T) → slice_get es (i - 1) ≡ Some (used g t) → (head : Option ℕ) (l : List ℕ)
+      → IsChain es head l → Lacks l i
   used_is_off es i g t found head [] c = tt
   used_is_off es i g t found head (j ∷ l) c =
       let differs : j ≢ i =
@@ -82,7 +84,8 @@ module _ {T : Type 0} where
       ∙ ap Some (get_or-set_other es i k y y differs ∙ get_or_from_slice_get es k x y found)
 
   -- a write at an index off the list keeps the list
-  pub chain_set : (es : List (Slot T)) (i : ℕ) (x : Slot T) (head : Option ℕ) (l : List ℕ) → 0 < i → Lacks l i → IsChain es head l → IsChain (set es (i - 1) x) head l
+  pub chain_set : (es : List (Slot T)) (i : ℕ) (x : Slot T) (head : Option ℕ) (l : List ℕ) → 0 < i → Lacks l i → IsChain es head l
+      → IsChain (set es (i - 1) x) head l
   chain_set es i x head [] h off c = c
   chain_set es i x head (j ∷ l) h off c =
       let positive = c.1 in
@@ -99,7 +102,8 @@ module _ {T : Type 0} where
   chain_push es y head [] c = c
   chain_push es y head (j ∷ l) c = (c.0, c.1, (c.2.0, get_of_push es (j - 1) _ y c.2.1, chain_push es y c.2.0 l c.2.2))
 
-  get_of_pop : (rest : List (Slot T)) (k g : ℕ) (t : T) (next : Option ℕ) → slice_get (rest ++ used g t ∷ []) k ≡ Some (free next) → slice_get rest k ≡ Some (free next)
+  get_of_pop : (rest : List (Slot T)) (k g : ℕ) (t : T) (next : Option ℕ) → slice_get (rest ++ used g t ∷ []) k ≡ Some (free next)
+      → slice_get rest k ≡ Some (free next)
   get_of_pop [] zero g t next found = absurd (cc)
   get_of_pop [] (suc k) g t next found = absurd (cc)
   get_of_pop (e ∷ rest) zero g t next found = found
@@ -115,7 +119,8 @@ module _ {T : Type 0} where
     pub sound : IsSound es len head room
     pub free_is : links es (length es) head ≡ l
 
-  pub sound_of : (es : List (Slot T)) (len : ℕ) (head : Option ℕ) (l : List ℕ) (room : Room) → len ≡ count_by is_some (map entry_of es) → len + length l ≡ length es → IsChain es head l → length es ≤ capacity room → Fits es len head l room
+  pub sound_of : (es : List (Slot T)) (len : ℕ) (head : Option ℕ) (l : List ℕ) (room : Room) → len ≡ count_by is_some (map entry_of es)
+      → len + length l ≡ length es → IsChain es head l → length es ≤ capacity room → Fits es len head l room
   sound_of es len head l room counted total chain fits =
       let e = chain_links es (length es) head l (omega arith) chain in
       record {
@@ -124,7 +129,9 @@ module _ {T : Type 0} where
       }
 
   -- the count of live slots after a write
-  pub count-set : (es : List (Slot T)) (key : ℕ) (old new : Slot T) → slice_get es key ≡ Some old → count_by is_some (map entry_of (set es key new)) + cond (is_some (entry_of old)) 1 0 ≡ count_by is_some (map entry_of es) + cond (is_some (entry_of new)) 1 0
+  pub count-set : (es : List (Slot T)) (key : ℕ) (old new : Slot T) → slice_get es key ≡ Some old
+      → count_by is_some (map entry_of (set es key new)) + cond (is_some (entry_of old)) 1 0 ≡ count_by is_some (map entry_of es) + cond (is_some
+      (entry_of new)) 1 0
   count-set es key old new found =
       let within = slice_get_within es key old found in
       let read : get_or (map entry_of es) key None ≡ entry_of old =
@@ -143,14 +150,17 @@ module _ {T : Type 0} where
       by_list [] total c = omega arith
       by_list (i ∷ l) total c = absurd (let e = c.0 in cc)
 
-  pub push_fits : (es : List (Slot T)) (len g : ℕ) (t : T) (room : Room) → length es < capacity room → IsSound es len None room → Fits (es ++ used g t ∷ []) (len + 1) None [] room
+  pub push_fits : (es : List (Slot T)) (len g : ℕ) (t : T) (room : Room) → length es < capacity room → IsSound es len None room
+      → Fits (es ++ used g t ∷ []) (len + 1) None [] room
   push_fits es len g t room below s =
       let full = full_at_none es len room s in
       let longer = length_push es (used g t) in
-      sound_of (es ++ used g t ∷ []) (len + 1) None [] room (omega (arith, count_push es g t, s.counted)) (omega (arith, longer)) refl (omega (arith, longer, below))
+      sound_of (es ++ used g t ∷ []) (len + 1) None [] room (omega (arith, count_push es g t, s.counted)) (omega (arith, longer)) refl (omega
+      (arith, longer, below))
 
   -- with no head there is room behind the slots, where there is room at all
-  pub room_behind : (es : List (Slot T)) (len : ℕ) (head : Option ℕ) (room : Room) (g : ℕ) (c : Content T) → head ≡ None → IsSound es len head room → content_of es room g head ≡ c → live_count c < room_for c → length es < capacity room
+  pub room_behind : (es : List (Slot T)) (len : ℕ) (head : Option ℕ) (room : Room) (g : ℕ) (c : Content T) → head ≡ None → IsSound es len head room
+      → content_of es room g head ≡ c → live_count c < room_for c → length es < capacity room
   room_behind es len head room g c is sound seen below =
       let s = rw is at sound in
       let full = full_at_none es len room s in
@@ -193,7 +203,8 @@ module _ {T : Type 0} where
       let positive = h.positive in
       omega (arith, slice_get_within es (i - 1) _ h.found)
 
-  pub fill_fits : (es : List (Slot T)) (len i g : ℕ) (t : T) (room : Room) → IsSound es len (Some i) room → (h : Heads es len i) → Fits (set es (i - 1) (used g t)) (len + 1) h.next h.rest room
+  pub fill_fits : (es : List (Slot T)) (len i g : ℕ) (t : T) (room : Room) → IsSound es len (Some i) room → (h : Heads es len i)
+      → Fits (set es (i - 1) (used g t)) (len + 1) h.next h.rest room
   fill_fits es len i g t room s h =
       let first : IsChain es (Some i) (i ∷ h.rest) = (refl, h.positive, (h.next, h.found, h.chain)) in
       let off : Lacks h.rest i = off_shorter es i (i ∷ h.rest) h.next h.rest first (omega arith) h.chain in
@@ -210,7 +221,9 @@ module _ {T : Type 0} where
     pub content : content_of es room g head ≡ c
 
   -- a live slot in the place of the first free one
-  pub filled : (es es' : List (Slot T)) (len i : ℕ) (head head' : Option ℕ) (room room' : Room) (g : ℕ) (t : T) (old new : Slot T) (c : Content T) → head ≡ Some i → IsSound es len head room → slice_get es (i - 1) ≡ Some old → head' ≡ link_of old → es' ≡ set es (i - 1) new → new ≡ used g t → room' ≡ room → content_of es room g head ≡ c → Becomes es' (len + 1) head' room' g (inserted c t)
+  pub filled : (es es' : List (Slot T)) (len i : ℕ) (head head' : Option ℕ) (room room' : Room) (g : ℕ) (t : T) (old new : Slot T) (c : Content T)
+      → head ≡ Some i → IsSound es len head room → slice_get es (i - 1) ≡ Some old → head' ≡ link_of old → es' ≡ set es (i - 1) new → new ≡ used g t
+      → room' ≡ room → content_of es room g head ≡ c → Becomes es' (len + 1) head' room' g (inserted c t)
   filled es es' len i head head' room room' g t old new c is sound found next written filling kept seen =
       let s = rw is at sound in
       let h = head_of es len i room s in
@@ -221,7 +234,9 @@ module _ {T : Type 0} where
       record { sound = fits.sound; content = rw (h.free_is, fits.free_is, map-set entry_of es (i - 1) (used g t)) }
 
   -- a live slot behind full slots
-  pub pushed : (es es' : List (Slot T)) (len : ℕ) (head : Option ℕ) (room room' : Room) (g : ℕ) (t : T) (new : Slot T) (c : Content T) → head ≡ None → IsSound es len head room → live_count c < room_for c → es' ≡ es ++ new ∷ [] → new ≡ used g t → room' ≡ room → content_of es room g head ≡ c → Becomes es' (len + 1) head room' g (inserted c t)
+  pub pushed : (es es' : List (Slot T)) (len : ℕ) (head : Option ℕ) (room room' : Room) (g : ℕ) (t : T) (new : Slot T) (c : Content T) → head ≡ None
+      → IsSound es len head room → live_count c < room_for c → es' ≡ es ++ new ∷ [] → new ≡ used g t → room' ≡ room → content_of es room g head ≡ c
+      → Becomes es' (len + 1) head room' g (inserted c t)
   pushed es es' len head room room' g t new c is sound below written filling kept seen =
       let s = rw is at sound in
       let full = full_at_none es len room s in
@@ -244,14 +259,16 @@ module _ {T : Type 0} where
   live_slot (x ∷ es) (suc k) g t found = live_slot es k g t found
 
   -- the entry at an index is that of its slot
-  pub entry_of_slot : (es : List (Slot T)) (room : Room) (g : ℕ) (head : Option ℕ) (c : Content T) (i : ℕ) (slot : Slot T) → content_of es room g head ≡ c → 0 < i → slice_get es (i - 1) ≡ Some slot → entry_at c i ≡ entry_of slot
+  pub entry_of_slot : (es : List (Slot T)) (room : Room) (g : ℕ) (head : Option ℕ) (c : Content T) (i : ℕ) (slot : Slot T)
+      → content_of es room g head ≡ c → 0 < i → slice_get es (i - 1) ≡ Some slot → entry_at c i ≡ entry_of slot
   entry_of_slot es room g head c i slot seen positive found =
       let within = slice_get_within es (i - 1) slot found in
       entry_at_slot c i positive
       ∙ rw (← seen) (get_or-map entry_of es (i - 1) slot None within ∙ ap entry_of (get_or_from_slice_get es (i - 1) slot slot found))
 
   -- an index past the slots has no entry
-  pub no_entry : (es : List (Slot T)) (room : Room) (g : ℕ) (head : Option ℕ) (c : Content T) (i : ℕ) → content_of es room g head ≡ c → slice_get es (i - 1) ≡ None → entry_at c i ≡ None
+  pub no_entry : (es : List (Slot T)) (room : Room) (g : ℕ) (head : Option ℕ) (c : Content T) (i : ℕ) → content_of es room g head ≡ c
+      → slice_get es (i - 1) ≡ None → entry_at c i ≡ None
   no_entry es room g head c zero seen found = refl
   no_entry es room g head c (suc k) seen found =
       let back : suc k - 1 ≡ k = omega arith in
@@ -263,7 +280,8 @@ module _ {T : Type 0} where
     pub found : slice_get es (i - 1) ≡ Some (used e.0 e.1)
     pub within : i ≤ length es
 
-  pub finds : (es : List (Slot T)) (room : Room) (g : ℕ) (head : Option ℕ) (c : Content T) (i : ℕ) (e : ℕ × T) → content_of es room g head ≡ c → entry_at c i ≡ Some e → Finds es i e
+  pub finds : (es : List (Slot T)) (room : Room) (g : ℕ) (head : Option ℕ) (c : Content T) (i : ℕ) (e : ℕ × T) → content_of es room g head ≡ c
+      → entry_at c i ≡ Some e → Finds es i e
   finds es room g head c zero e seen is = absurd (cc)
   finds es room g head c (suc k) e seen is =
       let back : suc k - 1 ≡ k = omega arith in
@@ -287,7 +305,9 @@ module _ {T : Type 0} where
     pub entry_is : slot ≡ used e.0 e.1
 
   -- the last slot goes
-  pub popped : (es es' : List (Slot T)) (len i : ℕ) (head : Option ℕ) (room room' : Room) (g : ℕ) (slot : Slot T) (e : ℕ × T) (c : Content T) → IsSound es len head room → i ≡ length es → content_of es room g head ≡ c → entry_at c i ≡ Some e → es ≡ es' ++ slot ∷ [] → room' ≡ room → Leaves es' (len - 1) head room' g (vacated c i) slot e
+  pub popped : (es es' : List (Slot T)) (len i : ℕ) (head : Option ℕ) (room room' : Room) (g : ℕ) (slot : Slot T) (e : ℕ × T) (c : Content T)
+      → IsSound es len head room → i ≡ length es → content_of es room g head ≡ c → entry_at c i ≡ Some e → es ≡ es' ++ slot ∷ [] → room' ≡ room
+      → Leaves es' (len - 1) head room' g (vacated c i) slot e
   popped es es' len i head room room' g slot e c sound last seen is split kept =
       let f = finds es room g head c i e seen is in
       let positive = f.positive in
@@ -313,7 +333,9 @@ module _ {T : Type 0} where
       }
 
   -- a slot becomes the next one to be taken
-  pub freed : (es es' : List (Slot T)) (len i : ℕ) (head head' : Option ℕ) (room room' : Room) (g : ℕ) (old new : Slot T) (e : ℕ × T) (c : Content T) → IsSound es len head room → (i ≡ length es → ⊥) → content_of es room g head ≡ c → entry_at c i ≡ Some e → slice_get es (i - 1) ≡ Some old → es' ≡ set es (i - 1) new → new ≡ free head → head' ≡ Some i → room' ≡ room → Leaves es' (len - 1) head' room' g (vacated c i) old e
+  pub freed : (es es' : List (Slot T)) (len i : ℕ) (head head' : Option ℕ) (room room' : Room) (g : ℕ) (old new : Slot T) (e : ℕ × T) (c : Content T)
+      → IsSound es len head room → (i ≡ length es → ⊥) → content_of es room g head ≡ c → entry_at c i ≡ Some e → slice_get es (i - 1) ≡ Some old
+      → es' ≡ set es (i - 1) new → new ≡ free head → head' ≡ Some i → room' ≡ room → Leaves es' (len - 1) head' room' g (vacated c i) old e
   freed es es' len i head head' room room' g old new e c sound inner seen is was written emptied first kept =
       let f = finds es room g head c i e seen is in
       let found = f.found in
@@ -329,7 +351,11 @@ module _ {T : Type 0} where
       let off = used_is_off es i e.0 e.1 found head l sound.chain in
       let linked : slice_get (set es (i - 1) (free head)) (i - 1) ≡ Some (free head) =
       slice_get-get_or _ (i - 1) (free head) (omega arith) ∙ ap Some (get_or-set_same es (i - 1) (free head) (free head) within) in
-      let chain : IsChain (set es (i - 1) (free head)) (Some i) (i ∷ l) = (refl, positive, (head, linked, chain_set es i (free head) head l positive off sound.chain)) in
+      let chain : IsChain (set es (i - 1) (free head)) (Some i) (i ∷ l) = (
+        refl,
+        positive,
+        (head, linked, chain_set es i (free head) head l positive off sound.chain),
+      ) in
       let left = sound_of (set es (i - 1) (free head)) (len - 1) (Some i) (i ∷ l) room (omega arith) (omega arith) chain (omega arith) in
       let test : eqb i (length (map entry_of es)) ≡ false = ne_eqb _ _ (λ at. inner (at ∙ length-map es entry_of)) in
       rw (written, emptied, first, kept)
@@ -340,7 +366,9 @@ module _ {T : Type 0} where
       }
 
   -- a live slot has another value
-  pub rewritten : (es es' : List (Slot T)) (len i : ℕ) (head : Option ℕ) (room room' : Room) (g : ℕ) (w : T) (old : Slot T) (e : ℕ × T) (c : Content T) → IsSound es len head room → content_of es room g head ≡ c → entry_at c i ≡ Some e → slice_get es (i - 1) ≡ Some old → es' ≡ set es (i - 1) (with_slot_value old w) → room' ≡ room → Leaves es' len head room' g (with_value c i w) old e
+  pub rewritten : (es es' : List (Slot T)) (len i : ℕ) (head : Option ℕ) (room room' : Room) (g : ℕ) (w : T) (old : Slot T) (e : ℕ × T)
+      (c : Content T) → IsSound es len head room → content_of es room g head ≡ c → entry_at c i ≡ Some e → slice_get es (i - 1) ≡ Some old
+      → es' ≡ set es (i - 1) (with_slot_value old w) → room' ≡ room → Leaves es' len head room' g (with_value c i w) old e
   rewritten es es' len i head room room' g w old e c sound seen is was written kept =
       let f = finds es room g head c i e seen is in
       let found = f.found in
@@ -353,7 +381,8 @@ module _ {T : Type 0} where
       let before = sound.counted in
       let sizes = length-set es (i - 1) (used e.0 w) in
       let off = used_is_off es i e.0 e.1 found head l sound.chain in
-      let left = sound_of (set es (i - 1) (used e.0 w)) len head l room (omega arith) (omega arith) (chain_set es i (used e.0 w) head l positive off sound.chain) (omega arith) in
+      let left = sound_of (set es (i - 1) (used e.0 w)) len head l room (omega arith) (omega arith) (chain_set es i (used e.0 w) head l positive off
+      sound.chain) (omega arith) in
       rw (written, kept, same)
       record {
         sound = left.sound;
@@ -362,7 +391,9 @@ module _ {T : Type 0} where
       }
 
   -- a live slot has another generation
-  pub renewed : (es es' : List (Slot T)) (len i : ℕ) (head : Option ℕ) (room room' : Room) (g h : ℕ) (old new : Slot T) (e : ℕ × T) (c : Content T) → IsSound es len head room → content_of es room g head ≡ c → entry_at c i ≡ Some e → Some old ≡ slice_get es (i - 1) → new ≡ with_slot_generation old h → es' ≡ set es (i - 1) new → room' ≡ room → Leaves es' len head room' g (with_generation c i h) old e
+  pub renewed : (es es' : List (Slot T)) (len i : ℕ) (head : Option ℕ) (room room' : Room) (g h : ℕ) (old new : Slot T) (e : ℕ × T) (c : Content T)
+      → IsSound es len head room → content_of es room g head ≡ c → entry_at c i ≡ Some e → Some old ≡ slice_get es (i - 1)
+      → new ≡ with_slot_generation old h → es' ≡ set es (i - 1) new → room' ≡ room → Leaves es' len head room' g (with_generation c i h) old e
   renewed es es' len i head room room' g h old new e c sound seen is was changed written kept =
       let f = finds es room g head c i e seen is in
       let found = f.found in
@@ -375,7 +406,8 @@ module _ {T : Type 0} where
       let before = sound.counted in
       let sizes = length-set es (i - 1) (used h e.1) in
       let off = used_is_off es i e.0 e.1 found head l sound.chain in
-      let left = sound_of (set es (i - 1) (used h e.1)) len head l room (omega arith) (omega arith) (chain_set es i (used h e.1) head l positive off sound.chain) (omega arith) in
+      let left = sound_of (set es (i - 1) (used h e.1)) len head l room (omega arith) (omega arith) (chain_set es i (used h e.1) head l positive off
+      sound.chain) (omega arith) in
       rw (written, changed, kept, same)
       record {
         sound = left.sound;
@@ -396,7 +428,8 @@ module _ {T : Type 0} where
       )
 
   -- sound slots are seen as a content that is well formed
-  pub formed : (es : List (Slot T)) (len : ℕ) (head : Option ℕ) (room : Room) (g : ℕ) (c : Content T) → IsSound es len head room → content_of es room g head ≡ c → IsWellFormed c
+  pub formed : (es : List (Slot T)) (len : ℕ) (head : Option ℕ) (room : Room) (g : ℕ) (c : Content T) → IsSound es len head room
+      → content_of es room g head ≡ c → IsWellFormed c
   formed es len head room g c sound seen =
       rw (← seen)
       record {
@@ -406,11 +439,13 @@ module _ {T : Type 0} where
       }
 
   -- what a pointer finds by the slot at its index
-  pub get_of_none : (es : List (Slot T)) (room : Room) (g : ℕ) (head : Option ℕ) (c : Content T) (o : Option (Slot T)) (i j gen : ℕ) → content_of es room g head ≡ c → o ≡ None → o ≡ slice_get es (i - 1) → i ≡ j → get c j gen ≡ None
+  pub get_of_none : (es : List (Slot T)) (room : Room) (g : ℕ) (head : Option ℕ) (c : Content T) (o : Option (Slot T)) (i j gen : ℕ)
+      → content_of es room g head ≡ c → o ≡ None → o ≡ slice_get es (i - 1) → i ≡ j → get c j gen ≡ None
   get_of_none es room g head c o i j gen seen none read same =
       ap (value_if gen) (no_entry es room g head c j seen (subst (λ x. slice_get es (x - 1) ≡ None) same (sym read ∙ none)))
 
-  pub get_of_slot : (es : List (Slot T)) (room : Room) (g : ℕ) (head : Option ℕ) (c : Content T) (o : Option (Slot T)) (slot : Slot T) (i j gen : ℕ) → content_of es room g head ≡ c → o ≡ Some slot → o ≡ slice_get es (i - 1) → 0 < i → i ≡ j → get c j gen ≡ value_if gen (entry_of slot)
+  pub get_of_slot : (es : List (Slot T)) (room : Room) (g : ℕ) (head : Option ℕ) (c : Content T) (o : Option (Slot T)) (slot : Slot T) (i j gen : ℕ)
+      → content_of es room g head ≡ c → o ≡ Some slot → o ≡ slice_get es (i - 1) → 0 < i → i ≡ j → get c j gen ≡ value_if gen (entry_of slot)
   get_of_slot es room g head c o slot i j gen seen some read positive same =
       ap (λ x. get c x gen) (sym same) ∙ ap (value_if gen) (entry_of_slot es room g head c i slot seen positive (sym read ∙ some))
 
@@ -420,7 +455,8 @@ module _ {T : Type 0} where
   slice_get_past (x ∷ es) (suc k) past = slice_get_past es k (omega arith)
 
   -- an index past every number of slots has no entry
-  pub entry_past : (es : List (Slot T)) (room : Room) (g : ℕ) (head : Option ℕ) (c : Content T) (n i j : ℕ) → content_of es room g head ≡ c → length es < n → n ≤ i → i ≡ j → entry_at c j ≡ None
+  pub entry_past : (es : List (Slot T)) (room : Room) (g : ℕ) (head : Option ℕ) (c : Content T) (n i j : ℕ) → content_of es room g head ≡ c
+      → length es < n → n ≤ i → i ≡ j → entry_at c j ≡ None
   entry_past es room g head c n i j seen few past same =
       no_entry es room g head c j seen (slice_get_past es (j - 1) (omega arith))
 
@@ -434,11 +470,13 @@ module _ {T : Type 0} where
   value_of_entry (used g t) = refl
 
   -- what stands at an index by its slot
-  pub entry_of_none : (es : List (Slot T)) (room : Room) (g : ℕ) (head : Option ℕ) (c : Content T) (o : Option (Slot T)) (i j : ℕ) → content_of es room g head ≡ c → o ≡ None → o ≡ slice_get es (i - 1) → i ≡ j → entry_at c j ≡ None
+  pub entry_of_none : (es : List (Slot T)) (room : Room) (g : ℕ) (head : Option ℕ) (c : Content T) (o : Option (Slot T)) (i j : ℕ)
+      → content_of es room g head ≡ c → o ≡ None → o ≡ slice_get es (i - 1) → i ≡ j → entry_at c j ≡ None
   entry_of_none es room g head c o i j seen none read same =
       no_entry es room g head c j seen (subst (λ x. slice_get es (x - 1) ≡ None) same (sym read ∙ none))
 
-  pub entry_of_some : (es : List (Slot T)) (room : Room) (g : ℕ) (head : Option ℕ) (c : Content T) (o : Option (Slot T)) (slot : Slot T) (i j : ℕ) → content_of es room g head ≡ c → o ≡ Some slot → o ≡ slice_get es (i - 1) → 0 < i → i ≡ j → entry_at c j ≡ entry_of slot
+  pub entry_of_some : (es : List (Slot T)) (room : Room) (g : ℕ) (head : Option ℕ) (c : Content T) (o : Option (Slot T)) (slot : Slot T) (i j : ℕ)
+      → content_of es room g head ≡ c → o ≡ Some slot → o ≡ slice_get es (i - 1) → 0 < i → i ≡ j → entry_at c j ≡ entry_of slot
   entry_of_some es room g head c o slot i j seen some read positive same =
       ap (entry_at c) (sym same) ∙ entry_of_slot es room g head c i slot seen positive (sym read ∙ some)
 

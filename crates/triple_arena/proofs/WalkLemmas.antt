@@ -39,7 +39,8 @@ module _ {T : Type 0} where
 
   -- the last one found among all slots: nothing after it is live
   pub none_after : {P : Type 0} (c : Content T) (number : P → ℕ × ℕ) (n : ℕ) (given : Option P) → n ≡ length c.slots
-      → Finds (entry_at c) (record { low = 1; high = n; falls = true }) (option_map number given) → IfSome given (λ p. (j : ℕ) → (number p).0 < j → entry_at c j ≡ None)
+      → Finds (entry_at c) (record { low = 1; high = n; falls = true }) (option_map number given)
+      → IfSome given (λ p. (j : ℕ) → (number p).0 < j → entry_at c j ≡ None)
   none_after c number n None all finds = tt
   none_after c number n (Some p) all finds =
       λ j beyond. elim (leb_tells j n) [

@@ -2,8 +2,9 @@
 use Rattle.std.specs.Prelude.{◌≡◌, ◌≢◌, ℕ, zero, suc, ◌+◌, ◌-◌, ◌<◌, ◌≤◌, ◌==◌, List, [], ◌∷◌, ◌++◌, length, take, Option, Some, None, is_some, count_by, slice_index_or, slice_set, if◌then◌else◌, refl}
 use Rattle.std.specs.Coded.{Coded, code_by, coded×, coded_ℕ, coded_list, coded_option}
 use Rattle.triple_arena_ptr.specs.Generation.{next_generation}
-use Rattle.triple_arena_stack.specs.Room.{Room, capacity}
+use Rattle.triple_arena_stack.specs.Room.{Room, capacity, room_after}
 use Rattle.triple_arena.specs.Entries.{value_if}
+use Rattle.triple_arena.specs.ArenaRoom.{room_with}
 
 -- the generation and the value at each index, from index 1 on, or nothing where it is free; the generation of the
 -- next entry; the free indexes, the next one to be taken first; and the room: the reserved slots, and the greatest
@@ -30,6 +31,10 @@ Lacks [] i = Unit {0}
 Lacks (j ∷ l) i = (j ≢ i) × Lacks l i
 
 module _ {T : Type 0} where
+  -- no entry and no slot, with this counter and in this room
+  abbrev pub empty : ℕ → Room → Content T
+  empty counter room = record { slots = []; counter = counter; free = []; room = room }
+
   -- the generation and the value at an index; index 0 has none
   abbrev pub entry_at : Content T → ℕ → Option (ℕ × T)
   entry_at c zero = None
@@ -42,6 +47,10 @@ module _ {T : Type 0} where
   -- how many indexes are live
   abbrev pub live_count : Content T → ℕ
   live_count c = count_by is_some c.slots
+
+  -- the counter, which each content has
+  abbrev pub some_counter : Content T → Option ℕ
+  some_counter c = Some c.counter
 
   -- how many entries fit with no growth
   abbrev pub room_for : Content T → ℕ
@@ -122,6 +131,14 @@ module _ {T : Type 0} where
   -- the content in another room
   abbrev pub in_room : Content T → Room → Content T
   in_room c room = record c { room = room }
+
+  -- the content with at least this capacity
+  abbrev pub reallocated : Content T → ℕ → Content T
+  reallocated c least = in_room c (room_with least c.room)
+
+  -- the content with room for an entry more: as it is, or with a greater room where it is full
+  abbrev pub grown_if_full : Content T → Content T
+  grown_if_full c = in_room c (room_after (live_count c) c.room)
 
   -- a free index: one of the slots, with no entry
   pub record IsVacant (c : Content T) (index : ℕ) : Type 0 where

@@ -1,12 +1,13 @@
--- What a write of a value changes and what it keeps.
-use Rattle.std.proofs.Common.{◌≡◌, ◌≢◌, ◌==◌, if◌then◌else◌, ℕ, zero, suc, ◌-◌, ◌<◌, List, [], ◌∷◌, length, get_or, set, cond, Option, Some, None, IsSome, is_some, true≢false, inl, inr, refl, sym, ap, subst, ◌∙◌, arith}
+-- The entries of a content by their slots, what carries the free indexes over from one content to another, and what a
+-- write of a value changes and keeps.
+use Rattle.std.proofs.Common.{◌≡◌, ◌≢◌, ◌==◌, if◌then◌else◌, ℕ, zero, suc, ◌+◌, ◌-◌, ◌<◌, ◌≤◌, List, [], ◌∷◌, length, get_or, set, cond, Option, Some, None, IsSome, is_some, true≢false, inl, inr, refl, sym, ap, subst, ◌∙◌, arith}
 use Rattle.std.proofs.lemmas.Bool.{ne_eqb}
 use Rattle.std.proofs.lemmas.Bool.Decides.{eqb_tells}
 use Rattle.std.proofs.lemmas.List.{get_or-set_same, get_or-set_other, length-set}
 use Rattle.std.proofs.lemmas.List.Sums.{sum_by-set}
 use Rattle.triple_arena.specs.Entries.{with_value_at}
 use Rattle.triple_arena_stack.specs.Room.{capacity}
-use Rattle.triple_arena.specs.Content.{Content, entry_at, live_count, with_value, AllVacant, IsWellFormed}
+use Rattle.triple_arena.specs.Content.{Content, entry_at, live_count, room_for, next_index, with_value, Lacks, AllVacant, IsWellFormed}
 
 module _ {T : Type 0} where
   -- the entry at an index from 1 on
@@ -44,7 +45,8 @@ module _ {T : Type 0} where
           ]
 
   -- a write of the slot at an index from 1 on
-  pub entry-set : (c c' : Content T) (i j : ℕ) (o : Option (ℕ × T)) → 0 < i → i - 1 < length c.slots → c'.slots ≡ set c.slots (i - 1) o → entry_at c' j ≡ (if j == i then o else entry_at c j)
+  pub entry-set : (c c' : Content T) (i j : ℕ) (o : Option (ℕ × T)) → 0 < i → i - 1 < length c.slots → c'.slots ≡ set c.slots (i - 1) o
+      → entry_at c' j ≡ (if j == i then o else entry_at c j)
   entry-set c c' i zero o positive within written = rw (ne_eqb 0 i (λ e. omega arith)) refl
   entry-set c c' i (suc k) o positive within written =
       elim (eqb_tells (suc k) i) [
@@ -55,6 +57,52 @@ module _ {T : Type 0} where
             let differs : k ≢ i - 1 = λ e. other.1 (omega (arith, e)) in
             rw (other.0, written) (get_or-set_other c.slots (i - 1) k o None differs)
       ]
+
+  -- the entries are those of the slots
+  pub entry-same_slots : (c d : Content T) → c.slots ≡ d.slots → (j : ℕ) → entry_at c j ≡ entry_at d j
+  entry-same_slots c d same zero = refl
+  entry-same_slots c d same (suc k) = ap (λ xs. get_or xs k None) same
+
+  -- contents without slots have no entries
+  pub entry-no_slots : (c : Content T) → c.slots ≡ [] → (j : ℕ) → entry_at c j ≡ None
+  entry-no_slots c none zero = refl
+  entry-no_slots c none (suc k) = rw none refl
+
+  -- each live index is within the capacity
+  pub live-within : (c : Content T) → IsWellFormed c → (j : ℕ) → IsSome (entry_at c j) → j ≤ room_for c
+  live-within c formed j some =
+      let l = live_of c j some in
+      omega (arith, l.positive, l.within, formed.fits)
+
+  -- a live index is not a free one
+  pub live-lacks : (c : Content T) (i : ℕ) → IsSome (entry_at c i) → (l : List ℕ) → AllVacant c l → Lacks l i
+  live-lacks c i some [] all = tt
+  live-lacks c i some (j ∷ l) all =
+      let differs : j ≢ i =
+      λ same. let none : entry_at c i ≡ None = subst (λ n. entry_at c n ≡ None) same all.0.vacant in
+      absurd (true≢false (sym (subst IsSome none some))) in
+      (differs, live-lacks c i some l all.1.1)
+
+  -- free indexes stay free where the slots are no fewer and no entry comes
+  pub vacant-kept : (c d : Content T) → length c.slots ≤ length d.slots → ((j : ℕ) → entry_at c j ≡ None → entry_at d j ≡ None) → (l : List ℕ)
+      → AllVacant c l → AllVacant d l
+  vacant-kept c d more none [] all = tt
+  vacant-kept c d more none (j ∷ l) all =
+      let first = all.0 in (
+        record { positive = first.positive; within = omega (arith, more, first.within); vacant = none j first.vacant },
+        (all.1.0, vacant-kept c d more none l all.1.1),
+      )
+
+  -- the same of all indexes but one, which is none of them
+  pub vacant-others : (c d : Content T) (i : ℕ) → ((j : ℕ) → j ≢ i → j ≤ length c.slots → j ≤ length d.slots)
+      → ((j : ℕ) → j ≢ i → entry_at c j ≡ None → entry_at d j ≡ None)
+      → (l : List ℕ) → Lacks l i → AllVacant c l → AllVacant d l
+  vacant-others c d i within none [] lacks all = tt
+  vacant-others c d i within none (j ∷ l) lacks all =
+      let first = all.0 in (
+        record { positive = first.positive; within = within j lacks.0 first.within; vacant = none j lacks.0 first.vacant },
+        (all.1.0, vacant-others c d i within none l lacks.1 all.1.1),
+      )
 
   -- a write of a value changes the entry at its index alone
   pub entry-with_value : (c : Content T) (i : ℕ) (t : T) (j : ℕ) → entry_at (with_value c i t) j ≡ with_value_at (entry_at c) i t j
@@ -98,6 +146,18 @@ module _ {T : Type 0} where
       by_entry None e = rw e refl
       by_entry (Some x) e = rw e (length-set c.slots (i - 1) (Some (x.0, t)))
 
+  -- the next index is still free
+  pub next-with_value : (c : Content T) (i : ℕ) (t : T) → next_index (with_value c i t) ≡ next_index c
+  next-with_value c i t = by_entry (entry_at c i) refl
+    where
+      by_entry : (o : Option (ℕ × T)) → entry_at c i ≡ o → next_index (with_value c i t) ≡ next_index c
+      by_entry None e = rw e refl
+      by_entry (Some x) e = rw e (first_free c.free)
+        where
+          first_free : (l : List ℕ) → next_index (record c { slots = set c.slots (i - 1) (Some (x.0, t)); free = l }) ≡ next_index (record c { free = l })
+          first_free [] = ap (λ n. n + 1) (length-set c.slots (i - 1) (Some (x.0, t)))
+          first_free (j ∷ l) = refl
+
   pub live-with_value : (c : Content T) (i : ℕ) (t : T) → live_count (with_value c i t) ≡ live_count c
   live-with_value c i t = by_entry (entry_at c i) refl
     where
@@ -109,17 +169,13 @@ module _ {T : Type 0} where
           let counted = rw l.read at (sum_by-set (λ o. cond (is_some o) 1 0) c.slots (i - 1) (Some (x.0, t)) None l.within) in
           rw e (omega (arith, counted))
 
-  vacant-with_value : (c : Content T) (i : ℕ) (t : T) (l : List ℕ) → AllVacant c l → AllVacant (with_value c i t) l
-  vacant-with_value c i t [] all = tt
-  vacant-with_value c i t (j ∷ l) all =
-      let kept = slots-with_value c i t in
-      let none : with_value_at (entry_at c) i t j ≡ None = elim (eqb_tells j i) [
-        | inl same ↦ let at : entry_at c i ≡ None = subst (λ n. entry_at c n ≡ None) same.1 all.0.vacant in rw (same.0, at) refl
-        | inr other ↦ rw other.0 all.0.vacant
-      ] in (
-        record { positive = all.0.positive; within = omega (arith, kept, all.0.within); vacant = entry-with_value c i t j ∙ none },
-        (all.1.0, vacant-with_value c i t l all.1.1),
-      )
+  none-with_value : (c : Content T) (i : ℕ) (t : T) (j : ℕ) → entry_at c j ≡ None → entry_at (with_value c i t) j ≡ None
+  none-with_value c i t j none =
+      entry-with_value c i t j
+      ∙ elim (eqb_tells j i) [
+        | inl same ↦ let at : entry_at c i ≡ None = subst (λ n. entry_at c n ≡ None) same.1 none in rw (same.0, at) refl
+        | inr other ↦ rw other.0 none
+      ]
 
   -- a write of a value keeps a content well-formed
   pub formed-with_value : (c : Content T) (i : ℕ) (t : T) → IsWellFormed c → IsWellFormed (with_value c i t)
@@ -132,10 +188,19 @@ module _ {T : Type 0} where
       let counted = formed.counted in
       let fits = formed.fits in
       record {
-        free = rw free (vacant-with_value c i t c.free formed.free);
+        free = rw free (vacant-kept c (with_value c i t) (omega (arith, slots)) (none-with_value c i t) c.free formed.free);
         counted = omega (arith, slots, live, lists, counted);
         fits = omega (arith, slots, room, fits);
       }
 
 -- what a write of a value changes and what it keeps
-pub ruleset writes = (formed-with_value, entry-with_value, live-with_value, slots-with_value, counter-with_value, free-with_value, room-with_value)
+pub ruleset writes = (
+  formed-with_value,
+  entry-with_value,
+  next-with_value,
+  live-with_value,
+  slots-with_value,
+  counter-with_value,
+  free-with_value,
+  room-with_value,
+)

@@ -1,7 +1,7 @@
 -- What a contract sees of an insertion's entry.
 use Rattle.std.specs.Borrow.{GName}
 use Rattle.triple_arena.specs.Content.{Content}
-use Rattle.triple_arena.specs.declared.entry.ArenaInsertEntry.{ArenaInsertEntry}
+use Rattle.triple_arena.specs.declared.arena.entry.ArenaInsertEntry.{ArenaInsertEntry}
 
 module _ {P T S Inx Gen Alloc : Type 0} where
   -- the arena as the entry holds it

@@ -1,11 +1,16 @@
 pub mod ArenaRoom
 pub mod Slot
-pub mod Entry
+pub mod SlotState
 pub mod Entries
+pub mod Changes
 pub mod Content
 pub mod Layout
 pub mod Walk
 pub mod ContentLaws
+pub mod InsertionLaws
+pub mod RemovalLaws
+pub mod GenerationLaws
+pub mod ExchangeLaws
 pub mod InsertEntry
 pub mod LiveEntries
 pub mod Compression

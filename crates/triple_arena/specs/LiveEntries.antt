@@ -53,7 +53,8 @@ module _ {T : Type 0} where
   pub live_entries-length : (c : Content T) → length (live_entries c) ≡ live_count c
   live_entries-length c = listed-length 1 c.slots
 
-  first_index : (n : ℕ) (xs : List (Option (ℕ × T))) → 0 < length (map (λ (e : ℕ × (ℕ × T)). e.0) (listed_from n xs)) → n ≤ slice_index (map (λ (e : ℕ × (ℕ × T)). e.0) (listed_from n xs)) 0
+  first_index : (n : ℕ) (xs : List (Option (ℕ × T))) → 0 < length (map (λ (e : ℕ × (ℕ × T)). e.0) (listed_from n xs))
+      → n ≤ slice_index (map (λ (e : ℕ × (ℕ × T)). e.0) (listed_from n xs)) 0
   first_index n [] some = absurd (omega arith)
   first_index n (None ∷ xs) some = let rest = first_index (n + 1) xs some in omega arith
   first_index n (Some e ∷ xs) some = omega arith

@@ -1,18 +1,21 @@
 //! What every arena does.
-ghost use Rattle.std.specs.Prelude.{◌≡◌, ◌≢◌, ℕ, ◌+◌, ◌-◌, ◌*◌, ◌^◌, ◌<◌, ◌≤◌, ◌↔◌, Bool, Some, None, IsTrue, IsOk, IsSome, IfSome, IfNone, IfOk, OnOk, OnErr, IsErrOf, Option, is_some, option_copied, unwrap_or, true, false, min, if◌then◌else◌, List, map as list_map, length, slice_get};
+ghost use Rattle.std.specs.Prelude.{◌≡◌, ◌≢◌, ℕ, ◌+◌, ◌-◌, ◌*◌, ◌^◌, ◌<◌, ◌≤◌, ◌↔◌, Bool, Some, None, IsTrue, IsOk, IsSome, IfSome, IfNone, IfOk, OnSome, OnOk, OnErr, IsErrOf, Option, is_some, option_copied, unwrap_or, true, false, min, if◌then◌else◌, List, map as list_map, length, slice_get};
 ghost use Rattle.std.specs.Borrow.{sem, Lends, LendsIf};
 ghost use Rattle.std.specs.Option.{option_map, option_copied_mut};
-ghost use Rattle.triple_arena_ptr.specs.Generation.{second_generation, next_generation, next_wraps};
+ghost use Rattle.triple_arena_ptr.specs.Generation.{IsGeneration, second_generation, next_generation, next_wraps};
 ghost use Rattle.triple_arena_ptr.specs.Index.{max_index_of};
 ghost use Rattle.triple_arena_ptr.specs.InvalidationOption.{value_of, overflowed};
 ghost use Rattle.triple_arena_ptr.specs.InvalidationResult.{answer_of};
-ghost use Rattle.triple_arena_stack.specs.Room.{Room, capacity as capacity_of, with_reserved, IsBeyond};
-ghost use Rattle.triple_arena.specs.Entries.{number_if, value_if, counter_wraps, without, with_value_at, with_generation_at, generation_at, look_up};
+ghost use Rattle.triple_arena_stack.specs.Room.{Room, capacity as capacity_of, IsBeyond};
+ghost use Rattle.triple_arena.specs.Changes.{IsNew, IsReallocated, IsRemoved, IsInvalidated, IsCleared, IsCompressed};
+ghost use Rattle.triple_arena.specs.Entries.{number_if, value_if, counter_wraps, with_value_at, generation_at, look_up};
 ghost use Rattle.triple_arena.specs.Walk.{Walk, Steps};
 ghost use Rattle.std.specs.List.Sorted.{IsStrictlyIncreasing};
-ghost use Rattle.triple_arena.specs.Compression.{renewed, generation_given, compression_wraps, index_of, entry_of_listed, generation_of, value_of as value_of_entry, IsCompact, IsMapped};
+ghost use Rattle.triple_arena.specs.Compression.{compression_wraps, index_of, generation_of, value_of as value_of_entry, IsMapped};
 
-use triple_arena_ptr::{Advancer, InvalidationOption, InvalidationResult, Ptr, ReallocationError};
+use triple_arena_ptr::{
+    Advancer, InvalidationOption, InvalidationResult, Ptr, PtrGen, ReallocationError,
+};
 
 /// An arena of values of type `T`, to which pointers of type `P` point.
 pub trait ArenaTrait<P: Ptr, T: Drop> {
@@ -32,16 +35,38 @@ pub trait ArenaTrait<P: Ptr, T: Drop> {
     ghost counter: { Self → Option ℕ };
 
     // Whether the arena has a counter.
-    ghost counts: { Bool };
+    ghost has_counter: { Bool };
 
     // The reserved slots and the greatest capacity.
     ghost room: { Self → Room };
 
+    // Whether arenas of this type take memory. Where none does, no call answers `AllocError`.
+    ghost takes_memory: { Bool };
+
     // The room of an arena that is made for so many entries.
     ghost room_at: { ℕ → Room };
 
+    // An arena without an entry, in this room.
+    ghost empty: { Room → Self };
+
+    // The arena with at least this capacity.
+    ghost reallocated: { Self → ℕ → Self };
+
     // The arena with another value at an index, if it is live.
     ghost with_value: { Self → ℕ → T → Self };
+
+    // The arena without the entry at an index, with the entry at an index under the stepped counter, and without any.
+    ghost removed: { Self → ℕ → Self };
+
+    ghost invalidated: { Self → ℕ → Self };
+
+    ghost cleared: { Self → Self };
+
+    // The arena whose live entries went to the first indexes, with these values and with the generations renewed.
+    ghost compressed: { Self → Bool → List T → Self };
+
+    // What holds of each arena that a call leaves.
+    ghost is_formed: { Self → Type 0 };
 
     // The indexes that an advancer has left to look at.
     ghost walk: { Self.PtrAdvancer → Walk };
@@ -51,25 +76,25 @@ pub trait ArenaTrait<P: Ptr, T: Drop> {
 
     /// An empty arena, which takes no memory.
     fn new(alloc: Self::Alloc) -> Self
-        ensures entries { (j : ℕ) → entry_at result j ≡ None }
-        ensures live { live_count result ≡ 0 }
-        ensures counter { counter result ≡ number_if counts (second_generation P.Gen.last) }
-        ensures room { room result ≡ room_at 0 };
+        ensures empty { IsNew entry_at live_count counter room
+            (number_if has_counter (second_generation P.Gen.last)) (room_at 0) result }
+        ensures exact { result ≡ empty (room_at 0) }
+        ensures formed { is_formed result };
 
     /// An empty arena with room for `min` entries. It answers `BeyondMaxCapacity` where no arena of this type has so
     /// much, and `AllocError` where the memory was refused.
     fn with_min_capacity(alloc: Self::Alloc, min: usize) -> Result<Self, ReallocationError>
-        ensures entries { IfOk result (λ a. (j : ℕ) → entry_at a j ≡ None) }
-        ensures live { IfOk result (λ a. live_count a ≡ 0) }
-        ensures counter { IfOk result (λ a. counter a
-            ≡ number_if counts (second_generation P.Gen.last)) }
-        ensures room { IfOk result (λ a. room a ≡ room_at min) }
+        ensures empty { IfOk result (λ a. IsNew entry_at live_count counter room
+            (number_if has_counter (second_generation P.Gen.last)) (room_at min) a) }
+        ensures exact { IfOk result (λ a. a ≡ empty (room_at min)) }
+        ensures formed { IfOk result (λ a. is_formed a) }
         ensures fits { IfOk result (λ a. min ≤ capacity_of (room a)) }
 
         // No memory is asked for where a new arena has the room already.
         ensures succeeds { min ≤ capacity_of (room_at 0) → IsOk result }
         ensures beyond { IsErrOf result ReallocationError.BeyondMaxCapacity
-            ↔ IsBeyond (room_at min).limit min };
+            ↔ IsBeyond (room_at min).limit min }
+        ensures memory { IsErrOf result ReallocationError.AllocError → IsTrue takes_memory };
 
     /// How many entries fit with no growth.
     fn capacity(&self) -> usize
@@ -88,26 +113,28 @@ pub trait ArenaTrait<P: Ptr, T: Drop> {
     /// where `min` is past the greatest capacity, and `AllocError` where the memory was refused. An error leaves the
     /// arena as it was, its capacity too.
     fn reallocate_min_capacity(&mut self, min: usize) -> Result<(), ReallocationError>
+        ensures reallocated { OnOk result (IsReallocated entry_at live_count counter room min
+            self.old self.new) }
+        ensures exact { OnOk result (self.new ≡ reallocated self.old min) }
         ensures kept { min ≤ capacity_of (room self.old) → self.new ≡ self.old }
-        ensures grown { capacity_of (room self.old) < min
-            → OnOk result (room self.new ≡ with_reserved (room self.old) min) }
+        ensures formed { is_formed self.new }
         ensures fits { OnOk result (min ≤ capacity_of (room self.new)) }
-        ensures entries { (j : ℕ) → entry_at self.new j ≡ entry_at self.old j }
-        ensures live { live_count self.new ≡ live_count self.old }
-        ensures counter { counter self.new ≡ counter self.old }
         ensures succeeds { min ≤ capacity_of (room self.old) → IsOk result }
         ensures beyond { IsErrOf result ReallocationError.BeyondMaxCapacity
             ↔ IsBeyond (room self.old).limit min }
+        ensures memory { IsErrOf result ReallocationError.AllocError → IsTrue takes_memory }
         ensures err { OnErr result (self.new ≡ self.old) };
 
     /// How many entries are live.
     fn len(&self) -> usize
         ensures value { result ≡ live_count self.now }
-        ensures fits { result ≤ capacity_of (room self.now) };
+        ensures fits { result ≤ capacity_of (room self.now) }
+        ensures formed { is_formed self.now };
 
     /// The counter, which is the generation of the next entry, in an arena that has one.
     fn singular_generation(&self) -> Option<P::Gen>
-        ensures { option_map P.Gen.number result ≡ counter self.now };
+        ensures value { option_map P.Gen.number result ≡ counter self.now }
+        ensures counted { IfSome result (λ g. IsGeneration P.Gen.last (P.Gen.number g)) };
 
     /// The value that `p` points to, if it is live.
     fn get(&self, p: P) -> Option<&T>
@@ -126,6 +153,13 @@ pub trait ArenaTrait<P: Ptr, T: Drop> {
             (with_value self.old (P.Inx.number i))) }
         ensures value { option_map (λ e. e.1) (entry_at self.old (P.Inx.number i))
             ≡ Some result.now };
+
+    /// The value that `p` points to for writing, if it is live.
+    fn get_mut(&mut self, p: P) -> Option<&mut T>
+        ensures* writes_back { sem 𝓛 (LendsIf Self.row T.row self.entry result
+            (with_value self.old (P.index p)) self.old) }
+        ensures value { option_copied_mut result
+            ≡ value_if (P.generation p) (entry_at self.old (P.index p)) };
 
     /// The pointer to the entry with the least index, or `None` where no index is live.
     fn find_first_inx_ptr(&self) -> Option<P>
@@ -164,13 +198,10 @@ pub trait ArenaTrait<P: Ptr, T: Drop> {
             ≡ value_if (P.generation p) (entry_at self.old (P.index p)) }
         ensures overflow { IfSome (answer_of result)
             (λ a. overflowed a ≡ counter_wraps P.Gen.last (counter self.old)) }
-        ensures entries { IfSome (answer_of result)
-            (λ a. (j : ℕ) → entry_at self.new j ≡ without (entry_at self.old) (P.index p) j) }
-        ensures live { IfSome (answer_of result)
-            (λ a. live_count self.new + 1 ≡ live_count self.old) }
-        ensures counter { IfSome (answer_of result)
-            (λ a. counter self.new ≡ option_map (next_generation P.Gen.last) (counter self.old)) }
-        ensures room { room self.new ≡ room self.old }
+        ensures removed { OnSome (answer_of result) (IsRemoved entry_at live_count counter room
+            P.Gen.last (P.index p) self.old self.new) }
+        ensures exact { OnSome (answer_of result) (self.new ≡ removed self.old (P.index p)) }
+        ensures formed { is_formed self.new }
         ensures invalid { IfNone (answer_of result) (self.new ≡ self.old) };
 
     /// Removes the entry at an index, and steps the counter. It answers `InvalidPtr`, and changes nothing, where the
@@ -180,13 +211,10 @@ pub trait ArenaTrait<P: Ptr, T: Drop> {
             (answer_of result) ≡ entry_at self.old (P.Inx.number i) }
         ensures overflow { IfSome (answer_of result)
             (λ a. overflowed a ≡ counter_wraps P.Gen.last (counter self.old)) }
-        ensures entries { IfSome (answer_of result)
-            (λ a. (j : ℕ) → entry_at self.new j ≡ without (entry_at self.old) (P.Inx.number i) j) }
-        ensures live { IfSome (answer_of result)
-            (λ a. live_count self.new + 1 ≡ live_count self.old) }
-        ensures counter { IfSome (answer_of result)
-            (λ a. counter self.new ≡ option_map (next_generation P.Gen.last) (counter self.old)) }
-        ensures room { room self.new ≡ room self.old }
+        ensures removed { OnSome (answer_of result) (IsRemoved entry_at live_count counter room
+            P.Gen.last (P.Inx.number i) self.old self.new) }
+        ensures exact { OnSome (answer_of result) (self.new ≡ removed self.old (P.Inx.number i)) }
+        ensures formed { is_formed self.new }
         ensures invalid { IfNone (answer_of result) (self.new ≡ self.old) };
 
     /// Ends `p` and gives the entry another pointer, with the stepped generation, so that `p` finds nothing where
@@ -203,23 +231,21 @@ pub trait ArenaTrait<P: Ptr, T: Drop> {
         ensures generation { IfSome (answer_of result)
             (λ a. P.generation (value_of a)
             ≡ next_generation P.Gen.last (unwrap_or (counter self.old) (P.generation p))) }
-        ensures entries { IfSome (answer_of result)
-            (λ a. (j : ℕ) → entry_at self.new j
-            ≡ with_generation_at (entry_at self.old) (P.index p) (P.generation (value_of a)) j) }
-        ensures live { live_count self.new ≡ live_count self.old }
-        ensures counter { IfSome (answer_of result)
-            (λ a. counter self.new ≡ option_map (next_generation P.Gen.last) (counter self.old)) }
-        ensures room { room self.new ≡ room self.old }
+        ensures same { P.Gen.last ≡ None → IfSome (answer_of result) (λ a. value_of a ≡ p) }
+        ensures invalidated { IfSome (answer_of result)
+            (λ a. IsInvalidated entry_at live_count counter room P.Gen.last (P.index p)
+            (P.generation (value_of a)) self.old self.new) }
+        ensures exact { OnSome (answer_of result) (self.new ≡ invalidated self.old (P.index p)) }
+        ensures formed { is_formed self.new }
         ensures invalid { IfNone (answer_of result) (self.new ≡ self.old) };
 
     /// Removes every entry and every slot, and steps the counter once, also where there was no entry.
     fn clear(&mut self) -> InvalidationOption<()>
         ensures overflow { overflowed result ≡ counter_wraps P.Gen.last (counter self.old) }
-        ensures entries { (j : ℕ) → entry_at self.new j ≡ None }
-        ensures live { live_count self.new ≡ 0 }
-        ensures counter { counter self.new
-            ≡ option_map (next_generation P.Gen.last) (counter self.old) }
-        ensures room { room self.new ≡ room self.old };
+        ensures cleared { IsCleared entry_at live_count counter room P.Gen.last
+            self.old self.new }
+        ensures exact { self.new ≡ cleared self.old }
+        ensures formed { is_formed self.new };
 
     /// Moves the live entries, in the order of their indexes, to the indexes from 1 on, and gives each what `map` makes
     /// of its value. `map` is called once for each, in that order, with the old pointer, the value and the new
@@ -237,39 +263,16 @@ pub trait ArenaTrait<P: Ptr, T: Drop> {
         requires { F.IsAlwaysCallable map }
         ensures mapped { IsMapped P.index P.generation F.step map (live_entries self.old)
             (live_entries self.new) }
-        ensures compact { IsCompact (live_entries self.new) }
-        ensures entries { (k : ℕ) → entry_at self.new (k + 1)
-            ≡ option_map entry_of_listed (slice_get (live_entries self.new) k) }
-        ensures generations { list_map generation_of (live_entries self.new)
-            ≡ list_map (λ e. generation_given P.Gen.last reset (counter self.old) (generation_of e))
-            (live_entries self.old) }
         ensures overflow { overflowed result
             ≡ compression_wraps P.Gen.last reset (counter self.old)
             (list_map generation_of (live_entries self.old)) }
-        ensures live { live_count self.new ≡ live_count self.old }
-        ensures counter { counter self.new
-            ≡ option_map (renewed P.Gen.last reset) (counter self.old) }
-        ensures room { room self.new ≡ room self.old };
+        ensures compressed { IsCompressed entry_at live_count counter room P.Gen.last live_entries
+            reset self.old self.new }
+        ensures exact { self.new ≡ compressed self.old reset
+            (list_map value_of_entry (live_entries self.new)) }
+        ensures formed { is_formed self.new };
 
-    /// The same with the values as they are.
-    fn compress(&mut self, reset: bool) -> InvalidationOption<()>
-        ensures values { list_map value_of_entry (live_entries self.new)
-            ≡ list_map value_of_entry (live_entries self.old) }
-        ensures compact { IsCompact (live_entries self.new) }
-        ensures entries { (k : ℕ) → entry_at self.new (k + 1)
-            ≡ option_map entry_of_listed (slice_get (live_entries self.new) k) }
-        ensures generations { list_map generation_of (live_entries self.new)
-            ≡ list_map (λ e. generation_given P.Gen.last reset (counter self.old) (generation_of e))
-            (live_entries self.old) }
-        ensures overflow { overflowed result
-            ≡ compression_wraps P.Gen.last reset (counter self.old)
-            (list_map generation_of (live_entries self.old)) }
-        ensures live { live_count self.new ≡ live_count self.old }
-        ensures counter { counter self.new
-            ≡ option_map (renewed P.Gen.last reset) (counter self.old) }
-        ensures room { room self.new ≡ room self.old };
-
-    ghost counter_if_counts: { (s : Self) → is_some (counter s) ≡ counts };
+    ghost counter_if_has_counter: { (s : Self) → is_some (counter s) ≡ has_counter };
 
     ghost none_at_zero: { (s : Self) → entry_at s 0 ≡ None };
 
@@ -298,6 +301,22 @@ pub trait ArenaTrait<P: Ptr, T: Drop> {
 
     ghost room_with_value: { (s : Self) (i : ℕ) (t : T) → room (with_value s i t) ≡ room s };
 
+    /// The same as `compress_with`, with the values as they are.
+    final fn compress(&mut self, reset: bool) -> InvalidationOption<()>
+        ensures values { list_map value_of_entry (live_entries self.new)
+            ≡ list_map value_of_entry (live_entries self.old) }
+        ensures overflow { overflowed result
+            ≡ compression_wraps P.Gen.last reset (counter self.old)
+            (list_map generation_of (live_entries self.old)) }
+        ensures compressed { IsCompressed entry_at live_count counter room P.Gen.last live_entries
+            reset self.old self.new }
+        ensures exact { self.new ≡ compressed self.old reset
+            (list_map value_of_entry (live_entries self.old)) }
+        ensures formed { is_formed self.new }
+    {
+        self.compress_with(reset, |_, value, _| value)
+    }
+
     /// Whether there is no entry.
     final fn is_empty(&self) -> bool
         ensures { IsTrue result ↔ (live_count self.now ≡ 0) }
@@ -307,9 +326,12 @@ pub trait ArenaTrait<P: Ptr, T: Drop> {
 
     /// Whether `p` points to a live entry.
     final fn contains(&self, p: P) -> bool
-        ensures { IsTrue result ↔ IsSome
+        ensures value { IsTrue result ↔ IsSome
             (value_if (P.generation p) (entry_at self.now (P.index p))) }
+        ensures counted { IsGeneration P.Gen.last (P.generation p) }
     {
+        // It is one of the generations.
+        let _ = p.generation().generational_inc();
         self.get(p).is_some()
     }
 
@@ -333,20 +355,6 @@ pub trait ArenaTrait<P: Ptr, T: Drop> {
     {
         if self.get_inx(i).is_some() {
             Some(self.get_inx_mut_unwrap(i))
-        } else {
-            None
-        }
-    }
-
-    /// The value that `p` points to for writing, if it is live.
-    final fn get_mut(&mut self, p: P) -> Option<&mut T>
-        ensures* writes_back { sem 𝓛 (LendsIf Self.row T.row self.entry result
-            (with_value self.old (P.index p)) self.old) }
-        ensures value { option_copied_mut result
-            ≡ value_if (P.generation p) (entry_at self.old (P.index p)) }
-    {
-        if self.contains(p) {
-            Some(self.get_inx_mut_unwrap(p.inx()))
         } else {
             None
         }

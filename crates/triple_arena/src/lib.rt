@@ -5,23 +5,23 @@
 //! generic code asks for: `ArenaTrait`, `ArenaInsertTrait`, `DisjointableArenaTrait`.
 //!
 //! Contracts speak of an arena's `Content` (`specs/Content.antt`): the generation and the value at each index, the
-//! counter, the free indexes in the order in which they are taken, and the room. A struct over an arena takes
-//! `IsWellFormed` into its invariant: each call that changes an arena ensures it before and after, and `len` of the
-//! arena as it is. What is lent for writing ends as `with_value`, and the rules `writes` (`specs/ContentLaws.antt`),
-//! named on a function as `#[tactic(auto, using(triple_arena::specs::ContentLaws::writes))]`, say what that changes and
-//! keeps. `specs/CompressionLaws.antt` says what follows from the calls of a compression's map. Where the pointer type
-//! is a concrete one, a clause writes `⟦<P0 as Ptr>⟧.index p` for what is `P.index p` at a type parameter.
+//! counter, the free indexes in the order in which they are taken, and the room. What a call leaves is said once, in the
+//! trait: by a record of `specs/Changes.antt` for any arena (`IsInserted`, `IsRemoved`, ..), whose fields callers use as
+//! they are, and by the exact state (`inserted`, `removed`, ..), which an `Arena` gives as a function of its content.
+//!
+//! A struct over an arena takes `IsWellFormed` into its invariant: each call that changes an arena ensures it of what it
+//! leaves, and `len` of the arena as it is. What is lent for writing ends as `with_value`, and the rules `writes`
+//! (`specs/ContentLaws.antt`), named on a function as
+//! `#[tactic(auto, using(triple_arena::specs::ContentLaws::writes))]`, say what that changes and keeps.
+//! `specs/CompressionLaws.antt` says what follows from the calls of a compression's map. Where the pointer type is a
+//! concrete one, a clause writes `⟦<P0 as Ptr>⟧.index p` for what is `P.index p` at a type parameter.
 #![tactic(auto)]
 
 mod advancer;
 mod arena;
-mod arena_calls;
-mod arena_index;
 mod arena_trait;
-mod compression;
-mod disjointable;
-mod entry;
-mod insertion;
+mod disjointable_trait;
+mod insert_trait;
 mod slot;
 
 /// The advancers of the arenas.
@@ -29,9 +29,20 @@ pub mod arena_iterators {
     pub use crate::advancer::PtrAdvancer;
 }
 
-pub use arena::Arena;
+pub use arena::{
+    Arena, ArenaInsertEntries, ArenaInsertEntry, ArenaInsertEntryTrait, ArrayArena, BoxedArena,
+    HeapArena, LimitedArena,
+};
 pub use arena_trait::{ArenaTrait, CompactArenaTrait};
-pub use disjointable::DisjointableArenaTrait;
-pub use entry::{ArenaInsertEntries, ArenaInsertEntry, ArenaInsertEntryTrait};
-pub use insertion::ArenaInsertTrait;
+pub use disjointable_trait::DisjointableArenaTrait;
+pub use insert_trait::ArenaInsertTrait;
 pub use slot::ArenaSlot;
+pub use triple_arena_ptr::{
+    Advancer, AllocError, GetDisjointMutError, InvalidationOption, InvalidationResult,
+    MaxCapacityReductionError, NotWithinCapacityError, P0, P1, P2, P3, P4, P5, Pointer, Ptr,
+    PtrGen, PtrInx, PtrKind, PtrNoGen, Q2, ReallocationError,
+};
+pub use triple_arena_stack::{
+    NonZeroInxArray, NonZeroInxBoxedSlice, NonZeroInxGenericStack, NonZeroInxLimitedStack,
+    NonZeroInxLimitedVec, NonZeroInxVec, SetMaxCapacity,
+};

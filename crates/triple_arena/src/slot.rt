@@ -16,11 +16,11 @@ use triple_arena_stack::{NonZeroInxGenericStack, get_disjoint_mut};
 /// A slot of an arena: free, with a link to the next free one, or allocated, with a generation and a value.
 #[derive(Drop)]
 pub struct ArenaSlot<P: Ptr, T> {
-    entry: Entry<P::Gen, T>,
+    state: SlotState<P::Gen, T>,
 }
 
 #[derive(Drop)]
-enum Entry<G, T> {
+enum SlotState<G, T> {
     Free(Option<NonZeroUsize>),
     Used(G, T),
 }
@@ -37,28 +37,28 @@ pub(crate) trait ValueMut<T> {
         ensures value { held self.old ≡ Some result.now };
 }
 
-impl<G, T> ValueMut<T> for Entry<G, T> {
-    ghost use Rattle.triple_arena.specs.Entry.{entry_value, with_entry_value};
+impl<G, T> ValueMut<T> for SlotState<G, T> {
+    ghost use Rattle.triple_arena.specs.SlotState.{state_value, with_state_value};
 
-    ghost held = { entry_value };
+    ghost held = { state_value };
 
-    ghost with_held = { with_entry_value };
+    ghost with_held = { with_state_value };
 
     fn value_mut(&mut self) -> &mut T {
         match self {
-            Entry::Used(_, value) => value,
-            Entry::Free(_) => unreachable!(),
+            SlotState::Used(_, value) => value,
+            SlotState::Free(_) => unreachable!(),
         }
     }
 }
 
 impl<P: Ptr, T> Model for ArenaSlot<P, T> {
     ghost use Rattle.triple_arena.specs.Slot.{Slot};
-    ghost use Rattle.triple_arena.specs.Entry.{slot_of};
+    ghost use Rattle.triple_arena.specs.SlotState.{slot_of};
 
     ghost Value = { Slot T };
 
-    ghost view = { λ s. slot_of P.Gen.number s.entry };
+    ghost view = { λ s. slot_of P.Gen.number s.state };
 }
 
 impl<P: Ptr, T> ArenaSlot<P, T> {
@@ -66,7 +66,7 @@ impl<P: Ptr, T> ArenaSlot<P, T> {
         ensures { result ≡ free (option_map non_zero_usize_get next) }
     {
         ArenaSlot {
-            entry: Entry::Free(next),
+            state: SlotState::Free(next),
         }
     }
 
@@ -74,7 +74,7 @@ impl<P: Ptr, T> ArenaSlot<P, T> {
         ensures { result ≡ used (P.Gen.number generation) value }
     {
         ArenaSlot {
-            entry: Entry::Used(generation, value),
+            state: SlotState::Used(generation, value),
         }
     }
 
@@ -82,9 +82,9 @@ impl<P: Ptr, T> ArenaSlot<P, T> {
     pub(crate) fn entry(&self) -> Option<(P::Gen, &T)>
         ensures { option_map (λ e. (P.Gen.number e.0, e.1.now)) result ≡ entry_of self.now }
     {
-        match &self.entry {
-            Entry::Used(generation, value) => Some((*generation, value)),
-            Entry::Free(_) => None,
+        match &self.state {
+            SlotState::Used(generation, value) => Some((*generation, value)),
+            SlotState::Free(_) => None,
         }
     }
 
@@ -92,9 +92,9 @@ impl<P: Ptr, T> ArenaSlot<P, T> {
     pub(crate) fn set_generation(&mut self, generation: P::Gen)
         ensures { self.new ≡ with_slot_generation self.old (P.Gen.number generation) }
     {
-        match &mut self.entry {
-            Entry::Used(own, _) => *own = generation,
-            Entry::Free(_) => {}
+        match &mut self.state {
+            SlotState::Used(own, _) => *own = generation,
+            SlotState::Free(_) => {}
         }
     }
 
@@ -102,9 +102,9 @@ impl<P: Ptr, T> ArenaSlot<P, T> {
     pub(crate) fn value(&self) -> Option<&T>
         ensures { option_copied result ≡ value_of self.now }
     {
-        match &self.entry {
-            Entry::Used(_, value) => Some(value),
-            Entry::Free(_) => None,
+        match &self.state {
+            SlotState::Used(_, value) => Some(value),
+            SlotState::Free(_) => None,
         }
     }
 
@@ -112,15 +112,15 @@ impl<P: Ptr, T> ArenaSlot<P, T> {
     pub(crate) fn get(&self, generation: P::Gen) -> Option<&T>
         ensures { option_copied result ≡ value_if (P.Gen.number generation) (entry_of self.now) }
     {
-        match &self.entry {
-            Entry::Used(own, value) => {
+        match &self.state {
+            SlotState::Used(own, value) => {
                 if *own == generation {
                     Some(value)
                 } else {
                     None
                 }
             }
-            Entry::Free(_) => None,
+            SlotState::Free(_) => None,
         }
     }
 
@@ -140,10 +140,10 @@ impl<P: Ptr, T> ArenaSlot<P, T> {
         T: Drop,
         ensures { option_map non_zero_usize_get result ≡ link_of self }
     {
-        let ArenaSlot { entry } = self;
-        match entry {
-            Entry::Used(_, _) => None,
-            Entry::Free(next) => next,
+        let ArenaSlot { state } = self;
+        match state {
+            SlotState::Used(_, _) => None,
+            SlotState::Free(next) => next,
         }
     }
 
@@ -151,10 +151,10 @@ impl<P: Ptr, T> ArenaSlot<P, T> {
     pub(crate) fn into_live(self) -> Option<(P::Gen, T)>
         ensures { option_map (λ e. (P.Gen.number e.0, e.1)) result ≡ entry_of self }
     {
-        let ArenaSlot { entry } = self;
-        match entry {
-            Entry::Used(generation, value) => Some((generation, value)),
-            Entry::Free(_) => None,
+        let ArenaSlot { state } = self;
+        match state {
+            SlotState::Used(generation, value) => Some((generation, value)),
+            SlotState::Free(_) => None,
         }
     }
 
@@ -163,10 +163,10 @@ impl<P: Ptr, T> ArenaSlot<P, T> {
         requires { IsSome (entry_of self) }
         ensures { Some (P.Gen.number result.0, result.1) ≡ entry_of self }
     {
-        let ArenaSlot { entry } = self;
-        match entry {
-            Entry::Used(generation, value) => (generation, value),
-            Entry::Free(_) => unreachable!(),
+        let ArenaSlot { state } = self;
+        match state {
+            SlotState::Used(generation, value) => (generation, value),
+            SlotState::Free(_) => unreachable!(),
         }
     }
 }
@@ -177,7 +177,7 @@ impl<P: Ptr, T> ValueMut<T> for ArenaSlot<P, T> {
     ghost with_held = { with_slot_value };
 
     fn value_mut(&mut self) -> &mut T {
-        self.entry.value_mut()
+        self.state.value_mut()
     }
 }
 

@@ -4,7 +4,6 @@ pub mod Hexadecimal
 pub mod Index
 pub mod InvalidationOption
 pub mod InvalidationResult
-pub mod NoGenLaws
 pub mod NonZeroUsizeIterator
 pub mod NonZeros
 pub mod Pointer

@@ -25,6 +25,10 @@ impl PtrGen for () {
 
     ghost equal = { λ a b. refl };
 
+    ghost cloned = { λ a b same. same };
+
+    ghost always_clones = { λ a. Prim.search rules };
+
     fn one() -> Self {}
 
     fn two() -> Self {}
@@ -52,6 +56,10 @@ impl PtrGen for NonZeroU8 {
     ghost ordered = { λ a b. Prim.search (comparing, rules) };
 
     ghost equal = { λ a b. Prim.search (comparing, rules) };
+
+    ghost cloned = { λ a b same. same };
+
+    ghost always_clones = { λ a. Prim.search rules };
 
     fn one() -> Self {
         NonZeroU8::MIN
@@ -89,6 +97,10 @@ impl PtrGen for NonZeroU16 {
 
     ghost equal = { λ a b. Prim.search (comparing, rules) };
 
+    ghost cloned = { λ a b same. same };
+
+    ghost always_clones = { λ a. Prim.search rules };
+
     fn one() -> Self {
         NonZeroU16::MIN
     }
@@ -124,6 +136,10 @@ impl PtrGen for NonZeroU32 {
     ghost ordered = { λ a b. Prim.search (comparing, rules) };
 
     ghost equal = { λ a b. Prim.search (comparing, rules) };
+
+    ghost cloned = { λ a b same. same };
+
+    ghost always_clones = { λ a. Prim.search rules };
 
     fn one() -> Self {
         NonZeroU32::MIN
@@ -161,6 +177,10 @@ impl PtrGen for NonZeroU64 {
 
     ghost equal = { λ a b. Prim.search (comparing, rules) };
 
+    ghost cloned = { λ a b same. same };
+
+    ghost always_clones = { λ a. Prim.search rules };
+
     fn one() -> Self {
         NonZeroU64::MIN
     }
@@ -197,6 +217,10 @@ impl PtrGen for NonZeroU128 {
 
     ghost equal = { λ a b. Prim.search (comparing, rules) };
 
+    ghost cloned = { λ a b same. same };
+
+    ghost always_clones = { λ a. Prim.search rules };
+
     fn one() -> Self {
         NonZeroU128::MIN
     }
@@ -231,6 +255,10 @@ impl PtrGen for NonZeroUsize {
     ghost ordered = { λ a b. Prim.search (comparing, rules) };
 
     ghost equal = { λ a b. Prim.search (comparing, rules) };
+
+    ghost cloned = { λ a b same. same };
+
+    ghost always_clones = { λ a. Prim.search rules };
 
     fn one() -> Self {
         NonZeroUsize::MIN

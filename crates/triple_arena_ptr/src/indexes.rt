@@ -23,6 +23,10 @@ impl PtrInx for NonZeroU8 {
 
     ghost equal = { λ a b. Prim.search (comparing, rules) };
 
+    ghost cloned = { λ a b same. same };
+
+    ghost always_clones = { λ a. Prim.search rules };
+
     fn try_from_usize(inx: NonZeroUsize) -> Option<Self> {
         match u8::try_from(inx.get()) {
             Ok(number) => NonZeroU8::new(number),
@@ -60,6 +64,10 @@ impl PtrInx for NonZeroU16 {
     ghost ordered = { λ a b. Prim.search (comparing, rules) };
 
     ghost equal = { λ a b. Prim.search (comparing, rules) };
+
+    ghost cloned = { λ a b same. same };
+
+    ghost always_clones = { λ a. Prim.search rules };
 
     fn try_from_usize(inx: NonZeroUsize) -> Option<Self> {
         match u16::try_from(inx.get()) {
@@ -99,6 +107,10 @@ impl PtrInx for NonZeroU32 {
 
     ghost equal = { λ a b. Prim.search (comparing, rules) };
 
+    ghost cloned = { λ a b same. same };
+
+    ghost always_clones = { λ a. Prim.search rules };
+
     fn try_from_usize(inx: NonZeroUsize) -> Option<Self> {
         match u32::try_from(inx.get()) {
             Ok(number) => NonZeroU32::new(number),
@@ -137,6 +149,10 @@ impl PtrInx for NonZeroU64 {
 
     ghost equal = { λ a b. Prim.search (comparing, rules) };
 
+    ghost cloned = { λ a b same. same };
+
+    ghost always_clones = { λ a. Prim.search rules };
+
     fn try_from_usize(inx: NonZeroUsize) -> Option<Self> {
         NonZeroU64::new(inx.get() as u64)
     }
@@ -171,6 +187,10 @@ impl PtrInx for NonZeroU128 {
     ghost ordered = { λ a b. Prim.search (comparing, rules) };
 
     ghost equal = { λ a b. Prim.search (comparing, rules) };
+
+    ghost cloned = { λ a b same. same };
+
+    ghost always_clones = { λ a. Prim.search rules };
 
     fn try_from_usize(inx: NonZeroUsize) -> Option<Self> {
         NonZeroU128::new(inx.get() as u128)
@@ -209,6 +229,10 @@ impl PtrInx for NonZeroUsize {
     ghost ordered = { λ a b. Prim.search (comparing, rules) };
 
     ghost equal = { λ a b. Prim.search (comparing, rules) };
+
+    ghost cloned = { λ a b same. same };
+
+    ghost always_clones = { λ a. Prim.search rules };
 
     fn try_from_usize(inx: NonZeroUsize) -> Option<Self> {
         Some(inx)

@@ -7,7 +7,8 @@
 //! - [`Ptr`], [`PtrInx`] and [`PtrGen`] say what a pointer, an index and a generation are. Their laws are all that code
 //!   over any pointer type needs: the index is not 0, index and generation determine the pointer, and the order goes
 //!   by index and then by generation, with `==` and `Hash` in agreement.
-//! - [`P0`] to [`P5`], [`Q2`] and [`PtrNoGen`] are pointer types. Choose by how many elements and removals there are.
+//! - [`Pointer`] is the one pointer type, for every index, generation and kind. [`P0`] to [`P5`], [`Q2`] and [`PtrNoGen`]
+//!   are it, each with a kind of its own. Choose by how many elements and removals there are.
 //! - [`Advancer`] goes over a collection that may change on the way; [`nzusize_iter`] goes over indexes.
 //! - [`Recast`] renames the pointers that a value holds, by a [`Recaster`].
 //! - [`Probes`] counts, as comparisons; contracts see a number without bound.
@@ -15,67 +16,34 @@
 //!
 //! # A pointer type of one's own
 //!
-//! `N3` has 255 indexes and the generations 1 to 3. Std's integers that are not 0 are generations already; fewer of
-//! them are such an integer with an invariant, seen as the integer.
+//! It is a kind and an alias. The kind is an empty type with the name that the pointer's text begins with; an arena over
+//! this pointer takes no pointer of another kind. Indexes and generations are std's integers that are not 0, and the
+//! generation `()` is for pointers that have none.
 //!
 //! ```rust
-//! #[derive(Clone, Copy, Debug, PartialEq, Eq, PartialOrd, Ord, Hash)]
-//! pub struct Gen3 {
-//!     number: NonZeroU8,
-//! }
+//! ghost use Rattle.std.specs.Prelude.{codes};
 //!
-//! impl Model for Gen3 {
-//!     ghost Value = { NonZeroU8 };
-//!     ghost view = { λ g. g.number };
-//!     ghost invariant = { λ g. non_zero_u8_get g.number ≤ 3 };
-//!     ghost inverse = { λ number. record { number = number } };
-//! }
+//! use std::num::{NonZeroU16, NonZeroU64};
+//! use triple_arena_ptr::{Pointer, PtrKind};
 //!
-//! impl PtrGen for Gen3 {
-//!     ghost number = { non_zero_u8_get };
-//!     ghost last = { Some 3 };
-//!     ghost counts_to_two = { λ g h. Prim.search rules };
-//!     ghost positive = { λ a. a.ok };
-//!     ghost determined = { u8_determined };
-//!     ghost ordered = { λ a b. Prim.search (comparing, rules) };
-//!     ghost equal = { λ a b. Prim.search (comparing, rules) };
-//!     // .. `one`, `two`, `generational_inc` and `fmt_hex`
-//! }
+//! /// A pointer to a street, of which there are at most 65,535 at a time.
+//! pub type StreetPtr = Pointer<NonZeroU16, NonZeroU64, StreetKind>;
 //!
+//! /// The kind of `StreetPtr`.
 //! #[derive(Clone, Copy, PartialEq, Eq, PartialOrd, Ord, Hash)]
-//! pub struct N3 {
-//!     inx: NonZeroU8,
-//!     generation: Gen3,
-//! }
+//! pub struct StreetKind;
 //!
-//! impl Ptr for N3 {
-//!     type Inx = NonZeroU8;
-//!     type Gen = Gen3;
-//!     ghost index = { λ p. non_zero_u8_get p.inx };
-//!     ghost generation = { λ p. non_zero_u8_get p.generation };
-//!     ghost name = { codes "N3" };
-//!     ghost index_positive = { λ p. p.inx.ok };
-//!     ghost generation_positive = { λ p. p.generation.ok };
-//!     ghost determined = { λ p q e g k. record {
-//!         inx = u8_determined p.inx q.inx e k;
-//!         generation = u8_determined p.generation q.generation g k;
-//!     } };
-//!     ghost ordered = { λ p q. Prim.search (comparing, rules) };
-//!     ghost equal = { λ p q. Prim.search (comparing, rules) };
-//!     ghost shown = { λ p. refl };
-//!     // .. `name`, `invalid`, `inx`, `generation` and `_from_raw`
-//! }
+//! impl PtrKind for StreetKind {
+//!     ghost name = { codes "Street" };
 //!
-//! impl fmt::Debug for N3 {
-//!     ghost debug_output = { λ p. Some (pointer_text (codes "N3") (Some 3) (non_zero_u8_get p.inx) (non_zero_u8_get p.generation)) };
-//!
-//!     fn fmt<W: fmt::Write>(&self, f: &mut fmt::Formatter<W>) -> fmt::Result {
-//!         fmt_pointer(N3::name(), self.inx, self.generation, f)
+//!     fn name() -> &'static str {
+//!         "Street"
 //!     }
 //! }
 //! ```
 //!
-//! `src/tests/n3.rt` has it whole, with its imports.
+//! A generation of one's own is an integer that is not 0 with an invariant, and an impl of [`PtrGen`]: the crate
+//! `narrow_ptr` has one that counts to 3, for tests.
 #![tactic(auto)]
 
 mod advancer;
@@ -85,6 +53,7 @@ mod hexadecimal;
 mod indexes;
 mod invalidation;
 mod nzusize;
+mod pointer;
 mod pointer_text;
 mod probes;
 mod ptr;
@@ -99,6 +68,7 @@ pub use errors::{
 };
 pub use invalidation::{InvalidationOption, InvalidationResult};
 pub use nzusize::{IntoNonZeroUsizeIterator, NonZeroUsizeIterator, nzusize_iter};
+pub use pointer::{Pointer, PtrKind};
 pub use pointer_text::fmt_pointer;
 pub use probes::Probes;
 pub use ptr::{Ptr, PtrGen, PtrInx};

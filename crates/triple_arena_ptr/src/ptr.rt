@@ -49,6 +49,11 @@ pub trait PtrGen: Debug + Hash + Copy + Ord {
     ghost ordered: { (a b : Self) → Self.cmp a b ≡ nat_cmp (number a) (number b) };
 
     ghost equal: { (a b : Self) → Self.eq a b ≡ (number a == number b) };
+
+    // A clone is the generation itself, and is always made.
+    ghost cloned: { (a b : Self) → Self.is_clone a b → b ≡ a };
+
+    ghost always_clones: { (a : Self) → Self.is_infallible a };
 }
 
 /// An index, from 1 to a greatest one.
@@ -89,6 +94,11 @@ pub trait PtrInx: Debug + Hash + Copy + Ord {
     ghost ordered: { (a b : Self) → Self.cmp a b ≡ nat_cmp (number a) (number b) };
 
     ghost equal: { (a b : Self) → Self.eq a b ≡ (number a == number b) };
+
+    // A clone is the index itself, and is always made.
+    ghost cloned: { (a b : Self) → Self.is_clone a b → b ≡ a };
+
+    ghost always_clones: { (a : Self) → Self.is_infallible a };
 }
 
 /// A pointer into an arena: an index and a generation.
@@ -139,6 +149,11 @@ pub trait Ptr: Debug + Hash + Copy + Ord {
     ghost ordered: { (p q : Self) → Self.cmp p q ≡ then_cmp (on index nat_cmp) (on generation nat_cmp) p q };
 
     ghost equal: { (p q : Self) → Self.eq p q ≡ ((index p == index q) && (generation p == generation q)) };
+
+    // A clone is the pointer itself, and is always made.
+    ghost cloned: { (p q : Self) → Self.is_clone p q → q ≡ p };
+
+    ghost always_clones: { (p : Self) → Self.is_infallible p };
 
     // What `{:?}` writes.
     ghost shown: { (p : Self) → Self.debug_output p ≡ Some (pointer_text name Self.Gen.last (index p) (generation p)) };

@@ -2,5 +2,4 @@
 mod calls;
 mod edges;
 mod laws;
-mod n3;
 mod texts;

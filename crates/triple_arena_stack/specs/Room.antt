@@ -1,5 +1,5 @@
 -- How many items fit in a stack.
-use Rattle.std.specs.Prelude.{ℕ, ◌*◌, ◌<◌, Option, Some, None, min, max}
+use Rattle.std.specs.Prelude.{ℕ, ◌*◌, ◌<◌, Option, Some, None, min, max, nat_lt, if◌then◌else◌}
 
 -- the slots that are reserved, and the greatest capacity, if there is one
 pub record Room : Type 0 where
@@ -28,6 +28,10 @@ with_reserved r n = record { reserved = n; limit = r.limit }
 -- the limit
 abbrev pub grown : Room → Room
 grown r = with_reserved r (within r.limit (max 4 (2 * r.reserved)))
+
+-- the room after a push onto so many items: the same, or a greater one where all slots are taken
+abbrev pub room_after : ℕ → Room → Room
+room_after len r = if nat_lt len (capacity r) then r else grown r
 
 -- the room with this limit
 abbrev pub limited : Room → ℕ → Room

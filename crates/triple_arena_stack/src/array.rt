@@ -1,5 +1,5 @@
 //! A stack in an array.
-ghost use Rattle.std.specs.Prelude.{Some, refl};
+ghost use Rattle.std.specs.Prelude.{Some, false, refl};
 
 use crate::stack::make_room;
 use crate::{
@@ -24,6 +24,8 @@ impl<T: Default + Drop, const LIMIT: usize> NonZeroInxGenericStack<T>
     ghost room = { λ _. record { reserved = LIMIT; limit = Some LIMIT } };
 
     ghost room_at = { λ _. record { reserved = LIMIT; limit = Some LIMIT } };
+
+    ghost takes_memory = { false };
 
     ghost with_items = { λ s xs. record { array = record { items = xs } } };
 

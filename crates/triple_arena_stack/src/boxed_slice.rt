@@ -1,5 +1,5 @@
 //! A stack on the heap of one capacity.
-ghost use Rattle.std.specs.Prelude.{Some, refl};
+ghost use Rattle.std.specs.Prelude.{Some, true, refl};
 ghost use Rattle.triple_arena_stack.specs.Heap.{with_items as with_items_of};
 
 use crate::heap::Heap;
@@ -25,6 +25,8 @@ impl<T: Drop, A: Allocator> NonZeroInxGenericStack<T> for NonZeroInxBoxedSlice<T
     ghost room = { λ s. record { reserved = s.heap.reserved; limit = Some s.heap.reserved } };
 
     ghost room_at = { λ n. record { reserved = n; limit = Some n } };
+
+    ghost takes_memory = { true };
 
     ghost with_items = { λ s xs. record { heap = with_items_of s.heap xs } };
 

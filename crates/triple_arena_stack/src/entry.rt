@@ -1,9 +1,10 @@
 //! A place for one item more, which tells its index before the item is there.
-ghost use Rattle.std.specs.Prelude.{◌≡◌, ℕ, ◌+◌, ◌<◌, ◌↔◌, Some, [], ◌∷◌, ◌++◌, length, IsOk, IfOk, IsErrOf};
+ghost use Rattle.std.specs.Prelude.{◌≡◌, ℕ, ◌+◌, ◌<◌, ◌↔◌, length, IsOk, IfOk};
 ghost use Rattle.std.specs.Borrow.{sem, RestsIfErr};
 ghost use Rattle.std.specs.Int.NonZero.{non_zero_usize_get};
 ghost use Rattle.triple_arena_stack.specs.Entry.{entry_stack, entry_lender};
-ghost use Rattle.triple_arena_stack.specs.Room.{capacity as capacity_of, grown};
+ghost use Rattle.triple_arena_stack.specs.Push.{IsRefusal, IsPushed, HasFreeSlot};
+ghost use Rattle.triple_arena_stack.specs.Room.{capacity as capacity_of};
 
 use crate::NonZeroInxGenericStack;
 use crate::stack::push_in_room;
@@ -30,16 +31,9 @@ pub trait NonZeroInxGenericStackEntries<T: Drop>: NonZeroInxGenericStack<T> {
         &mut self,
     ) -> Result<NonZeroInxGenericStackPushEntry<'_, T, Self>, ReallocationError>
         ensures same_reference { IfOk result (λ e. entry_lender e ≡ self.entry.ghost_name) }
-        ensures items { IfOk result (λ e. Self.items (entry_stack e) ≡ Self.items self.old) }
-        ensures has_room { IfOk result (λ e. length (Self.items (entry_stack e)) < capacity_of (Self.room (entry_stack e))) }
-        ensures kept { length (Self.items self.old) < capacity_of (Self.room self.old)
-            → IfOk result (λ e. Self.room (entry_stack e) ≡ Self.room self.old) }
-        ensures grown { length (Self.items self.old) ≡ capacity_of (Self.room self.old)
-            → IfOk result (λ e. Self.room (entry_stack e) ≡ grown (Self.room self.old)) }
-        ensures succeeds { length (Self.items self.old) < capacity_of (Self.room self.old)
-            → IsOk result }
-        ensures beyond { IsErrOf result ReallocationError.BeyondMaxCapacity
-            ↔ ((Self.room self.old).limit ≡ Some (length (Self.items self.old))) }
+        ensures free { IfOk result (λ e. HasFreeSlot Self.items Self.room self.old (entry_stack e)) }
+        ensures refusal { IsRefusal Self.takes_memory (length (Self.items self.old))
+            (Self.room self.old) result }
         ensures* err { sem 𝓛 (RestsIfErr Self.row self.entry entry_lender result
             (λ s. s ≡ self.old)) };
 
@@ -48,16 +42,9 @@ pub trait NonZeroInxGenericStackEntries<T: Drop>: NonZeroInxGenericStack<T> {
         &mut self,
     ) -> Result<NonZeroInxGenericStackPushEntry<'_, T, Self>, ReallocationError>
         ensures same_reference { IfOk result (λ e. entry_lender e ≡ self.entry.ghost_name) }
-        ensures items { IfOk result (λ e. Self.items (entry_stack e) ≡ Self.items self.old) }
-        ensures has_room { IfOk result (λ e. length (Self.items (entry_stack e)) < capacity_of (Self.room (entry_stack e))) }
-        ensures kept { length (Self.items self.old) < capacity_of (Self.room self.old)
-            → IfOk result (λ e. Self.room (entry_stack e) ≡ Self.room self.old) }
-        ensures grown { length (Self.items self.old) ≡ capacity_of (Self.room self.old)
-            → IfOk result (λ e. Self.room (entry_stack e) ≡ grown (Self.room self.old)) }
-        ensures succeeds { length (Self.items self.old) < capacity_of (Self.room self.old)
-            → IsOk result }
-        ensures beyond { IsErrOf result ReallocationError.BeyondMaxCapacity
-            ↔ ((Self.room self.old).limit ≡ Some (length (Self.items self.old))) }
+        ensures free { IfOk result (λ e. HasFreeSlot Self.items Self.room self.old (entry_stack e)) }
+        ensures refusal { IsRefusal Self.takes_memory (length (Self.items self.old))
+            (Self.room self.old) result }
         ensures* err { sem 𝓛 (RestsIfErr Self.row self.entry entry_lender result
             (λ s. s ≡ self.old)) };
 }
@@ -118,11 +105,9 @@ impl<'a, T: Drop, S: NonZeroInxGenericStack<T>> NonZeroInxGenericStackPushEntryT
 
     fn push(self, value: T) -> NonZeroUsize
         requires { length (S.items (entry_stack self)) < capacity_of (S.room (entry_stack self)) }
-        ensures index { non_zero_usize_get result ≡ length (S.items (entry_stack self.entry)) + 1 }
-
         // `self.exit.0.now` is the stack as it is left.
-        ensures items { S.items self.exit.0.now ≡ S.items (entry_stack self.entry) ++ value ∷ [] }
-        ensures room { S.room self.exit.0.now ≡ S.room (entry_stack self.entry) }
+        ensures { IsPushed S.items S.room (non_zero_usize_get result) value
+            (S.room (entry_stack self.entry)) (entry_stack self.entry) self.exit.0.now }
     {
         let NonZeroInxGenericStackPushEntry { stack, of: _ } = self;
         push_in_room(stack, value)

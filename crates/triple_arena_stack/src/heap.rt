@@ -12,25 +12,22 @@ use std::marker::Model;
 use std::num::NonZeroUsize;
 use triple_arena_ptr::ReallocationError;
 
-/// Items on the heap, with a number of reserved slots of their own.
+/// Items on the heap, in exactly the slots that were reserved for them.
 #[derive(Drop)]
 pub struct Heap<T, A: Allocator = Global> {
     vec: Vec<T, A>,
-    // At most the capacity of `vec`, which the allocator may have made greater.
-    reserved: usize,
 }
 
 impl<T, A: Allocator> Model for Heap<T, A> {
-    ghost use Rattle.std.specs.Prelude.{◌≤◌, vec_len, vec_capacity};
+    ghost use Rattle.std.specs.Prelude.{vec_capacity};
     ghost use Rattle.triple_arena_stack.specs.Heap.{Heap as Slots, heap_code};
 
     ghost Value = { Slots T };
 
     ghost coded = { heap_code T.code };
 
-    ghost view = { λ h. record { items = h.vec.items; reserved = h.reserved } };
-
-    ghost invariant = { λ h. (vec_len h.vec ≤ h.reserved) × (h.reserved ≤ vec_capacity h.vec) };
+    // The slots are the memory that is held: a body that holds more, or less, has other slots.
+    ghost view = { λ h. record { items = h.vec.items; reserved = vec_capacity h.vec } };
 }
 
 impl<T: Drop, A: Allocator> Heap<T, A> {
@@ -43,7 +40,6 @@ impl<T: Drop, A: Allocator> Heap<T, A> {
     {
         Heap {
             vec: Vec::new(alloc),
-            reserved: 0,
         }
     }
 
@@ -55,7 +51,7 @@ impl<T: Drop, A: Allocator> Heap<T, A> {
         ensures refused { IfErr result (λ e. e ≡ ReallocationError.AllocError) }
     {
         match Vec::with_capacity(alloc, reserved) {
-            Ok(vec) => Ok(Heap { vec, reserved }),
+            Ok(vec) => Ok(Heap { vec }),
             Err(_) => Err(ReallocationError::AllocError),
         }
     }
@@ -66,7 +62,7 @@ impl<T: Drop, A: Allocator> Heap<T, A> {
         ensures holds_all { length self.now.items ≤ result }
         ensures small { result < 2 ^ 63 }
     {
-        self.reserved
+        self.vec.capacity()
     }
 
     /// The number of items.
@@ -85,11 +81,10 @@ impl<T: Drop, A: Allocator> Heap<T, A> {
         ensures refused { IfErr result (λ e. e ≡ ReallocationError.AllocError) }
         ensures err { OnErr result (self.new ≡ self.old) }
     {
-        if wanted > self.reserved {
-            if self.vec.reserve_exact(wanted - self.vec.len()).is_err() {
-                return Err(ReallocationError::AllocError);
-            }
-            self.reserved = wanted;
+        if wanted > self.vec.capacity()
+            && self.vec.reserve_exact(wanted - self.vec.len()).is_err()
+        {
+            return Err(ReallocationError::AllocError);
         }
         Ok(())
     }

@@ -1,5 +1,5 @@
 //! A stack on the heap whose limit can be set.
-ghost use Rattle.std.specs.Prelude.{◌≤◌, None, length, refl};
+ghost use Rattle.std.specs.Prelude.{◌≤◌, None, length, true, refl};
 ghost use Rattle.triple_arena_stack.specs.Limited.{with_items as with_items_of, with_limit as with_limit_of};
 
 use crate::heap::Heap;
@@ -41,6 +41,8 @@ impl<T: Drop, A: Allocator> NonZeroInxGenericStack<T> for NonZeroInxLimitedVec<T
     ghost room = { λ s. record { reserved = s.reserved; limit = s.limit } };
 
     ghost room_at = { λ n. record { reserved = n; limit = None } };
+
+    ghost takes_memory = { true };
 
     ghost with_items = { with_items_of };
 

@@ -1,10 +1,11 @@
 //! What every stack does.
-ghost use Rattle.std.specs.Prelude.{◌≡◌, ◌≢◌, ℕ, ◌+◌, ◌-◌, ◌*◌, ◌^◌, ◌<◌, ◌≤◌, ◌↔◌, List, [], ◌∷◌, ◌++◌, Some, None, length, max, IsTrue, IsOk, IsSome, IfOk, OnOk, OnErr, IsErrOf};
+ghost use Rattle.std.specs.Prelude.{◌≡◌, ◌≢◌, ℕ, ◌+◌, ◌-◌, ◌*◌, ◌^◌, ◌<◌, ◌≤◌, ◌↔◌, Bool, List, [], ◌∷◌, ◌++◌, Some, None, length, max, IsTrue, IsOk, IsSome, IfOk, OnOk, OnErr, IsErrOf};
 ghost use Rattle.std.specs.Borrow.{sem, Lends, LendsIf, Array};
 ghost use Rattle.std.specs.Int.NonZero.{non_zero_usize_get};
 ghost use Rattle.std.specs.List.{refill};
 ghost use Rattle.std.specs.Option.{option_copied, option_copied_mut, option_to_list};
-ghost use Rattle.triple_arena_stack.specs.Room.{Room, capacity as capacity_of, grown, with_reserved, IsBeyond};
+ghost use Rattle.triple_arena_stack.specs.Push.{IsRefusal, IsPushed, HasFreeSlot, IsGrowingPush};
+ghost use Rattle.triple_arena_stack.specs.Room.{Room, capacity as capacity_of, with_reserved, IsBeyond};
 ghost use Rattle.triple_arena_stack.specs.Stack.{item_at, with_item, exchanged};
 
 use std::num::NonZeroUsize;
@@ -24,6 +25,9 @@ pub trait NonZeroInxGenericStack<T: Drop> {
     // The room of a stack that is made for so many items.
     ghost room_at: { ℕ → Room };
 
+    // Whether stacks of this type take memory. Where none does, no call answers `AllocError`.
+    ghost takes_memory: { Bool };
+
     // The stack with other items in the same room.
     ghost with_items: { Self → List T → Self };
 
@@ -42,7 +46,8 @@ pub trait NonZeroInxGenericStack<T: Drop> {
         // No memory is asked for where a new stack has the room already.
         ensures succeeds { min ≤ capacity_of (room_at 0) → IsOk result }
         ensures beyond { IsErrOf result ReallocationError.BeyondMaxCapacity
-            ↔ IsBeyond (room_at min).limit min };
+            ↔ IsBeyond (room_at min).limit min }
+        ensures memory { IsErrOf result ReallocationError.AllocError → IsTrue takes_memory };
 
     /// How many items fit with no growth.
     fn capacity(&self) -> usize
@@ -72,6 +77,7 @@ pub trait NonZeroInxGenericStack<T: Drop> {
         ensures succeeds { min ≤ capacity_of (room self.old) → IsOk result }
         ensures beyond { IsErrOf result ReallocationError.BeyondMaxCapacity
             ↔ IsBeyond (room self.old).limit min }
+        ensures memory { IsErrOf result ReallocationError.AllocError → IsTrue takes_memory }
         ensures err { OnErr result (self.new ≡ self.old) };
 
     /// Appends `value`, and answers its index. Where all slots are taken the stack stays as it is,
@@ -129,16 +135,7 @@ pub trait NonZeroInxGenericStack<T: Drop> {
     /// It answers `BeyondMaxCapacity` where the length is the greatest capacity, and `AllocError`
     /// where the memory was refused. The stack is then as it was, and `value` is dropped.
     final fn push_reallocating(&mut self, value: T) -> Result<NonZeroUsize, ReallocationError>
-        ensures index { IfOk result (λ i. non_zero_usize_get i ≡ length (items self.old) + 1) }
-        ensures items { OnOk result (items self.new ≡ items self.old ++ value ∷ []) }
-        ensures kept { length (items self.old) < capacity_of (room self.old)
-            → room self.new ≡ room self.old }
-        ensures grown { length (items self.old) ≡ capacity_of (room self.old)
-            → OnOk result (room self.new ≡ grown (room self.old)) }
-        ensures succeeds { length (items self.old) < capacity_of (room self.old) → IsOk result }
-        ensures beyond { IsErrOf result ReallocationError.BeyondMaxCapacity
-            ↔ ((room self.old).limit ≡ Some (length (items self.old))) }
-        ensures err { OnErr result (self.new ≡ self.old) }
+        ensures { IsGrowingPush items room takes_memory value self.old result self.new }
     {
         make_room(self)?;
         Ok(push_in_room(self, value))
@@ -146,16 +143,7 @@ pub trait NonZeroInxGenericStack<T: Drop> {
 
     /// The same as `push_reallocating`.
     final fn push(&mut self, value: T) -> Result<NonZeroUsize, ReallocationError>
-        ensures index { IfOk result (λ i. non_zero_usize_get i ≡ length (items self.old) + 1) }
-        ensures items { OnOk result (items self.new ≡ items self.old ++ value ∷ []) }
-        ensures kept { length (items self.old) < capacity_of (room self.old)
-            → room self.new ≡ room self.old }
-        ensures grown { length (items self.old) ≡ capacity_of (room self.old)
-            → OnOk result (room self.new ≡ grown (room self.old)) }
-        ensures succeeds { length (items self.old) < capacity_of (room self.old) → IsOk result }
-        ensures beyond { IsErrOf result ReallocationError.BeyondMaxCapacity
-            ↔ ((room self.old).limit ≡ Some (length (items self.old))) }
-        ensures err { OnErr result (self.new ≡ self.old) }
+        ensures { IsGrowingPush items room takes_memory value self.old result self.new }
     {
         self.push_reallocating(value)
     }
@@ -237,15 +225,9 @@ fn doubled(capacity: usize) -> usize
 pub(crate) fn make_room<T: Drop, S: NonZeroInxGenericStack<T>>(
     stack: &mut S,
 ) -> Result<(), ReallocationError>
-    ensures items { S.items stack.new ≡ S.items stack.old }
-    ensures fits { OnOk result (length (S.items stack.new) < capacity_of (S.room stack.new)) }
-    ensures kept { length (S.items stack.old) < capacity_of (S.room stack.old)
-        → S.room stack.new ≡ S.room stack.old }
-    ensures grown { length (S.items stack.old) ≡ capacity_of (S.room stack.old)
-        → OnOk result (S.room stack.new ≡ grown (S.room stack.old)) }
-    ensures succeeds { length (S.items stack.old) < capacity_of (S.room stack.old) → IsOk result }
-    ensures beyond { IsErrOf result ReallocationError.BeyondMaxCapacity
-        ↔ ((S.room stack.old).limit ≡ Some (length (S.items stack.old))) }
+    ensures free { OnOk result (HasFreeSlot S.items S.room stack.old stack.new) }
+    ensures refusal { IsRefusal S.takes_memory (length (S.items stack.old)) (S.room stack.old)
+        result }
     ensures err { OnErr result (stack.new ≡ stack.old) }
 {
     let capacity = stack.capacity();
@@ -266,9 +248,8 @@ pub(crate) fn push_in_room<T: Drop, S: NonZeroInxGenericStack<T>>(
     value: T,
 ) -> NonZeroUsize
     requires { length (S.items stack.old) < capacity_of (S.room stack.old) }
-    ensures index { non_zero_usize_get result ≡ length (S.items stack.old) + 1 }
-    ensures items { S.items stack.new ≡ S.items stack.old ++ value ∷ [] }
-    ensures room { S.room stack.new ≡ S.room stack.old }
+    ensures { IsPushed S.items S.room (non_zero_usize_get result) value (S.room stack.old)
+        stack.old stack.new }
 {
     match stack.push_within_capacity(value) {
         Ok(i) => i,

@@ -1,5 +1,6 @@
-//! What no clause says: that memory is had where there is some; and each generic call at each
-//! stack.
+//! What no clause says: that memory is had where there is some, at every size; and each generic
+//! call at each stack.
 mod capacities;
 mod generic;
 mod refusals;
+mod sizes;

@@ -1,5 +1,5 @@
 //! A stack on the heap.
-ghost use Rattle.std.specs.Prelude.{None, refl};
+ghost use Rattle.std.specs.Prelude.{None, true, refl};
 ghost use Rattle.triple_arena_stack.specs.Heap.{with_items as with_items_of};
 
 use crate::heap::Heap;
@@ -25,6 +25,8 @@ impl<T: Drop, A: Allocator> NonZeroInxGenericStack<T> for NonZeroInxVec<T, A> {
     ghost room = { λ s. record { reserved = s.heap.reserved; limit = None } };
 
     ghost room_at = { λ n. record { reserved = n; limit = None } };
+
+    ghost takes_memory = { true };
 
     ghost with_items = { λ s xs. record { heap = with_items_of s.heap xs } };
 

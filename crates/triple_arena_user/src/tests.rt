@@ -3,7 +3,6 @@
 mod advancers;
 mod compress;
 mod entries;
-mod n3;
 mod refusals;
 mod renumbered;
 mod sequences;

@@ -1,5 +1,6 @@
 ghost use Rattle.std.specs.Prelude.{ℕ, List};
-ghost use Rattle.route_book.specs.Sound.{IsSound};
+ghost use Rattle.route_book.specs.Number.{IsNumber};
+ghost use Rattle.route_book.specs.Sound.{IsNumbered, IsSound};
 ghost use Rattle.route_book.specs.State.{Rooms, empty};
 ghost use Rattle.route_book.specs.Text.{Line, after_lines};
 
@@ -8,4 +9,10 @@ ghost use Rattle.route_book.specs.Text.{Line, after_lines};
 pub fn states_are_sound()
     ensures { (rooms : Rooms) (last : ℕ) (lines : List Line)
         → IsSound (after_lines (empty rooms last) lines) }
+{}
+
+/// Whatever lines are carried out, the last ticket and every key are below 2^64, as the last ticket was at first.
+pub fn states_are_numbered()
+    ensures { (rooms : Rooms) (last : ℕ) (lines : List Line) → IsNumber last
+        → IsNumbered (after_lines (empty rooms last) lines) }
 {}

@@ -1,8 +1,10 @@
 //! Calls on a store, and texts that no clause pins.
 
-use super::streams::{Page, Pieces};
-use crate::{Counts, Placed, Refusal, RoomError, RouteBook, RunFault, Shown, Watched, Word, run};
+use super::rows::REQUESTS;
+use super::streams::Page;
+use crate::{Counts, Placed, Refusal, RoomError, RouteBook, RunFault, Shown, Watched, Word};
 use refusing_allocator::RefusingAllocator;
+use std::alloc::Allocator;
 use std::io;
 use std::io::{ErrorKind, Write};
 use std::test::Fail;
@@ -22,45 +24,38 @@ fn rooms_that_cannot_be_had(rt: HostRuntime) -> Result<(), Fail> {
     Ok(())
 }
 
-// A store of seven places.
+/// The keys of seven places, in the order of their tickets.
 const KEYS: [u64; 7] = [40, 20, 60, 10, 30, 50, 70];
 
+/// A store of these places, with room for one more.
+pub(super) fn seven<A: Allocator + Copy>(alloc: A) -> Result<RouteBook<A>, Fail> {
+    let mut book = RouteBook::new(alloc, 8, 0, 0)?;
+    for key in KEYS {
+        book.place(key, Word::new(b"a").ok_or("a word")?)?;
+    }
+    Ok(book)
+}
+
 #[test]
-fn a_search_compares_few(rt: HostRuntime) -> Result<(), Fail> {
-    let mut book = RouteBook::new(rt.alloc(), 7, 0, 0)?;
-    let word = Word::new(b"a").ok_or("a word")?;
-    for key in KEYS {
-        assert!(rt; book.place(key, word.copied()).is_ok());
-    }
-    for key in KEYS {
-        let mut counts = Counts::new();
-        let ticket = book.find_counted(key, &mut counts).ok_or("a ticket")?;
-        assert!(rt; matches!(counts.key.count(), 1..=5), "by key {key}");
-        assert!(rt;
-            matches!(book.show_counted(ticket, &mut counts), Ok(Shown::Place { key: k, word: _ }) if k == key)
-        );
-        assert!(rt; matches!(counts.first.count(), 1..=5), "by ticket {ticket}");
-    }
-    let mut counts = Counts::new();
-    run(
-        &mut book,
-        &mut Watched::new(Pieces::new(b"find 10\nshow 1\nplace 35 b\n", 5)),
-        &mut Watched::new(Page::new(5)),
-        &mut counts,
-    )?;
-    assert!(rt; matches!(counts.key.count(), 2..=10));
-    assert!(rt; matches!(counts.first.count(), 1..=5));
-    assert_eq!(rt; counts.second.count(), 0);
-    assert_eq!(rt; counts.looks.count(), 0);
+fn plain_calls_take_no_memory(rt: HostRuntime) -> Result<(), Fail> {
+    let heap = RefusingAllocator::new(rt.alloc(), REQUESTS + 1);
+    let mut book = seven(&heap)?;
+    let word = Word::new(b"b").ok_or("a word")?;
+    assert!(rt; matches!(book.place(60, word.copied()), Ok(Placed::Old(3, _))));
+    assert_eq!(rt; book.place(80, word.copied()), Ok(Placed::New(8)));
+    assert_eq!(rt; book.place(90, word), Err(Refusal::Full));
+    assert_eq!(rt; book.find(30), Some(5));
+    assert_eq!(rt; book.find(35), None);
+    assert!(rt; matches!(book.show(5), Ok(Shown::Place { key: 30, word: _ })));
+    assert_eq!(rt; book.show(9), Err(Refusal::Unknown));
+    assert_eq!(rt; book.places().count(), 8);
+    assert!(rt; !heap.has_refused());
     Ok(())
 }
 
 #[test]
 fn places_come_in_the_order_of_their_keys(rt: HostRuntime) -> Result<(), Fail> {
-    let mut book = RouteBook::new(rt.alloc(), 7, 0, 0)?;
-    for key in KEYS {
-        assert!(rt; book.place(key, Word::new(b"a").ok_or("a word")?).is_ok());
-    }
+    let book = seven(rt.alloc())?;
     let want = [
         (4, 10),
         (2, 20),

@@ -79,6 +79,30 @@ fn the_line_whose_reply_is_cut_is_carried_out(rt: HostRuntime) -> Result<(), Fai
     Ok(())
 }
 
+// A line that is answered alone, on a writer with room for two bytes.
+#[test]
+fn an_answer_hands_on_what_its_write_gave(rt: HostRuntime) -> Result<(), Fail> {
+    for (full, kind) in [
+        (Full::Fails, ErrorKind::BrokenPipe),
+        (Full::TakesNone, ErrorKind::WriteZero),
+    ] {
+        let mut book = RouteBook::new(rt.alloc(), 4, 4, 2)?;
+        let mut writer = Page::new(usize::MAX);
+        writer.room = 2;
+        writer.full = full;
+        let mut writer = Watched::new(writer);
+        let mut counts = Counts::new();
+        book.answer(b"place 1 a", &mut writer, &mut counts)?;
+        for line in ["place 2 b", "find 2", "show 3", "all", "bad"] {
+            let outcome = book.answer(line.as_bytes(), &mut writer, &mut counts);
+            assert!(rt; matches!(outcome, Err(e) if e.kind() == kind), "{line}");
+        }
+        assert_eq!(rt; writer.into_inner().text(), b"1\n".as_slice());
+        answers(&rt, &mut book, b"find 2\n", "2\n")?;
+    }
+    Ok(())
+}
+
 #[test]
 fn all_lines_are_carried_out_where_the_flush_fails(rt: HostRuntime) -> Result<(), Fail> {
     let mut book = RouteBook::new(rt.alloc(), 4, 4, 2)?;

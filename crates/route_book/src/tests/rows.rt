@@ -15,8 +15,8 @@ const STEPS: [(usize, usize); 5] = [
     (usize::MAX, 1),
 ];
 
-// The requests for memory that make a store.
-const REQUESTS: u64 = 2;
+/// The requests for memory that make a store.
+pub(super) const REQUESTS: u64 = 2;
 
 // A new store answers the input with this text, however the bytes are cut. Once it is made no memory is taken.
 fn answers(

@@ -2,6 +2,7 @@
 
 use super::streams::{Page, Pieces};
 use crate::{Counts, RouteBook, Watched, run};
+use std::io::ErrorKind;
 use std::test::Fail;
 
 #[test]
@@ -43,5 +44,12 @@ fn a_reply_longer_than_the_buffer_costs_two(rt: HostRuntime) -> Result<(), Fail>
         page.text()
             .ends_with(b"120 18446744073709551119 abcdefghijklmnop\nend\n")
     );
+    // The first of the two writes of at most 4096 bytes fails, or the second.
+    for room in [4000, 4900] {
+        let mut page = Page::new(usize::MAX);
+        page.room = room;
+        let outcome = book.answer(b"all", &mut Watched::new(page), &mut Counts::new());
+        assert!(rt; matches!(outcome, Err(e) if e.kind() == ErrorKind::BrokenPipe));
+    }
     Ok(())
 }

@@ -1,5 +1,5 @@
 //! What code that is generic in the pointer type knows, with no proof of its own.
-ghost use Rattle.std.specs.Prelude.{◌≡◌, ◌<◌, ◌^◌, ◌↔◌, false, IsTrue, IsSome, IfSome, IfOk, string_bytes};
+ghost use Rattle.std.specs.Prelude.{◌≡◌, ◌<◌, ◌^◌, ◌↔◌, false, IsTrue, IsSome, IfSome, IsOk, IfOk, string_bytes};
 ghost use Rattle.triple_arena_ptr.specs.Generation.{next_generation};
 ghost use Rattle.triple_arena_ptr.specs.Pointer.{pointer_text};
 
@@ -22,6 +22,24 @@ fn rebuilt<P: Ptr>(p: P) -> P
     ensures generation { 0 < P.generation p }
 {
     P::_from_raw(p.inx(), p.generation())
+}
+
+// A clone is the pointer itself, and is always made.
+fn clone_of<P: Ptr>(p: P) -> P
+    ensures { result ≡ p }
+{
+    match p.clone() {
+        Ok(clone) => clone,
+        Err(_) => unreachable!(),
+    }
+}
+
+// So is the clone of what holds pointers.
+fn clones_of<P: Ptr>(pair: (P, P::Inx)) -> Result<(P, P::Inx), AllocError>
+    ensures same { IfOk result (λ clones. clones ≡ pair) }
+    ensures succeeds { IsOk result }
+{
+    pair.clone()
 }
 
 fn in_next_generation<P: Ptr>(p: P) -> P
@@ -96,6 +114,8 @@ fn text<P: Ptr>(alloc: Global, p: P) -> Result<String, AllocError>
 fn laws_at<P: Ptr>(rt: &impl Abort, p: P, is_counted: bool) {
     assert!(rt; is_same(rebuilt(p), p));
     assert!(rt; feeds_alike(p, p));
+    assert!(rt; clone_of(p) == p);
+    assert_eq!(rt; clones_of((p, p.inx())), Ok((p, p.inx())));
     assert_eq!(rt; p == in_next_generation(p), !is_counted);
     assert_eq!(rt; counts::<P::Gen>(), is_counted);
     assert!(rt; !first_step_starts_again::<P::Gen>());

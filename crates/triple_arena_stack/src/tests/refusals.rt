@@ -55,14 +55,14 @@ where
     }
 }
 
-fn push_by_entry<S: NonZeroInxGenericStackEntries<u64>>(
+pub(super) fn push_by_entry<S: NonZeroInxGenericStackEntries<u64>>(
     stack: &mut S,
     x: u64,
 ) -> Result<NonZeroUsize, ReallocationError> {
     Ok(stack.entry_push()?.push(x))
 }
 
-fn push_by_reallocating_entry<S: NonZeroInxGenericStackEntries<u64>>(
+pub(super) fn push_by_reallocating_entry<S: NonZeroInxGenericStackEntries<u64>>(
     stack: &mut S,
     x: u64,
 ) -> Result<NonZeroUsize, ReallocationError> {

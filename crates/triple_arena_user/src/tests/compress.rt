@@ -1,6 +1,6 @@
 //! Compression, with the pointers that a map gets, at each kind of stack.
-use super::n3::N3;
 use super::sequences::{InArray, InBoxed, InLimited, InVec, insert, shows};
+use narrow_ptr::N3;
 use std::num::NonZeroUsize;
 use std::process::Abort;
 use std::test::Fail;

@@ -1,5 +1,5 @@
 //! Sequences of insertions and removals with the pointers that they give, at each kind of stack.
-use super::n3::N3;
+use narrow_ptr::N3;
 use std::alloc::Global;
 use std::process::Abort;
 use std::test::Fail;

@@ -2,8 +2,8 @@
 ghost use Rattle.std.specs.Prelude.{◌≡◌, ℕ, ◌↔◌, false, IsTrue, IsSome};
 ghost use Rattle.triple_arena.specs.Entries.{value_if, with_value_at};
 
-use super::n3::N3;
 use super::sequences::{InArray, InBoxed, InLimited, InVec, insert};
+use narrow_ptr::N3;
 use std::process::Abort;
 use std::test::Fail;
 use triple_arena::{ArenaInsertTrait, ArenaTrait};

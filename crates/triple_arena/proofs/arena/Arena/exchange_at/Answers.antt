@@ -1,7 +1,9 @@
-use Rattle.std.proofs.Common.{ap, refl}
+use Rattle.std.proofs.Common.{Some, ap, ◌∙◌}
+use Rattle.std.specs.Int.NonZero.{non_zero_usize_get}
 use Rattle.triple_arena.specs.ArenaRoom.{room_of}
-use Rattle.triple_arena.proofs.FreeListLemmas.{formed}
-use Rattle.triple_arena.proofs.ExchangeLemmas.{used_at, exchanged, exchange_two}
+use Rattle.triple_arena.specs.Content.{entry_at, live_count}
+use Rattle.triple_arena.specs.ExchangeLaws.{entry-with_exchange, live-with_exchange}
+use Rattle.triple_arena.proofs.ExchangeLemmas.{used_at, exchanged}
 use Rattle.triple_arena.proofs.arena.Arena.exchange_at.Goals as goal
 
 pub exchange_values-requires-clause-i_is_used : goal.exchange_values-requires-clause-i_is_used
@@ -12,20 +14,20 @@ exchange_values-requires-clause-j_is_used g c = used_at _ _ _ _ _ _ c.self.view_
 
 pub invariant_of-self : goal.invariant_of-self
 invariant_of-self g c =
-    (exchanged _ _ _ _ _ _ _ _ _ _ c.self.invariant c.self.view_is c.requires.i_is_live c.requires.j_is_live c.requires.two c.exchange_values.ensures.items (ap (room_of g.P.Inx.PtrInx.greatest) c.exchange_values.ensures.room)).sound
+    (exchanged _ _ _ _ _ _ _ _ _ _ c.self.invariant c.self.view_is c.requires.i_is_live c.requires.j_is_live c.requires.two
+    c.exchange_values.ensures.items (ap (room_of g.P.Inx.PtrInx.greatest) c.exchange_values.ensures.room)).sound
 
 pub returns-clause-value : goal.returns-clause-value
 returns-clause-value g c =
-    (exchanged _ _ _ _ _ _ _ _ _ _ c.self.invariant c.self.view_is c.requires.i_is_live c.requires.j_is_live c.requires.two c.exchange_values.ensures.items (ap (room_of g.P.Inx.PtrInx.greatest) c.exchange_values.ensures.room)).content
+    (exchanged _ _ _ _ _ _ _ _ _ _ c.self.invariant c.self.view_is c.requires.i_is_live c.requires.j_is_live c.requires.two
+    c.exchange_values.ensures.items (ap (room_of g.P.Inx.PtrInx.greatest) c.exchange_values.ensures.room)).content
 
-pub returns-clause-entries : goal.returns-clause-entries
-returns-clause-entries g c = (exchange_two _ _ _ _ c.requires.i_is_live c.requires.j_is_live c.requires.two (returns-clause-value g c)).entries
-
-pub returns-clause-live : goal.returns-clause-live
-returns-clause-live g c = (exchange_two _ _ _ _ c.requires.i_is_live c.requires.j_is_live c.requires.two (returns-clause-value g c)).live
-
-pub returns-clause-formed : goal.returns-clause-formed
-returns-clause-formed g c = formed _ _ _ _ _ _ (invariant_of-self g c) refl
-
-pub returns-clause-was_formed : goal.returns-clause-was_formed
-returns-clause-was_formed g c = formed _ _ _ _ _ _ c.self.invariant c.self.view_is
+pub returns-clause-exchanged : goal.returns-clause-exchanged
+returns-clause-exchanged g c =
+    let is = returns-clause-value g c in
+    record {
+      entries = λ k. ap (λ d. entry_at d k) is ∙ entry-with_exchange _ _ _ c.requires.i_is_live c.requires.j_is_live c.requires.two k;
+      live = ap live_count is ∙ live-with_exchange c.args.self.now (non_zero_usize_get c.args.i) (non_zero_usize_get c.args.j);
+      counter = ap (λ x. Some x.counter) c.self.view_is;
+      room = ap (room_of g.P.Inx.PtrInx.greatest) c.exchange_values.ensures.room ∙ ap (λ x. x.room) c.self.view_is;
+    }

@@ -1,43 +1,41 @@
-use Rattle.std.proofs.Common.{Some, sym, ap, refl, ◌∙◌}
+use Rattle.std.proofs.Common.{Some, sym, ap, ◌∙◌}
 use Rattle.std.specs.Int.NonZero.{non_zero_usize_get}
 use Rattle.std.specs.Option.{option_map}
 use Rattle.triple_arena_stack.specs.Stack.{with_item}
 use Rattle.triple_arena.specs.ArenaRoom.{room_of}
-use Rattle.triple_arena.proofs.FreeListLemmas.{filled, pushed, formed}
+use Rattle.triple_arena.proofs.FreeListLemmas.{filled, pushed}
 use Rattle.triple_arena.proofs.arena.Arena.insert_in_room.Goals as goal
 
 pub invariant_of-self : goal.invariant_of-self
 invariant_of-self g c =
-    (filled _ _ _ _ _ _ _ _ _ _ _ _ _ (ap (option_map non_zero_usize_get) c.in-Some.is) c.self.invariant (sym c.item_mut.ensures.value ∙ ap Some (sym c.replace-old.ensures.value)) c.into_next-self-inside.ensures
-    (g.met.S.NonZeroInxGenericStack.items_with_items c.self.inside.slots (with_item (g.S.NonZeroInxGenericStack.items c.self.inside.slots) (non_zero_usize_get c.in-Some.index) c.replace-old.new.dest))
+    (filled _ _ _ _ _ _ _ _ _ _ _ _ _ (ap (option_map non_zero_usize_get) c.in-Some.is) c.self.invariant
+    (sym c.item_mut.ensures.value ∙ ap Some (sym c.replace-old.ensures.value)) c.into_next-self-inside.ensures
+    (g.met.S.NonZeroInxGenericStack.items_with_items c.self.inside.slots
+    (with_item (g.S.NonZeroInxGenericStack.items c.self.inside.slots) (non_zero_usize_get c.in-Some.index) c.replace-old.new.dest))
     (c.replace-old.ensures.after ∙ c.used-slot.ensures)
-    (ap (room_of g.P.Inx.PtrInx.greatest) (g.met.S.NonZeroInxGenericStack.room_with_items c.self.inside.slots (with_item (g.S.NonZeroInxGenericStack.items c.self.inside.slots) (non_zero_usize_get c.in-Some.index) c.replace-old.new.dest)))
+    (ap (room_of g.P.Inx.PtrInx.greatest)
+    (g.met.S.NonZeroInxGenericStack.room_with_items c.self.inside.slots
+    (with_item (g.S.NonZeroInxGenericStack.items c.self.inside.slots) (non_zero_usize_get c.in-Some.index) c.replace-old.new.dest)))
     c.self.view_is).sound
 
 pub invariant_of-self-in-Ok : goal.invariant_of-self-in-Ok
 invariant_of-self-in-Ok g c =
-    (pushed _ _ _ _ _ _ _ _ _ _ (ap (option_map non_zero_usize_get) c.in-None.is) c.self.invariant c.requires c.in-Ok.ensures.items c.used-slot.ensures (ap (room_of g.P.Inx.PtrInx.greatest) c.push_within_capacity.ensures.room) c.self.view_is).sound
+    (pushed _ _ _ _ _ _ _ _ _ _ (ap (option_map non_zero_usize_get) c.in-None.is) c.self.invariant c.requires c.in-Ok.ensures.items
+    c.used-slot.ensures (ap (room_of g.P.Inx.PtrInx.greatest) c.push_within_capacity.ensures.room) c.self.view_is).sound
 
 pub returns-in-Some-clause-value : goal.returns-in-Some-clause-value
 returns-in-Some-clause-value g c =
-    (filled _ _ _ _ _ _ _ _ _ _ _ _ _ (ap (option_map non_zero_usize_get) c.in-Some.is) c.self.invariant (sym c.item_mut.ensures.value ∙ ap Some (sym c.replace-old.ensures.value)) c.into_next-self-inside.ensures
-    (g.met.S.NonZeroInxGenericStack.items_with_items c.self.inside.slots (with_item (g.S.NonZeroInxGenericStack.items c.self.inside.slots) (non_zero_usize_get c.in-Some.index) c.replace-old.new.dest))
+    (filled _ _ _ _ _ _ _ _ _ _ _ _ _ (ap (option_map non_zero_usize_get) c.in-Some.is) c.self.invariant
+    (sym c.item_mut.ensures.value ∙ ap Some (sym c.replace-old.ensures.value)) c.into_next-self-inside.ensures
+    (g.met.S.NonZeroInxGenericStack.items_with_items c.self.inside.slots
+    (with_item (g.S.NonZeroInxGenericStack.items c.self.inside.slots) (non_zero_usize_get c.in-Some.index) c.replace-old.new.dest))
     (c.replace-old.ensures.after ∙ c.used-slot.ensures)
-    (ap (room_of g.P.Inx.PtrInx.greatest) (g.met.S.NonZeroInxGenericStack.room_with_items c.self.inside.slots (with_item (g.S.NonZeroInxGenericStack.items c.self.inside.slots) (non_zero_usize_get c.in-Some.index) c.replace-old.new.dest)))
+    (ap (room_of g.P.Inx.PtrInx.greatest)
+    (g.met.S.NonZeroInxGenericStack.room_with_items c.self.inside.slots
+    (with_item (g.S.NonZeroInxGenericStack.items c.self.inside.slots) (non_zero_usize_get c.in-Some.index) c.replace-old.new.dest)))
     c.self.view_is).content
-
-pub returns-in-Some-clause-formed : goal.returns-in-Some-clause-formed
-returns-in-Some-clause-formed g c = formed _ _ _ _ _ _ (invariant_of-self g c) refl
-
-pub returns-in-Some-clause-was_formed : goal.returns-in-Some-clause-was_formed
-returns-in-Some-clause-was_formed g c = formed _ _ _ _ _ _ c.self.invariant c.self.view_is
 
 pub returns-in-Ok-clause-value : goal.returns-in-Ok-clause-value
 returns-in-Ok-clause-value g c =
-    (pushed _ _ _ _ _ _ _ _ _ _ (ap (option_map non_zero_usize_get) c.in-None.is) c.self.invariant c.requires c.in-Ok.ensures.items c.used-slot.ensures (ap (room_of g.P.Inx.PtrInx.greatest) c.push_within_capacity.ensures.room) c.self.view_is).content
-
-pub returns-in-Ok-clause-formed : goal.returns-in-Ok-clause-formed
-returns-in-Ok-clause-formed g c = formed _ _ _ _ _ _ (invariant_of-self-in-Ok g c) refl
-
-pub returns-in-Ok-clause-was_formed : goal.returns-in-Ok-clause-was_formed
-returns-in-Ok-clause-was_formed g c = formed _ _ _ _ _ _ c.self.invariant c.self.view_is
+    (pushed _ _ _ _ _ _ _ _ _ _ (ap (option_map non_zero_usize_get) c.in-None.is) c.self.invariant c.requires c.in-Ok.ensures.items
+    c.used-slot.ensures (ap (room_of g.P.Inx.PtrInx.greatest) c.push_within_capacity.ensures.room) c.self.view_is).content

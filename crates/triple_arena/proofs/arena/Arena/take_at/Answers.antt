@@ -2,13 +2,14 @@ use Rattle.std.proofs.Common.{Some, sym, ap, refl, ◌∙◌}
 use Rattle.std.specs.Int.NonZero.{non_zero_usize_get}
 use Rattle.triple_arena_stack.specs.Stack.{with_item}
 use Rattle.triple_arena.specs.ArenaRoom.{room_of}
-use Rattle.triple_arena.proofs.FreeListLemmas.{popped, freed, formed, the_some, entry_of_slot}
+use Rattle.triple_arena.proofs.FreeListLemmas.{popped, freed, the_some, entry_of_slot}
 use Rattle.triple_arena.proofs.arena.Arena.take_at.Goals as goal
 
 pub invariant_of-self : goal.invariant_of-self
 invariant_of-self g c =
     let live = the_some _ c.requires in
-    (popped _ _ _ _ _ _ _ _ _ live.0 _ c.self.invariant (sym c.get.ensures.value ∙ c.if-get-len.true ∙ c.len.ensures.value) c.self.view_is live.1 c.in-Some.ensures.items (ap (room_of g.P.Inx.PtrInx.greatest) c.pop.ensures.room)).sound
+    (popped _ _ _ _ _ _ _ _ _ live.0 _ c.self.invariant (sym c.get.ensures.value ∙ c.if-get-len.true ∙ c.len.ensures.value) c.self.view_is live.1
+    c.in-Some.ensures.items (ap (room_of g.P.Inx.PtrInx.greatest) c.pop.ensures.room)).sound
 
 pub into_entry-requires-else-get-len : goal.into_entry-requires-else-get-len
 into_entry-requires-else-get-len g c =
@@ -17,37 +18,34 @@ into_entry-requires-else-get-len g c =
 pub invariant_of-self-else-get-len : goal.invariant_of-self-else-get-len
 invariant_of-self-else-get-len g c =
     let live = the_some _ c.requires in
-    (freed _ _ _ _ _ _ _ _ _ _ _ live.0 _ c.self.invariant (λ last. c.if-get-len.false (c.get.ensures.value ∙ last ∙ sym c.len.ensures.value)) c.self.view_is live.1 (sym c.item_mut.ensures.value ∙ ap Some (sym c.replace-slot.ensures.value))
-    (g.met.S.NonZeroInxGenericStack.items_with_items c.self.inside.slots (with_item (g.S.NonZeroInxGenericStack.items c.self.inside.slots) (non_zero_usize_get c.args.i) c.replace-slot.new.dest))
+    (freed _ _ _ _ _ _ _ _ _ _ _ live.0 _ c.self.invariant (λ last. c.if-get-len.false (c.get.ensures.value ∙ last ∙ sym c.len.ensures.value))
+    c.self.view_is live.1 (sym c.item_mut.ensures.value ∙ ap Some (sym c.replace-slot.ensures.value))
+    (g.met.S.NonZeroInxGenericStack.items_with_items c.self.inside.slots
+    (with_item (g.S.NonZeroInxGenericStack.items c.self.inside.slots) (non_zero_usize_get c.args.i) c.replace-slot.new.dest))
     (c.replace-slot.ensures.after ∙ c.free.ensures) refl
-    (ap (room_of g.P.Inx.PtrInx.greatest) (g.met.S.NonZeroInxGenericStack.room_with_items c.self.inside.slots (with_item (g.S.NonZeroInxGenericStack.items c.self.inside.slots) (non_zero_usize_get c.args.i) c.replace-slot.new.dest)))).sound
+    (ap (room_of g.P.Inx.PtrInx.greatest)
+    (g.met.S.NonZeroInxGenericStack.room_with_items c.self.inside.slots
+    (with_item (g.S.NonZeroInxGenericStack.items c.self.inside.slots) (non_zero_usize_get c.args.i) c.replace-slot.new.dest)))).sound
 
 pub returns-in-Some-clause-value : goal.returns-in-Some-clause-value
 returns-in-Some-clause-value g c =
     let live = the_some _ c.requires in
-    (popped _ _ _ _ _ _ _ _ _ live.0 _ c.self.invariant (sym c.get.ensures.value ∙ c.if-get-len.true ∙ c.len.ensures.value) c.self.view_is live.1 c.in-Some.ensures.items (ap (room_of g.P.Inx.PtrInx.greatest) c.pop.ensures.room)).content
-
-pub returns-in-Some-clause-formed : goal.returns-in-Some-clause-formed
-returns-in-Some-clause-formed g c = formed _ _ _ _ _ _ (invariant_of-self g c) refl
-
-pub returns-in-Some-clause-was_formed : goal.returns-in-Some-clause-was_formed
-returns-in-Some-clause-was_formed g c = formed _ _ _ _ _ _ c.self.invariant c.self.view_is
+    (popped _ _ _ _ _ _ _ _ _ live.0 _ c.self.invariant (sym c.get.ensures.value ∙ c.if-get-len.true ∙ c.len.ensures.value) c.self.view_is live.1
+    c.in-Some.ensures.items (ap (room_of g.P.Inx.PtrInx.greatest) c.pop.ensures.room)).content
 
 pub returns-else-get-len-clause-value : goal.returns-else-get-len-clause-value
 returns-else-get-len-clause-value g c =
     let live = the_some _ c.requires in
-    (freed _ _ _ _ _ _ _ _ _ _ _ live.0 _ c.self.invariant (λ last. c.if-get-len.false (c.get.ensures.value ∙ last ∙ sym c.len.ensures.value)) c.self.view_is live.1 (sym c.item_mut.ensures.value ∙ ap Some (sym c.replace-slot.ensures.value))
-    (g.met.S.NonZeroInxGenericStack.items_with_items c.self.inside.slots (with_item (g.S.NonZeroInxGenericStack.items c.self.inside.slots) (non_zero_usize_get c.args.i) c.replace-slot.new.dest))
+    (freed _ _ _ _ _ _ _ _ _ _ _ live.0 _ c.self.invariant (λ last. c.if-get-len.false (c.get.ensures.value ∙ last ∙ sym c.len.ensures.value))
+    c.self.view_is live.1 (sym c.item_mut.ensures.value ∙ ap Some (sym c.replace-slot.ensures.value))
+    (g.met.S.NonZeroInxGenericStack.items_with_items c.self.inside.slots
+    (with_item (g.S.NonZeroInxGenericStack.items c.self.inside.slots) (non_zero_usize_get c.args.i) c.replace-slot.new.dest))
     (c.replace-slot.ensures.after ∙ c.free.ensures) refl
-    (ap (room_of g.P.Inx.PtrInx.greatest) (g.met.S.NonZeroInxGenericStack.room_with_items c.self.inside.slots (with_item (g.S.NonZeroInxGenericStack.items c.self.inside.slots) (non_zero_usize_get c.args.i) c.replace-slot.new.dest)))).content
+    (ap (room_of g.P.Inx.PtrInx.greatest)
+    (g.met.S.NonZeroInxGenericStack.room_with_items c.self.inside.slots
+    (with_item (g.S.NonZeroInxGenericStack.items c.self.inside.slots) (non_zero_usize_get c.args.i) c.replace-slot.new.dest)))).content
 
 pub returns-else-get-len-clause-entry : goal.returns-else-get-len-clause-entry
 returns-else-get-len-clause-entry g c =
     c.into_entry-else-get-len.ensures
     ∙ sym (entry_of_slot _ _ _ _ _ _ _ c.self.view_is c.args.i.ok (sym c.item_mut.ensures.value ∙ ap Some (sym c.replace-slot.ensures.value)))
-
-pub returns-else-get-len-clause-formed : goal.returns-else-get-len-clause-formed
-returns-else-get-len-clause-formed g c = formed _ _ _ _ _ _ (invariant_of-self-else-get-len g c) refl
-
-pub returns-else-get-len-clause-was_formed : goal.returns-else-get-len-clause-was_formed
-returns-else-get-len-clause-was_formed g c = formed _ _ _ _ _ _ c.self.invariant c.self.view_is

@@ -1,9 +1,0 @@
-use Rattle.std.proofs.Common.{arith}
-use Rattle.triple_arena.proofs.ContentLemmas.{live-within}
-use Rattle.triple_arena.proofs.arena_calls.ArenaArenaTrait.capacity.Goals as goal
-
-pub returns-clause-indexes : goal.returns-clause-indexes
-returns-clause-indexes g c j some =
-    let e = c.room_for.ensures in
-    let within = live-within _ e.formed j some in
-    omega (arith, within, e.value)

@@ -1,0 +1,12 @@
+use Rattle.std.proofs.Common.{ap, ◌∙◌, rules}
+use Rattle.triple_arena.proofs.CompressionLemmas.{values_kept}
+use Rattle.triple_arena.proofs.arena_trait.ArenaTrait.compress.Goals as goal
+
+pub returns-clause-values : goal.returns-clause-values
+returns-clause-values g c =
+    values_kept _ _ _ _ _ _ (λ h k from to t u s. search rules) c.compress_with.ensures.mapped
+
+pub returns-clause-exact : goal.returns-clause-exact
+returns-clause-exact g c =
+    c.compress_with.ensures.exact
+    ∙ ap (g.Self.ArenaTrait.compressed c.args.self.now c.args.reset) (returns-clause-values g c)

@@ -1,0 +1,282 @@
+//! The calls of an `Arena` that every arena has.
+ghost use Rattle.std.specs.Prelude.{◌≡◌, true, [], Some, None, IsSome, refl};
+ghost use Rattle.triple_arena_ptr.specs.Generation.{second_generation};
+ghost use Rattle.triple_arena.specs.ArenaRoom.{room_of};
+ghost use Rattle.triple_arena.specs.Content.{some_counter, entry_at as entry_of_index, live_count as live_count_of, empty as empty_of, reallocated as reallocated_of, removed as removed_of, invalidated as invalidated_of, cleared as cleared_of, with_value as with_value_of, IsWellFormed};
+ghost use Rattle.triple_arena.specs.ContentLaws.{entry-with_value, live-with_value, some_counter-with_value, room-with_value};
+ghost use Rattle.triple_arena.specs.LiveEntries.{live_entries as live_entries_of, entry-listed, live_entries-increase, live_entries-length};
+ghost use Rattle.triple_arena.specs.Compression.{renewed, compacted};
+
+use crate::advancer::PtrAdvancer;
+use crate::arena::compression::{compact, renewal};
+use crate::arena::reading::ValueAtMut;
+use crate::arena::removal::equal_uncounted;
+use crate::arena::{Arena, max_index};
+use crate::{ArenaSlot, ArenaTrait, CompactArenaTrait};
+use triple_arena_ptr::{
+    InvalidationOption, InvalidationResult, Ptr, PtrGen, PtrInx, ReallocationError,
+};
+use triple_arena_stack::{NonZeroInxArray, NonZeroInxGenericStack};
+
+impl<P: Ptr, T: Drop, S: NonZeroInxGenericStack<ArenaSlot<P, T>> + Drop> ArenaTrait<P, T>
+    for Arena<P, T, S> {
+    type Alloc = S::Alloc;
+
+    type PtrAdvancer = PtrAdvancer<P>;
+
+    ghost entry_at = { entry_of_index };
+
+    ghost live_count = { live_count_of };
+
+    ghost counter = { some_counter };
+
+    ghost has_counter = { true };
+
+    ghost room = { λ c. c.room };
+
+    ghost takes_memory = { S.takes_memory };
+
+    ghost room_at = { λ n. room_of P.Inx.greatest (S.room_at n) };
+
+    ghost empty = { empty_of (second_generation P.Gen.last) };
+
+    ghost reallocated = { reallocated_of };
+
+    ghost with_value = { with_value_of };
+
+    ghost is_formed = { IsWellFormed };
+
+    ghost removed = { removed_of P.Gen.last };
+
+    ghost invalidated = { invalidated_of P.Gen.last };
+
+    ghost cleared = { cleared_of P.Gen.last };
+
+    ghost compressed = { λ c reset values. compacted (renewed P.Gen.last reset c.counter) values c };
+
+    ghost walk = { λ a. a };
+
+    ghost counter_if_has_counter = { λ c. refl };
+
+    ghost none_at_zero = { λ c. refl };
+
+    ghost advances = { λ before c given after step. step };
+
+    ghost live_entries = { live_entries_of };
+
+    ghost entry_with_value = { entry-with_value };
+
+    ghost live_with_value = { live-with_value };
+
+    ghost counter_with_value = { some_counter-with_value };
+
+    ghost room_with_value = { room-with_value };
+
+    ghost entry_listed = { entry-listed };
+
+    ghost live_entries_increase = { live_entries-increase };
+
+    ghost live_entries_counted = { live_entries-length };
+
+    fn new(alloc: S::Alloc) -> Self {
+        Arena::over(S::new(alloc))
+    }
+
+    fn with_min_capacity(alloc: S::Alloc, min: usize) -> Result<Self, ReallocationError> {
+        if min > max_index::<P>() {
+            drop(Self::new(alloc));
+            return Err(ReallocationError::BeyondMaxCapacity);
+        }
+        let slots = S::with_min_capacity(alloc, min)?;
+        Ok(Arena::over(slots))
+    }
+
+    fn capacity(&self) -> usize {
+        self.room_for()
+    }
+
+    fn max_capacity(&self) -> Option<usize> {
+        self.limit()
+    }
+
+    fn reallocate_min_capacity(&mut self, min: usize) -> Result<(), ReallocationError> {
+        let made = self.reallocate(min);
+        // The arena is well-formed after.
+        let _ = self.live();
+        made
+    }
+
+    fn len(&self) -> usize {
+        self.live()
+    }
+
+    fn singular_generation(&self) -> Option<P::Gen> {
+        // The counter is a generation.
+        let _ = self.counter.generational_inc();
+        Some(self.counter)
+    }
+
+    fn get(&self, p: P) -> Option<&T> {
+        // The number of slots is a `usize`, so no index past that is live.
+        let _ = self.slots.len();
+        match p.inx().try_into_usize() {
+            Some(i) => match self.slots.get(i) {
+                Some(slot) => slot.get(p.generation()),
+                None => None,
+            },
+            None => None,
+        }
+    }
+
+    fn get_inx(&self, i: P::Inx) -> Option<(P::Gen, &T)> {
+        // The number of slots is a `usize`, so no index past that is live.
+        let _ = self.slots.len();
+        match i.try_into_usize() {
+            Some(i) => match self.slots.get(i) {
+                Some(slot) => slot.entry(),
+                None => None,
+            },
+            None => None,
+        }
+    }
+
+    fn get_inx_mut_unwrap(&mut self, i: P::Inx) -> &mut T {
+        // The number of slots is a `usize`, so no index past that is live.
+        let _ = self.slots.len();
+        match i.try_into_usize() {
+            Some(i) => self.value_at_mut(i),
+            None => unreachable!(),
+        }
+    }
+
+    fn get_mut(&mut self, p: P) -> Option<&mut T> {
+        match self.live_index(p) {
+            Some(i) => Some(self.value_at_mut(i)),
+            None => None,
+        }
+    }
+
+    fn find_first_inx_ptr(&self) -> Option<P> {
+        self.first_live(0, self.slot_count())
+    }
+
+    fn find_last_inx_ptr(&self) -> Option<P> {
+        self.last_live(0, self.slot_count())
+    }
+
+    fn advancer(&self) -> PtrAdvancer<P> {
+        PtrAdvancer::over(0, self.slot_count(), false)
+    }
+
+    fn advancer_inx(&self, i: P::Inx, rev: bool) -> PtrAdvancer<P> {
+        let number = i.try_into_usize();
+        if rev {
+            let end = match number {
+                Some(i) => i.get(),
+                // No index past a `usize` is live.
+                None => usize::MAX,
+            };
+            return PtrAdvancer::over(0, end, true);
+        }
+        let start = match number {
+            Some(i) => i.get() - 1,
+            None => usize::MAX,
+        };
+        PtrAdvancer::over(start, self.slot_count(), false)
+    }
+
+    fn remove(&mut self, p: P) -> InvalidationResult<T> {
+        // The arena is well-formed before.
+        let _ = self.live();
+        match self.live_index(p) {
+            Some(i) => match self.remove_at(i) {
+                InvalidationOption::Success((_, t)) => InvalidationResult::Success(t),
+                InvalidationOption::GenerationOverflow((_, t)) => {
+                    InvalidationResult::GenerationOverflow(t)
+                }
+            },
+            None => InvalidationResult::InvalidPtr,
+        }
+    }
+
+    fn remove_inx(&mut self, i: P::Inx) -> InvalidationResult<(P::Gen, T)> {
+        // The arena is well-formed before.
+        let _ = self.live();
+        match self.live_inx(i) {
+            Some(i) => match self.remove_at(i) {
+                InvalidationOption::Success(entry) => InvalidationResult::Success(entry),
+                InvalidationOption::GenerationOverflow(entry) => {
+                    InvalidationResult::GenerationOverflow(entry)
+                }
+            },
+            None => InvalidationResult::InvalidPtr,
+        }
+    }
+
+    fn invalidate(&mut self, p: P) -> InvalidationResult<P> {
+        // The arena is well-formed before.
+        let _ = self.live();
+        match self.live_index(p) {
+            Some(i) => {
+                let wrapped = self.step();
+                let renewed = self.renew_at(i);
+                equal_uncounted(renewed, p);
+                // And after.
+                let _ = self.live();
+                if wrapped {
+                    InvalidationResult::GenerationOverflow(renewed)
+                } else {
+                    InvalidationResult::Success(renewed)
+                }
+            }
+            None => InvalidationResult::InvalidPtr,
+        }
+    }
+
+    fn clear(&mut self) -> InvalidationOption<()> {
+        self.empty();
+        let wrapped = self.step();
+        // The arena is well-formed after.
+        let _ = self.live();
+        if wrapped {
+            InvalidationOption::GenerationOverflow(())
+        } else {
+            InvalidationOption::Success(())
+        }
+    }
+
+    fn compress_with<F: FnMut(P, T, P) -> T>(
+        &mut self,
+        reset: bool,
+        map: F,
+    ) -> InvalidationOption<()> {
+        // The slots are within the capacity, and so are their indexes.
+        let _ = self.room_for();
+        let (generation, wrapped) = renewal(self.counter, reset);
+        compact(&mut self.slots, generation, map);
+        self.counter = generation;
+        self.head = None;
+        // The arena is well-formed after.
+        let _ = self.live();
+        if wrapped {
+            InvalidationOption::GenerationOverflow(())
+        } else {
+            InvalidationOption::Success(())
+        }
+    }
+}
+
+impl<P: Ptr, T: Drop, S: NonZeroInxGenericStack<ArenaSlot<P, T>> + Drop> CompactArenaTrait<P, T>
+    for Arena<P, T, S> {}
+
+impl<P: Ptr, T: Drop, const LIMIT: usize> Default
+    for Arena<P, T, NonZeroInxArray<ArenaSlot<P, T>, LIMIT>> {
+    ghost is_default = { λ c. (c.slots ≡ []) × (c.free ≡ [])
+        × (c.counter ≡ second_generation P.Gen.last)
+        × (c.room ≡ room_of P.Inx.greatest (record { reserved = LIMIT; limit = Some LIMIT })) };
+
+    /// An empty arena in an array.
+    fn default() -> Self {
+        Arena::new(())
+    }
+}

@@ -1,0 +1,139 @@
+//! A place for one entry more, which tells its pointer before the value is there.
+ghost use Rattle.std.specs.Prelude.{◌≡◌, ℕ, ◌<◌, ◌↔◌, Some, IsOk, IfOk, IsErrOf};
+ghost use Rattle.std.specs.Borrow.{sem, RestsIfErr};
+ghost use Rattle.triple_arena_stack.specs.Push.{IsRefusal};
+ghost use Rattle.triple_arena.specs.Changes.{IsInserted};
+ghost use Rattle.triple_arena.specs.InsertEntry.{entry_arena, entry_lender};
+ghost use Rattle.triple_arena.specs.Content.{Content, entry_at, some_counter, live_count, room_for, next_index, inserted, grown_if_full, IsWellFormed};
+
+use crate::{Arena, ArenaSlot};
+use triple_arena_ptr::{NotWithinCapacityError, Ptr, ReallocationError};
+use triple_arena_stack::NonZeroInxGenericStack;
+
+/// What a place for one entry more does.
+pub trait ArenaInsertEntryTrait<P: Ptr, T> {
+    // The index that the entry gets, and its generation.
+    ghost index: { Self → ℕ };
+
+    ghost generation: { Self → ℕ };
+
+    // There is room for an entry, as when the place was made.
+    ghost has_room: { Self → Type 0 };
+
+    /// The pointer that the entry gets.
+    fn ptr(&self) -> P
+        requires { has_room self.now }
+        ensures index { P.index result ≡ index self.now }
+        ensures generation { P.generation result ≡ generation self.now };
+
+    /// Stores `t`, and answers its pointer. It takes no memory and cannot fail.
+    fn insert(self, t: T) -> P
+        requires { has_room self }
+        ensures index { P.index result ≡ index self }
+        ensures generation { P.generation result ≡ generation self };
+}
+
+/// A place for one entry more in an `Arena`. Dropped unused, it leaves the arena as it is.
+#[derive(Drop)]
+pub struct ArenaInsertEntry<'a, P: Ptr, T: Drop, S: NonZeroInxGenericStack<ArenaSlot<P, T>>> {
+    arena: &'a mut Arena<P, T, S>,
+}
+
+impl<'a, P: Ptr, T: Drop, S: NonZeroInxGenericStack<ArenaSlot<P, T>>> ArenaInsertEntryTrait<P, T>
+    for ArenaInsertEntry<'a, P, T, S> {
+    ghost index = { λ e. next_index (entry_arena e) };
+
+    ghost generation = { λ e. (entry_arena e).counter };
+
+    ghost has_room = { λ e. live_count (entry_arena e) < room_for (entry_arena e) };
+
+    fn ptr(&self) -> P {
+        self.arena.next_ptr()
+    }
+
+    fn insert(self, t: T) -> P
+        requires { live_count (entry_arena self) < room_for (entry_arena self) }
+
+        // `self.exit.0.now` is the arena as it is left.
+        ensures inserted { IsInserted entry_at live_count some_counter
+            (next_index (entry_arena self.entry)) (P.index result) (P.generation result) t
+            (entry_arena self.entry) self.exit.0.now }
+        ensures exact { self.exit.0.now ≡ inserted (entry_arena self.entry) t }
+        ensures room { self.exit.0.now.room ≡ (entry_arena self.entry).room }
+        ensures formed { IsWellFormed self.exit.0.now }
+    {
+        let ArenaInsertEntry { arena } = self;
+        arena.insert_entry(t)
+    }
+}
+
+/// The calls of an `Arena` that answer an entry.
+pub trait ArenaInsertEntries<P: Ptr, T: Drop> {
+    /// The stack that the arena keeps its slots in.
+    type Stack: NonZeroInxGenericStack<ArenaSlot<P, T>>;
+
+    // The arena as its entries see it.
+    ghost content: { Self → Content T };
+
+    /// A place for one entry more. Where there is no room it answers `NotWithinCapacityError`, and the arena stays as it
+    /// is.
+    fn entry_insert_within_capacity(
+        &mut self,
+    ) -> Result<ArenaInsertEntry<'_, P, T, Self::Stack>, NotWithinCapacityError>
+        ensures variant { IsOk result
+            ↔ (live_count (content self.old) < room_for (content self.old)) }
+        ensures same_reference { IfOk result (λ e. entry_lender e ≡ self.entry.ghost_name) }
+        ensures arena { IfOk result (λ e. entry_arena e ≡ content self.old) }
+        ensures* err { sem 𝓛 (RestsIfErr Self.row self.entry entry_lender result
+            (λ a. a ≡ self.old)) };
+
+    /// A place for one entry more. Where there is no room the arena grows, and answers the errors, as
+    /// `insert_reallocating` does. An error leaves the arena as it was.
+    fn entry_insert_reallocating(
+        &mut self,
+    ) -> Result<ArenaInsertEntry<'_, P, T, Self::Stack>, ReallocationError>
+        ensures same_reference { IfOk result (λ e. entry_lender e ≡ self.entry.ghost_name) }
+        ensures has_room { IfOk result (λ e. live_count (entry_arena e) < room_for (entry_arena e)) }
+        ensures arena { IfOk result (λ e. entry_arena e ≡ grown_if_full (content self.old)) }
+        ensures refusal { IsRefusal Self.Stack.takes_memory (live_count (content self.old))
+            (content self.old).room result }
+        ensures* err { sem 𝓛 (RestsIfErr Self.row self.entry entry_lender result
+            (λ a. a ≡ self.old)) };
+
+    /// The same as `entry_insert_reallocating`.
+    fn entry_insert(&mut self) -> Result<ArenaInsertEntry<'_, P, T, Self::Stack>, ReallocationError>
+        ensures same_reference { IfOk result (λ e. entry_lender e ≡ self.entry.ghost_name) }
+        ensures has_room { IfOk result (λ e. live_count (entry_arena e) < room_for (entry_arena e)) }
+        ensures arena { IfOk result (λ e. entry_arena e ≡ grown_if_full (content self.old)) }
+        ensures refusal { IsRefusal Self.Stack.takes_memory (live_count (content self.old))
+            (content self.old).room result }
+        ensures* err { sem 𝓛 (RestsIfErr Self.row self.entry entry_lender result
+            (λ a. a ≡ self.old)) };
+}
+
+impl<P: Ptr, T: Drop, S: NonZeroInxGenericStack<ArenaSlot<P, T>>> ArenaInsertEntries<P, T>
+    for Arena<P, T, S> {
+    type Stack = S;
+
+    ghost content = { λ c. c };
+
+    fn entry_insert_within_capacity(
+        &mut self,
+    ) -> Result<ArenaInsertEntry<'_, P, T, S>, NotWithinCapacityError> {
+        if self.live() == self.room_for() {
+            return Err(NotWithinCapacityError);
+        }
+        Ok(ArenaInsertEntry { arena: self })
+    }
+
+    fn entry_insert_reallocating(
+        &mut self,
+    ) -> Result<ArenaInsertEntry<'_, P, T, S>, ReallocationError> {
+        self.make_room()?;
+        Ok(ArenaInsertEntry { arena: self })
+    }
+
+    fn entry_insert(&mut self) -> Result<ArenaInsertEntry<'_, P, T, S>, ReallocationError> {
+        self.entry_insert_reallocating()
+    }
+}

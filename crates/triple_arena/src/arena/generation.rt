@@ -1,0 +1,55 @@
+//! The counter of an arena.
+ghost use Rattle.std.specs.Prelude.{◌≡◌};
+ghost use Rattle.triple_arena_ptr.specs.Generation.{next_wraps};
+ghost use Rattle.triple_arena_ptr.specs.InvalidationOption.{overflowed};
+ghost use Rattle.triple_arena.specs.Content.{with_counter, stepped, IsWellFormed};
+
+use crate::ArenaSlot;
+use crate::arena::Arena;
+use triple_arena_ptr::{InvalidationOption, Ptr, PtrGen};
+use triple_arena_stack::NonZeroInxGenericStack;
+
+impl<P: Ptr, T: Drop, S: NonZeroInxGenericStack<ArenaSlot<P, T>>> Arena<P, T, S> {
+    /// The counter, which is the generation of the next entry.
+    pub fn generation(&self) -> P::Gen
+        ensures { P.Gen.number result ≡ self.now.counter }
+    {
+        self.counter
+    }
+
+    /// Sets the counter. A pointer that ended long ago may be given again where the counter goes back.
+    pub fn set_generation(&mut self, generation: P::Gen)
+        ensures value { self.new ≡ with_counter self.old (P.Gen.number generation) }
+        ensures formed { IsWellFormed self.new }
+    {
+        self.counter = generation;
+        // The arena is well-formed after.
+        let _ = self.live();
+    }
+
+    /// Steps the counter once, as a removal does, and says whether the generations started again.
+    pub fn inc_generation(&mut self) -> InvalidationOption<()>
+        ensures value { self.new ≡ stepped P.Gen.last self.old }
+        ensures overflow { overflowed result ≡ next_wraps P.Gen.last self.old.counter }
+        ensures formed { IsWellFormed self.new }
+    {
+        let wrapped = self.step();
+        // The arena is well-formed after.
+        let _ = self.live();
+        if wrapped {
+            InvalidationOption::GenerationOverflow(())
+        } else {
+            InvalidationOption::Success(())
+        }
+    }
+
+    // Steps the counter, and says whether the generations started again.
+    pub(crate) fn step(&mut self) -> bool
+        ensures value { self.new ≡ stepped P.Gen.last self.old }
+        ensures wraps { result ≡ next_wraps P.Gen.last self.old.counter }
+    {
+        let (counter, wrapped) = self.counter.generational_inc();
+        self.counter = counter;
+        wrapped
+    }
+}

@@ -1,0 +1,106 @@
+//! Insertion at an index that the arena chooses.
+ghost use Rattle.std.specs.Prelude.{◌≡◌, ◌<◌, refl};
+ghost use Rattle.triple_arena.specs.Changes.{IsInserted};
+ghost use Rattle.triple_arena.specs.Content.{entry_at, some_counter, live_count, room_for, next_index as next_of, inserted as inserted_of, grown_if_full as grown_of, IsWellFormed};
+ghost use Rattle.triple_arena.specs.ContentLaws.{next-with_value};
+
+use crate::arena::{Arena, pointer_at};
+use crate::{ArenaInsertTrait, ArenaSlot};
+use std::mem;
+use std::num::NonZeroUsize;
+use triple_arena_ptr::{NotWithinCapacityError, Ptr, ReallocationError};
+use triple_arena_stack::NonZeroInxGenericStack;
+
+impl<P: Ptr, T: Drop, S: NonZeroInxGenericStack<ArenaSlot<P, T>> + Drop> ArenaInsertTrait<P, T>
+    for Arena<P, T, S> {
+    ghost next_index = { next_of };
+
+    ghost inserted = { inserted_of };
+
+    ghost grown_if_full = { grown_of };
+
+    ghost next_index_cleared = { λ c. refl };
+
+    ghost next_index_with_value = { next-with_value };
+
+    #[inline]
+    fn insert_within_capacity(&mut self, t: T) -> Result<P, NotWithinCapacityError> {
+        if self.live() == self.room_for() {
+            return Err(NotWithinCapacityError);
+        }
+        Ok(self.insert_entry(t))
+    }
+
+    #[inline]
+    fn insert_reallocating(&mut self, t: T) -> Result<P, ReallocationError> {
+        // The arena is well-formed before.
+        let _ = self.live();
+        self.make_room()?;
+        Ok(self.insert_entry(t))
+    }
+}
+
+impl<P: Ptr, T: Drop, S: NonZeroInxGenericStack<ArenaSlot<P, T>>> Arena<P, T, S> {
+    // The pointer of the next entry.
+    pub(crate) fn next_ptr(&self) -> P
+        requires { live_count self.now < room_for self.now }
+        ensures has_index { P.index result ≡ next_of self.now }
+        ensures has_generation { P.generation result ≡ self.now.counter }
+    {
+        // The slots are within the capacity, and that is a `usize`.
+        let _ = self.slots.capacity();
+        if let Some(index) = self.head {
+            return pointer_at(index, self.counter);
+        }
+        match NonZeroUsize::new(self.slots.len() + 1) {
+            Some(index) => pointer_at(index, self.counter),
+            None => unreachable!(),
+        }
+    }
+
+    // Stores `t` at the first free index, or in a slot more.
+    #[inline]
+    pub(crate) fn insert_in_room(&mut self, t: T) -> P
+        requires { live_count self.old < room_for self.old }
+        ensures value { self.new ≡ inserted_of self.old t }
+        ensures has_index { P.index result ≡ next_of self.old }
+        ensures has_generation { P.generation result ≡ self.old.counter }
+    {
+        // The slots are within the capacity, so one more can be counted.
+        let _ = self.slots.len();
+        let slot = ArenaSlot::used(self.counter, t);
+        match self.head {
+            Some(index) => {
+                let old = mem::replace(self.slots.item_mut(index), slot);
+                self.head = old.into_next();
+                self.len += 1;
+                pointer_at(index, self.counter)
+            }
+            None => match self.slots.push_within_capacity(slot) {
+                Ok(index) => {
+                    self.len += 1;
+                    pointer_at(index, self.counter)
+                }
+                Err(_) => unreachable!(),
+            },
+        }
+    }
+
+    // Stores `t` as `insert_in_room` does, and says what is at each index then.
+    #[inline]
+    pub(crate) fn insert_entry(&mut self, t: T) -> P
+        requires { live_count self.old < room_for self.old }
+        ensures value { self.new ≡ inserted_of self.old t }
+        ensures inserted { IsInserted entry_at live_count some_counter (next_of self.old)
+            (P.index result) (P.generation result) t self.old self.new }
+        ensures room { self.new.room ≡ self.old.room }
+        ensures formed { IsWellFormed self.new }
+    {
+        // The arena is well-formed before.
+        let _ = self.live();
+        let p = self.insert_in_room(t);
+        // And after.
+        let _ = self.live();
+        p
+    }
+}

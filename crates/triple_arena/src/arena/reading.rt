@@ -1,0 +1,102 @@
+//! What is found in an arena, and the lend of a value.
+ghost use Rattle.std.specs.Prelude.{◌≡◌, ◌↔◌, ℕ, IsSome, IfSome, Option, Some};
+ghost use Rattle.std.specs.Borrow.{sem, Lends};
+ghost use Rattle.std.specs.Int.NonZero.{non_zero_usize_get};
+ghost use Rattle.std.specs.Option.{option_map};
+ghost use Rattle.triple_arena.specs.Entries.{pointer_at as pointer_of_entry};
+ghost use Rattle.triple_arena.specs.Content.{get, entry_at, with_value};
+
+use crate::ArenaSlot;
+use crate::arena::{Arena, pointer_at};
+use crate::slot::ValueMut;
+use std::num::NonZeroUsize;
+use triple_arena_ptr::{Ptr, PtrInx};
+use triple_arena_stack::NonZeroInxGenericStack;
+
+impl<P: Ptr, T: Drop, S: NonZeroInxGenericStack<ArenaSlot<P, T>>> Arena<P, T, S> {
+    // The index of the entry that `p` points to, if it is live.
+    pub(crate) fn live_index(&self, p: P) -> Option<NonZeroUsize>
+        ensures live { IsSome result ↔ IsSome (get self.now (P.index p) (P.generation p)) }
+        ensures value { IfSome result (λ i. non_zero_usize_get i ≡ P.index p) }
+    {
+        // The number of slots is a `usize`, so no index past that is live.
+        let _ = self.slots.len();
+        match p.inx().try_into_usize() {
+            Some(i) => match self.slots.get(i) {
+                Some(slot) => {
+                    if slot.get(p.generation()).is_some() {
+                        Some(i)
+                    } else {
+                        None
+                    }
+                }
+                None => None,
+            },
+            None => None,
+        }
+    }
+
+    // The number of this index, if it is live.
+    pub(crate) fn live_inx(&self, inx: P::Inx) -> Option<NonZeroUsize>
+        ensures live { IsSome result ↔ IsSome (entry_at self.now (P.Inx.number inx)) }
+        ensures value { IfSome result (λ i. non_zero_usize_get i ≡ P.Inx.number inx) }
+    {
+        // The number of slots is a `usize`, so no index past that is live.
+        let _ = self.slots.len();
+        match inx.try_into_usize() {
+            Some(i) => match self.slots.get(i) {
+                Some(slot) => {
+                    if slot.value().is_some() {
+                        Some(i)
+                    } else {
+                        None
+                    }
+                }
+                None => None,
+            },
+            None => None,
+        }
+    }
+
+    // The pointer to the entry at `i`, if it is live.
+    pub(crate) fn pointer(&self, i: NonZeroUsize) -> Option<P>
+        ensures { option_map (λ p. (P.index p, P.generation p)) result
+            ≡ pointer_of_entry (entry_at self.now) (non_zero_usize_get i) }
+    {
+        match self.slots.get(i) {
+            Some(slot) => match slot.entry() {
+                Some(entry) => Some(pointer_at(i, entry.0)),
+                None => None,
+            },
+            None => None,
+        }
+    }
+}
+
+// What lends the values at its indexes. A method of a trait names the row of the lender in one word.
+pub(crate) trait ValueAtMut<T> {
+    ghost has_value: { Self → ℕ → Type 0 };
+
+    ghost value_at: { Self → ℕ → Option T };
+
+    ghost with_value_at: { Self → ℕ → T → Self };
+
+    // The value at an index that is live, for writing.
+    fn value_at_mut(&mut self, i: NonZeroUsize) -> &mut T
+        requires { has_value self.old (non_zero_usize_get i) }
+        ensures* writes_back { sem 𝓛 (Lends Self.row T.row self.entry result
+            (with_value_at self.old (non_zero_usize_get i))) }
+        ensures value { value_at self.old (non_zero_usize_get i) ≡ Some result.now };
+}
+
+impl<P: Ptr, T: Drop, S: NonZeroInxGenericStack<ArenaSlot<P, T>>> ValueAtMut<T> for Arena<P, T, S> {
+    ghost has_value = { λ c i. IsSome (entry_at c i) };
+
+    ghost value_at = { λ c i. option_map (λ e. e.1) (entry_at c i) };
+
+    ghost with_value_at = { with_value };
+
+    fn value_at_mut(&mut self, i: NonZeroUsize) -> &mut T {
+        self.slots.item_mut(i).value_mut()
+    }
+}

@@ -1,0 +1,95 @@
+//! Removal, and the end of a pointer.
+ghost use Rattle.std.specs.Prelude.{◌≡◌, Some, None, IsSome};
+ghost use Rattle.std.specs.Int.NonZero.{non_zero_usize_get};
+ghost use Rattle.triple_arena_ptr.specs.Generation.{next_wraps};
+ghost use Rattle.triple_arena_ptr.specs.InvalidationOption.{value_of, overflowed};
+ghost use Rattle.triple_arena.specs.Changes.{IsRemoved};
+ghost use Rattle.triple_arena.specs.Content.{entry_at, some_counter, live_count, with_generation, vacated, removed, emptied, IsWellFormed};
+
+use crate::ArenaSlot;
+use crate::arena::{Arena, pointer_at};
+use std::mem;
+use std::num::NonZeroUsize;
+use triple_arena_ptr::{InvalidationOption, Ptr, PtrGen};
+use triple_arena_stack::NonZeroInxGenericStack;
+
+impl<P: Ptr, T: Drop, S: NonZeroInxGenericStack<ArenaSlot<P, T>>> Arena<P, T, S> {
+    // Removes the entry at `i`, which is live, and steps the counter.
+    #[inline]
+    pub(crate) fn remove_at(&mut self, i: NonZeroUsize) -> InvalidationOption<(P::Gen, T)>
+        requires { IsSome (entry_at self.old (non_zero_usize_get i)) }
+        ensures value { self.new ≡ removed P.Gen.last self.old (non_zero_usize_get i) }
+        ensures entry { Some (P.Gen.number (value_of result).0, (value_of result).1)
+            ≡ entry_at self.old (non_zero_usize_get i) }
+        ensures overflow { overflowed result ≡ next_wraps P.Gen.last self.old.counter }
+        ensures removed { IsRemoved entry_at live_count some_counter (λ c. c.room) P.Gen.last
+            (non_zero_usize_get i) self.old self.new }
+        ensures formed { IsWellFormed self.new }
+    {
+        // The arena is well-formed before.
+        let _ = self.live();
+        let entry = self.take_at(i);
+        let wrapped = self.step();
+        // And after.
+        let _ = self.live();
+        if wrapped {
+            InvalidationOption::GenerationOverflow(entry)
+        } else {
+            InvalidationOption::Success(entry)
+        }
+    }
+
+    // Takes the entry at `i`, which is live, and leaves the counter.
+    #[inline]
+    pub(crate) fn take_at(&mut self, i: NonZeroUsize) -> (P::Gen, T)
+        requires { IsSome (entry_at self.old (non_zero_usize_get i)) }
+        ensures value { self.new ≡ vacated self.old (non_zero_usize_get i) }
+        ensures entry { Some (P.Gen.number result.0, result.1)
+            ≡ entry_at self.old (non_zero_usize_get i) }
+    {
+        if i.get() == self.slots.len() {
+            match self.slots.pop() {
+                Some(slot) => {
+                    self.len -= 1;
+                    slot.into_entry()
+                }
+                None => unreachable!(),
+            }
+        } else {
+            let slot = mem::replace(self.slots.item_mut(i), ArenaSlot::free(self.head));
+            self.head = Some(i);
+            self.len -= 1;
+            slot.into_entry()
+        }
+    }
+
+    // Gives the entry at `i`, which is live, the generation of the counter.
+    pub(crate) fn renew_at(&mut self, i: NonZeroUsize) -> P
+        requires { IsSome (entry_at self.old (non_zero_usize_get i)) }
+        ensures value { self.new ≡ with_generation self.old
+            (non_zero_usize_get i) self.old.counter }
+        ensures has_index { P.index result ≡ non_zero_usize_get i }
+        ensures has_generation { P.generation result ≡ self.old.counter }
+    {
+        self.slots.item_mut(i).set_generation(self.counter);
+        pointer_at(i, self.counter)
+    }
+
+    // Drops every entry and every slot, and leaves the counter.
+    pub(crate) fn empty(&mut self)
+        ensures value { self.new ≡ emptied self.old }
+    {
+        self.slots.clear();
+        self.head = None;
+        self.len = 0;
+    }
+}
+
+// Where generations are not counted, all are 1, and pointers with one index are equal.
+pub(crate) fn equal_uncounted<P: Ptr>(p: P, q: P)
+    ensures { P.Gen.last ≡ None → P.index p ≡ P.index q → p ≡ q }
+{
+    // Each is one of the generations.
+    let _ = p.generation().generational_inc();
+    let _ = q.generation().generational_inc();
+}

@@ -1,0 +1,89 @@
+//! The room of an arena, and its growth.
+ghost use Rattle.std.specs.Prelude.{◌≡◌, ◌^◌, ◌<◌, ◌≤◌, ◌↔◌, Some, None, IsOk, OnOk, OnErr, IsErrOf, IsTrue};
+ghost use Rattle.triple_arena_ptr.specs.Index.{max_index_of};
+ghost use Rattle.triple_arena_stack.specs.Push.{IsRefusal};
+ghost use Rattle.triple_arena_stack.specs.Room.{grown, IsBeyond};
+ghost use Rattle.triple_arena.specs.Content.{live_count, room_for, reallocated, grown_if_full, in_room, IsWellFormed};
+
+use crate::ArenaSlot;
+use crate::arena::{Arena, max_index};
+use triple_arena_ptr::{Ptr, ReallocationError};
+use triple_arena_stack::NonZeroInxGenericStack;
+
+impl<P: Ptr, T: Drop, S: NonZeroInxGenericStack<ArenaSlot<P, T>>> Arena<P, T, S> {
+    // How many entries fit with no growth.
+    pub(crate) fn room_for(&self) -> usize
+        ensures value { result ≡ room_for self.now }
+        ensures can_double { self.now.room.limit ≡ None → result < 2 ^ 63 }
+        ensures bounded { result ≤ max_index_of P.Inx.greatest }
+        ensures formed { IsWellFormed self.now }
+    {
+        self.slots.capacity().min(max_index::<P>())
+    }
+
+    // The greatest capacity, if there is one.
+    pub(crate) fn limit(&self) -> Option<usize>
+        ensures { result ≡ self.now.room.limit }
+    {
+        let max = max_index::<P>();
+        match self.slots.max_capacity() {
+            Some(limit) => Some(limit.min(max)),
+            None if max < usize::MAX => Some(max),
+            None => None,
+        }
+    }
+
+    // Makes room for `min` entries, by a growth to exactly that where there is less.
+    pub(crate) fn reallocate(&mut self, min: usize) -> Result<(), ReallocationError>
+        ensures exact { OnOk result (self.new ≡ reallocated self.old min) }
+        ensures fits { OnOk result (min ≤ room_for self.new) }
+        ensures succeeds { min ≤ room_for self.old → IsOk result }
+        ensures beyond { IsErrOf result ReallocationError.BeyondMaxCapacity
+            ↔ IsBeyond self.old.room.limit min }
+        ensures memory { IsErrOf result ReallocationError.AllocError → IsTrue S.takes_memory }
+        ensures err { OnErr result (self.new ≡ self.old) }
+    {
+        if min <= self.room_for() {
+            return Ok(());
+        }
+        let limit = self.limit();
+        if limit.is_some() && limit.unwrap_or(0) < min {
+            return Err(ReallocationError::BeyondMaxCapacity);
+        }
+        self.slots.reallocate_min_capacity(min)
+    }
+
+    // Makes room for one entry more, as a stack does: at first for 4, then for the double, and never past the
+    // greatest capacity.
+    #[inline]
+    pub(crate) fn make_room(&mut self) -> Result<(), ReallocationError>
+        ensures ok { OnOk result (live_count self.new < room_for self.new) }
+        ensures exact { OnOk result (self.new ≡ grown_if_full self.old) }
+        ensures refusal { IsRefusal S.takes_memory (live_count self.old) self.old.room result }
+        ensures err { OnErr result (self.new ≡ self.old) }
+    {
+        if self.live() < self.room_for() {
+            return Ok(());
+        }
+        self.grow()
+    }
+
+    // The growth, which few insertions need.
+    #[cold]
+    #[inline(never)]
+    fn grow(&mut self) -> Result<(), ReallocationError>
+        requires { live_count self.old ≡ room_for self.old }
+        ensures ok { OnOk result (live_count self.new < room_for self.new) }
+        ensures grown { OnOk result (self.new ≡ in_room self.old (grown self.old.room)) }
+        ensures refusal { IsRefusal S.takes_memory (live_count self.old) self.old.room result }
+        ensures err { OnErr result (self.new ≡ self.old) }
+    {
+        let capacity = self.room_for();
+        let wanted = capacity.saturating_mul(2).max(4);
+        match self.limit() {
+            None => self.reallocate(wanted),
+            Some(limit) if capacity < limit => self.reallocate(wanted.min(limit)),
+            Some(_) => Err(ReallocationError::BeyondMaxCapacity),
+        }
+    }
+}
