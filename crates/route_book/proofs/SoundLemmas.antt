@@ -148,24 +148,27 @@ IsSound-after_place s key word is_word sound = at (with_key key s.places) refl
       fits = rw (length-reworded key word s.places) sound.fits;
     })
 
-IsSound-next : (s : State) (line : Line) → IsSound s → IsSound (next s (command_in line))
-IsSound-next s (unended bytes) sound = sound
-IsSound-next s (whole bytes) sound = at (command_of bytes) refl
+-- what each `place` keeps, every line keeps
+kept_by_lines : (Keeps : State → Type 0) → ((s : State) (key : ℕ) (word : List ℕ) → IsNumber key → IsWord word → Keeps s → Keeps (after_place s key word))
+    → (s : State) (lines : List Line) → Keeps s → Keeps (after_lines s lines)
+kept_by_lines Keeps place s [] keeps = keeps
+kept_by_lines Keeps place s (line ∷ lines) keeps = kept_by_lines Keeps place (next s (command_in line)) lines (by_line line)
   where
-    at : (o : Option Command) → command_of bytes ≡ o → IsSound (next s o)
-    at None e = sound
-    at (Some (PlaceLine key word)) e = IsSound-after_place s key word (command_of-found bytes (PlaceLine key word) e).1 sound
-    at (Some (Show ticket)) e = sound
-    at (Some (Find key)) e = sound
-    at (Some All) e = sound
-
-IsSound-after_lines : (s : State) (lines : List Line) → IsSound s → IsSound (after_lines s lines)
-IsSound-after_lines s [] sound = sound
-IsSound-after_lines s (line ∷ lines) sound = IsSound-after_lines (next s (command_in line)) lines (IsSound-next s line sound)
+    by_line : (line : Line) → Keeps (next s (command_in line))
+    by_line (unended bytes) = keeps
+    by_line (whole bytes) = at (command_of bytes) refl
+      where
+        at : (o : Option Command) → command_of bytes ≡ o → Keeps (next s o)
+        at None e = keeps
+        at (Some (PlaceLine key word)) e = let spelled = command_of-found bytes (PlaceLine key word) e in place s key word spelled.0 spelled.1 keeps
+        at (Some (Show ticket)) e = keeps
+        at (Some (Find key)) e = keeps
+        at (Some All) e = keeps
 
 pub IsSound-from_empty : (rooms : Rooms) (last : ℕ) (lines : List Line) → IsSound (after_lines (empty rooms last) lines)
 IsSound-from_empty rooms last lines =
-    IsSound-after_lines (empty rooms last) lines (record { keys = tt; given = tt; tickets = tt; words = tt; fits = omega arith })
+    kept_by_lines IsSound (λ s key word small is_word. IsSound-after_place s key word is_word) (empty rooms last) lines
+    (record { keys = tt; given = tt; tickets = tt; words = tt; fits = omega arith })
 
 -- ---- numbers
 
@@ -193,21 +196,7 @@ IsNumbered-after_place s key word small numbered = at (with_key key s.places) re
       marks = numbered.marks;
     })
 
-IsNumbered-next : (s : State) (line : Line) → IsNumbered s → IsNumbered (next s (command_in line))
-IsNumbered-next s (unended bytes) numbered = numbered
-IsNumbered-next s (whole bytes) numbered = at (command_of bytes) refl
-  where
-    at : (o : Option Command) → command_of bytes ≡ o → IsNumbered (next s o)
-    at None e = numbered
-    at (Some (PlaceLine key word)) e = IsNumbered-after_place s key word (command_of-found bytes (PlaceLine key word) e).0 numbered
-    at (Some (Show ticket)) e = numbered
-    at (Some (Find key)) e = numbered
-    at (Some All) e = numbered
-
-IsNumbered-after_lines : (s : State) (lines : List Line) → IsNumbered s → IsNumbered (after_lines s lines)
-IsNumbered-after_lines s [] numbered = numbered
-IsNumbered-after_lines s (line ∷ lines) numbered = IsNumbered-after_lines (next s (command_in line)) lines (IsNumbered-next s line numbered)
-
 pub IsNumbered-from_empty : (rooms : Rooms) (last : ℕ) (lines : List Line) → IsNumber last → IsNumbered (after_lines (empty rooms last) lines)
 IsNumbered-from_empty rooms last lines small =
-    IsNumbered-after_lines (empty rooms last) lines (record { last = small; keys = tt; stops = tt; marks = tt })
+    kept_by_lines IsNumbered (λ s key word number is_word. IsNumbered-after_place s key word number) (empty rooms last) lines
+    (record { last = small; keys = tt; stops = tt; marks = tt })
