@@ -1,5 +1,5 @@
-use Rattle.triple_arena_user.proofs.RenumberedLemmas.{pointer_followed}
-use Rattle.triple_arena_user.proofs.renumbered.compress_with_table.Goals as goal
+use Rattle.arena_examples.proofs.FollowLemmas.{pointer_followed}
+use Rattle.arena_examples.proofs.follow.compress_with_table.Goals as goal
 
 pub returns-clause-table : goal.returns-clause-table
 returns-clause-table g c k =

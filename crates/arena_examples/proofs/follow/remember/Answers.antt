@@ -1,6 +1,6 @@
 use Rattle.std.proofs.Common.{rules}
-use Rattle.triple_arena_user.proofs.RenumberedLemmas.{kept_by, values_kept}
-use Rattle.triple_arena_user.proofs.renumbered.remember.Goals as goal
+use Rattle.arena_examples.proofs.FollowLemmas.{kept_by, values_kept}
+use Rattle.arena_examples.proofs.follow.remember.Goals as goal
 
 pub returns-clause-kept : goal.returns-clause-kept
 returns-clause-kept g c =

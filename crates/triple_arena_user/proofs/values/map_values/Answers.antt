@@ -1,6 +1,6 @@
 use Rattle.std.proofs.Common.{rules, of_calls}
 use Rattle.triple_arena.specs.CompressionLaws.{values_related_same}
-use Rattle.triple_arena_user.proofs.renumbered.map_values.Goals as goal
+use Rattle.triple_arena_user.proofs.values.map_values.Goals as goal
 
 pub returns-clause-values : goal.returns-clause-values
 returns-clause-values g c =

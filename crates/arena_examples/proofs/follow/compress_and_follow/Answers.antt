@@ -1,5 +1,5 @@
-use Rattle.triple_arena_user.proofs.RenumberedLemmas.{followed}
-use Rattle.triple_arena_user.proofs.renumbered.compress_and_follow.Goals as goal
+use Rattle.arena_examples.proofs.FollowLemmas.{followed}
+use Rattle.arena_examples.proofs.follow.compress_and_follow.Goals as goal
 
 pub returns : goal.returns
 returns g c =

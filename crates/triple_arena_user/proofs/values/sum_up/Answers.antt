@@ -1,6 +1,6 @@
 use Rattle.std.proofs.Common.{◌+◌, ◌%◌, ◌^◌, rules}
 use Rattle.triple_arena.specs.CompressionLaws.{values_in_turn}
-use Rattle.triple_arena_user.proofs.renumbered.sum_up.Goals as goal
+use Rattle.triple_arena_user.proofs.values.sum_up.Goals as goal
 
 pub returns-clause-values : goal.returns-clause-values
 returns-clause-values g c =

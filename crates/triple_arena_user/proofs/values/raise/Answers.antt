@@ -1,6 +1,6 @@
 use Rattle.std.proofs.Common.{◌+◌, ◌%◌, ◌^◌, rules}
 use Rattle.triple_arena.specs.CompressionLaws.{values_same}
-use Rattle.triple_arena_user.proofs.renumbered.raise.Goals as goal
+use Rattle.triple_arena_user.proofs.values.raise.Goals as goal
 
 pub returns-clause-values : goal.returns-clause-values
 returns-clause-values g c =

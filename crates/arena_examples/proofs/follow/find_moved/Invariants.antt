@@ -1,5 +1,5 @@
 use Rattle.std.specs.Prelude.{◌≡◌, ◌≢◌, ℕ, ◌+◌, ◌-◌, ◌<◌, ◌≤◌, false, IsSome, IfSome}
-use Rattle.triple_arena_user.proofs.renumbered.find_moved.Given as goal
+use Rattle.arena_examples.proofs.follow.find_moved.Given as goal
 
 -- no entry that is passed has the old pointer
 abbrev pub invariant-loop-q : goal.invariant-loop-q

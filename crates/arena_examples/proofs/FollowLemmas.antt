@@ -8,7 +8,7 @@ use Rattle.std.proofs.lemmas.Bool.Decides.{eqb_tells}
 use Rattle.std.proofs.lemmas.List.Kept.{AllPairs-from_increasing}
 use Rattle.triple_arena.specs.Entries.{value_if, look_up}
 use Rattle.triple_arena.specs.Compression.{index_of, value_of, IsCompact, IsMapped}
-use Rattle.triple_arena_user.specs.Renumbered.{IsFollowed, IsNamed, IsNamedBy, Keeps}
+use Rattle.arena_examples.specs.Follow.{IsFollowed, IsNamed, IsNamedBy, Keeps}
 use Rattle.triple_arena.specs.CompressionLaws.{entries_related}
 
 module _ {T : Type 0} (R : ℕ × (ℕ × T) → ℕ × (ℕ × T) → Type 0) where
@@ -89,8 +89,8 @@ some_still f (Some x) = refl
 
 module _ {M P : Type 0} (was : M → P) where
   -- what a pointer finds, by the reference that was answered
-  pub named_by : (o : Option (Bor M)) (found : Option M) (b : Bor M) (p : P) → option_copied o ≡ found → o ≡ Some b → was b.now ≡ p → option_map was found ≡ Some p
-  named_by o found b p copied is names = ap (option_map was) (sym copied ∙ ap option_copied is) ∙ ap Some names
+  pub named_by : {o : Option (Bor M)} {found : Option M} {b : Bor M} {p : P} → option_copied o ≡ found → o ≡ Some b → was b.now ≡ p → option_map was found ≡ Some p
+  named_by copied is names = ap (option_map was) (sym copied ∙ ap option_copied is) ∙ ap Some names
 
 module _ {P M V : Type 0} (index generation : P → ℕ) (was : M → P) (value : M → V) where
   -- an arena before and after its entries moved: the lists are what stands at the indexes
@@ -116,8 +116,8 @@ module _ {P M V : Type 0} (index generation : P → ℕ) (was : M → P) (value 
 
 module _ {P : Type 0} (index generation : P → ℕ) (determined : (p q : P) → index p ≡ index q → generation p ≡ generation q → p ≡ q) where
   -- pointers that test as equal are
-  pub same_pointer : (p q : P) (told test : Bool) → told ≡ test → test ≡ ((index p == index q) && (generation p == generation q)) → told ≡ true → p ≡ q
-  same_pointer p q told test tells tested holds =
+  pub same_pointer : {p q : P} {told test : Bool} → told ≡ test → test ≡ ((index p == index q) && (generation p == generation q)) → told ≡ true → p ≡ q
+  same_pointer {p} {q} tells tested holds =
       let parts = and_parts (index p == index q) (generation p == generation q) (sym tested ∙ sym tells ∙ holds) in
       determined p q (eqb-true (index p) (index q) parts.0) (eqb-true (generation p) (generation q) parts.1)
 

@@ -1,6 +1,6 @@
 use Rattle.std.specs.Prelude.{◌≡◌, ℕ, ◌<◌, ◌≤◌, None, slice_index_or}
-use Rattle.triple_arena_user.specs.Renumbered.{IsNamedBy}
-use Rattle.triple_arena_user.proofs.renumbered.find_all_moved.Given as goal
+use Rattle.arena_examples.specs.Follow.{IsNamedBy}
+use Rattle.arena_examples.proofs.follow.find_all_moved.Given as goal
 
 -- the pointers that are passed are replaced, and the others are as they were
 abbrev pub invariant-loop-at : goal.invariant-loop-at
