@@ -1,24 +1,30 @@
-//! The callers of a compression, at concrete arenas.
-use super::compress::value_at;
-use super::sequences::{InVec, insert};
+//! The callers of a compression, at a concrete arena.
 use crate::{map_values, raise, sum_up};
+use std::alloc::Global;
+use std::num::NonZeroUsize;
 use std::process::Abort;
-use triple_arena::ArenaTrait;
-use triple_arena_ptr::{InvalidationOption, P0};
+use std::test::Fail;
+use triple_arena::{ArenaInsertTrait, ArenaTrait, HeapArena, InvalidationOption, P0};
+
+type InVec = HeapArena<P0, u64, Global>;
 
 // The values at the first two indexes, and none at the third.
-fn holds(rt: &impl Abort, arena: &InVec<P0>, first: u64, second: u64) {
-    assert_eq!(rt; value_at(arena, 1), Some(first));
-    assert_eq!(rt; value_at(arena, 2), Some(second));
-    assert_eq!(rt; value_at(arena, 3), None);
+fn holds(rt: &impl Abort, arena: &InVec, first: u64, second: u64) {
+    for (place, wanted) in [Some(first), Some(second), None].iter().enumerate() {
+        let found = match arena.get_inx(NonZeroUsize::MIN.saturating_add(place)) {
+            Some((_, value)) => Some(*value),
+            None => None,
+        };
+        assert_eq!(rt; found, *wanted);
+    }
 }
 
 #[test]
-fn changes_the_values(rt: HostRuntime) {
-    let mut arena = InVec::<P0>::new(rt.alloc());
-    let first = insert(&rt, &mut arena, 10);
-    insert(&rt, &mut arena, 11);
-    insert(&rt, &mut arena, u64::MAX);
+fn changes_the_values(rt: HostRuntime) -> Result<(), Fail> {
+    let mut arena = InVec::new(rt.alloc());
+    let first = arena.insert(10)?;
+    arena.insert(11)?;
+    arena.insert(u64::MAX)?;
     assert!(rt; !arena.remove(first).is_invalid());
     assert_eq!(rt; raise(&mut arena, 5), InvalidationOption::Success(()));
     holds(&rt, &arena, 16, 4);
@@ -29,4 +35,5 @@ fn changes_the_values(rt: HostRuntime) {
     holds(&rt, &arena, 17, 5);
     assert_eq!(rt; sum_up(&mut arena), InvalidationOption::Success(()));
     holds(&rt, &arena, 17, 22);
+    Ok(())
 }

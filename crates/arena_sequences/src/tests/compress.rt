@@ -4,8 +4,9 @@ use narrow_ptr::N3;
 use std::num::NonZeroUsize;
 use std::process::Abort;
 use std::test::Fail;
-use triple_arena::{ArenaInsertTrait, ArenaTrait, CompactArenaTrait};
-use triple_arena_ptr::{InvalidationOption, P0, P1, P5, Ptr, PtrInx};
+use triple_arena::{
+    ArenaInsertTrait, ArenaTrait, CompactArenaTrait, InvalidationOption, P0, P1, P5, Ptr, PtrInx,
+};
 
 fn remove<P: Ptr, A: ArenaInsertTrait<P, u64>>(rt: &impl Abort, arena: &mut A, p: P) {
     assert!(rt; !arena.remove(p).is_invalid());
@@ -58,24 +59,41 @@ fn maps_in_order<P: Ptr, A: ArenaInsertTrait<P, u64> + CompactArenaTrait<P, u64>
 }
 
 #[test]
-fn moves_to_the_first_indexes(rt: HostRuntime) -> Result<(), Fail> {
+fn moves_to_the_first_indexes(rt: HostRuntime) {
     let steps = ["P0[2](2)", "P0[1](7)", "P0[4](2)", "P0[2](7)", "P0[3](7)"];
-    let resets = ["P0[2](2)", "P0[1](2)", "P0[4](2)", "P0[2](2)", "P0[3](2)"];
     maps_in_order(&rt, &mut InVec::<P0>::new(rt.alloc()), false, &steps);
-    maps_in_order(&rt, &mut InVec::<P0>::new(rt.alloc()), true, &resets);
     maps_in_order(&rt, &mut InLimited::<P0>::new(rt.alloc()), false, &steps);
+}
+
+#[test]
+fn moves_with_a_reset(rt: HostRuntime) {
+    let resets = ["P0[2](2)", "P0[1](2)", "P0[4](2)", "P0[2](2)", "P0[3](2)"];
+    maps_in_order(&rt, &mut InVec::<P0>::new(rt.alloc()), true, &resets);
+}
+
+#[test]
+fn moves_in_a_boxed_slice(rt: HostRuntime) -> Result<(), Fail> {
+    let steps = ["P0[2](2)", "P0[1](7)", "P0[4](2)", "P0[2](7)", "P0[3](7)"];
     let mut boxed = InBoxed::<P0>::with_min_capacity(rt.alloc(), 6)?;
     maps_in_order(&rt, &mut boxed, false, &steps);
-    let mut array = InArray::<P1, 6>::new(());
-    let steps = ["P1[2](2)", "P1[1](7)", "P1[4](2)", "P1[2](7)", "P1[3](7)"];
-    maps_in_order(&rt, &mut array, false, &steps);
-    let steps = ["P5[2]", "P5[1]", "P5[4]", "P5[2]", "P5[3]"];
-    maps_in_order(&rt, &mut InVec::<P5>::new(rt.alloc()), false, &steps);
     Ok(())
 }
 
+#[test]
+fn moves_in_an_array(rt: HostRuntime) {
+    let mut array = InArray::<P1, 6>::new(());
+    let steps = ["P1[2](2)", "P1[1](7)", "P1[4](2)", "P1[2](7)", "P1[3](7)"];
+    maps_in_order(&rt, &mut array, false, &steps);
+}
+
+#[test]
+fn moves_without_generations(rt: HostRuntime) {
+    let steps = ["P5[2]", "P5[1]", "P5[4]", "P5[2]", "P5[3]"];
+    maps_in_order(&rt, &mut InVec::<P5>::new(rt.alloc()), false, &steps);
+}
+
 // The value at an index, by its number.
-pub(super) fn value_at<P: Ptr, A: ArenaTrait<P, u64>>(arena: &A, index: usize) -> Option<u64> {
+fn value_at<P: Ptr, A: ArenaTrait<P, u64>>(arena: &A, index: usize) -> Option<u64> {
     let inx = P::Inx::try_from_usize(NonZeroUsize::new(index)?)?;
     match arena.get_inx(inx) {
         Some((_, value)) => Some(*value),
@@ -110,12 +128,13 @@ fn steps_the_counter_once(rt: HostRuntime) {
     let texts = ["P0[3](8)", "P0[4](2)"];
     let success = InvalidationOption::Success(());
     keeps_the_values(&rt, &mut InVec::<P0>::new(rt.alloc()), success, &texts);
+}
+
+#[test]
+fn steps_past_the_last_generation(rt: HostRuntime) {
     let texts = ["N3[3](2)", "N3[4](2)"];
     let overflow = InvalidationOption::GenerationOverflow(());
     keeps_the_values(&rt, &mut InVec::<N3>::new(rt.alloc()), overflow, &texts);
-    let mut array = InArray::<N3, 6>::new(());
-    let overflow = InvalidationOption::GenerationOverflow(());
-    keeps_the_values(&rt, &mut array, overflow, &texts);
 }
 
 #[test]

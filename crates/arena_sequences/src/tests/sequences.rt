@@ -3,25 +3,18 @@ use narrow_ptr::N3;
 use std::alloc::Global;
 use std::process::Abort;
 use std::test::Fail;
-use triple_arena::{Arena, ArenaInsertTrait, ArenaSlot, ArenaTrait};
-use triple_arena_ptr::{
-    InvalidationResult, NotWithinCapacityError, P0, P1, P5, Ptr, ReallocationError,
-};
-use triple_arena_stack::{
-    NonZeroInxArray, NonZeroInxBoxedSlice, NonZeroInxLimitedVec, NonZeroInxVec,
+use triple_arena::{
+    ArenaInsertTrait, ArenaTrait, ArrayArena, BoxedArena, HeapArena, InvalidationResult,
+    LimitedArena, NotWithinCapacityError, P0, P1, P5, Ptr, ReallocationError,
 };
 
-pub(super) type InVec<P> = Arena<P, u64, NonZeroInxVec<ArenaSlot<P, u64>, Global>>;
+pub(super) type InVec<P> = HeapArena<P, u64, Global>;
 
-pub(super) type InLimited<P> = Arena<P, u64, NonZeroInxLimitedVec<ArenaSlot<P, u64>, Global>>;
+pub(super) type InLimited<P> = LimitedArena<P, u64, Global>;
 
-pub(super) type InBoxed<P> = Arena<P, u64, NonZeroInxBoxedSlice<ArenaSlot<P, u64>, Global>>;
+pub(super) type InBoxed<P> = BoxedArena<P, u64, Global>;
 
-pub(super) type InArray<P, const LIMIT: usize> = Arena<
-    P,
-    u64,
-    NonZeroInxArray<ArenaSlot<P, u64>, LIMIT>,
->;
+pub(super) type InArray<P, const LIMIT: usize> = ArrayArena<P, u64, LIMIT>;
 
 pub(super) fn shows<P: Ptr>(rt: &(impl Abort + Alloc), p: P, text: &str) {
     match format!(in rt.alloc(); "{p:?}") {
@@ -136,53 +129,84 @@ fn ends_its_pointer<P: Ptr, A: ArenaInsertTrait<P, u64>>(
 }
 
 #[test]
-fn with_generations(rt: HostRuntime) -> Result<(), Fail> {
+fn takes_the_last_freed_first_in_a_vector(rt: HostRuntime) {
     let texts = ["P0[2](4)", "P0[1](4)", "P0[4](4)"];
     takes_the_last_freed_first(&rt, &mut InVec::<P0>::new(rt.alloc()), &texts);
+    let texts = ["P5[2]", "P5[1]", "P5[4]"];
+    takes_the_last_freed_first(&rt, &mut InVec::<P5>::new(rt.alloc()), &texts);
+}
+
+#[test]
+fn takes_the_last_freed_first_in_a_limited_vector(rt: HostRuntime) {
+    let texts = ["P0[2](4)", "P0[1](4)", "P0[4](4)"];
     takes_the_last_freed_first(&rt, &mut InLimited::<P0>::new(rt.alloc()), &texts);
+}
+
+#[test]
+fn takes_the_last_freed_first_in_a_boxed_slice(rt: HostRuntime) -> Result<(), Fail> {
+    let texts = ["P0[2](4)", "P0[1](4)", "P0[4](4)"];
     let mut boxed = InBoxed::<P0>::with_min_capacity(rt.alloc(), 4)?;
     takes_the_last_freed_first(&rt, &mut boxed, &texts);
     is_at_limit(&rt, &mut boxed);
+    Ok(())
+}
+
+#[test]
+fn takes_the_last_freed_first_in_an_array(rt: HostRuntime) {
     let mut array = InArray::<P1, 4>::new(());
     takes_the_last_freed_first(&rt, &mut array, &["P1[2](4)", "P1[1](4)", "P1[4](4)"]);
     is_at_limit(&rt, &mut array);
+}
 
+#[test]
+fn takes_the_last_freed_first_without_generations(rt: HostRuntime) {
+    let mut array = InArray::<P5, 4>::new(());
+    takes_the_last_freed_first(&rt, &mut array, &["P5[2]", "P5[1]", "P5[4]"]);
+    is_at_limit(&rt, &mut array);
+}
+
+#[test]
+fn pops_the_last_slot_of_a_vector(rt: HostRuntime) {
     let texts = ["P0[1](4)", "P0[2](4)"];
     pops_the_last_slot(&rt, &mut InVec::<P0>::new(rt.alloc()), &texts);
-    let texts = ["P1[1](4)", "P1[2](4)"];
-    let mut boxed = InBoxed::<P1>::with_min_capacity(rt.alloc(), 2)?;
-    pops_the_last_slot(&rt, &mut boxed, &texts);
-    is_at_limit(&rt, &mut boxed);
-    let mut array = InArray::<P1, 2>::new(());
-    pops_the_last_slot(&rt, &mut array, &texts);
-    is_at_limit(&rt, &mut array);
+    pops_the_last_slot(&rt, &mut InVec::<P5>::new(rt.alloc()), &["P5[1]", "P5[2]"]);
+}
 
-    // The pointer's indexes end before the stack does.
+#[test]
+fn pops_the_last_slot_of_a_boxed_slice(rt: HostRuntime) -> Result<(), Fail> {
+    let mut boxed = InBoxed::<P1>::with_min_capacity(rt.alloc(), 2)?;
+    pops_the_last_slot(&rt, &mut boxed, &["P1[1](4)", "P1[2](4)"]);
+    is_at_limit(&rt, &mut boxed);
+    Ok(())
+}
+
+#[test]
+fn pops_the_last_slot_of_an_array(rt: HostRuntime) {
+    let mut array = InArray::<P1, 2>::new(());
+    pops_the_last_slot(&rt, &mut array, &["P1[1](4)", "P1[2](4)"]);
+    is_at_limit(&rt, &mut array);
+}
+
+// The pointer's indexes end before the stack does.
+#[test]
+fn indexes_end(rt: HostRuntime) {
     let mut vec = InVec::<P1>::new(rt.alloc());
     for value in 0..255 {
         insert(&rt, &mut vec, value);
     }
     is_at_limit(&rt, &mut vec);
-
-    ends_its_pointer(&rt, &mut InVec::<P0>::new(rt.alloc()), "P0[1](3)");
-    ends_its_pointer(&rt, &mut InArray::<P1, 1>::new(()), "P1[1](3)");
-    Ok(())
 }
 
 #[test]
-fn without_generations(rt: HostRuntime) -> Result<(), Fail> {
-    let texts = ["P5[2]", "P5[1]", "P5[4]"];
-    takes_the_last_freed_first(&rt, &mut InVec::<P5>::new(rt.alloc()), &texts);
-    let mut boxed = InBoxed::<P5>::with_min_capacity(rt.alloc(), 4)?;
-    takes_the_last_freed_first(&rt, &mut boxed, &texts);
-    is_at_limit(&rt, &mut boxed);
-    let mut array = InArray::<P5, 4>::new(());
-    takes_the_last_freed_first(&rt, &mut array, &texts);
-    is_at_limit(&rt, &mut array);
-    pops_the_last_slot(&rt, &mut InVec::<P5>::new(rt.alloc()), &["P5[1]", "P5[2]"]);
+fn an_invalidation_ends_a_pointer(rt: HostRuntime) {
+    ends_its_pointer(&rt, &mut InVec::<P0>::new(rt.alloc()), "P0[1](3)");
+    ends_its_pointer(&rt, &mut InArray::<P1, 1>::new(()), "P1[1](3)");
+}
+
+#[test]
+fn an_invalidation_keeps_a_pointer_without_generations(rt: HostRuntime) {
     keeps_its_pointer(&rt, &mut InVec::<P5>::new(rt.alloc()));
     keeps_its_pointer(&rt, &mut InArray::<P5, 1>::default());
-    Ok(())
 }
 
 // The generations 2, 3, and 2 again.

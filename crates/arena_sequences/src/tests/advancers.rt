@@ -5,8 +5,7 @@ ghost use Rattle.triple_arena.specs.Entries.{generation_at};
 use super::sequences::{InArray, InVec, insert, shows};
 use std::process::Abort;
 use std::test::Fail;
-use triple_arena::{ArenaInsertTrait, ArenaTrait};
-use triple_arena_ptr::{Advancer, InvalidationResult, P0, P1, Ptr};
+use triple_arena::{Advancer, ArenaInsertTrait, ArenaTrait, InvalidationResult, P0, P1, Ptr};
 
 // Removes the entries one by one: an advancer comes to each of them, over an arena that changes.
 fn remove_each<P: Ptr, T: Drop, A: ArenaTrait<P, T>>(arena: &mut A)

@@ -1,6 +1,6 @@
 use Rattle.std.specs.Prelude.{◌≡◌, ℕ, ◌+◌, ◌-◌, ◌<◌, ◌≤◌, false, None, Some, IsSome, IfSome, IfNone}
 use Rattle.triple_arena.specs.Entries.{generation_at}
-use Rattle.triple_arena_user.proofs.tests.advancers.last_by_steps.Given as goal
+use Rattle.arena_sequences.proofs.tests.advancers.last_by_steps.Given as goal
 
 -- the last one that was given is the last live one before what is left
 abbrev pub invariant-loop-p : goal.invariant-loop-p

@@ -1,6 +1,6 @@
 use Rattle.std.specs.Prelude.{◌≡◌, ℕ, ◌+◌, ◌-◌, false, IsSome}
 use Rattle.triple_arena.specs.Walk.{IsAhead}
-use Rattle.triple_arena_user.proofs.tests.advancers.remove_each.Given as goal
+use Rattle.arena_sequences.proofs.tests.advancers.remove_each.Given as goal
 
 -- all that is live is ahead
 abbrev pub invariant-loop-p : goal.invariant-loop-p
