@@ -2,3 +2,4 @@ pub mod FreeListLemmas
 pub mod ExchangeLemmas
 pub mod WalkLemmas
 mod CompressionLemmas
+pub mod DirectLemmas

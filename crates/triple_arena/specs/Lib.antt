@@ -16,3 +16,9 @@ pub mod LiveEntries
 pub mod Compression
 pub mod CompressionLaws
 pub mod SlotCompression
+pub mod DirectContent
+pub mod DirectSlot
+pub mod DirectState
+pub mod DirectLayout
+pub mod DirectLaws
+pub mod DirectEntry

@@ -20,6 +20,8 @@ mod room;
 
 use crate::ArenaSlot;
 pub use entry::{ArenaInsertEntries, ArenaInsertEntry, ArenaInsertEntryTrait};
+pub(crate) use reading::ValueAtMut;
+pub(crate) use removal::equal_uncounted;
 use std::marker::{Model, PhantomData};
 use std::num::NonZeroUsize;
 use triple_arena_ptr::{Ptr, PtrGen, PtrInx};
