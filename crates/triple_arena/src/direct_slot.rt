@@ -5,7 +5,7 @@ ghost use Rattle.std.specs.Option.{option_map};
 ghost use Rattle.triple_arena.specs.DirectSlot.{value_of, with_slot_value, with_slot_generation};
 ghost use Rattle.triple_arena.specs.Entries.{value_if};
 
-use crate::slot::ValueMut;
+use crate::slot::{EntrySlot, ValueMut};
 use std::marker::Model;
 use triple_arena_ptr::Ptr;
 
@@ -108,17 +108,6 @@ impl<P: Ptr, T> DirectSlot<P, T> {
         }
     }
 
-    // The generation and the value, if the slot is allocated.
-    pub(crate) fn into_live(self) -> Option<(P::Gen, T)>
-        ensures { option_map (λ e. (P.Gen.number e.0, e.1)) result ≡ self }
-    {
-        let DirectSlot { state } = self;
-        match state {
-            DirectState::Used(generation, value) => Some((generation, value)),
-            DirectState::Free => None,
-        }
-    }
-
     // The generation and the value. The slot must be allocated.
     pub(crate) fn into_entry(self) -> (P::Gen, T)
         requires { IsSome self }
@@ -128,6 +117,26 @@ impl<P: Ptr, T> DirectSlot<P, T> {
         match state {
             DirectState::Used(generation, value) => (generation, value),
             DirectState::Free => unreachable!(),
+        }
+    }
+}
+
+impl<P: Ptr, T> EntrySlot<P, T> for DirectSlot<P, T> {
+    ghost entry = { λ s. s };
+
+    fn vacant() -> Self {
+        DirectSlot::free()
+    }
+
+    fn holding(generation: P::Gen, value: T) -> Self {
+        DirectSlot::used(generation, value)
+    }
+
+    fn into_live(self) -> Option<(P::Gen, T)> {
+        let DirectSlot { state } = self;
+        match state {
+            DirectState::Used(generation, value) => Some((generation, value)),
+            DirectState::Free => None,
         }
     }
 }

@@ -52,6 +52,21 @@ impl<G, T> ValueMut<T> for SlotState<G, T> {
     }
 }
 
+// What a compression does with a slot.
+pub(crate) trait EntrySlot<P: Ptr, T> {
+    // The generation and the value, if it is allocated.
+    ghost entry: { Self → Option (ℕ × T) };
+
+    fn vacant() -> Self
+        ensures { entry result ≡ None };
+
+    fn holding(generation: P::Gen, value: T) -> Self
+        ensures { entry result ≡ Some (P.Gen.number generation, value) };
+
+    fn into_live(self) -> Option<(P::Gen, T)>
+        ensures { option_map (λ e. (P.Gen.number e.0, e.1)) result ≡ entry self };
+}
+
 impl<P: Ptr, T> Model for ArenaSlot<P, T> {
     ghost use Rattle.triple_arena.specs.Slot.{Slot};
     ghost use Rattle.triple_arena.specs.SlotState.{slot_of};
@@ -147,17 +162,6 @@ impl<P: Ptr, T> ArenaSlot<P, T> {
         }
     }
 
-    // The generation and the value, if the slot is allocated.
-    pub(crate) fn into_live(self) -> Option<(P::Gen, T)>
-        ensures { option_map (λ e. (P.Gen.number e.0, e.1)) result ≡ entry_of self }
-    {
-        let ArenaSlot { state } = self;
-        match state {
-            SlotState::Used(generation, value) => Some((generation, value)),
-            SlotState::Free(_) => None,
-        }
-    }
-
     // The generation and the value. The slot must be allocated.
     pub(crate) fn into_entry(self) -> (P::Gen, T)
         requires { IsSome (entry_of self) }
@@ -167,6 +171,26 @@ impl<P: Ptr, T> ArenaSlot<P, T> {
         match state {
             SlotState::Used(generation, value) => (generation, value),
             SlotState::Free(_) => unreachable!(),
+        }
+    }
+}
+
+impl<P: Ptr, T> EntrySlot<P, T> for ArenaSlot<P, T> {
+    ghost entry = { entry_of };
+
+    fn vacant() -> Self {
+        ArenaSlot::free(None)
+    }
+
+    fn holding(generation: P::Gen, value: T) -> Self {
+        ArenaSlot::used(generation, value)
+    }
+
+    fn into_live(self) -> Option<(P::Gen, T)> {
+        let ArenaSlot { state } = self;
+        match state {
+            SlotState::Used(generation, value) => Some((generation, value)),
+            SlotState::Free(_) => None,
         }
     }
 }

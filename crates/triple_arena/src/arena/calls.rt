@@ -253,7 +253,7 @@ impl<P: Ptr, T: Drop, S: NonZeroInxGenericStack<ArenaSlot<P, T>> + Drop> ArenaTr
         // The slots are within the capacity, and so are their indexes.
         let _ = self.room_for();
         let (generation, wrapped) = renewal(self.counter, reset);
-        compact(&mut self.slots, generation, map);
+        compact(&mut self.slots, Some(generation), reset, map);
         self.counter = generation;
         self.head = None;
         // The arena is well-formed after.
