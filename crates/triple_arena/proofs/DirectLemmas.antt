@@ -4,9 +4,10 @@ use Rattle.std.specs.Option.{option_map}
 use Rattle.std.proofs.lemmas.Option.{slice_get_within, get_or_from_slice_get}
 use Rattle.std.proofs.lemmas.List.Sums.{sum_by-set, count_by-le-length}
 use Rattle.triple_arena_stack.specs.Room.{Room, capacity}
+use Rattle.triple_arena.specs.Changes.{IsInvalidated}
 use Rattle.triple_arena.specs.ContentLaws.{entry_at_slot, live_of}
-use Rattle.triple_arena.specs.DirectContent.{DirectContent, as_content, entry_at, room_for, reaching, with_value, with_generation, inserted, removed, IsPlace}
-use Rattle.triple_arena.specs.DirectLaws.{live-inserted, formed-inserted}
+use Rattle.triple_arena.specs.DirectContent.{DirectContent, as_content, entry_at, room_for, live_count, no_counter, reaching, with_value, with_generation, inserted, removed, IsPlace}
+use Rattle.triple_arena.specs.DirectLaws.{live-inserted, formed-inserted, entry-with_generation, live-with_generation, room-with_generation}
 use Rattle.triple_arena.specs.DirectSlot.{with_slot_value, with_slot_generation}
 use Rattle.triple_arena.specs.DirectLayout.{direct_of, IsSound}
 
@@ -117,3 +118,15 @@ module _ {T : Type 0} where
   pub value_some : (slot : Option (ℕ × T)) → IsSome slot → IsSome (option_map (λ (e : ℕ × T). e.1) slot)
   value_some None some = some
   value_some (Some e) some = refl
+
+  -- what the end of a pointer leaves
+  pub is_invalidated : {last : Option ℕ} {d d' : DirectContent T} {i j g h : ℕ} → d' ≡ with_generation d i g → i ≡ j → h ≡ g
+      → IsInvalidated entry_at live_count no_counter (λ x. x.room) last j h d d'
+  is_invalidated {d} {i} {g} is same own =
+      rw (← same, own)
+      record {
+        entries = λ k. ap (λ x. entry_at x k) is ∙ entry-with_generation d i g k;
+        live = ap live_count is ∙ live-with_generation d i g;
+        counter = refl;
+        room = ap (λ x. x.room) is ∙ room-with_generation d i g;
+      }

@@ -3,3 +3,4 @@ pub mod ExchangeLemmas
 pub mod WalkLemmas
 mod CompressionLemmas
 pub mod DirectLemmas
+mod DirectCompressionLemmas

@@ -1,10 +1,14 @@
 //! Going over the pointers of an arena, by their indexes.
-ghost use Rattle.std.specs.Prelude.{◌≡◌, ◌+◌, ◌^◌, ◌<◌, true, false, IfSome, IfNone};
+ghost use Rattle.std.specs.Prelude.{◌≡◌, ℕ, ◌+◌, ◌-◌, ◌^◌, ◌<◌, min, if◌then◌else◌, true, false, length, Option, Some, None, IfSome, IfNone, refl};
+ghost use Rattle.std.specs.Int.NonZero.{non_zero_usize_get};
 ghost use Rattle.std.specs.Option.{option_map};
+ghost use Rattle.triple_arena.specs.Entries.{pointer_at, generation_at};
 ghost use Rattle.triple_arena.specs.Content.{entry_at};
+ghost use Rattle.triple_arena.specs.ContentLaws.{none-past_slots};
+ghost use Rattle.triple_arena.specs.DirectContent.{entry_at as entry_of, as_content};
 ghost use Rattle.triple_arena.specs.Walk.{past, to_come, Finds, IsOver, Steps};
 
-use crate::{Arena, ArenaSlot};
+use crate::{Arena, ArenaSlot, DirectArena, DirectSlot};
 use std::marker::{Model, PhantomData};
 use std::num::NonZeroUsize;
 use triple_arena_ptr::{Advancer, Ptr, PtrInx};
@@ -46,6 +50,29 @@ impl<P: Ptr> PtrAdvancer<P> {
         }
     }
 
+    // From `i` on, rising up to `end`, or with `rev` falling to 1.
+    pub(crate) fn from_index(i: P::Inx, end: usize, rev: bool) -> Self
+        ensures direction { result.falls ≡ rev }
+        ensures low { result.low ≡ (if rev then 1 else min (P.Inx.number i) (2 ^ 64)) }
+        ensures rising_to { rev ≡ false → result.high ≡ end }
+        ensures falling_from { rev ≡ true → result.high ≡ min (P.Inx.number i) (2 ^ 64 - 1) }
+    {
+        let number = i.try_into_usize();
+        if rev {
+            let high = match number {
+                Some(i) => i.get(),
+                // No index past a `usize` is live.
+                None => usize::MAX,
+            };
+            return PtrAdvancer::over(0, high, true);
+        }
+        let start = match number {
+            Some(i) => i.get() - 1,
+            None => usize::MAX,
+        };
+        PtrAdvancer::over(start, end, false)
+    }
+
     // Passes what a step gave, or ends where it gave nothing.
     fn pass(&mut self, given: Option<P>)
         requires { IfSome given (λ p. P.index p < 2 ^ 64) }
@@ -63,17 +90,36 @@ impl<P: Ptr> PtrAdvancer<P> {
     }
 }
 
-impl<P: Ptr, T: Drop, S: NonZeroInxGenericStack<ArenaSlot<P, T>>> Arena<P, T, S> {
+// What finds its live entries by the indexes of its slots.
+pub(crate) trait LivePointers<P: Ptr, T> {
+    // The generation and the value at each index, and how many slots there are.
+    ghost entries: { Self → ℕ → Option (ℕ × T) };
+
+    ghost slots: { Self → ℕ };
+
+    // The number of slots.
+    fn last_index(&self) -> usize
+        ensures { result ≡ slots self.now };
+
+    // The pointer to the entry at `i`, if it is live.
+    fn pointer_of(&self, i: NonZeroUsize) -> Option<P>
+        ensures { option_map (λ p. (P.index p, P.generation p)) result
+            ≡ pointer_at (entries self.now) (non_zero_usize_get i) };
+
+    ghost entries_from_one: { (s : Self) → entries s 0 ≡ None };
+
+    ghost entries_within: { (s : Self) (j : ℕ) → slots s < j → entries s j ≡ None };
+
     // The pointer to the first live entry at the indexes after `start`, up to `end`.
-    pub(crate) fn first_live(&self, start: usize, end: usize) -> Option<P>
-        ensures found { Finds (entry_at self.now)
+    final fn first_live(&self, start: usize, end: usize) -> Option<P>
+        ensures found { Finds (entries self.now)
             (record { low = start + 1; high = end; falls = false })
             (option_map (λ p. (P.index p, P.generation p)) result) }
         ensures number { IfSome result (λ p. P.index p < 2 ^ 64) }
     {
-        let last = end.min(self.slot_count());
+        let last = end.min(self.last_index());
         for before in start..last {
-            let found = self.pointer(NonZeroUsize::MIN.saturating_add(before));
+            let found = self.pointer_of(NonZeroUsize::MIN.saturating_add(before));
             if found.is_some() {
                 return found;
             }
@@ -82,15 +128,15 @@ impl<P: Ptr, T: Drop, S: NonZeroInxGenericStack<ArenaSlot<P, T>>> Arena<P, T, S>
     }
 
     // The pointer to the last live entry at the indexes after `start`, up to `end`.
-    pub(crate) fn last_live(&self, start: usize, end: usize) -> Option<P>
-        ensures found { Finds (entry_at self.now)
+    final fn last_live(&self, start: usize, end: usize) -> Option<P>
+        ensures found { Finds (entries self.now)
             (record { low = start + 1; high = end; falls = true })
             (option_map (λ p. (P.index p, P.generation p)) result) }
         ensures number { IfSome result (λ p. P.index p < 2 ^ 64) }
     {
-        let mut last = end.min(self.slot_count());
+        let mut last = end.min(self.last_index());
         while start < last {
-            let found = self.pointer(NonZeroUsize::MIN.saturating_add(last - 1));
+            let found = self.pointer_of(NonZeroUsize::MIN.saturating_add(last - 1));
             if found.is_some() {
                 return found;
             }
@@ -99,9 +145,29 @@ impl<P: Ptr, T: Drop, S: NonZeroInxGenericStack<ArenaSlot<P, T>>> Arena<P, T, S>
         None
     }
 
+    // The pointer to the live entry with the least index.
+    final fn first_of_all(&self) -> Option<P>
+        ensures live { IfSome result (λ p. generation_at (entries self.now) (P.index p)
+            ≡ Some (P.generation p)) }
+        ensures first { IfSome result (λ p. (j : ℕ) → j < P.index p → entries self.now j ≡ None) }
+        ensures none { IfNone result ((j : ℕ) → entries self.now j ≡ None) }
+    {
+        self.first_live(0, self.last_index())
+    }
+
+    // The pointer to the live entry with the greatest index.
+    final fn last_of_all(&self) -> Option<P>
+        ensures live { IfSome result (λ p. generation_at (entries self.now) (P.index p)
+            ≡ Some (P.generation p)) }
+        ensures last { IfSome result (λ p. (j : ℕ) → P.index p < j → entries self.now j ≡ None) }
+        ensures none { IfNone result ((j : ℕ) → entries self.now j ≡ None) }
+    {
+        self.last_live(0, self.last_index())
+    }
+
     // What the next step of an advancer gives.
-    fn next_live(&self, advancer: &PtrAdvancer<P>) -> Option<P>
-        ensures found { Finds (entry_at self.now) advancer.now
+    final fn next_live(&self, advancer: &PtrAdvancer<P>) -> Option<P>
+        ensures found { Finds (entries self.now) advancer.now
             (option_map (λ p. (P.index p, P.generation p)) result) }
         ensures number { IfSome result (λ p. P.index p < 2 ^ 64) }
     {
@@ -110,6 +176,44 @@ impl<P: Ptr, T: Drop, S: NonZeroInxGenericStack<ArenaSlot<P, T>>> Arena<P, T, S>
         } else {
             self.first_live(advancer.start, advancer.end)
         }
+    }
+}
+
+impl<P: Ptr, T: Drop, S: NonZeroInxGenericStack<ArenaSlot<P, T>>> LivePointers<P, T>
+    for Arena<P, T, S> {
+    ghost entries = { entry_at };
+
+    ghost slots = { λ c. length c.slots };
+
+    ghost entries_from_one = { λ c. refl };
+
+    ghost entries_within = { none-past_slots };
+
+    fn last_index(&self) -> usize {
+        self.slot_count()
+    }
+
+    fn pointer_of(&self, i: NonZeroUsize) -> Option<P> {
+        self.pointer(i)
+    }
+}
+
+impl<P: Ptr, T: Drop, S: NonZeroInxGenericStack<DirectSlot<P, T>>> LivePointers<P, T>
+    for DirectArena<P, T, S> {
+    ghost entries = { entry_of };
+
+    ghost slots = { λ d. length d.slots };
+
+    ghost entries_from_one = { λ d. refl };
+
+    ghost entries_within = { λ d. none-past_slots (as_content d) };
+
+    fn last_index(&self) -> usize {
+        self.slot_count()
+    }
+
+    fn pointer_of(&self, i: NonZeroUsize) -> Option<P> {
+        self.pointer(i)
     }
 }
 
@@ -123,6 +227,26 @@ impl<P: Ptr, T: Drop, S: NonZeroInxGenericStack<ArenaSlot<P, T>>> Advancer<Arena
         (option_map (λ p. (P.index p, P.generation p)) given) after };
 
     fn advance(&mut self, arena: &Arena<P, T, S>) -> Option<P> {
+        let given = arena.next_live(self);
+        self.pass(given);
+        given
+    }
+
+    fn empty() -> Self {
+        PtrAdvancer::over(0, 0, false)
+    }
+}
+
+impl<P: Ptr, T: Drop, S: NonZeroInxGenericStack<DirectSlot<P, T>>> Advancer<DirectArena<P, T, S>>
+    for PtrAdvancer<P> {
+    type Item = P;
+
+    ghost remaining = { λ a _. to_come a };
+
+    ghost advance_gives = { λ before d given after. Steps (entry_of d) before
+        (option_map (λ p. (P.index p, P.generation p)) given) after };
+
+    fn advance(&mut self, arena: &DirectArena<P, T, S>) -> Option<P> {
         let given = arena.next_live(self);
         self.pass(given);
         given

@@ -19,8 +19,8 @@ mod removal;
 mod room;
 
 use crate::ArenaSlot;
-pub use entry::{ArenaInsertEntries, ArenaInsertEntry, ArenaInsertEntryTrait};
 pub(crate) use compression::{compact, keep_first};
+pub use entry::{ArenaInsertEntries, ArenaInsertEntry, ArenaInsertEntryTrait};
 pub(crate) use reading::ValueAtMut;
 pub(crate) use removal::equal_uncounted;
 use std::marker::{Model, PhantomData};

@@ -3,6 +3,7 @@ ghost use Rattle.std.specs.Prelude.{◌≡◌, ◌≤◌, [], length};
 ghost use Rattle.triple_arena.specs.ArenaRoom.{room_of};
 ghost use Rattle.triple_arena.specs.DirectContent.{live_count, empty, IsWellFormed};
 
+mod calls;
 mod entry;
 mod insertion;
 mod reading;
