@@ -4,6 +4,6 @@ mod advancers;
 mod compress;
 mod entries;
 mod refusals;
-mod renumbered;
 mod sequences;
+mod values;
 mod writes;

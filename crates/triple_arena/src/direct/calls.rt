@@ -8,6 +8,7 @@ ghost use Rattle.triple_arena.specs.LiveEntries.{entry-listed, live_entries-incr
 use crate::advancer::{LivePointers, PtrAdvancer};
 use crate::arena::{ValueAtMut, compact, equal_uncounted, max_index};
 use crate::direct::DirectArena;
+use crate::slot::ValueIfMut;
 use crate::{ArenaTrait, CompactArenaTrait, DirectSlot};
 use triple_arena_ptr::{
     InvalidationOption, InvalidationResult, Ptr, PtrGen, PtrInx, ReallocationError,
@@ -147,8 +148,13 @@ impl<P: Ptr, T: Drop, S: NonZeroInxGenericStack<DirectSlot<P, T>> + Drop> ArenaT
     }
 
     fn get_mut(&mut self, p: P) -> Option<&mut T> {
-        match self.live_index(p) {
-            Some(i) => Some(self.value_at_mut(i)),
+        // The number of slots is a `usize`, so no index past that is live.
+        let _ = self.slots.len();
+        match p.inx().try_into_usize() {
+            Some(i) => match self.slots.get_mut(i) {
+                Some(slot) => slot.get_mut(p.generation()),
+                None => None,
+            },
             None => None,
         }
     }

@@ -7,4 +7,4 @@ use Rattle.triple_arena.proofs.direct.DirectArena.pointer.Goals as goal
 pub returns-in-None : goal.returns-in-None
 returns-in-None g c =
     pointer_none (entry_at c.args.self.now) _
-    (nothing_at _ _ _ _ _ _ c.self.view_is (ap option_copied c.in-None.is) c.get.ensures refl)
+    (nothing_at _ c.self.view_is (ap option_copied c.in-None.is) c.get.ensures refl)

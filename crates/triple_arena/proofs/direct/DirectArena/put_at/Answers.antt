@@ -12,11 +12,11 @@ overflow_add-self g c =
     (g.met.S.NonZeroInxGenericStack.room_with_items c.reach.new.slots
     (with_item (g.S.NonZeroInxGenericStack.items c.reach.new.slots) (non_zero_usize_get c.args.i) c.used.result)
     ∙ c.reach.ensures.room) in
-    let left = put _ _ _ _ _ _ _ _ _ _ _ c.self.invariant c.self.view_is c.requires
+    let left = put c.self.invariant c.self.view_is c.requires
     (c.reach.ensures.slots ∙ ap (λ n. reaching n (g.S.NonZeroInxGenericStack.items c.self.inside.slots)) c.get.ensures.value) c.used.ensures
     (g.met.S.NonZeroInxGenericStack.items_with_items c.reach.new.slots
     (with_item (g.S.NonZeroInxGenericStack.items c.reach.new.slots) (non_zero_usize_get c.args.i) c.used.result)) room in
-    let fits = one_more _ _ _ _ _ c.args.self.now _ left room c.room_for.ensures.value (ap (λ d. d.room) (sym c.self.view_is)) in
+    let fits = one_more c.args.self.now left room c.room_for.ensures.value (ap (λ d. d.room) (sym c.self.view_is)) in
     Prim.search rules
 
 pub invariant_of-self : goal.invariant_of-self
@@ -25,7 +25,7 @@ invariant_of-self g c =
     (g.met.S.NonZeroInxGenericStack.room_with_items c.reach.new.slots
     (with_item (g.S.NonZeroInxGenericStack.items c.reach.new.slots) (non_zero_usize_get c.args.i) c.used.result)
     ∙ c.reach.ensures.room) in
-    (put _ _ _ _ _ _ _ _ _ _ _ c.self.invariant c.self.view_is c.requires
+    (put c.self.invariant c.self.view_is c.requires
     (c.reach.ensures.slots ∙ ap (λ n. reaching n (g.S.NonZeroInxGenericStack.items c.self.inside.slots)) c.get.ensures.value) c.used.ensures
     (g.met.S.NonZeroInxGenericStack.items_with_items c.reach.new.slots
     (with_item (g.S.NonZeroInxGenericStack.items c.reach.new.slots) (non_zero_usize_get c.args.i) c.used.result)) room).sound

@@ -7,7 +7,7 @@ use Rattle.triple_arena.proofs.direct.DirectArena.take_at.Goals as goal
 
 pub invariant_of-self : goal.invariant_of-self
 invariant_of-self g c =
-    (freed _ _ _ _ _ _ _ _ _ c.self.invariant c.self.view_is c.requires c.args.i.ok c.item_mut.ensures.value
+    (freed _ c.self.invariant c.self.view_is c.requires
     (c.replace-slot.ensures.after ∙ c.free.ensures)
     (g.met.S.NonZeroInxGenericStack.items_with_items c.self.inside.slots
     (with_item (g.S.NonZeroInxGenericStack.items c.self.inside.slots) (non_zero_usize_get c.args.i) c.replace-slot.new.dest))
@@ -18,4 +18,4 @@ invariant_of-self g c =
 pub returns-clause-entry : goal.returns-clause-entry
 returns-clause-entry g c =
     c.into_entry.ensures ∙ c.replace-slot.ensures.value
-    ∙ sym (held_at _ _ _ _ _ c.self.view_is c.args.i.ok c.item_mut.ensures.value)
+    ∙ sym (held_at _ c.self.view_is c.args.i.ok c.item_mut.ensures.value)

@@ -5,5 +5,5 @@ use Rattle.triple_arena.proofs.direct.calls.DirectArenaArenaTrait.get.Goals as g
 
 pub returns-in-None-get : goal.returns-in-None-get
 returns-in-None-get g c =
-    sym (ap (value_if (g.P.Ptr.generation c.args.p)) (nothing_at _ _ _ _ _ _ c.self.view_is (ap option_copied c.in-None-get.is) c.get.ensures
+    sym (ap (value_if (g.P.Ptr.generation c.args.p)) (nothing_at _ c.self.view_is (ap option_copied c.in-None-get.is) c.get.ensures
     (c.in-Some.ensures.same ∙ c.inx.ensures)))

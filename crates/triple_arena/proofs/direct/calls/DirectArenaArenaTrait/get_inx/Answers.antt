@@ -4,4 +4,4 @@ use Rattle.triple_arena.proofs.direct.calls.DirectArenaArenaTrait.get_inx.Goals 
 
 pub returns-in-None-get : goal.returns-in-None-get
 returns-in-None-get g c =
-    sym (nothing_at _ _ _ _ _ _ c.self.view_is (ap option_copied c.in-None-get.is) c.get.ensures c.in-Some.ensures.same)
+    sym (nothing_at _ c.self.view_is (ap option_copied c.in-None-get.is) c.get.ensures c.in-Some.ensures.same)
