@@ -68,9 +68,9 @@ module _ {T : Type 0} where
       }
 
   -- what is live and one more fit in the capacity
-  pub one_more : {xs : List (Option (ℕ × T))} {len n : ℕ} {room room' : Room} (d : DirectContent T) {e : DirectContent T}
+  pub one_more : {xs : List (Option (ℕ × T))} (len : ℕ) {n : ℕ} {room room' : Room} (d : DirectContent T) {e : DirectContent T}
       → Becomes xs (len + 1) room' e → room' ≡ room → n ≡ room_for d → d.room ≡ room → len + 1 ≤ n
-  one_more {xs} d left kept is same =
+  one_more {xs} len d left kept is same =
       let counted = left.sound.counted in
       let few = count_by-le-length is_some xs in
       let fits = left.sound.fits in
@@ -80,9 +80,9 @@ module _ {T : Type 0} where
   -- a live slot stays live
   replaced : {xs : List (Option (ℕ × T))} {len : ℕ} (i : ℕ) {room : Room} {d : DirectContent T} (e : ℕ × T) {old : ℕ × T} → IsSound xs len room
       → direct_of xs room ≡ d → entry_at d i ≡ Some old → IsSound (set xs (i - 1) (Some e)) len room
-  replaced {xs} i {room} e sound seen is =
-      let some : IsSome (entry_at (direct_of xs room) i) = rw (seen, is) refl in
-      let l = live_of (as_content (direct_of xs room)) i some in
+  replaced {xs} i {room} e {old} sound seen is =
+      let there : entry_at (direct_of xs room) i ≡ Some old = ap (λ x. entry_at x i) seen ∙ is in
+      let l = live_of (as_content (direct_of xs room)) i (ap is_some there) in
       let more = rw l.read at (sum_by-set (λ o. cond (is_some o) 1 0) xs (i - 1) (Some e) None l.within) in
       let counted = sound.counted in
       let sizes = length-set xs (i - 1) (Some e) in

@@ -5,6 +5,7 @@ ghost use Rattle.triple_arena.specs.DirectContent.{live_count, empty, IsWellForm
 
 mod calls;
 mod entry;
+mod indexing;
 mod insertion;
 mod reading;
 mod removal;
