@@ -1,4 +1,5 @@
 pub mod FreeListLemmas
+pub mod FreeSlotsLemmas
 pub mod ExchangeLemmas
 pub mod WalkLemmas
 mod CompressionLemmas

@@ -11,6 +11,7 @@ pub mod InsertionLaws
 pub mod RemovalLaws
 pub mod GenerationLaws
 pub mod ExchangeLaws
+pub mod FreeListLaws
 pub mod InsertEntry
 pub mod LiveEntries
 pub mod Compression

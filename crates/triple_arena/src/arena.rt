@@ -11,6 +11,7 @@ mod calls;
 mod compression;
 mod entry;
 mod exchange;
+mod free_slots;
 mod generation;
 mod indexing;
 mod insertion;

@@ -57,7 +57,7 @@ fn put_entry<P: Ptr, T: Drop, S: NonZeroInxGenericStack<ArenaSlot<P, T>>>(
 }
 
 // Drops the slots past the first `len` ones.
-fn keep_first<P: Ptr, T: Drop, S: NonZeroInxGenericStack<ArenaSlot<P, T>>>(
+pub(crate) fn keep_first<P: Ptr, T: Drop, S: NonZeroInxGenericStack<ArenaSlot<P, T>>>(
     slots: &mut S,
     len: usize,
 )
