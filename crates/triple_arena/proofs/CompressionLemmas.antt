@@ -83,16 +83,16 @@ module _ {T : Type 0} where
 
 module _ {G T : Type 0} (number : G → ℕ) where
   -- what was taken out of a slot is what stood there
-  pub stood_some : (r : Option (G × T)) (slots : List (Option (ℕ × T))) (i at : ℕ) (own : G) (t : T)
+  pub stood_some : {r : Option (G × T)} (slots : List (Option (ℕ × T))) {i : ℕ} (at : ℕ) {own : G} {t : T}
       → Some (option_map (λ e. (number e.0, e.1)) r) ≡ slice_get slots (i - 1) → i ≡ at + 1 → r ≡ Some (own, t)
       → slice_get slots at ≡ Some (Some (number own, t))
-  stood_some r slots i at own t stood place is =
+  stood_some slots {i} at stood place is =
       let back : at ≡ i - 1 = omega arith in
       ap (slice_get slots) back ∙ sym stood ∙ ap (λ x. Some (option_map (λ (e : G × T). (number e.0, e.1)) x)) is
 
-  pub stood_none : (r : Option (G × T)) (slots : List (Option (ℕ × T))) (i at : ℕ)
+  pub stood_none : {r : Option (G × T)} (slots : List (Option (ℕ × T))) {i : ℕ} (at : ℕ)
       → Some (option_map (λ e. (number e.0, e.1)) r) ≡ slice_get slots (i - 1) → i ≡ at + 1 → r ≡ None → slice_get slots at ≡ Some None
-  stood_none r slots i at stood place is =
+  stood_none slots {i} at stood place is =
       let back : at ≡ i - 1 = omega arith in
       ap (slice_get slots) back ∙ sym stood ∙ ap (λ x. Some (option_map (λ (e : G × T). (number e.0, e.1)) x)) is
 
@@ -114,13 +114,13 @@ module _ {P T F : Type 0} (index generation : P → ℕ) (step : F → P → T �
     pub passed : live + length gap ≡ at
     pub whole : length now ≡ length old
 
-  pub partly_none : (f : F) (g : ℕ) (old : List (Option (ℕ × T))) → Partly f g old f old 0 0
-  partly_none f g old =
+  pub partly_none : {f : F} {g : ℕ} {old : List (Option (ℕ × T))} → Partly f g old f old 0 0
+  partly_none {old} =
       record { moves = []; gap = []; rest = old; calls = refl; before = refl; after = refl; slots = refl; lives = refl; passed = refl; whole = refl }
 
-  pub partly_same : (f : F) (g : ℕ) (old : List (Option (ℕ × T))) (f' f'' : F) (now now' : List (Option (ℕ × T))) (at live live' : ℕ) → f'' ≡ f'
+  pub partly_same : {f : F} {g : ℕ} {old : List (Option (ℕ × T))} {f' f'' : F} {now now' : List (Option (ℕ × T))} {at live live' : ℕ} → f'' ≡ f'
       → now' ≡ now → live' ≡ live → Partly f g old f' now at live → Partly f g old f'' now' at live'
-  partly_same f g old f' f'' now now' at live live' state slots count p = rw (state, slots, count) p
+  partly_same state slots count p = rw (state, slots, count) p
 
   -- the next slot, and what comes behind it
   record Next (f : F) (g : ℕ) (old : List (Option (ℕ × T))) (f' : F) (now : List (Option (ℕ × T))) (at live : ℕ) (o : Option (ℕ × T)) : Type 0 where
@@ -156,10 +156,10 @@ module _ {P T F : Type 0} (index generation : P → ℕ) (step : F → P → T �
       }
 
   -- a free slot is passed
-  pub partly_free : (f : F) (g : ℕ) (old : List (Option (ℕ × T))) (f' : F) (now now' : List (Option (ℕ × T))) (at live i : ℕ)
+  pub partly_free : {f : F} {g : ℕ} {old : List (Option (ℕ × T))} {f' : F} {now now' : List (Option (ℕ × T))} {at live i : ℕ}
       → Partly f g old f' now at live → slice_get now at ≡ Some None → at < length now → i ≡ at + 1 → now' ≡ set now (i - 1) None
       → Partly f g old f' now' (at + 1) live
-  partly_free f g old f' now now' at live i p found below place written =
+  partly_free {f} {g} {old} {f'} {now} {now'} {at} {live} p found below place written =
       let emptied : now' ≡ set now at None = written ∙ ap (λ k. set now k None) (omega arith) in
       let n = next_of f g old f' now at live None p found below in
       let passed = n.p.passed in
@@ -180,11 +180,10 @@ module _ {P T F : Type 0} (index generation : P → ℕ) (step : F → P → T �
       }
 
   -- a live slot is passed: `f'` was called there and left `f''`
-  pub partly_live : (f : F) (g : ℕ) (old : List (Option (ℕ × T))) (f' f'' : F) (now now' now'' : List (Option (ℕ × T))) (at live own i j : ℕ)
-      (t u : T) (from to : P) → Partly f g old f' now at live → slice_get now at ≡ Some (Some (own, t)) → at < length now → i ≡ at + 1
+  pub partly_live : {f : F} {g : ℕ} {old : List (Option (ℕ × T))} {f' f'' : F} {now now' now'' : List (Option (ℕ × T))} {at live own i j : ℕ} {t u : T} {from to : P} → Partly f g old f' now at live → slice_get now at ≡ Some (Some (own, t)) → at < length now → i ≡ at + 1
       → now' ≡ set now (i - 1) None → j ≡ live + 1 → now'' ≡ set now' (j - 1) (Some (g, u)) → index from ≡ i → generation from ≡ own → index to ≡ j
       → generation to ≡ g → step f' from t to u f'' → Partly f g old f'' now'' (at + 1) (live + 1)
-  partly_live f g old f' f'' now now' now'' at live own i j t u from to p found below old_place emptied new_place filled
+  partly_live {f} {g} {old} {f'} {f''} {now} {now'} {now''} {at} {live} {own} {t} {u} {from} {to} p found below old_place emptied new_place filled
       from_index from_generation to_index to_generation ran =
       let taken : now' ≡ set now at None = emptied ∙ ap (λ k. set now k None) (omega arith) in
       let put : now'' ≡ set now' live (Some (g, u)) = filled ∙ ap (λ k. set now' k (Some (g, u))) (omega arith) in
@@ -233,9 +232,9 @@ module _ {P T F : Type 0} (index generation : P → ℕ) (step : F → P → T �
       }
 
   -- all slots are passed, and those behind the live ones go
-  pub partly_all : (f : F) (g : ℕ) (old : List (Option (ℕ × T))) (f' : F) (now new : List (Option (ℕ × T))) (at live : ℕ)
+  pub partly_all : {f : F} {g : ℕ} {old : List (Option (ℕ × T))} {f' : F} {now new : List (Option (ℕ × T))} {at live : ℕ}
       → Partly f g old f' now at live → length now ≤ at → new ≡ take live now → Compacts index generation step f g old new
-  partly_all f g old f' now new at live p past kept =
+  partly_all {g} {f'} {new} {at} {live} p past kept =
       let A = map (stored g) p.moves in
       let lives = p.lives in
       let passed = p.passed in
@@ -308,9 +307,9 @@ module _ {P T F : Type 0} (index generation : P → ℕ) (step : F → P → T �
       }
 
   -- a map that gives what it gets leaves the values
-  pub values_kept : (f : F) (old new : List (ℕ × (ℕ × T))) → ((h k : F) (from to : P) (t u : T) → step h from t to u k → u ≡ t)
+  pub values_kept : {f : F} {old new : List (ℕ × (ℕ × T))} → ((h k : F) (from to : P) (t u : T) → step h from t to u k → u ≡ t)
       → IsMapped index generation step f old new → map value_of new ≡ map value_of old
-  values_kept f old new keeps m = ap (map value_of) (sym m.after) ∙ by_moves m.moves f m.calls ∙ ap (map value_of) m.before
+  values_kept {f} keeps m = ap (map value_of) (sym m.after) ∙ by_moves m.moves f m.calls ∙ ap (map value_of) m.before
     where
       by_moves : (moves : List (Move P T)) (h : F) → FoldsTo (λ h move k. step h move.from move.value move.to move.given k) h moves m.last
           → map value_of (map (entry_after index generation) moves) ≡ map value_of (map (entry_before index generation) moves)

@@ -159,9 +159,9 @@ module _ {T : Type 0} where
       (arith, longer, below))
 
   -- with no head there is room behind the slots, where there is room at all
-  pub room_behind : (es : List (Slot T)) (len : ℕ) (head : Option ℕ) (room : Room) (g : ℕ) (c : Content T) → head ≡ None → IsSound es len head room
+  pub room_behind : {es : List (Slot T)} {len : ℕ} {head : Option ℕ} {room : Room} {g : ℕ} {c : Content T} → head ≡ None → IsSound es len head room
       → content_of es room g head ≡ c → live_count c < room_for c → length es < capacity room
-  room_behind es len head room g c is sound seen below =
+  room_behind {es} {len} {room} is sound seen below =
       let s = rw is at sound in
       let full = full_at_none es len room s in
       let counted = s.counted in
@@ -197,8 +197,8 @@ module _ {T : Type 0} where
           }
 
   -- the head is one of the slots
-  pub head_within : (es : List (Slot T)) (len i : ℕ) (head : Option ℕ) (room : Room) → head ≡ Some i → IsSound es len head room → i ≤ length es
-  head_within es len i head room is s =
+  pub head_within : {es : List (Slot T)} {len i : ℕ} {head : Option ℕ} {room : Room} → head ≡ Some i → IsSound es len head room → i ≤ length es
+  head_within {es} {len} {i} {room} is s =
       let h = head_of es len i room (rw is at s) in
       let positive = h.positive in
       omega (arith, slice_get_within es (i - 1) _ h.found)
@@ -221,10 +221,10 @@ module _ {T : Type 0} where
     pub content : content_of es room g head ≡ c
 
   -- a live slot in the place of the first free one
-  pub filled : (es es' : List (Slot T)) (len i : ℕ) (head head' : Option ℕ) (room room' : Room) (g : ℕ) (t : T) (old new : Slot T) (c : Content T)
+  pub filled : {es es' : List (Slot T)} {len i : ℕ} {head head' : Option ℕ} {room room' : Room} {g : ℕ} {t : T} {old new : Slot T} {c : Content T}
       → head ≡ Some i → IsSound es len head room → slice_get es (i - 1) ≡ Some old → head' ≡ link_of old → es' ≡ set es (i - 1) new → new ≡ used g t
       → room' ≡ room → content_of es room g head ≡ c → Becomes es' (len + 1) head' room' g (inserted c t)
-  filled es es' len i head head' room room' g t old new c is sound found next written filling kept seen =
+  filled {es} {len} {i} {room} {g} {t} {old} is sound found next written filling kept seen =
       let s = rw is at sound in
       let h = head_of es len i room s in
       let listed = h.found in
@@ -234,10 +234,10 @@ module _ {T : Type 0} where
       record { sound = fits.sound; content = rw (h.free_is, fits.free_is, map-set entry_of es (i - 1) (used g t)) }
 
   -- a live slot behind full slots
-  pub pushed : (es es' : List (Slot T)) (len : ℕ) (head : Option ℕ) (room room' : Room) (g : ℕ) (t : T) (new : Slot T) (c : Content T) → head ≡ None
+  pub pushed : {es es' : List (Slot T)} {len : ℕ} {head : Option ℕ} {room room' : Room} {g : ℕ} {t : T} {new : Slot T} {c : Content T} → head ≡ None
       → IsSound es len head room → live_count c < room_for c → es' ≡ es ++ new ∷ [] → new ≡ used g t → room' ≡ room → content_of es room g head ≡ c
       → Becomes es' (len + 1) head room' g (inserted c t)
-  pushed es es' len head room room' g t new c is sound below written filling kept seen =
+  pushed {es} {len} {room} {g} {t} is sound below written filling kept seen =
       let s = rw is at sound in
       let full = full_at_none es len room s in
       let counted = s.counted in
@@ -259,18 +259,18 @@ module _ {T : Type 0} where
   live_slot (x ∷ es) (suc k) g t found = live_slot es k g t found
 
   -- the entry at an index is that of its slot
-  pub entry_of_slot : (es : List (Slot T)) (room : Room) (g : ℕ) (head : Option ℕ) (c : Content T) (i : ℕ) (slot : Slot T)
+  pub entry_of_slot : (es : List (Slot T)) {room : Room} {g : ℕ} (head : Option ℕ) {c : Content T} {i : ℕ} {slot : Slot T}
       → content_of es room g head ≡ c → 0 < i → slice_get es (i - 1) ≡ Some slot → entry_at c i ≡ entry_of slot
-  entry_of_slot es room g head c i slot seen positive found =
+  entry_of_slot es head {c} {i} {slot} seen positive found =
       let within = slice_get_within es (i - 1) slot found in
       entry_at_slot c i positive
       ∙ rw (← seen) (get_or-map entry_of es (i - 1) slot None within ∙ ap entry_of (get_or_from_slice_get es (i - 1) slot slot found))
 
   -- an index past the slots has no entry
-  pub no_entry : (es : List (Slot T)) (room : Room) (g : ℕ) (head : Option ℕ) (c : Content T) (i : ℕ) → content_of es room g head ≡ c
+  pub no_entry : (es : List (Slot T)) {room : Room} {g : ℕ} (head : Option ℕ) {c : Content T} (i : ℕ) → content_of es room g head ≡ c
       → slice_get es (i - 1) ≡ None → entry_at c i ≡ None
-  no_entry es room g head c zero seen found = refl
-  no_entry es room g head c (suc k) seen found =
+  no_entry es head zero seen found = refl
+  no_entry es head (suc k) seen found =
       let back : suc k - 1 ≡ k = omega arith in
       rw (← seen) (slot_absent es k (ap (slice_get es) (sym back) ∙ found))
 
@@ -280,10 +280,10 @@ module _ {T : Type 0} where
     pub found : slice_get es (i - 1) ≡ Some (used e.0 e.1)
     pub within : i ≤ length es
 
-  pub finds : (es : List (Slot T)) (room : Room) (g : ℕ) (head : Option ℕ) (c : Content T) (i : ℕ) (e : ℕ × T) → content_of es room g head ≡ c
+  pub finds : {es : List (Slot T)} {room : Room} {g : ℕ} (head : Option ℕ) {c : Content T} {i : ℕ} {e : ℕ × T} → content_of es room g head ≡ c
       → entry_at c i ≡ Some e → Finds es i e
-  finds es room g head c zero e seen is = absurd (cc)
-  finds es room g head c (suc k) e seen is =
+  finds head {i = zero} seen is = absurd (cc)
+  finds {es} head {i = suc k} {e} seen is =
       let back : suc k - 1 ≡ k = omega arith in
       let found = ap (slice_get es) back ∙ live_slot es k e.0 e.1 (rw (← seen) at is) in
       record { positive = omega arith; found = found; within = omega (arith, slice_get_within es (suc k - 1) _ found) }
@@ -305,11 +305,11 @@ module _ {T : Type 0} where
     pub entry_is : slot ≡ used e.0 e.1
 
   -- the last slot goes
-  pub popped : (es es' : List (Slot T)) (len i : ℕ) (head : Option ℕ) (room room' : Room) (g : ℕ) (slot : Slot T) (e : ℕ × T) (c : Content T)
+  pub popped : {es es' : List (Slot T)} {len i : ℕ} {head : Option ℕ} {room room' : Room} {g : ℕ} {slot : Slot T} {e : ℕ × T} {c : Content T}
       → IsSound es len head room → i ≡ length es → content_of es room g head ≡ c → entry_at c i ≡ Some e → es ≡ es' ++ slot ∷ [] → room' ≡ room
       → Leaves es' (len - 1) head room' g (vacated c i) slot e
-  popped es es' len i head room room' g slot e c sound last seen is split kept =
-      let f = finds es room g head c i e seen is in
+  popped {es} {es'} {len} {i} {head} {room} {slot} {e} sound last seen is split kept =
+      let f = finds head seen is in
       let positive = f.positive in
       let total = sound.total in
       let longer = length_push es' slot in
@@ -333,11 +333,11 @@ module _ {T : Type 0} where
       }
 
   -- a slot becomes the next one to be taken
-  pub freed : (es es' : List (Slot T)) (len i : ℕ) (head head' : Option ℕ) (room room' : Room) (g : ℕ) (old new : Slot T) (e : ℕ × T) (c : Content T)
+  pub freed : {es es' : List (Slot T)} {len i : ℕ} {head head' : Option ℕ} {room room' : Room} {g : ℕ} {old new : Slot T} {e : ℕ × T} {c : Content T}
       → IsSound es len head room → (i ≡ length es → ⊥) → content_of es room g head ≡ c → entry_at c i ≡ Some e → slice_get es (i - 1) ≡ Some old
       → es' ≡ set es (i - 1) new → new ≡ free head → head' ≡ Some i → room' ≡ room → Leaves es' (len - 1) head' room' g (vacated c i) old e
-  freed es es' len i head head' room room' g old new e c sound inner seen is was written emptied first kept =
-      let f = finds es room g head c i e seen is in
+  freed {es} {len} {i} {head} {room} {old} {e} sound inner seen is was written emptied first kept =
+      let f = finds head seen is in
       let found = f.found in
       let positive = f.positive in
       let same : old ≡ used e.0 e.1 = cc in
@@ -366,11 +366,10 @@ module _ {T : Type 0} where
       }
 
   -- a live slot has another value
-  pub rewritten : (es es' : List (Slot T)) (len i : ℕ) (head : Option ℕ) (room room' : Room) (g : ℕ) (w : T) (old : Slot T) (e : ℕ × T)
-      (c : Content T) → IsSound es len head room → content_of es room g head ≡ c → entry_at c i ≡ Some e → slice_get es (i - 1) ≡ Some old
+  pub rewritten : {es es' : List (Slot T)} {len : ℕ} (i : ℕ) {head : Option ℕ} {room room' : Room} {g : ℕ} (w : T) {old : Slot T} {e : ℕ × T} {c : Content T} → IsSound es len head room → content_of es room g head ≡ c → entry_at c i ≡ Some e → slice_get es (i - 1) ≡ Some old
       → es' ≡ set es (i - 1) (with_slot_value old w) → room' ≡ room → Leaves es' len head room' g (with_value c i w) old e
-  rewritten es es' len i head room room' g w old e c sound seen is was written kept =
-      let f = finds es room g head c i e seen is in
+  rewritten {es} {len} i {head} {room} w {old} {e} sound seen is was written kept =
+      let f = finds head seen is in
       let found = f.found in
       let positive = f.positive in
       let same : old ≡ used e.0 e.1 = cc in
@@ -391,11 +390,11 @@ module _ {T : Type 0} where
       }
 
   -- a live slot has another generation
-  pub renewed : (es es' : List (Slot T)) (len i : ℕ) (head : Option ℕ) (room room' : Room) (g h : ℕ) (old new : Slot T) (e : ℕ × T) (c : Content T)
+  pub renewed : {es es' : List (Slot T)} {len : ℕ} (i : ℕ) {head : Option ℕ} {room room' : Room} {g : ℕ} (h : ℕ) {old new : Slot T} {e : ℕ × T} {c : Content T}
       → IsSound es len head room → content_of es room g head ≡ c → entry_at c i ≡ Some e → Some old ≡ slice_get es (i - 1)
       → new ≡ with_slot_generation old h → es' ≡ set es (i - 1) new → room' ≡ room → Leaves es' len head room' g (with_generation c i h) old e
-  renewed es es' len i head room room' g h old new e c sound seen is was changed written kept =
-      let f = finds es room g head c i e seen is in
+  renewed {es} {len} i {head} {room} h {old} {e} sound seen is was changed written kept =
+      let f = finds head seen is in
       let found = f.found in
       let positive = f.positive in
       let same : old ≡ used e.0 e.1 = cc in
@@ -428,9 +427,9 @@ module _ {T : Type 0} where
       )
 
   -- sound slots are seen as a content that is well formed
-  pub formed : (es : List (Slot T)) (len : ℕ) (head : Option ℕ) (room : Room) (g : ℕ) (c : Content T) → IsSound es len head room
+  pub formed : {es : List (Slot T)} {len : ℕ} {head : Option ℕ} {room : Room} {g : ℕ} {c : Content T} → IsSound es len head room
       → content_of es room g head ≡ c → IsWellFormed c
-  formed es len head room g c sound seen =
+  formed {es} {head} {room} {g} sound seen =
       rw (← seen)
       record {
         free = all_vacant es (content_of es room g head) head (links es (length es) head) refl sound.chain;
@@ -439,15 +438,15 @@ module _ {T : Type 0} where
       }
 
   -- what a pointer finds by the slot at its index
-  pub get_of_none : (es : List (Slot T)) (room : Room) (g : ℕ) (head : Option ℕ) (c : Content T) (o : Option (Slot T)) (i j gen : ℕ)
+  pub get_of_none : (es : List (Slot T)) {room : Room} {g : ℕ} (head : Option ℕ) {c : Content T} {o : Option (Slot T)} {i j : ℕ} (gen : ℕ)
       → content_of es room g head ≡ c → o ≡ None → o ≡ slice_get es (i - 1) → i ≡ j → get c j gen ≡ None
-  get_of_none es room g head c o i j gen seen none read same =
-      ap (value_if gen) (no_entry es room g head c j seen (subst (λ x. slice_get es (x - 1) ≡ None) same (sym read ∙ none)))
+  get_of_none es head {j} gen seen none read same =
+      ap (value_if gen) (no_entry es head j seen (subst (λ x. slice_get es (x - 1) ≡ None) same (sym read ∙ none)))
 
-  pub get_of_slot : (es : List (Slot T)) (room : Room) (g : ℕ) (head : Option ℕ) (c : Content T) (o : Option (Slot T)) (slot : Slot T) (i j gen : ℕ)
+  pub get_of_slot : (es : List (Slot T)) {room : Room} {g : ℕ} (head : Option ℕ) {c : Content T} {o : Option (Slot T)} {slot : Slot T} {i j : ℕ} (gen : ℕ)
       → content_of es room g head ≡ c → o ≡ Some slot → o ≡ slice_get es (i - 1) → 0 < i → i ≡ j → get c j gen ≡ value_if gen (entry_of slot)
-  get_of_slot es room g head c o slot i j gen seen some read positive same =
-      ap (λ x. get c x gen) (sym same) ∙ ap (value_if gen) (entry_of_slot es room g head c i slot seen positive (sym read ∙ some))
+  get_of_slot es head {c} gen seen some read positive same =
+      ap (λ x. get c x gen) (sym same) ∙ ap (value_if gen) (entry_of_slot es head seen positive (sym read ∙ some))
 
   slice_get_past : (es : List (Slot T)) (k : ℕ) → length es ≤ k → slice_get es k ≡ None
   slice_get_past [] k past = refl
@@ -458,7 +457,7 @@ module _ {T : Type 0} where
   pub entry_past : (es : List (Slot T)) (room : Room) (g : ℕ) (head : Option ℕ) (c : Content T) (n i j : ℕ) → content_of es room g head ≡ c
       → length es < n → n ≤ i → i ≡ j → entry_at c j ≡ None
   entry_past es room g head c n i j seen few past same =
-      no_entry es room g head c j seen (slice_get_past es (j - 1) (omega arith))
+      no_entry es head j seen (slice_get_past es (j - 1) (omega arith))
 
   -- an allocated slot has the value of its entry
   pub value_some : (s : Slot T) → IsSome (entry_of s) → IsSome (value_of s)
@@ -470,15 +469,15 @@ module _ {T : Type 0} where
   value_of_entry (used g t) = refl
 
   -- what stands at an index by its slot
-  pub entry_of_none : (es : List (Slot T)) (room : Room) (g : ℕ) (head : Option ℕ) (c : Content T) (o : Option (Slot T)) (i j : ℕ)
+  pub entry_of_none : (es : List (Slot T)) {room : Room} {g : ℕ} (head : Option ℕ) {c : Content T} {o : Option (Slot T)} {i j : ℕ}
       → content_of es room g head ≡ c → o ≡ None → o ≡ slice_get es (i - 1) → i ≡ j → entry_at c j ≡ None
-  entry_of_none es room g head c o i j seen none read same =
-      no_entry es room g head c j seen (subst (λ x. slice_get es (x - 1) ≡ None) same (sym read ∙ none))
+  entry_of_none es head {j} seen none read same =
+      no_entry es head j seen (subst (λ x. slice_get es (x - 1) ≡ None) same (sym read ∙ none))
 
-  pub entry_of_some : (es : List (Slot T)) (room : Room) (g : ℕ) (head : Option ℕ) (c : Content T) (o : Option (Slot T)) (slot : Slot T) (i j : ℕ)
+  pub entry_of_some : (es : List (Slot T)) {room : Room} {g : ℕ} (head : Option ℕ) {c : Content T} {o : Option (Slot T)} {slot : Slot T} {i j : ℕ}
       → content_of es room g head ≡ c → o ≡ Some slot → o ≡ slice_get es (i - 1) → 0 < i → i ≡ j → entry_at c j ≡ entry_of slot
-  entry_of_some es room g head c o slot i j seen some read positive same =
-      ap (entry_at c) (sym same) ∙ entry_of_slot es room g head c i slot seen positive (sym read ∙ some)
+  entry_of_some es head {c} seen some read positive same =
+      ap (entry_at c) (sym same) ∙ entry_of_slot es head seen positive (sym read ∙ some)
 
   pub entry_some : (s : Slot T) → IsSome (value_of s) → IsSome (entry_of s)
   entry_some (free next) some = some

@@ -17,8 +17,8 @@ module _ {T : Type 0} where
       absent (x ∷ xs) zero beyond = absurd (omega arith)
       absent (x ∷ xs) (suc k) beyond = absent xs k (omega arith)
 
-  pub pointer_some : (entries : ℕ → Option (ℕ × T)) (i a b g : ℕ) (t : T) → entries i ≡ Some (g, t) → a ≡ i → b ≡ g → Some (a, b) ≡ pointer_at entries i
-  pointer_some entries i a b g t live index generation = rw (live, index, generation) refl
+  pub pointer_some : (entries : ℕ → Option (ℕ × T)) {i a b g : ℕ} {t : T} → entries i ≡ Some (g, t) → a ≡ i → b ≡ g → Some (a, b) ≡ pointer_at entries i
+  pointer_some entries live index generation = rw (live, index, generation) refl
 
   pub pointer_none : (entries : ℕ → Option (ℕ × T)) (i : ℕ) → entries i ≡ None → None ≡ pointer_at entries i
   pointer_none entries i none = rw none refl

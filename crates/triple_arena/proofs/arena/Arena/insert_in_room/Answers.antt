@@ -8,7 +8,7 @@ use Rattle.triple_arena.proofs.arena.Arena.insert_in_room.Goals as goal
 
 pub invariant_of-self : goal.invariant_of-self
 invariant_of-self g c =
-    (filled _ _ _ _ _ _ _ _ _ _ _ _ _ (ap (option_map non_zero_usize_get) c.in-Some.is) c.self.invariant
+    (filled (ap (option_map non_zero_usize_get) c.in-Some.is) c.self.invariant
     (sym c.item_mut.ensures.value ∙ ap Some (sym c.replace-old.ensures.value)) c.into_next-self-inside.ensures
     (g.met.S.NonZeroInxGenericStack.items_with_items c.self.inside.slots
     (with_item (g.S.NonZeroInxGenericStack.items c.self.inside.slots) (non_zero_usize_get c.in-Some.index) c.replace-old.new.dest))
@@ -20,12 +20,12 @@ invariant_of-self g c =
 
 pub invariant_of-self-in-Ok : goal.invariant_of-self-in-Ok
 invariant_of-self-in-Ok g c =
-    (pushed _ _ _ _ _ _ _ _ _ _ (ap (option_map non_zero_usize_get) c.in-None.is) c.self.invariant c.requires c.in-Ok.ensures.items
+    (pushed (ap (option_map non_zero_usize_get) c.in-None.is) c.self.invariant c.requires c.in-Ok.ensures.items
     c.used-slot.ensures (ap (room_of g.P.Inx.PtrInx.greatest) c.push_within_capacity.ensures.room) c.self.view_is).sound
 
 pub returns-in-Some-clause-value : goal.returns-in-Some-clause-value
 returns-in-Some-clause-value g c =
-    (filled _ _ _ _ _ _ _ _ _ _ _ _ _ (ap (option_map non_zero_usize_get) c.in-Some.is) c.self.invariant
+    (filled (ap (option_map non_zero_usize_get) c.in-Some.is) c.self.invariant
     (sym c.item_mut.ensures.value ∙ ap Some (sym c.replace-old.ensures.value)) c.into_next-self-inside.ensures
     (g.met.S.NonZeroInxGenericStack.items_with_items c.self.inside.slots
     (with_item (g.S.NonZeroInxGenericStack.items c.self.inside.slots) (non_zero_usize_get c.in-Some.index) c.replace-old.new.dest))
@@ -37,5 +37,5 @@ returns-in-Some-clause-value g c =
 
 pub returns-in-Ok-clause-value : goal.returns-in-Ok-clause-value
 returns-in-Ok-clause-value g c =
-    (pushed _ _ _ _ _ _ _ _ _ _ (ap (option_map non_zero_usize_get) c.in-None.is) c.self.invariant c.requires c.in-Ok.ensures.items
+    (pushed (ap (option_map non_zero_usize_get) c.in-None.is) c.self.invariant c.requires c.in-Ok.ensures.items
     c.used-slot.ensures (ap (room_of g.P.Inx.PtrInx.greatest) c.push_within_capacity.ensures.room) c.self.view_is).content

@@ -6,11 +6,11 @@ use Rattle.triple_arena.proofs.arena.Arena.next_ptr.Goals as goal
 
 pub pointer_at-requires : goal.pointer_at-requires
 pointer_at-requires g c =
-    let within = head_within _ _ _ _ _ (ap (option_map non_zero_usize_get) c.in-Some.is) c.self.invariant in
+    let within = head_within (ap (option_map non_zero_usize_get) c.in-Some.is) c.self.invariant in
     let fits = c.self.invariant.fits in
     Prim.search rules
 
 pub overflow_add-len : goal.overflow_add-len
 overflow_add-len g c =
-    let room = room_behind _ _ _ _ _ _ (ap (option_map non_zero_usize_get) c.in_default.is) c.self.invariant c.self.view_is c.requires in
+    let room = room_behind (ap (option_map non_zero_usize_get) c.in_default.is) c.self.invariant c.self.view_is c.requires in
     Prim.search rules

@@ -6,16 +6,16 @@ use Rattle.triple_arena.proofs.arena.Arena.pointer.Goals as goal
 
 pub returns-in-Some-entry : goal.returns-in-Some-entry
 returns-in-Some-entry g c =
-    pointer_some (entry_at c.args.self.now) _ _ _ _ _
-    (entry_of_some _ _ _ _ _ _ _ _ _ c.self.view_is (ap option_copied c.in-Some.is) c.get.ensures c.args.i.ok refl ∙ sym c.in-Some-entry.ensures)
+    pointer_some (entry_at c.args.self.now)
+    (entry_of_some _ _ c.self.view_is (ap option_copied c.in-Some.is) c.get.ensures c.args.i.ok refl ∙ sym c.in-Some-entry.ensures)
     c.pointer_at.ensures.has_index c.pointer_at.ensures.has_generation
 
 pub returns-in-None-entry : goal.returns-in-None-entry
 returns-in-None-entry g c =
     pointer_none (entry_at c.args.self.now) _
-    (entry_of_some _ _ _ _ _ _ _ _ _ c.self.view_is (ap option_copied c.in-Some.is) c.get.ensures c.args.i.ok refl ∙ sym c.in-None-entry.ensures)
+    (entry_of_some _ _ c.self.view_is (ap option_copied c.in-Some.is) c.get.ensures c.args.i.ok refl ∙ sym c.in-None-entry.ensures)
 
 pub returns-in-None : goal.returns-in-None
 returns-in-None g c =
     pointer_none (entry_at c.args.self.now) _
-    (entry_of_none _ _ _ _ _ _ _ _ c.self.view_is (ap option_copied c.in-None.is) c.get.ensures refl)
+    (entry_of_none _ _ c.self.view_is (ap option_copied c.in-None.is) c.get.ensures refl)

@@ -2,4 +2,4 @@ use Rattle.triple_arena.proofs.FreeListLemmas.{formed}
 use Rattle.triple_arena.proofs.arena.Arena.room_for.Goals as goal
 
 pub returns-clause-formed : goal.returns-clause-formed
-returns-clause-formed g c = formed _ _ _ _ _ _ c.self.invariant c.self.view_is
+returns-clause-formed g c = formed c.self.invariant c.self.view_is

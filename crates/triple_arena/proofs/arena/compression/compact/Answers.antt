@@ -7,7 +7,7 @@ use Rattle.triple_arena.proofs.arena.compression.compact.Goals.{in-Some, in_defa
 use Rattle.triple_arena.proofs.arena.compression.compact.Goals as goal
 
 pub loop-at-init : goal.loop-at-init
-loop-at-init g c = (search of_calls, partly_none _ _ _ _ _ _, refl)
+loop-at-init g c = (search of_calls, partly_none _ _ _, refl)
 
 pub loop-at-preserved : goal.loop-at-preserved
 loop-at-preserved g c =
@@ -24,19 +24,19 @@ loop-at-preserved g c =
     elim c.match-take_entry.branch [
       | in-Some w ↦
           let new_is : non_zero_usize_get w.saturating_add-new.result ≡ at.live + 1 = omega (arith, w.saturating_add-new.ensures) in
-          let stood = stood_some g.P.Gen.PtrGen.number _ _ _ _ _ _ c.take_entry.ensures.entry old_is w.in-Some.is in (
+          let stood = stood_some _ _ _ c.take_entry.ensures.entry old_is w.in-Some.is in (
             subst (λ f. goal.F-IsAlwaysCallable g f) (sym w.map-is) (search of_calls),
-            partly_same _ _ _ _ _ _ _ _ _ _ _ _ _ w.map-is (ap (λ s. map entry_of (g.S.NonZeroInxGenericStack.items s)) w.slots-is) w.live-is
-                (partly_live _ _ _ _ _ _ _ _ _ _ _ _ _ _ _ _ _ _ _ _ p stood within old_is c.take_entry.ensures.slots
+            partly_same _ _ _ w.map-is (ap (λ s. map entry_of (g.S.NonZeroInxGenericStack.items s)) w.slots-is) w.live-is
+                (partly_live _ _ _ p stood within old_is c.take_entry.ensures.slots
                 new_is w.put_entry.ensures.slots w.pointer_at-from.ensures.has_index w.pointer_at-from.ensures.has_generation
                 w.pointer_at-to.ensures.has_index w.pointer_at-to.ensures.has_generation w.map-given.ensures),
             ap g.S.NonZeroInxGenericStack.room w.slots-is ∙ w.put_entry.ensures.room ∙ c.take_entry.ensures.room ∙ at.invariant.2,
           )
       | in_default w ↦
-          let stood = stood_none g.P.Gen.PtrGen.number _ _ _ _ c.take_entry.ensures.entry old_is w.in_default.is in (
+          let stood = stood_none _ _ _ c.take_entry.ensures.entry old_is w.in_default.is in (
             subst (λ f. goal.F-IsAlwaysCallable g f) (sym w.map-is) (search of_calls),
-            partly_same _ _ _ _ _ _ _ _ _ _ _ _ _ w.map-is (ap (λ s. map entry_of (g.S.NonZeroInxGenericStack.items s)) w.slots-is) w.live-is
-                (partly_free _ _ _ _ _ _ _ _ _ _ _ _ p stood within old_is c.take_entry.ensures.slots),
+            partly_same _ _ _ w.map-is (ap (λ s. map entry_of (g.S.NonZeroInxGenericStack.items s)) w.slots-is) w.live-is
+                (partly_free _ _ _ p stood within old_is c.take_entry.ensures.slots),
             ap g.S.NonZeroInxGenericStack.room w.slots-is ∙ c.take_entry.ensures.room ∙ at.invariant.2,
           )
     ]
@@ -48,5 +48,5 @@ returns-clause-moved g c =
     let sized = c.len-at-end.ensures.value in
     let counted = length-map (g.S.NonZeroInxGenericStack.items c.args.slots.now) entry_of in
     let past : length (map entry_of (g.S.NonZeroInxGenericStack.items c.loop-at.slots)) ≤ c.loop-at.at = omega (arith, c.loop-at-test.false) in
-    partly_all _ _ _ _ _ _ _ _ _ _ _ p past (ap (map entry_of) c.keep_first.ensures.slots ∙ sym
+    partly_all _ _ _ p past (ap (map entry_of) c.keep_first.ensures.slots ∙ sym
     (take-map entry_of c.loop-at.live (g.S.NonZeroInxGenericStack.items c.loop-at.slots)))

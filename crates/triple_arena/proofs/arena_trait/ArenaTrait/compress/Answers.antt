@@ -4,7 +4,7 @@ use Rattle.triple_arena.proofs.arena_trait.ArenaTrait.compress.Goals as goal
 
 pub returns-clause-values : goal.returns-clause-values
 returns-clause-values g c =
-    values_kept _ _ _ _ _ _ (λ h k from to t u s. search rules) c.compress_with.ensures.mapped
+    values_kept _ _ _ (λ h k from to t u s. search rules) c.compress_with.ensures.mapped
 
 pub returns-clause-exact : goal.returns-clause-exact
 returns-clause-exact g c =

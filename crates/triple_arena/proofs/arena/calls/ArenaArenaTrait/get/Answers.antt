@@ -7,11 +7,11 @@ use Rattle.triple_arena.proofs.arena.calls.ArenaArenaTrait.get.Goals as goal
 pub returns-in-Some-get : goal.returns-in-Some-get
 returns-in-Some-get g c =
     c.get-in-Some-get.ensures
-    ∙ sym (get_of_slot _ _ _ _ _ _ _ _ _ _ c.self.view_is (ap option_copied c.in-Some-get.is) c.get.ensures c.in-Some.i.ok
+    ∙ sym (get_of_slot _ _ _ c.self.view_is (ap option_copied c.in-Some-get.is) c.get.ensures c.in-Some.i.ok
     (c.in-Some.ensures.same ∙ c.inx.ensures)
     ∙ ap (λ n. value_if n (entry_of c.in-Some-get.slot.now)) (sym c.generation.ensures))
 
 pub returns-in-None-get : goal.returns-in-None-get
 returns-in-None-get g c =
-    sym (get_of_none _ _ _ _ _ _ _ _ (g.P.Ptr.generation c.args.p) c.self.view_is (ap option_copied c.in-None-get.is) c.get.ensures
+    sym (get_of_none _ _ (g.P.Ptr.generation c.args.p) c.self.view_is (ap option_copied c.in-None-get.is) c.get.ensures
     (c.in-Some.ensures.same ∙ c.inx.ensures))

@@ -9,12 +9,12 @@ use Rattle.triple_arena.proofs.arena.reading.ArenaValueAtMut.value_at_mut.Goals 
 
 pub value_mut-requires : goal.value_mut-requires
 value_mut-requires g c =
-    value_some _ (rw (entry_of_slot _ _ _ _ _ _ _ c.self.view_is c.args.i.ok (sym c.item_mut.ensures.value)) at c.requires)
+    value_some _ (rw (entry_of_slot _ _ c.self.view_is c.args.i.ok (sym c.item_mut.ensures.value)) at c.requires)
 
 pub invariant_of-self-lent : goal.invariant_of-self-lent
 invariant_of-self-lent g c w =
     let live = the_some _ c.requires in
-    (rewritten _ _ _ _ _ _ _ _ w _ live.0 _ c.self.invariant c.self.view_is live.1 (sym c.item_mut.ensures.value)
+    (rewritten _ w c.self.invariant c.self.view_is live.1 (sym c.item_mut.ensures.value)
     (g.met.S.NonZeroInxGenericStack.items_with_items c.self.inside.slots
     (with_item (g.S.NonZeroInxGenericStack.items c.self.inside.slots) (non_zero_usize_get c.args.i) (with_slot_value c.item_mut.result.now w)))
     (ap (room_of g.P.Inx.PtrInx.greatest)
@@ -27,7 +27,7 @@ returns g c =
       (
         refl,
         λ w.
-            (rewritten _ _ _ _ _ _ _ _ w _ live.0 _ c.self.invariant c.self.view_is live.1 (sym c.item_mut.ensures.value)
+            (rewritten _ w c.self.invariant c.self.view_is live.1 (sym c.item_mut.ensures.value)
             (g.met.S.NonZeroInxGenericStack.items_with_items c.self.inside.slots
             (with_item (g.S.NonZeroInxGenericStack.items c.self.inside.slots) (non_zero_usize_get c.args.i) (with_slot_value c.item_mut.result.now w)))
             (ap (room_of g.P.Inx.PtrInx.greatest)
@@ -37,7 +37,7 @@ returns g c =
       ),
       record {
         writes_back = tt;
-        value = ap (option_map (λ e. e.1)) (entry_of_slot _ _ _ _ _ _ _ c.self.view_is c.args.i.ok (sym c.item_mut.ensures.value)) ∙ value_of_entry _
+        value = ap (option_map (λ e. e.1)) (entry_of_slot _ _ c.self.view_is c.args.i.ok (sym c.item_mut.ensures.value)) ∙ value_of_entry _
             ∙ c.value_mut.ensures.value;
       },
     )
