@@ -112,8 +112,8 @@ module _ {T : Type 0} where
   drop_past (x ∷ xs) zero past = absurd (omega arith)
   drop_past (x ∷ xs) (suc n) past = drop_past xs n (omega (arith, past))
 
-  pub risen_none : (es : List (Slot T)) (n : ℕ) → n ≡ length es → Risen es es None n
-  risen_none es n all =
+  pub risen_none : {es : List (Slot T)} {n : ℕ} → n ≡ length es → Risen es es None n
+  risen_none {es} {n} all =
       let sizes = length-map es entry_of in
       record { entries = refl; within = omega (arith, all); chain = rw (drop_past (map entry_of es) n (omega (arith, all, sizes))) refl }
 
@@ -134,11 +134,11 @@ module _ {T : Type 0} where
       ∙ ap (λ k. vacant_from (k + 1) (drop left xs)) (sym at)
 
   -- the slot before them is linked to them where it is free
-  pub risen_free : (old es es' : List (Slot T)) (head head' : Option ℕ) (left i n : ℕ) (x : Slot T) → Risen old es head left → i ≡ left → 0 < i
+  pub risen_free : {old es es' : List (Slot T)} {head head' : Option ℕ} {left i n : ℕ} {x : Slot T} → Risen old es head left → i ≡ left → 0 < i
       → Some x ≡ slice_get es (i - 1) → value_of x ≡ None → es' ≡ set es (i - 1) (with_link x head) → head' ≡ Some i → n ≡ left - 1
       → Risen old es' head' n
-  risen_free old es es' head head' left i n (used g t) r at positive found none written first less = absurd (cc)
-  risen_free old es es' head head' left i n (free next) r at positive found none written first less =
+  risen_free {x = used g t} r at positive found none written first less = absurd (cc)
+  risen_free {old} {es} {es'} {head} {left} {i} {n} {x = free next} r at positive found none written first less =
       let back : i - 1 ≡ n = omega (arith, at, less) in
       let one : left ≡ n + 1 = omega (arith, at, less, positive) in
       let there : slice_get es n ≡ Some (free next) = ap (slice_get es) (sym back) ∙ sym found in
@@ -164,11 +164,11 @@ module _ {T : Type 0} where
       }
 
   -- and is passed where it is not
-  pub risen_used : (old es es' : List (Slot T)) (head head' : Option ℕ) (left i n : ℕ) (x : Slot T) → Risen old es head left → i ≡ left → 0 < i
+  pub risen_used : {old es es' : List (Slot T)} {head head' : Option ℕ} {left i n : ℕ} {x : Slot T} → Risen old es head left → i ≡ left → 0 < i
       → Some x ≡ slice_get es (i - 1) → (value_of x ≡ None → ⊥) → es' ≡ set es (i - 1) (with_link x head) → head' ≡ head → n ≡ left - 1
       → Risen old es' head' n
-  risen_used old es es' head head' left i n (free next) r at positive found some written kept less = absurd (some refl)
-  risen_used old es es' head head' left i n (used g t) r at positive found some written kept less =
+  risen_used {x = free next} r at positive found some written kept less = absurd (some refl)
+  risen_used {old} {es} {es'} {head} {left} {i} {n} {x = used g t} r at positive found some written kept less =
       let back : i - 1 ≡ n = omega (arith, at, less) in
       let one : left ≡ n + 1 = omega (arith, at, less, positive) in
       let there : slice_get es n ≡ Some (used g t) = ap (slice_get es) (sym back) ∙ sym found in
@@ -192,15 +192,11 @@ module _ {T : Type 0} where
         chain = rw listed chain;
       }
 
-  -- all are linked
-  pub risen_all : (old es : List (Slot T)) (head : Option ℕ) → Risen old es head 0 → IsChain es head (vacant_from 1 (map entry_of old))
-  risen_all old es head r = r.chain
-
   -- the slots with this list are seen as the content whose free indexes rise
-  pub ordered : (es es' : List (Slot T)) (len : ℕ) (head head' : Option ℕ) (room room' : Room) (g : ℕ) (c : Content T) → IsSound es len head room
+  pub ordered : {es es' : List (Slot T)} {len : ℕ} {head head' : Option ℕ} {room room' : Room} {g : ℕ} {c : Content T} → IsSound es len head room
       → content_of es room g head ≡ c → map entry_of es' ≡ map entry_of es → IsChain es' head' (vacant_from 1 (map entry_of es)) → room' ≡ room
       → Becomes es' len head' room' g (canonicalized c)
-  ordered es es' len head head' room room' g c sound seen same chain kept =
+  ordered {es} {es'} {len} {head'} {room} sound seen same chain kept =
       let counted = sound.counted in
       let vacant = vacant-counted 1 (map entry_of es) in
       let sizes = length-map es entry_of in
@@ -214,9 +210,9 @@ module _ {T : Type 0} where
       record { sound = s.sound; content = rw (← seen, s.free_is, same) refl }
 
   -- the last live one of all slots is the last live index
-  pub last_found : (c : Content T) (n i g : ℕ) → n ≡ length c.slots → Finds (entry_at c) (record { low = 1; high = n; falls = true }) (Some (i, g))
+  pub last_found : (c : Content T) {n i g : ℕ} → n ≡ length c.slots → Finds (entry_at c) (record { low = 1; high = n; falls = true }) (Some (i, g))
       → last_index c ≡ i
-  last_found c n i g all finds =
+  last_found c {n} {i} {g} all finds =
       last_index-unique c i (record {
         within = omega (arith, finds.ahead.1, all);
         past = λ j above. elim (leb_tells j n) [
@@ -231,8 +227,8 @@ module _ {T : Type 0} where
       is_live (Some e) live = refl
 
   -- where none is found, there is none
-  pub none_found : (c : Content T) (n : ℕ) → n ≡ length c.slots → Finds (entry_at c) (record { low = 1; high = n; falls = true }) None → last_index c ≡ 0
-  none_found c n all finds =
+  pub none_found : (c : Content T) {n : ℕ} → n ≡ length c.slots → Finds (entry_at c) (record { low = 1; high = n; falls = true }) None → last_index c ≡ 0
+  none_found c {n} all finds =
       last_index-unique c 0 (record {
         within = omega arith;
         past = λ j above. elim (leb_tells j n) [
@@ -258,9 +254,9 @@ module _ {T : Type 0} where
   links_fit es (suc n) None = omega arith
   links_fit es (suc n) (Some i) = let rest = links_fit es n (link_of (get_or es (i - 1) (free None))) in omega (arith, rest)
 
-  pub turned_none : (last : ℕ) (es : List (Slot T)) (head : Option ℕ) → IsChain es head (links es (length es) head)
+  pub turned_none : {last : ℕ} {es : List (Slot T)} {head : Option ℕ} → IsChain es head (links es (length es) head)
       → Turned last (links es (length es) head) es es head None
-  turned_none last es head chain =
+  turned_none {es} {head} chain =
       record {
         rest = links es (length es) head;
         done = [];
@@ -303,10 +299,10 @@ module _ {T : Type 0} where
     pub turned : Turned last all old es' left' turned'
     pub fewer : length (links es' (length es') left') < length (links es (length es) left)
 
-  pub turned_next : (last : ℕ) (all : List ℕ) (old es es' : List (Slot T)) (left left' turned turned' : Option ℕ) (i : ℕ) (x y : Slot T)
+  pub turned_next : {last : ℕ} {all : List ℕ} {old es es' : List (Slot T)} {left left' turned turned' : Option ℕ} {i : ℕ} {x y : Slot T}
       → Turned last all old es left turned → left ≡ Some i → Some x ≡ slice_get es (i - 1) → left' ≡ link_of x → i ≤ last
       → Some y ≡ slice_get es (i - 1) → es' ≡ set es (i - 1) (with_link y turned) → turned' ≡ Some i → Turns last all old es es' left left' turned'
-  turned_next last all old es es' left left' turned turned' i x y t is found next below again relinked first =
+  turned_next {last} {es} {es'} {left} {left'} {turned} {i} {x} {y} t is found next below again relinked first =
       let l = left_of es left t.rest i is t.unturned in
       let there : x ≡ free l.next = let h = l.found in cc in
       let same : y ≡ free l.next = let h = l.found in cc in
@@ -343,10 +339,10 @@ module _ {T : Type 0} where
       }
 
   -- one past `last` is left out
-  pub turned_past : (last : ℕ) (all : List ℕ) (old es : List (Slot T)) (left left' turned : Option ℕ) (i : ℕ) (x : Slot T)
+  pub turned_past : {last : ℕ} {all : List ℕ} {old es : List (Slot T)} {left left' turned : Option ℕ} {i : ℕ} {x : Slot T}
       → Turned last all old es left turned → left ≡ Some i → Some x ≡ slice_get es (i - 1) → left' ≡ link_of x → last < i
       → Turns last all old es es left left' turned
-  turned_past last all old es left left' turned i x t is found next beyond =
+  turned_past {last} {es} {left} {left'} {turned} {i} {x} t is found next beyond =
       let l = left_of es left t.rest i is t.unturned in
       let there : x ≡ free l.next = let h = l.found in cc in
       let to : left' ≡ l.next = next ∙ ap link_of there in
@@ -376,18 +372,18 @@ module _ {T : Type 0} where
       }
 
   -- an index that is left is one of the slots
-  pub left_within : (last : ℕ) (all : List ℕ) (old es : List (Slot T)) (left turned : Option ℕ) (i : ℕ) → Turned last all old es left turned
+  pub left_within : {last : ℕ} {all : List ℕ} {old es : List (Slot T)} {left turned : Option ℕ} {i : ℕ} → Turned last all old es left turned
       → left ≡ Some i → i ≤ length es
-  left_within last all old es left turned i t is =
+  left_within {es} {left} {i} t is =
       let l = left_of es left t.rest i is t.unturned in
       let within = slice_get_within es (i - 1) (free l.next) l.found in
       let positive = l.positive in
       omega (arith, within, positive)
 
   -- none is left
-  pub turned_all : (last : ℕ) (all : List ℕ) (old es : List (Slot T)) (left turned : Option ℕ) → Turned last all old es left turned → left ≡ None
+  pub turned_all : {last : ℕ} {all : List ℕ} {old es : List (Slot T)} {left turned : Option ℕ} → Turned last all old es left turned → left ≡ None
       → IsChain es turned (reverse (filter (λ i. leb i last) all))
-  turned_all last all old es left turned t none = by_rest t.rest t.unturned t.split
+  turned_all {last} {all} {es} {left} {turned} t none = by_rest t.rest t.unturned t.split
     where
       by_rest : (rest : List ℕ) → IsChain es left rest → reverse (filter (λ i. leb i last) rest) ++ t.done ≡ reverse (filter (λ i. leb i last) all)
           → IsChain es turned (reverse (filter (λ i. leb i last) all))
@@ -395,9 +391,9 @@ module _ {T : Type 0} where
       by_rest (i ∷ rest) chain split = absurd (let first = chain.0 in cc)
 
   -- and has a slot
-  pub left_slot : (last : ℕ) (all : List ℕ) (old es : List (Slot T)) (left turned : Option ℕ) (i : ℕ) → Turned last all old es left turned
+  pub left_slot : {last : ℕ} {all : List ℕ} {old es : List (Slot T)} {left turned : Option ℕ} {i : ℕ} → Turned last all old es left turned
       → left ≡ Some i → slice_get es (i - 1) ≡ None → ⊥
-  left_slot last all old es left turned i t is none =
+  left_slot {es} {left} {i} t is none =
       let l = left_of es left t.rest i is t.unturned in
       let found = l.found in
       absurd (cc)
@@ -432,15 +428,15 @@ module _ {T : Type 0} where
       (chain.0, positive, (chain.2.0, slice_get-take es n (i - 1) below ∙ chain.2.1, chain_take es n chain.2.0 l up_to.1 chain.2.2))
 
   -- the slots up to the last live one, with the list of those of them that are free
-  pub cut : (es es' es'' : List (Slot T)) (len last : ℕ) (head head' : Option ℕ) (room room' : Room) (g : ℕ) (c : Content T) (l : List ℕ)
+  pub cut : {es : List (Slot T)} (es' : List (Slot T)) {es'' : List (Slot T)} {len last : ℕ} {head head' : Option ℕ} {room room' : Room} {g : ℕ} {c : Content T} {l : List ℕ}
       → IsSound es len head room → content_of es room g head ≡ c → last ≡ last_index c → map entry_of es' ≡ map entry_of es
       → l ≡ reverse (filter (λ i. leb i last) (links es (length es) head)) → IsChain es' head' (reverse (filter (λ i. leb i last) l))
       → es'' ≡ take last es' → room' ≡ room → Becomes es'' len head' room' g (without_free_end c)
-  cut es es' es'' len last head head' room room' g c l sound seen is same turned chain kept stays =
+  cut {es} es' {len} {last} {head} {head'} {room} {c} sound seen is same turned chain kept stays =
       let all = links es (length es) head in
       let p : ℕ → Bool = λ i. leb i last in
       let listed : IsChain es' head' (filter p all) = subst (IsChain es' head') (ap (λ m. reverse (filter p m)) turned ∙ turned_twice p all) chain in
-      let whole = formed es len head room g c sound seen in
+      let whole = formed sound seen in
       let after = formed-without_free_end c whole in
       let live = live-without_free_end c in
       let sizes = slots-without_free_end c in

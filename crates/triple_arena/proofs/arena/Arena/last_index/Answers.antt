@@ -7,7 +7,7 @@ returns-in-Some-try_into_usize g c =
     c.get.ensures.value
     ∙ c.in-Some-try_into_usize.ensures.same
     ∙ c.inx.ensures
-    ∙ sym (last_found c.args.self.now _ _ (g.P.Ptr.generation c.in-Some.p) c.slot_count.ensures c.in-Some.ensures.found)
+    ∙ sym (last_found c.args.self.now {g = g.P.Ptr.generation c.in-Some.p} c.slot_count.ensures c.in-Some.ensures.found)
 
 pub returns-in-None : goal.returns-in-None
-returns-in-None g c = sym (none_found c.args.self.now _ c.slot_count.ensures c.in-None.ensures.found)
+returns-in-None g c = sym (none_found c.args.self.now c.slot_count.ensures c.in-None.ensures.found)

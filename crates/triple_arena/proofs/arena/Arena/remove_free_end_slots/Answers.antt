@@ -14,7 +14,7 @@ invariant_of-self g c =
     let first = c.turn_over-turned.ensures in
     let second = c.turn_over-self-inside.ensures in
     let room = second.room ∙ first.room in
-    (cut _ _ _ _ _ _ _ _ _ _ _ _ c.self.invariant c.self.view_is c.last_index-last.ensures (second.entries ∙ first.entries)
+    (cut _ c.self.invariant c.self.view_is c.last_index-last.ensures (second.entries ∙ first.entries)
     (chain_again _ _ _ _ (λ i. leb i c.last_index-last.result) first.entries first.chain) second.chain c.keep_first.ensures.slots
     (ap (room_of g.P.Inx.PtrInx.greatest) (c.keep_first.ensures.room ∙ room))).sound
 
@@ -23,6 +23,6 @@ returns-clause-value g c =
     let first = c.turn_over-turned.ensures in
     let second = c.turn_over-self-inside.ensures in
     let room = second.room ∙ first.room in
-    (cut _ _ _ _ _ _ _ _ _ _ _ _ c.self.invariant c.self.view_is c.last_index-last.ensures (second.entries ∙ first.entries)
+    (cut _ c.self.invariant c.self.view_is c.last_index-last.ensures (second.entries ∙ first.entries)
     (chain_again _ _ _ _ (λ i. leb i c.last_index-last.result) first.entries first.chain) second.chain c.keep_first.ensures.slots
     (ap (room_of g.P.Inx.PtrInx.greatest) (c.keep_first.ensures.room ∙ room))).content

@@ -20,12 +20,12 @@ loop-i-preserved g c =
     ∙ l.invariant.1 in
     elim c.if-relink.branch [
       | then-relink w ↦ (
-        risen_free _ _ _ _ _ _ _ _ _ l.invariant.0 c.in-Some.ensures i.ok c.item_mut.ensures.value
+        risen_free l.invariant.0 c.in-Some.ensures i.ok c.item_mut.ensures.value
             (c.relink.ensures.free.0 w.if-relink.true) written (ap (option_map non_zero_usize_get) w.head-is) refl,
         room,
       )
       | else-relink w ↦ (
-        risen_used _ _ _ _ _ _ _ _ _ l.invariant.0 c.in-Some.ensures i.ok c.item_mut.ensures.value
+        risen_used l.invariant.0 c.in-Some.ensures i.ok c.item_mut.ensures.value
             (λ none. true≢false (sym (c.relink.ensures.free.1 none) ∙ w.if-relink.false)) written (ap (option_map non_zero_usize_get) w.head-is) refl,
         room,
       )
