@@ -12,6 +12,7 @@ pub mod RemovalLaws
 pub mod GenerationLaws
 pub mod ExchangeLaws
 pub mod FreeListLaws
+pub mod LimitLaws
 pub mod InsertEntry
 pub mod LiveEntries
 pub mod Compression

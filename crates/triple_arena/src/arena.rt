@@ -15,6 +15,7 @@ mod free_slots;
 mod generation;
 mod indexing;
 mod insertion;
+mod max_capacity;
 mod reading;
 mod removal;
 mod room;
