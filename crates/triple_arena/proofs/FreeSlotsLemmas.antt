@@ -1,5 +1,5 @@
 -- The list of free slots put in order, turned over, and cut.
-use Rattle.std.proofs.Common.{◌≡◌, ℕ, zero, suc, ◌+◌, ◌-◌, ◌<◌, ◌≤◌, List, [], ◌∷◌, ◌++◌, map, length, reverse, get_or, set, take, drop, filter, Bool, true, false, leb, IsSome, Option, Some, None, slice_get, is_some, count_by, inl, inr, refl, sym, ap, subst, ◌∙◌, arith, append_assoc, append-nil, length-set, drop-cons, le-leb}
+use Rattle.std.proofs.Common.{◌≡◌, ℕ, zero, suc, ◌+◌, ◌-◌, ◌<◌, ◌≤◌, List, [], ◌∷◌, ◌++◌, map, length, reverse, get_or, set, take, drop, filter, Bool, true, false, leb, IsSome, Option, Some, None, slice_get, is_some, count_by, inl, inr, refl, sym, ap, subst, ◌∙◌, arith, append_assoc, append-nil, length-set, drop-cons, drop_of_length-le, le-leb}
 use Rattle.std.specs.Option.{option_map}
 use Rattle.std.proofs.lemmas.Bool.Decides.{leb_tells}
 use Rattle.std.proofs.lemmas.List.{reverse-append, reverse-reverse, get_or-map, get_or-set_same, length-map, length-reverse, take-map}
@@ -106,16 +106,10 @@ module _ {T : Type 0} where
     pub within : left ≤ length es
     pub chain : IsChain es head (vacant_from (left + 1) (drop left (map entry_of old)))
 
-  drop_past : (xs : List (Option (ℕ × T))) (n : ℕ) → length xs ≤ n → drop n xs ≡ []
-  drop_past [] zero past = refl
-  drop_past [] (suc n) past = refl
-  drop_past (x ∷ xs) zero past = absurd (omega arith)
-  drop_past (x ∷ xs) (suc n) past = drop_past xs n (omega (arith, past))
-
   pub risen_none : {es : List (Slot T)} {n : ℕ} → n ≡ length es → Risen es es None n
   risen_none {es} {n} all =
       let sizes = length-map es entry_of in
-      record { entries = refl; within = omega (arith, all); chain = rw (drop_past (map entry_of es) n (omega (arith, all, sizes))) refl }
+      record { entries = refl; within = omega (arith, all); chain = rw (drop_of_length-le (map entry_of es) {i = n} (omega (arith, all, sizes))) refl }
 
   vacant_free : (xs : List (Option (ℕ × T))) (n left : ℕ) → left ≡ n + 1 → n < length xs → get_or xs n None ≡ None
       → vacant_from (n + 1) (drop n xs) ≡ left ∷ vacant_from (left + 1) (drop left xs)

@@ -17,8 +17,10 @@ mod indexing;
 mod insertion;
 mod max_capacity;
 mod reading;
+mod recast;
 mod removal;
 mod room;
+mod text;
 
 use crate::ArenaSlot;
 pub use entry::{ArenaInsertEntries, ArenaInsertEntry, ArenaInsertEntryTrait};
