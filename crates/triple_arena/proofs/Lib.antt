@@ -3,3 +3,4 @@ pub mod FreeSlotsLemmas
 pub mod ExchangeLemmas
 pub mod WalkLemmas
 mod CompressionLemmas
+pub mod RecastingLemmas
