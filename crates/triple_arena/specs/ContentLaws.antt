@@ -68,16 +68,6 @@ module _ {T : Type 0} where
   entry-no_slots c none zero = refl
   entry-no_slots c none (suc k) = rw none refl
 
-  -- no index past the slots is live
-  pub none-past_slots : (c : Content T) (j : ℕ) → length c.slots < j → entry_at c j ≡ None
-  none-past_slots c zero beyond = refl
-  none-past_slots c (suc k) beyond = absent c.slots k (omega arith)
-    where
-      absent : (xs : List (Option (ℕ × T))) (k : ℕ) → length xs ≤ k → get_or xs k None ≡ None
-      absent [] k beyond = refl
-      absent (x ∷ xs) zero beyond = absurd (omega arith)
-      absent (x ∷ xs) (suc k) beyond = absent xs k (omega arith)
-
   -- each live index is within the capacity
   pub live-within : (c : Content T) → IsWellFormed c → (j : ℕ) → IsSome (entry_at c j) → j ≤ room_for c
   live-within c formed j some =

@@ -11,6 +11,10 @@ pub mod InsertionLaws
 pub mod RemovalLaws
 pub mod GenerationLaws
 pub mod ExchangeLaws
+pub mod FreeListLaws
+pub mod LimitLaws
+pub mod Recasting
+pub mod RecastingLaws
 pub mod InsertEntry
 pub mod LiveEntries
 pub mod Compression

@@ -3,8 +3,7 @@ ghost use Rattle.std.specs.Prelude.{◌≡◌, ℕ, ◌+◌, ◌-◌, ◌^◌, �
 ghost use Rattle.std.specs.Int.NonZero.{non_zero_usize_get};
 ghost use Rattle.std.specs.Option.{option_map};
 ghost use Rattle.triple_arena.specs.Entries.{pointer_at, generation_at};
-ghost use Rattle.triple_arena.specs.Content.{entry_at};
-ghost use Rattle.triple_arena.specs.ContentLaws.{none-past_slots};
+ghost use Rattle.triple_arena.specs.Content.{Content, entry_at, last_index as last_index_of};
 ghost use Rattle.triple_arena.specs.DirectContent.{entry_at as entry_of, as_content};
 ghost use Rattle.triple_arena.specs.Walk.{past, to_come, Finds, IsOver, Steps};
 
@@ -92,32 +91,26 @@ impl<P: Ptr> PtrAdvancer<P> {
 
 // What finds its live entries by the indexes of its slots.
 pub(crate) trait LivePointers<P: Ptr, T> {
-    // The generation and the value at each index, and how many slots there are.
-    ghost entries: { Self → ℕ → Option (ℕ × T) };
-
-    ghost slots: { Self → ℕ };
+    // What it holds, as an `Arena` would hold it.
+    ghost content: { Self → Content T };
 
     // The number of slots.
-    fn last_index(&self) -> usize
-        ensures { result ≡ slots self.now };
+    fn slots_len(&self) -> usize
+        ensures { result ≡ length (content self.now).slots };
 
     // The pointer to the entry at `i`, if it is live.
     fn pointer_of(&self, i: NonZeroUsize) -> Option<P>
         ensures { option_map (λ p. (P.index p, P.generation p)) result
-            ≡ pointer_at (entries self.now) (non_zero_usize_get i) };
-
-    ghost entries_from_one: { (s : Self) → entries s 0 ≡ None };
-
-    ghost entries_within: { (s : Self) (j : ℕ) → slots s < j → entries s j ≡ None };
+            ≡ pointer_at (entry_at (content self.now)) (non_zero_usize_get i) };
 
     // The pointer to the first live entry at the indexes after `start`, up to `end`.
     final fn first_live(&self, start: usize, end: usize) -> Option<P>
-        ensures found { Finds (entries self.now)
+        ensures found { Finds (entry_at (content self.now))
             (record { low = start + 1; high = end; falls = false })
             (option_map (λ p. (P.index p, P.generation p)) result) }
         ensures number { IfSome result (λ p. P.index p < 2 ^ 64) }
     {
-        let last = end.min(self.last_index());
+        let last = end.min(self.slots_len());
         for before in start..last {
             let found = self.pointer_of(NonZeroUsize::MIN.saturating_add(before));
             if found.is_some() {
@@ -129,12 +122,12 @@ pub(crate) trait LivePointers<P: Ptr, T> {
 
     // The pointer to the last live entry at the indexes after `start`, up to `end`.
     final fn last_live(&self, start: usize, end: usize) -> Option<P>
-        ensures found { Finds (entries self.now)
+        ensures found { Finds (entry_at (content self.now))
             (record { low = start + 1; high = end; falls = true })
             (option_map (λ p. (P.index p, P.generation p)) result) }
         ensures number { IfSome result (λ p. P.index p < 2 ^ 64) }
     {
-        let mut last = end.min(self.last_index());
+        let mut last = end.min(self.slots_len());
         while start < last {
             let found = self.pointer_of(NonZeroUsize::MIN.saturating_add(last - 1));
             if found.is_some() {
@@ -147,27 +140,40 @@ pub(crate) trait LivePointers<P: Ptr, T> {
 
     // The pointer to the live entry with the least index.
     final fn first_of_all(&self) -> Option<P>
-        ensures live { IfSome result (λ p. generation_at (entries self.now) (P.index p)
+        ensures live { IfSome result (λ p. generation_at (entry_at (content self.now)) (P.index p)
             ≡ Some (P.generation p)) }
-        ensures first { IfSome result (λ p. (j : ℕ) → j < P.index p → entries self.now j ≡ None) }
-        ensures none { IfNone result ((j : ℕ) → entries self.now j ≡ None) }
+        ensures first { IfSome result (λ p. (j : ℕ) → j < P.index p → entry_at (content self.now) j ≡ None) }
+        ensures none { IfNone result ((j : ℕ) → entry_at (content self.now) j ≡ None) }
     {
-        self.first_live(0, self.last_index())
+        self.first_live(0, self.slots_len())
     }
 
     // The pointer to the live entry with the greatest index.
     final fn last_of_all(&self) -> Option<P>
-        ensures live { IfSome result (λ p. generation_at (entries self.now) (P.index p)
+        ensures live { IfSome result (λ p. generation_at (entry_at (content self.now)) (P.index p)
             ≡ Some (P.generation p)) }
-        ensures last { IfSome result (λ p. (j : ℕ) → P.index p < j → entries self.now j ≡ None) }
-        ensures none { IfNone result ((j : ℕ) → entries self.now j ≡ None) }
+        ensures last { IfSome result (λ p. (j : ℕ) → P.index p < j → entry_at (content self.now) j ≡ None) }
+        ensures none { IfNone result ((j : ℕ) → entry_at (content self.now) j ≡ None) }
     {
-        self.last_live(0, self.last_index())
+        self.last_live(0, self.slots_len())
+    }
+
+    // The greatest live index, or 0 where no index is live.
+    final fn last_index(&self) -> usize
+        ensures { result ≡ last_index_of (content self.now) }
+    {
+        match self.last_live(0, self.slots_len()) {
+            Some(p) => match p.inx().try_into_usize() {
+                Some(i) => i.get(),
+                None => unreachable!(),
+            },
+            None => 0,
+        }
     }
 
     // What the next step of an advancer gives.
     final fn next_live(&self, advancer: &PtrAdvancer<P>) -> Option<P>
-        ensures found { Finds (entries self.now) advancer.now
+        ensures found { Finds (entry_at (content self.now)) advancer.now
             (option_map (λ p. (P.index p, P.generation p)) result) }
         ensures number { IfSome result (λ p. P.index p < 2 ^ 64) }
     {
@@ -181,15 +187,9 @@ pub(crate) trait LivePointers<P: Ptr, T> {
 
 impl<P: Ptr, T: Drop, S: NonZeroInxGenericStack<ArenaSlot<P, T>>> LivePointers<P, T>
     for Arena<P, T, S> {
-    ghost entries = { entry_at };
+    ghost content = { λ c. c };
 
-    ghost slots = { λ c. length c.slots };
-
-    ghost entries_from_one = { λ c. refl };
-
-    ghost entries_within = { none-past_slots };
-
-    fn last_index(&self) -> usize {
+    fn slots_len(&self) -> usize {
         self.slot_count()
     }
 
@@ -200,15 +200,9 @@ impl<P: Ptr, T: Drop, S: NonZeroInxGenericStack<ArenaSlot<P, T>>> LivePointers<P
 
 impl<P: Ptr, T: Drop, S: NonZeroInxGenericStack<DirectSlot<P, T>>> LivePointers<P, T>
     for DirectArena<P, T, S> {
-    ghost entries = { entry_of };
+    ghost content = { as_content };
 
-    ghost slots = { λ d. length d.slots };
-
-    ghost entries_from_one = { λ d. refl };
-
-    ghost entries_within = { λ d. none-past_slots (as_content d) };
-
-    fn last_index(&self) -> usize {
+    fn slots_len(&self) -> usize {
         self.slot_count()
     }
 

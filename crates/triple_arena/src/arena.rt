@@ -11,12 +11,16 @@ mod calls;
 mod compression;
 mod entry;
 mod exchange;
+mod free_slots;
 mod generation;
 mod indexing;
 mod insertion;
+mod max_capacity;
 mod reading;
+mod recast;
 mod removal;
 mod room;
+mod text;
 
 use crate::ArenaSlot;
 pub(crate) use compression::{compact, keep_first};

@@ -50,7 +50,7 @@ pub use slot::ArenaSlot;
 pub use triple_arena_ptr::{
     Advancer, AllocError, DirectInsertionError, GetDisjointMutError, InvalidationOption,
     InvalidationResult, MaxCapacityReductionError, NotWithinCapacityError, P0, P1, P2, P3, P4, P5,
-    Pointer, Ptr, PtrGen, PtrInx, PtrKind, PtrNoGen, Q2, ReallocationError,
+    Pointer, Ptr, PtrGen, PtrInx, PtrKind, PtrNoGen, Q2, ReallocationError, Recast, Recaster,
 };
 pub use triple_arena_stack::{
     NonZeroInxArray, NonZeroInxBoxedSlice, NonZeroInxGenericStack, NonZeroInxLimitedStack,

@@ -3,7 +3,7 @@ ghost use Rattle.std.specs.Prelude.{◌≡◌, ◌≢◌, ◌≤◌, ℕ, length
 ghost use Rattle.std.specs.Borrow.{Lends, LendsIf, sem};
 ghost use Rattle.std.specs.Int.NonZero.{non_zero_usize_get};
 ghost use Rattle.std.specs.Option.{option_map, option_copied_mut};
-ghost use Rattle.triple_arena.specs.Slot.{Slot, entry_of, free, used, value_of, link_of, with_slot_value, with_value_of, with_slot_generation};
+ghost use Rattle.triple_arena.specs.Slot.{Slot, entry_of, free, used, value_of, link_of, with_link, with_slot_value, with_value_of, with_slot_generation};
 ghost use Rattle.triple_arena_stack.specs.Stack.{item_at, with_item};
 ghost use Rattle.triple_arena.specs.Entries.{value_if};
 
@@ -159,6 +159,30 @@ impl<P: Ptr, T> ArenaSlot<P, T> {
         ensures second { other.new ≡ with_value_of other.old self.old }
     {
         mem::swap(self.value_mut(), other.value_mut());
+    }
+
+    // The link, if the slot is free.
+    pub(crate) fn next(&self) -> Option<NonZeroUsize>
+        ensures { option_map non_zero_usize_get result ≡ link_of self.now }
+    {
+        match &self.state {
+            SlotState::Used(_, _) => None,
+            SlotState::Free(next) => *next,
+        }
+    }
+
+    // Gives a free slot another link, and says whether the slot is free.
+    pub(crate) fn relink(&mut self, next: Option<NonZeroUsize>) -> bool
+        ensures value { self.new ≡ with_link self.old (option_map non_zero_usize_get next) }
+        ensures free { IsTrue result ↔ (value_of self.old ≡ None) }
+    {
+        match &mut self.state {
+            SlotState::Used(_, _) => false,
+            SlotState::Free(own) => {
+                *own = next;
+                true
+            }
+        }
     }
 
     // The link, if the slot is free.
