@@ -1,5 +1,5 @@
 -- The slots of a direct arena, and how each change of them keeps it sound.
-use Rattle.std.proofs.Common.{◌≡◌, ℕ, zero, suc, ◌+◌, ◌-◌, ◌<◌, ◌≤◌, List, [], ◌∷◌, length, get_or, set, cond, Option, Some, None, IsSome, is_some, count_by, slice_get, refl, sym, ap, ◌∙◌, arith, length-set}
+use Rattle.std.proofs.Common.{◌≡◌, ℕ, zero, suc, ◌+◌, ◌-◌, ◌<◌, ◌≤◌, List, [], ◌∷◌, length, get_or, set, take, cond, Option, Some, None, IsSome, is_some, count_by, slice_get, refl, sym, ap, ◌∙◌, arith, length-set}
 use Rattle.std.specs.Option.{option_map}
 use Rattle.std.proofs.lemmas.List.{set-get_or}
 use Rattle.std.proofs.lemmas.Option.{get_or_from_slice_get}
@@ -7,8 +7,8 @@ use Rattle.std.proofs.lemmas.List.Sums.{sum_by-set, count_by-le-length}
 use Rattle.triple_arena_stack.specs.Room.{Room, capacity}
 use Rattle.triple_arena.specs.Changes.{IsInvalidated}
 use Rattle.triple_arena.specs.ContentLaws.{entry_at_slot, live_of}
-use Rattle.triple_arena.specs.DirectContent.{DirectContent, as_content, entry_at, room_for, live_count, no_counter, reaching, with_value, with_generation, inserted, removed, IsPlace}
-use Rattle.triple_arena.specs.DirectLaws.{live-inserted, formed-inserted, live-removed, formed-removed, entry-with_generation, live-with_generation, room-with_generation}
+use Rattle.triple_arena.specs.DirectContent.{DirectContent, as_content, entry_at, room_for, live_count, no_counter, reaching, with_value, with_generation, inserted, removed, last_index, IsPlace}
+use Rattle.triple_arena.specs.DirectLaws.{live-inserted, formed-inserted, live-removed, formed-removed, live-without_free_end, formed-without_free_end, entry-with_generation, live-with_generation, room-with_generation}
 use Rattle.triple_arena.specs.DirectSlot.{with_slot_value, with_slot_generation}
 use Rattle.triple_arena.specs.DirectLayout.{direct_of, IsSound}
 
@@ -119,6 +119,14 @@ module _ {T : Type 0} where
   pub value_some : (slot : Option (ℕ × T)) → IsSome slot → IsSome (option_map (λ (e : ℕ × T). e.1) slot)
   value_some None some = some
   value_some (Some e) some = refl
+
+  -- the free slots at the end go
+  pub cut : {xs xs' : List (Option (ℕ × T))} {len n : ℕ} {room room' : Room} {d : DirectContent T} → IsSound xs len room → direct_of xs room ≡ d
+      → n ≡ last_index d → xs' ≡ take n xs → room' ≡ room → IsSound xs' len room'
+  cut {xs} {room} sound seen last kept same =
+      let old = direct_of xs room in
+      rw (kept, last ∙ ap last_index (sym seen), same)
+      (record { counted = sound.counted ∙ sym (live-without_free_end old); fits = formed-without_free_end old sound.fits })
 
   -- what the end of a pointer leaves
   pub is_invalidated : {last : Option ℕ} {d d' : DirectContent T} {i j g h : ℕ} → d' ≡ with_generation d i g → i ≡ j → h ≡ g

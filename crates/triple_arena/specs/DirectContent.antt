@@ -1,12 +1,12 @@
 -- What a contract sees of a `DirectArena`.
-use Rattle.std.specs.Prelude.{◌≡◌, ℕ, zero, suc, ◌-◌, ◌<◌, ◌≤◌, Bool, List, [], ◌∷◌, ◌++◌, map, length, take, replicate, Option, Some, None, slice_set, refl}
+use Rattle.std.specs.Prelude.{◌≡◌, ℕ, ◌-◌, ◌<◌, ◌≤◌, Bool, List, [], ◌++◌, map, length, replicate, Option, Some, None, slice_set, refl}
 use Rattle.std.specs.Coded.{Coded, code_by, coded×, coded_ℕ, coded_list, coded_option}
 use Rattle.std.specs.List.{zip}
 use Rattle.triple_arena_ptr.specs.Generation.{next_generation}
 use Rattle.triple_arena_stack.specs.Room.{Room, capacity}
 use Rattle.triple_arena.specs.ArenaRoom.{room_with}
 use Rattle.triple_arena.specs.Entries.{value_if}
-use Rattle.triple_arena.specs.Content.{Content, entry_at as entry_of, live_count as live_of, with_value as with_value_of, with_generation as with_generation_of}
+use Rattle.triple_arena.specs.Content.{Content, entry_at as entry_of, live_count as live_of, with_value as with_value_of, with_generation as with_generation_of, last_index as last_index_of, without_free_end as without_free_end_of, with_limit as with_limit_of}
 use Rattle.triple_arena.specs.LiveEntries.{live_entries as live_entries_of}
 use Rattle.triple_arena.specs.Compression.{renewed, generation_of}
 
@@ -25,16 +25,6 @@ direct_code {T} code =
     (λ d. (d.slots, (d.room.reserved, d.room.limit)))
     (λ p. record { slots = p.0; room = record { reserved = p.1.0; limit = p.1.1 } })
     (λ _. refl)
-
--- the number of the last live slot, or 0 where none is live
-abbrev pub last_live_of : {X : Type 0} → List (Option X) → ℕ
-last_live_of {X} [] = 0
-last_live_of {X} (slot ∷ rest) = by_rest (last_live_of rest) slot
-  where
-    by_rest : ℕ → Option X → ℕ
-    by_rest (suc n) _ = suc (suc n)
-    by_rest zero None = 0
-    by_rest zero (Some _) = 1
 
 module _ {T : Type 0} where
   -- the slots and the room as an `Arena` would have them, which the words on its content ask for
@@ -117,13 +107,18 @@ module _ {T : Type 0} where
   compressed last d reset values =
       record d { slots = map Some (zip (map (renewed last reset) (map generation_of (live_entries d))) values) }
 
-  -- the last live index, or 0 where none is live
-  abbrev pub last_live : DirectContent T → ℕ
-  last_live d = last_live_of d.slots
+  -- the greatest live index, or 0 where no index is live
+  abbrev pub last_index : DirectContent T → ℕ
+  last_index d = last_index_of (as_content d)
 
-  -- the content with no free slot at the end
+  -- the content with no free slot after the last live one
   abbrev pub without_free_end : DirectContent T → DirectContent T
-  without_free_end d = record d { slots = take (last_live d) d.slots }
+  without_free_end d = of_content (without_free_end_of (as_content d))
+
+  -- the content with this greatest capacity, or that of the greatest index where it is less: where slots are past it,
+  -- the free slots at the end go
+  abbrev pub with_limit : ℕ → DirectContent T → ℕ → DirectContent T
+  with_limit greatest d max = of_content (with_limit_of greatest (as_content d) max)
 
   -- the content in another room
   abbrev pub in_room : DirectContent T → Room → DirectContent T

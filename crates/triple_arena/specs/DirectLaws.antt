@@ -1,17 +1,21 @@
 -- What each exact state of a `DirectArena` holds: the entry at each index, how many are live, how far the slots reach, the
 -- room, and that the slots are within it.
-use Rattle.std.proofs.Common.{◌≡◌, ◌≢◌, ◌==◌, if◌then◌else◌, ℕ, zero, suc, ◌+◌, ◌-◌, ◌<◌, ◌≤◌, List, [], ◌∷◌, ◌++◌, length, replicate, max, get_or, set, cond, Option, Some, None, IsSome, is_some, count_by, inl, inr, refl, sym, ap, ◌∙◌, arith, length-append, length-set}
+use Rattle.std.proofs.Common.{◌≡◌, ◌≢◌, ◌==◌, if◌then◌else◌, ℕ, zero, suc, ◌+◌, ◌-◌, ◌<◌, ◌≤◌, List, [], ◌∷◌, ◌++◌, length, replicate, min, max, get_or, set, cond, Option, Some, None, IsSome, is_some, count_by, inl, inr, refl, sym, ap, ◌∙◌, arith, length-append, length-set}
 use Rattle.std.specs.Option.{option_map}
 use Rattle.std.proofs.lemmas.Bool.Decides.{eqb_tells}
 use Rattle.std.proofs.lemmas.List.{length-replicate}
 use Rattle.std.proofs.lemmas.List.Sums.{sum_by-set, sum_by-cons}
 use Rattle.triple_arena_ptr.specs.Generation.{next_generation}
-use Rattle.triple_arena_stack.specs.Room.{Room, capacity}
+use Rattle.std.specs.Prelude.{nat_lt}
+use Rattle.triple_arena_ptr.specs.Index.{max_index_of}
+use Rattle.triple_arena_stack.specs.Room.{Room, capacity, limited}
 use Rattle.triple_arena.specs.Entries.{with_entry, without, with_value_at, with_generation_at}
 use Rattle.triple_arena.specs.Content.{Content}
 use Rattle.triple_arena.specs.ContentLaws.{entry_at_slot, live_of, entry-set, entry-same_slots, live-within, entry-with_value as entry-with_value_of, live-with_value as live-with_value_of, slots-with_value as slots-with_value_of, room-with_value as room-with_value_of}
 use Rattle.triple_arena.specs.GenerationLaws.{entry-with_generation as entry-with_generation_of, live-with_generation as live-with_generation_of, slots-with_generation as slots-with_generation_of, room-with_generation as room-with_generation_of}
-use Rattle.triple_arena.specs.DirectContent.{DirectContent, as_content, entry_at, live_count, room_for, reaching, IsPlace, inserted, removed, with_value, with_generation, with_next_generation, invalidated, cleared, in_room, IsWellFormed}
+use Rattle.triple_arena.specs.FreeListLaws.{last_index-is, entry-without_free_end as entry-without_free_end_of, live-without_free_end as live-without_free_end_of, slots-without_free_end as slots-without_free_end_of}
+use Rattle.triple_arena.specs.LimitLaws.{capacity-reserved, fitted-within, fitted-less, entry-with_limit as entry-with_limit_of, live-with_limit as live-with_limit_of, slots-with_limit as slots-with_limit_of, room-with_limit as room-with_limit_of}
+use Rattle.triple_arena.specs.DirectContent.{DirectContent, as_content, entry_at, live_count, room_for, reaching, IsPlace, inserted, removed, with_value, with_generation, with_next_generation, invalidated, cleared, in_room, last_index, without_free_end, with_limit, IsWellFormed}
 
 free_counts : (X : Type 0) (m : ℕ) → count_by {X = Option X} is_some (replicate m None) ≡ 0
 free_counts X zero = refl
@@ -200,6 +204,51 @@ module _ {T : Type 0} where
   pub formed-in_room : (d : DirectContent T) (r : Room) → room_for d ≤ capacity r → IsWellFormed d → IsWellFormed (in_room d r)
   formed-in_room d r more formed = omega (arith, formed, more)
 
+  -- the entries stay where the free slots at the end go
+  pub entry-without_free_end : (d : DirectContent T) (j : ℕ) → entry_at (without_free_end d) j ≡ entry_at d j
+  entry-without_free_end d zero = refl
+  entry-without_free_end d (suc k) = entry-without_free_end_of (as_content d) (suc k)
+
+  pub live-without_free_end : (d : DirectContent T) → live_count (without_free_end d) ≡ live_count d
+  live-without_free_end d = live-without_free_end_of (as_content d)
+
+  pub slots-without_free_end : (d : DirectContent T) → length (without_free_end d).slots ≡ last_index d
+  slots-without_free_end d = slots-without_free_end_of (as_content d)
+
+  pub room-without_free_end : (d : DirectContent T) → (without_free_end d).room ≡ d.room
+  room-without_free_end d = refl
+
+  pub formed-without_free_end : (d : DirectContent T) → IsWellFormed d → IsWellFormed (without_free_end d)
+  formed-without_free_end d formed =
+      let sizes = slots-without_free_end d in
+      let within = (last_index-is (as_content d)).within in
+      omega (arith, sizes, within, formed)
+
+  -- a limit that is set leaves the entries
+  pub entry-with_limit : (greatest : ℕ) (d : DirectContent T) (max : ℕ) (j : ℕ) → entry_at (with_limit greatest d max) j ≡ entry_at d j
+  entry-with_limit greatest d max zero = refl
+  entry-with_limit greatest d max (suc k) = entry-with_limit_of greatest (as_content d) max (suc k)
+
+  pub live-with_limit : (greatest : ℕ) (d : DirectContent T) (max : ℕ) → live_count (with_limit greatest d max) ≡ live_count d
+  live-with_limit greatest d max = live-with_limit_of greatest (as_content d) max
+
+  pub slots-with_limit : (greatest : ℕ) (d : DirectContent T) (max : ℕ)
+      → length (with_limit greatest d max).slots ≡ (if nat_lt max (length d.slots) then last_index d else length d.slots)
+  slots-with_limit greatest d max = slots-with_limit_of greatest (as_content d) max
+
+  pub room-with_limit : (greatest : ℕ) (d : DirectContent T) (max : ℕ)
+      → (with_limit greatest d max).room ≡ limited d.room (min max (max_index_of greatest))
+  room-with_limit greatest d max = room-with_limit_of greatest (as_content d) max
+
+  -- the slots are within a limit that is accepted, where each has an index
+  pub formed-with_limit : (greatest : ℕ) (d : DirectContent T) (max : ℕ) → IsWellFormed d → last_index d ≤ max → length d.slots ≤ max_index_of greatest
+      → IsWellFormed (with_limit greatest d max)
+  formed-with_limit greatest d max formed above indexed =
+      let within = fitted-within (as_content d) max above in
+      let less = fitted-less (as_content d) max in
+      let reserved = capacity-reserved d.room in
+      omega (arith, within, less, reserved, formed, indexed)
+
   -- each live index is within the capacity
   pub live_index-within : (d : DirectContent T) → IsWellFormed d → (j : ℕ) → IsSome (entry_at d j) → j ≤ room_for d
   live_index-within d formed j some =
@@ -217,6 +266,18 @@ pub ruleset direct_invalidations = (formed-invalidated, entry-invalidated, live-
 
 -- what a write of a value changes and keeps
 pub ruleset direct_writes = (formed-with_value, entry-with_value, live-with_value, slots-with_value, room-with_value)
+
+-- what the free slots at the end change and keep where they go
+pub ruleset direct_free_end_removals = (
+  formed-without_free_end,
+  entry-without_free_end,
+  live-without_free_end,
+  slots-without_free_end,
+  room-without_free_end,
+)
+
+-- what a limit that is set changes and keeps
+pub ruleset direct_limits = (formed-with_limit, entry-with_limit, live-with_limit, slots-with_limit, room-with_limit)
 
 -- what is left where all entries went
 pub ruleset direct_clearings = (formed-cleared, entry-cleared, live-cleared, slots-cleared, room-cleared)

@@ -17,7 +17,7 @@ by_less P a b less not_less = by_test (nat_lt a b) refl
     by_test false e = not_less (ltb-false a b e)
 
 -- no more fits than is reserved
-capacity-reserved : (r : Room) → capacity r ≤ r.reserved
+pub capacity-reserved : (r : Room) → capacity r ≤ r.reserved
 capacity-reserved r = by_limit r.limit
   where
     by_limit : (limit : Option ℕ) → within limit r.reserved ≤ r.reserved
@@ -77,7 +77,7 @@ module _ {T : Type 0} where
       by_less (λ b. IsWellFormed (if b then without_free_end c else c)) max (length c.slots)
       (λ past. formed-without_free_end c formed) (λ inner. formed)
 
-  fitted-less : (c : Content T) (max : ℕ) → length (fitted c max).slots ≤ length c.slots
+  pub fitted-less : (c : Content T) (max : ℕ) → length (fitted c max).slots ≤ length c.slots
   fitted-less c max =
       let sizes = slots-without_free_end c in
       let within = (last_index-is c).within in
