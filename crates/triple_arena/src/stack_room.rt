@@ -11,6 +11,8 @@ use triple_arena_stack::NonZeroInxGenericStack;
 // How many entries fit with no growth.
 pub(crate) fn capacity_over<P: Ptr, X: Drop, S: NonZeroInxGenericStack<X>>(slots: &S) -> usize
     ensures value { result ≡ capacity (room_of P.Inx.greatest (S.room slots.now)) }
+    ensures can_double { (room_of P.Inx.greatest (S.room slots.now)).limit ≡ None
+        → result < 2 ^ 63 }
     ensures bounded { result ≤ max_index_of P.Inx.greatest }
 {
     slots.capacity().min(max_index::<P>())
