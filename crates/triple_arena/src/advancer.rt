@@ -49,6 +49,13 @@ impl<P: Ptr> PtrAdvancer<P> {
         }
     }
 
+    // Over no index.
+    fn ended() -> Self
+        ensures { IsOver result }
+    {
+        PtrAdvancer::over(0, 0, false)
+    }
+
     // From `i` on, rising up to `end`, or with `rev` falling to 1.
     pub(crate) fn from_index(i: P::Inx, end: usize, rev: bool) -> Self
         ensures direction { result.falls ≡ rev }
@@ -227,7 +234,7 @@ impl<P: Ptr, T: Drop, S: NonZeroInxGenericStack<ArenaSlot<P, T>>> Advancer<Arena
     }
 
     fn empty() -> Self {
-        PtrAdvancer::over(0, 0, false)
+        PtrAdvancer::ended()
     }
 }
 
@@ -247,6 +254,6 @@ impl<P: Ptr, T: Drop, S: NonZeroInxGenericStack<DirectSlot<P, T>>> Advancer<Dire
     }
 
     fn empty() -> Self {
-        PtrAdvancer::over(0, 0, false)
+        PtrAdvancer::ended()
     }
 }

@@ -125,7 +125,7 @@ impl<P: Ptr, T> EntrySlot<P, T> for DirectSlot<P, T> {
     ghost entry = { λ s. s };
 
     fn vacant() -> Self {
-        DirectSlot::free()
+        DirectSlot::default()
     }
 
     fn holding(generation: P::Gen, value: T) -> Self {

@@ -215,7 +215,7 @@ impl<P: Ptr, T> EntrySlot<P, T> for ArenaSlot<P, T> {
     ghost entry = { entry_of };
 
     fn vacant() -> Self {
-        ArenaSlot::free(None)
+        ArenaSlot::default()
     }
 
     fn holding(generation: P::Gen, value: T) -> Self {

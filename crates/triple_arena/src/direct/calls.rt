@@ -89,7 +89,6 @@ impl<P: Ptr, T: Drop, S: NonZeroInxGenericStack<DirectSlot<P, T>> + Drop> ArenaT
     }
 
     fn capacity(&self) -> usize {
-        let _ = self.live();
         self.room_for()
     }
 
