@@ -1,4 +1,8 @@
 pub mod FreeListLemmas
+pub mod FreeSlotsLemmas
 pub mod ExchangeLemmas
 pub mod WalkLemmas
 mod CompressionLemmas
+pub mod DirectLemmas
+mod DirectCompressionLemmas
+pub mod RecastingLemmas

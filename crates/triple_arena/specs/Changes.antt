@@ -26,6 +26,14 @@ module _ {S T : Type 0} (entry_of : S → ℕ → Option (ℕ × T)) (live_of : 
     pub counter : counter_of new ≡ first
     pub room : room_of new ≡ own
 
+  -- an entry of this value and generation more, at an index that was free; all others stay
+  pub record IsDirectlyInserted (i g : ℕ) (t : T) (old new : S) : Type 0 where
+    pub vacant : entry_of old i ≡ None
+    pub entries : (j : ℕ) → entry_of new j ≡ with_entry (entry_of old) i (g, t) j
+    pub live : live_of new ≡ live_of old + 1
+    pub counter : counter_of new ≡ counter_of old
+    pub room : room_of new ≡ room_of old
+
   -- room for so many entries; all entries stay
   pub record IsReallocated (min : ℕ) (old new : S) : Type 0 where
     pub entries : (j : ℕ) → entry_of new j ≡ entry_of old j

@@ -1,8 +1,11 @@
 -- What a contract sees of an `Arena`.
-use Rattle.std.specs.Prelude.{◌≡◌, ◌≢◌, ℕ, zero, suc, ◌+◌, ◌-◌, ◌<◌, ◌≤◌, ◌==◌, List, [], ◌∷◌, ◌++◌, length, take, Option, Some, None, is_some, count_by, slice_index_or, slice_set, if◌then◌else◌, refl}
+use Rattle.std.specs.Prelude.{◌≡◌, ◌≢◌, ℕ, zero, suc, ◌+◌, ◌-◌, ◌<◌, ◌≤◌, ◌==◌, List, [], ◌∷◌, ◌++◌, length, take, Option, Some, None, is_some, count_by, filter, slice_index_or, slice_set, nat_lt, nat_le, min, if◌then◌else◌, refl}
+use Rattle.std.specs.List.{suffix_len}
+use Rattle.std.specs.Option.{is_none}
 use Rattle.std.specs.Coded.{Coded, code_by, coded×, coded_ℕ, coded_list, coded_option}
 use Rattle.triple_arena_ptr.specs.Generation.{next_generation}
-use Rattle.triple_arena_stack.specs.Room.{Room, capacity, room_after}
+use Rattle.triple_arena_ptr.specs.Index.{max_index_of}
+use Rattle.triple_arena_stack.specs.Room.{Room, capacity, room_after, limited}
 use Rattle.triple_arena.specs.Entries.{value_if}
 use Rattle.triple_arena.specs.ArenaRoom.{room_with}
 
@@ -139,6 +142,33 @@ module _ {T : Type 0} where
   -- the content with room for an entry more: as it is, or with a greater room where it is full
   abbrev pub grown_if_full : Content T → Content T
   grown_if_full c = in_room c (room_after (live_count c) c.room)
+
+  -- the greatest live index, or 0 where no index is live
+  abbrev pub last_index : Content T → ℕ
+  last_index c = length c.slots - suffix_len is_none c.slots
+
+  -- the content with no free slot after the last live one: the free indexes past that go, the others keep their order
+  abbrev pub without_free_end : Content T → Content T
+  without_free_end c =
+      record c { slots = take (last_index c) c.slots; free = filter (λ index. nat_le index (last_index c)) c.free }
+
+  -- the content with no slot past this number, where no live one is past it: the free slots at the end go
+  abbrev pub fitted : Content T → ℕ → Content T
+  fitted c max = if nat_lt max (length c.slots) then without_free_end c else c
+
+  -- the content with this greatest capacity, or that of the greatest index where it is less
+  abbrev pub with_limit : ℕ → Content T → ℕ → Content T
+  with_limit greatest c max = in_room (fitted c max) (limited c.room (min max (max_index_of greatest)))
+
+  -- the indexes of the free ones among slots that have the indexes from this one on, rising
+  abbrev pub vacant_from : ℕ → List (Option (ℕ × T)) → List ℕ
+  vacant_from first [] = []
+  vacant_from first (None ∷ slots) = first ∷ vacant_from (first + 1) slots
+  vacant_from first (Some entry ∷ slots) = vacant_from (first + 1) slots
+
+  -- the content whose free indexes rise, so that the smallest is the next one to be taken
+  abbrev pub canonicalized : Content T → Content T
+  canonicalized c = record c { free = vacant_from 1 c.slots }
 
   -- a free index: one of the slots, with no entry
   pub record IsVacant (c : Content T) (index : ℕ) : Type 0 where

@@ -22,6 +22,11 @@ module _ {T : Type 0} where
   link_of (free next) = next
   link_of (used _ _) = None
 
+  -- a free slot with another link
+  abbrev pub with_link : Slot T → Option ℕ → Slot T
+  with_link (free _) next = free next
+  with_link (used g t) _ = used g t
+
   -- an allocated slot with another value
   abbrev pub with_slot_value : Slot T → T → Slot T
   with_slot_value (free next) _ = free next

@@ -1,10 +1,13 @@
 //! Going over the pointers of an arena, by their indexes.
-ghost use Rattle.std.specs.Prelude.{◌≡◌, ◌+◌, ◌^◌, ◌<◌, true, false, IfSome, IfNone};
+ghost use Rattle.std.specs.Prelude.{◌≡◌, ℕ, ◌+◌, ◌-◌, ◌^◌, ◌<◌, min, if◌then◌else◌, true, false, length, Option, Some, None, IfSome, IfNone, refl};
+ghost use Rattle.std.specs.Int.NonZero.{non_zero_usize_get};
 ghost use Rattle.std.specs.Option.{option_map};
-ghost use Rattle.triple_arena.specs.Content.{entry_at};
+ghost use Rattle.triple_arena.specs.Entries.{pointer_at, generation_at};
+ghost use Rattle.triple_arena.specs.Content.{Content, entry_at, last_index as last_index_of};
+ghost use Rattle.triple_arena.specs.DirectContent.{entry_at as entry_of, as_content};
 ghost use Rattle.triple_arena.specs.Walk.{past, to_come, Finds, IsOver, Steps};
 
-use crate::{Arena, ArenaSlot};
+use crate::{Arena, ArenaSlot, DirectArena, DirectSlot};
 use std::marker::{Model, PhantomData};
 use std::num::NonZeroUsize;
 use triple_arena_ptr::{Advancer, Ptr, PtrInx};
@@ -46,6 +49,36 @@ impl<P: Ptr> PtrAdvancer<P> {
         }
     }
 
+    // Over no index.
+    fn ended() -> Self
+        ensures { IsOver result }
+    {
+        PtrAdvancer::over(0, 0, false)
+    }
+
+    // From `i` on, rising up to `end`, or with `rev` falling to 1.
+    pub(crate) fn from_index(i: P::Inx, end: usize, rev: bool) -> Self
+        ensures direction { result.falls ≡ rev }
+        ensures low { result.low ≡ (if rev then 1 else min (P.Inx.number i) (2 ^ 64)) }
+        ensures rising_to { rev ≡ false → result.high ≡ end }
+        ensures falling_from { rev ≡ true → result.high ≡ min (P.Inx.number i) (2 ^ 64 - 1) }
+    {
+        let number = i.try_into_usize();
+        if rev {
+            let high = match number {
+                Some(i) => i.get(),
+                // No index past a `usize` is live.
+                None => usize::MAX,
+            };
+            return PtrAdvancer::over(0, high, true);
+        }
+        let start = match number {
+            Some(i) => i.get() - 1,
+            None => usize::MAX,
+        };
+        PtrAdvancer::over(start, end, false)
+    }
+
     // Passes what a step gave, or ends where it gave nothing.
     fn pass(&mut self, given: Option<P>)
         requires { IfSome given (λ p. P.index p < 2 ^ 64) }
@@ -63,17 +96,30 @@ impl<P: Ptr> PtrAdvancer<P> {
     }
 }
 
-impl<P: Ptr, T: Drop, S: NonZeroInxGenericStack<ArenaSlot<P, T>>> Arena<P, T, S> {
+// What finds its live entries by the indexes of its slots.
+pub(crate) trait LivePointers<P: Ptr, T> {
+    // What it holds, as an `Arena` would hold it.
+    ghost content: { Self → Content T };
+
+    // The number of slots.
+    fn slots_len(&self) -> usize
+        ensures { result ≡ length (content self.now).slots };
+
+    // The pointer to the entry at `i`, if it is live.
+    fn pointer_of(&self, i: NonZeroUsize) -> Option<P>
+        ensures { option_map (λ p. (P.index p, P.generation p)) result
+            ≡ pointer_at (entry_at (content self.now)) (non_zero_usize_get i) };
+
     // The pointer to the first live entry at the indexes after `start`, up to `end`.
-    pub(crate) fn first_live(&self, start: usize, end: usize) -> Option<P>
-        ensures found { Finds (entry_at self.now)
+    final fn first_live(&self, start: usize, end: usize) -> Option<P>
+        ensures found { Finds (entry_at (content self.now))
             (record { low = start + 1; high = end; falls = false })
             (option_map (λ p. (P.index p, P.generation p)) result) }
         ensures number { IfSome result (λ p. P.index p < 2 ^ 64) }
     {
-        let last = end.min(self.slot_count());
+        let last = end.min(self.slots_len());
         for before in start..last {
-            let found = self.pointer(NonZeroUsize::MIN.saturating_add(before));
+            let found = self.pointer_of(NonZeroUsize::MIN.saturating_add(before));
             if found.is_some() {
                 return found;
             }
@@ -82,15 +128,15 @@ impl<P: Ptr, T: Drop, S: NonZeroInxGenericStack<ArenaSlot<P, T>>> Arena<P, T, S>
     }
 
     // The pointer to the last live entry at the indexes after `start`, up to `end`.
-    pub(crate) fn last_live(&self, start: usize, end: usize) -> Option<P>
-        ensures found { Finds (entry_at self.now)
+    final fn last_live(&self, start: usize, end: usize) -> Option<P>
+        ensures found { Finds (entry_at (content self.now))
             (record { low = start + 1; high = end; falls = true })
             (option_map (λ p. (P.index p, P.generation p)) result) }
         ensures number { IfSome result (λ p. P.index p < 2 ^ 64) }
     {
-        let mut last = end.min(self.slot_count());
+        let mut last = end.min(self.slots_len());
         while start < last {
-            let found = self.pointer(NonZeroUsize::MIN.saturating_add(last - 1));
+            let found = self.pointer_of(NonZeroUsize::MIN.saturating_add(last - 1));
             if found.is_some() {
                 return found;
             }
@@ -99,9 +145,42 @@ impl<P: Ptr, T: Drop, S: NonZeroInxGenericStack<ArenaSlot<P, T>>> Arena<P, T, S>
         None
     }
 
+    // The pointer to the live entry with the least index.
+    final fn first_of_all(&self) -> Option<P>
+        ensures live { IfSome result (λ p. generation_at (entry_at (content self.now)) (P.index p)
+            ≡ Some (P.generation p)) }
+        ensures first { IfSome result (λ p. (j : ℕ) → j < P.index p → entry_at (content self.now) j ≡ None) }
+        ensures none { IfNone result ((j : ℕ) → entry_at (content self.now) j ≡ None) }
+    {
+        self.first_live(0, self.slots_len())
+    }
+
+    // The pointer to the live entry with the greatest index.
+    final fn last_of_all(&self) -> Option<P>
+        ensures live { IfSome result (λ p. generation_at (entry_at (content self.now)) (P.index p)
+            ≡ Some (P.generation p)) }
+        ensures last { IfSome result (λ p. (j : ℕ) → P.index p < j → entry_at (content self.now) j ≡ None) }
+        ensures none { IfNone result ((j : ℕ) → entry_at (content self.now) j ≡ None) }
+    {
+        self.last_live(0, self.slots_len())
+    }
+
+    // The greatest live index, or 0 where no index is live.
+    final fn last_index(&self) -> usize
+        ensures { result ≡ last_index_of (content self.now) }
+    {
+        match self.last_live(0, self.slots_len()) {
+            Some(p) => match p.inx().try_into_usize() {
+                Some(i) => i.get(),
+                None => unreachable!(),
+            },
+            None => 0,
+        }
+    }
+
     // What the next step of an advancer gives.
-    fn next_live(&self, advancer: &PtrAdvancer<P>) -> Option<P>
-        ensures found { Finds (entry_at self.now) advancer.now
+    final fn next_live(&self, advancer: &PtrAdvancer<P>) -> Option<P>
+        ensures found { Finds (entry_at (content self.now)) advancer.now
             (option_map (λ p. (P.index p, P.generation p)) result) }
         ensures number { IfSome result (λ p. P.index p < 2 ^ 64) }
     {
@@ -110,6 +189,32 @@ impl<P: Ptr, T: Drop, S: NonZeroInxGenericStack<ArenaSlot<P, T>>> Arena<P, T, S>
         } else {
             self.first_live(advancer.start, advancer.end)
         }
+    }
+}
+
+impl<P: Ptr, T: Drop, S: NonZeroInxGenericStack<ArenaSlot<P, T>>> LivePointers<P, T>
+    for Arena<P, T, S> {
+    ghost content = { λ c. c };
+
+    fn slots_len(&self) -> usize {
+        self.slot_count()
+    }
+
+    fn pointer_of(&self, i: NonZeroUsize) -> Option<P> {
+        self.pointer(i)
+    }
+}
+
+impl<P: Ptr, T: Drop, S: NonZeroInxGenericStack<DirectSlot<P, T>>> LivePointers<P, T>
+    for DirectArena<P, T, S> {
+    ghost content = { as_content };
+
+    fn slots_len(&self) -> usize {
+        self.slot_count()
+    }
+
+    fn pointer_of(&self, i: NonZeroUsize) -> Option<P> {
+        self.pointer(i)
     }
 }
 
@@ -129,6 +234,26 @@ impl<P: Ptr, T: Drop, S: NonZeroInxGenericStack<ArenaSlot<P, T>>> Advancer<Arena
     }
 
     fn empty() -> Self {
-        PtrAdvancer::over(0, 0, false)
+        PtrAdvancer::ended()
+    }
+}
+
+impl<P: Ptr, T: Drop, S: NonZeroInxGenericStack<DirectSlot<P, T>>> Advancer<DirectArena<P, T, S>>
+    for PtrAdvancer<P> {
+    type Item = P;
+
+    ghost remaining = { λ a _. to_come a };
+
+    ghost advance_gives = { λ before d given after. Steps (entry_of d) before
+        (option_map (λ p. (P.index p, P.generation p)) given) after };
+
+    fn advance(&mut self, arena: &DirectArena<P, T, S>) -> Option<P> {
+        let given = arena.next_live(self);
+        self.pass(given);
+        given
+    }
+
+    fn empty() -> Self {
+        PtrAdvancer::ended()
     }
 }

@@ -20,9 +20,13 @@
 mod advancer;
 mod arena;
 mod arena_trait;
+mod direct;
+mod direct_insert_trait;
+mod direct_slot;
 mod disjointable_trait;
 mod insert_trait;
 mod slot;
+mod stack_room;
 
 /// The advancers of the arenas.
 pub mod arena_iterators {
@@ -34,13 +38,19 @@ pub use arena::{
     HeapArena, LimitedArena,
 };
 pub use arena_trait::{ArenaTrait, CompactArenaTrait};
+pub use direct::{
+    ArenaDirectInsertEntry, ArrayDirectArena, BoxedDirectArena, DirectArena, HeapDirectArena,
+    LimitedDirectArena,
+};
+pub use direct_insert_trait::{ArenaDirectInsertEntryTrait, ArenaDirectInsertTrait};
+pub use direct_slot::DirectSlot;
 pub use disjointable_trait::DisjointableArenaTrait;
 pub use insert_trait::ArenaInsertTrait;
 pub use slot::ArenaSlot;
 pub use triple_arena_ptr::{
-    Advancer, AllocError, GetDisjointMutError, InvalidationOption, InvalidationResult,
-    MaxCapacityReductionError, NotWithinCapacityError, P0, P1, P2, P3, P4, P5, Pointer, Ptr,
-    PtrGen, PtrInx, PtrKind, PtrNoGen, Q2, ReallocationError,
+    Advancer, AllocError, DirectInsertionError, GetDisjointMutError, InvalidationOption,
+    InvalidationResult, MaxCapacityReductionError, NotWithinCapacityError, P0, P1, P2, P3, P4, P5,
+    Pointer, Ptr, PtrGen, PtrInx, PtrKind, PtrNoGen, Q2, ReallocationError, Recast, Recaster,
 };
 pub use triple_arena_stack::{
     NonZeroInxArray, NonZeroInxBoxedSlice, NonZeroInxGenericStack, NonZeroInxLimitedStack,

@@ -3,7 +3,7 @@ ghost use Rattle.std.specs.Prelude.{◌≡◌, ◌≢◌, ◌≤◌, ℕ, length
 ghost use Rattle.std.specs.Borrow.{Lends, LendsIf, sem};
 ghost use Rattle.std.specs.Int.NonZero.{non_zero_usize_get};
 ghost use Rattle.std.specs.Option.{option_map, option_copied_mut};
-ghost use Rattle.triple_arena.specs.Slot.{Slot, entry_of, free, used, value_of, link_of, with_slot_value, with_value_of, with_slot_generation};
+ghost use Rattle.triple_arena.specs.Slot.{Slot, entry_of, free, used, value_of, link_of, with_link, with_slot_value, with_value_of, with_slot_generation};
 ghost use Rattle.triple_arena_stack.specs.Stack.{item_at, with_item};
 ghost use Rattle.triple_arena.specs.Entries.{value_if};
 
@@ -50,6 +50,21 @@ impl<G, T> ValueMut<T> for SlotState<G, T> {
             SlotState::Free(_) => unreachable!(),
         }
     }
+}
+
+// What a compression does with a slot.
+pub(crate) trait EntrySlot<P: Ptr, T> {
+    // The generation and the value, if it is allocated.
+    ghost entry: { Self → Option (ℕ × T) };
+
+    fn vacant() -> Self
+        ensures { entry result ≡ None };
+
+    fn holding(generation: P::Gen, value: T) -> Self
+        ensures { entry result ≡ Some (P.Gen.number generation, value) };
+
+    fn into_live(self) -> Option<(P::Gen, T)>
+        ensures { option_map (λ e. (P.Gen.number e.0, e.1)) result ≡ entry self };
 }
 
 // What keeps one value, if any, and lends it where a generation is its own.
@@ -147,6 +162,30 @@ impl<P: Ptr, T> ArenaSlot<P, T> {
     }
 
     // The link, if the slot is free.
+    pub(crate) fn next(&self) -> Option<NonZeroUsize>
+        ensures { option_map non_zero_usize_get result ≡ link_of self.now }
+    {
+        match &self.state {
+            SlotState::Used(_, _) => None,
+            SlotState::Free(next) => *next,
+        }
+    }
+
+    // Gives a free slot another link, and says whether the slot is free.
+    pub(crate) fn relink(&mut self, next: Option<NonZeroUsize>) -> bool
+        ensures value { self.new ≡ with_link self.old (option_map non_zero_usize_get next) }
+        ensures free { IsTrue result ↔ (value_of self.old ≡ None) }
+    {
+        match &mut self.state {
+            SlotState::Used(_, _) => false,
+            SlotState::Free(own) => {
+                *own = next;
+                true
+            }
+        }
+    }
+
+    // The link, if the slot is free.
     pub(crate) fn into_next(self) -> Option<NonZeroUsize>
     where
         T: Drop,
@@ -159,17 +198,6 @@ impl<P: Ptr, T> ArenaSlot<P, T> {
         }
     }
 
-    // The generation and the value, if the slot is allocated.
-    pub(crate) fn into_live(self) -> Option<(P::Gen, T)>
-        ensures { option_map (λ e. (P.Gen.number e.0, e.1)) result ≡ entry_of self }
-    {
-        let ArenaSlot { state } = self;
-        match state {
-            SlotState::Used(generation, value) => Some((generation, value)),
-            SlotState::Free(_) => None,
-        }
-    }
-
     // The generation and the value. The slot must be allocated.
     pub(crate) fn into_entry(self) -> (P::Gen, T)
         requires { IsSome (entry_of self) }
@@ -179,6 +207,26 @@ impl<P: Ptr, T> ArenaSlot<P, T> {
         match state {
             SlotState::Used(generation, value) => (generation, value),
             SlotState::Free(_) => unreachable!(),
+        }
+    }
+}
+
+impl<P: Ptr, T> EntrySlot<P, T> for ArenaSlot<P, T> {
+    ghost entry = { entry_of };
+
+    fn vacant() -> Self {
+        ArenaSlot::default()
+    }
+
+    fn holding(generation: P::Gen, value: T) -> Self {
+        ArenaSlot::used(generation, value)
+    }
+
+    fn into_live(self) -> Option<(P::Gen, T)> {
+        let ArenaSlot { state } = self;
+        match state {
+            SlotState::Used(generation, value) => Some((generation, value)),
+            SlotState::Free(_) => None,
         }
     }
 }

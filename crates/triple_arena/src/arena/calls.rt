@@ -7,7 +7,7 @@ ghost use Rattle.triple_arena.specs.ContentLaws.{entry-with_value, live-with_val
 ghost use Rattle.triple_arena.specs.LiveEntries.{live_entries as live_entries_of, entry-listed, live_entries-increase, live_entries-length};
 ghost use Rattle.triple_arena.specs.Compression.{renewed, compacted};
 
-use crate::advancer::PtrAdvancer;
+use crate::advancer::{LivePointers, PtrAdvancer};
 use crate::arena::compression::{compact, renewal};
 use crate::arena::reading::ValueAtMut;
 use crate::arena::removal::equal_uncounted;
@@ -163,11 +163,11 @@ impl<P: Ptr, T: Drop, S: NonZeroInxGenericStack<ArenaSlot<P, T>> + Drop> ArenaTr
     }
 
     fn find_first_inx_ptr(&self) -> Option<P> {
-        self.first_live(0, self.slot_count())
+        self.first_of_all()
     }
 
     fn find_last_inx_ptr(&self) -> Option<P> {
-        self.last_live(0, self.slot_count())
+        self.last_of_all()
     }
 
     fn advancer(&self) -> PtrAdvancer<P> {
@@ -175,20 +175,7 @@ impl<P: Ptr, T: Drop, S: NonZeroInxGenericStack<ArenaSlot<P, T>> + Drop> ArenaTr
     }
 
     fn advancer_inx(&self, i: P::Inx, rev: bool) -> PtrAdvancer<P> {
-        let number = i.try_into_usize();
-        if rev {
-            let end = match number {
-                Some(i) => i.get(),
-                // No index past a `usize` is live.
-                None => usize::MAX,
-            };
-            return PtrAdvancer::over(0, end, true);
-        }
-        let start = match number {
-            Some(i) => i.get() - 1,
-            None => usize::MAX,
-        };
-        PtrAdvancer::over(start, self.slot_count(), false)
+        PtrAdvancer::from_index(i, self.slot_count(), rev)
     }
 
     fn remove(&mut self, p: P) -> InvalidationResult<T> {
@@ -259,7 +246,7 @@ impl<P: Ptr, T: Drop, S: NonZeroInxGenericStack<ArenaSlot<P, T>> + Drop> ArenaTr
         // The slots are within the capacity, and so are their indexes.
         let _ = self.room_for();
         let (generation, wrapped) = renewal(self.counter, reset);
-        compact(&mut self.slots, generation, map);
+        compact(&mut self.slots, Some(generation), reset, map);
         self.counter = generation;
         self.head = None;
         // The arena is well-formed after.

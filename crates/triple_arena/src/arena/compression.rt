@@ -1,13 +1,14 @@
 //! Compression: the live entries go to the first indexes.
 ghost use Rattle.std.specs.Prelude.{◌≡◌, ℕ, ◌-◌, ◌≤◌, Some, None, length, map as list_map, take, slice_get, slice_set};
 ghost use Rattle.std.specs.Int.NonZero.{non_zero_usize_get};
+ghost use Rattle.std.specs.List.{list_any};
 ghost use Rattle.std.specs.Option.{option_map};
-ghost use Rattle.triple_arena.specs.Slot.{entry_of};
-ghost use Rattle.triple_arena.specs.Compression.{renewed, renewal_wraps};
-ghost use Rattle.triple_arena.specs.SlotCompression.{Compacts};
+ghost use Rattle.triple_arena.specs.Compression.{renewed, renewal_wraps, generation_of};
+ghost use Rattle.triple_arena.specs.LiveEntries.{listed_from};
+ghost use Rattle.triple_arena.specs.SlotCompression.{Compacts, generation_after, own_wraps};
 
-use crate::ArenaSlot;
 use crate::arena::pointer_at;
+use crate::slot::EntrySlot;
 use std::mem;
 use std::num::NonZeroUsize;
 use triple_arena_ptr::{Ptr, PtrGen};
@@ -25,42 +26,52 @@ pub(crate) fn renewal<G: PtrGen>(generation: G, reset: bool) -> (G, bool)
     }
 }
 
+// The generation that an entry gets, the given one or else its own one renewed, and whether the step to it started the
+// generations again.
+fn renewal_of_entry<G: PtrGen>(given: Option<G>, reset: bool, own: G) -> (G, bool)
+    ensures next { G.number result.0
+        ≡ generation_after G.last reset (option_map G.number given) (G.number own) }
+    ensures wraps { result.1 ≡ own_wraps G.last reset (option_map G.number given) (G.number own) }
+{
+    match given {
+        Some(generation) => (generation, false),
+        None => renewal(own, reset),
+    }
+}
+
 // Takes what stands at `i`, if it is live, and leaves a free slot.
-fn take_entry<P: Ptr, T: Drop, S: NonZeroInxGenericStack<ArenaSlot<P, T>>>(
+fn take_entry<P: Ptr, T: Drop, L: EntrySlot<P, T> + Drop, S: NonZeroInxGenericStack<L>>(
     slots: &mut S,
     i: NonZeroUsize,
 ) -> Option<(P::Gen, T)>
     requires { non_zero_usize_get i ≤ length (S.items slots.old) }
     ensures entry { Some (option_map (λ e. (P.Gen.number e.0, e.1)) result)
-        ≡ slice_get (list_map entry_of (S.items slots.old)) (non_zero_usize_get i - 1) }
-    ensures slots { list_map entry_of (S.items slots.new)
-        ≡ slice_set (list_map entry_of (S.items slots.old)) (non_zero_usize_get i - 1) None }
+        ≡ slice_get (list_map L.entry (S.items slots.old)) (non_zero_usize_get i - 1) }
+    ensures slots { list_map L.entry (S.items slots.new)
+        ≡ slice_set (list_map L.entry (S.items slots.old)) (non_zero_usize_get i - 1) None }
     ensures room { S.room slots.new ≡ S.room slots.old }
 {
-    mem::replace(slots.item_mut(i), ArenaSlot::free(None)).into_live()
+    mem::replace(slots.item_mut(i), L::vacant()).into_live()
 }
 
 // Stores an entry at `i`.
-fn put_entry<P: Ptr, T: Drop, S: NonZeroInxGenericStack<ArenaSlot<P, T>>>(
+fn put_entry<P: Ptr, T: Drop, L: EntrySlot<P, T> + Drop, S: NonZeroInxGenericStack<L>>(
     slots: &mut S,
     i: NonZeroUsize,
     generation: P::Gen,
     value: T,
 )
     requires { non_zero_usize_get i ≤ length (S.items slots.old) }
-    ensures slots { list_map entry_of (S.items slots.new)
-        ≡ slice_set (list_map entry_of (S.items slots.old)) (non_zero_usize_get i - 1)
+    ensures slots { list_map L.entry (S.items slots.new)
+        ≡ slice_set (list_map L.entry (S.items slots.old)) (non_zero_usize_get i - 1)
         (Some (P.Gen.number generation, value)) }
     ensures room { S.room slots.new ≡ S.room slots.old }
 {
-    *slots.item_mut(i) = ArenaSlot::used(generation, value);
+    *slots.item_mut(i) = L::holding(generation, value);
 }
 
 // Drops the slots past the first `len` ones.
-fn keep_first<P: Ptr, T: Drop, S: NonZeroInxGenericStack<ArenaSlot<P, T>>>(
-    slots: &mut S,
-    len: usize,
-)
+pub(crate) fn keep_first<L: Drop, S: NonZeroInxGenericStack<L>>(slots: &mut S, len: usize)
     requires { len ≤ length (S.items slots.old) }
     ensures slots { S.items slots.new ≡ take len (S.items slots.old) }
     ensures room { S.room slots.new ≡ S.room slots.old }
@@ -70,32 +81,42 @@ fn keep_first<P: Ptr, T: Drop, S: NonZeroInxGenericStack<ArenaSlot<P, T>>>(
     }
 }
 
-// Moves the live entries to the first indexes, each with what `map` makes of its value and with this generation, and
-// drops the other slots.
-pub(crate) fn compact<P: Ptr, T: Drop, S: NonZeroInxGenericStack<ArenaSlot<P, T>>, F>(
+// Moves the live entries to the first indexes, each with what `map` makes of its value and with the given generation, or
+// else its own one renewed, and drops the other slots. It says whether the step of one's own generation started the
+// generations again.
+pub(crate) fn compact<P, T: Drop, L: EntrySlot<P, T> + Drop, S: NonZeroInxGenericStack<L>, F>(
     slots: &mut S,
-    generation: P::Gen,
+    given: Option<P::Gen>,
+    reset: bool,
     mut map: F,
-)
+) -> bool
 where
+    P: Ptr,
     F: FnMut(P, T, P) -> T,
     requires fits { length (S.items slots.old) ≤ P.Inx.greatest }
     requires callable { F.IsAlwaysCallable map }
-    ensures moved { Compacts P.index P.generation F.step map (P.Gen.number generation)
-        (list_map entry_of (S.items slots.old)) (list_map entry_of (S.items slots.new)) }
+    ensures moved { Compacts P.index P.generation F.step map
+        (generation_after P.Gen.last reset (option_map P.Gen.number given))
+        (list_map L.entry (S.items slots.old)) (list_map L.entry (S.items slots.new)) }
+    ensures wraps { result ≡ list_any (own_wraps P.Gen.last reset (option_map P.Gen.number given))
+        (list_map generation_of (listed_from 1 (list_map L.entry (S.items slots.old)))) }
     ensures room { S.room slots.new ≡ S.room slots.old }
 {
     let mut live = 0;
+    let mut wrapped = false;
     for at in 0..slots.len() {
         let old = NonZeroUsize::MIN.saturating_add(at);
         if let Some(entry) = take_entry(slots, old) {
             let new = NonZeroUsize::MIN.saturating_add(live);
+            let (generation, wraps) = renewal_of_entry(given, reset, entry.0);
             let from = pointer_at(old, entry.0);
             let to = pointer_at(new, generation);
-            let given = map(from, entry.1, to);
-            put_entry(slots, new, generation, given);
+            let value = map(from, entry.1, to);
+            put_entry(slots, new, generation, value);
             live += 1;
+            wrapped |= wraps;
         }
     }
     keep_first(slots, live);
+    wrapped
 }

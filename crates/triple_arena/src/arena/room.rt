@@ -6,7 +6,8 @@ ghost use Rattle.triple_arena_stack.specs.Room.{grown, IsBeyond};
 ghost use Rattle.triple_arena.specs.Content.{live_count, room_for, reallocated, grown_if_full, in_room, IsWellFormed};
 
 use crate::ArenaSlot;
-use crate::arena::{Arena, max_index};
+use crate::arena::Arena;
+use crate::stack_room::{capacity_over, limit_over, reallocate_over};
 use triple_arena_ptr::{Ptr, ReallocationError};
 use triple_arena_stack::NonZeroInxGenericStack;
 
@@ -18,19 +19,14 @@ impl<P: Ptr, T: Drop, S: NonZeroInxGenericStack<ArenaSlot<P, T>>> Arena<P, T, S>
         ensures bounded { result ≤ max_index_of P.Inx.greatest }
         ensures formed { IsWellFormed self.now }
     {
-        self.slots.capacity().min(max_index::<P>())
+        capacity_over::<P, ArenaSlot<P, T>, S>(&self.slots)
     }
 
     // The greatest capacity, if there is one.
     pub(crate) fn limit(&self) -> Option<usize>
         ensures { result ≡ self.now.room.limit }
     {
-        let max = max_index::<P>();
-        match self.slots.max_capacity() {
-            Some(limit) => Some(limit.min(max)),
-            None if max < usize::MAX => Some(max),
-            None => None,
-        }
+        limit_over::<P, ArenaSlot<P, T>, S>(&self.slots)
     }
 
     // Makes room for `min` entries, by a growth to exactly that where there is less.
@@ -43,14 +39,7 @@ impl<P: Ptr, T: Drop, S: NonZeroInxGenericStack<ArenaSlot<P, T>>> Arena<P, T, S>
         ensures memory { IsErrOf result ReallocationError.AllocError → IsTrue S.takes_memory }
         ensures err { OnErr result (self.new ≡ self.old) }
     {
-        if min <= self.room_for() {
-            return Ok(());
-        }
-        let limit = self.limit();
-        if limit.is_some() && limit.unwrap_or(0) < min {
-            return Err(ReallocationError::BeyondMaxCapacity);
-        }
-        self.slots.reallocate_min_capacity(min)
+        reallocate_over::<P, ArenaSlot<P, T>, S>(&mut self.slots, min)
     }
 
     // Makes room for one entry more, as a stack does: at first for 4, then for the double, and never past the

@@ -1,0 +1,28 @@
+use Rattle.std.proofs.Common.{leb, sym, subst, ap, ◌∙◌}
+use Rattle.triple_arena.specs.ArenaRoom.{room_of}
+use Rattle.triple_arena.specs.Layout.{IsChain}
+use Rattle.triple_arena.proofs.FreeSlotsLemmas.{chain_again, cut}
+use Rattle.triple_arena.proofs.arena.Arena.remove_free_end_slots.Goals as goal
+
+pub turn_over-self-inside-requires : goal.turn_over-self-inside-requires
+turn_over-self-inside-requires g c =
+    let turned = c.turn_over-turned.ensures in
+    subst (IsChain _ _) (sym (chain_again _ _ _ _ (λ i. leb i c.last_index-last.result) turned.entries turned.chain)) turned.chain
+
+pub invariant_of-self : goal.invariant_of-self
+invariant_of-self g c =
+    let first = c.turn_over-turned.ensures in
+    let second = c.turn_over-self-inside.ensures in
+    let room = second.room ∙ first.room in
+    (cut _ c.self.invariant c.self.view_is c.last_index-last.ensures (second.entries ∙ first.entries)
+    (chain_again _ _ _ _ (λ i. leb i c.last_index-last.result) first.entries first.chain) second.chain c.keep_first.ensures.slots
+    (ap (room_of g.P.Inx.PtrInx.greatest) (c.keep_first.ensures.room ∙ room))).sound
+
+pub returns-clause-value : goal.returns-clause-value
+returns-clause-value g c =
+    let first = c.turn_over-turned.ensures in
+    let second = c.turn_over-self-inside.ensures in
+    let room = second.room ∙ first.room in
+    (cut _ c.self.invariant c.self.view_is c.last_index-last.ensures (second.entries ∙ first.entries)
+    (chain_again _ _ _ _ (λ i. leb i c.last_index-last.result) first.entries first.chain) second.chain c.keep_first.ensures.slots
+    (ap (room_of g.P.Inx.PtrInx.greatest) (c.keep_first.ensures.room ∙ room))).content

@@ -1,0 +1,47 @@
+//! The greatest capacity, where it can be set.
+ghost use Rattle.std.specs.Prelude.{◌≡◌, ◌≤◌, length, min};
+ghost use Rattle.triple_arena_ptr.specs.Index.{max_index_of};
+ghost use Rattle.triple_arena_stack.specs.Room.{limited};
+ghost use Rattle.triple_arena.specs.Content.{last_index as last_index_of, in_room, with_limit as with_limit_of};
+
+use crate::ArenaSlot;
+use crate::advancer::LivePointers;
+use crate::arena::Arena;
+use triple_arena_ptr::{MaxCapacityReductionError, Ptr};
+use triple_arena_stack::{NonZeroInxLimitedStack, SetMaxCapacity};
+
+impl<P: Ptr, T: Drop, S: NonZeroInxLimitedStack<ArenaSlot<P, T>>> SetMaxCapacity
+    for Arena<P, T, S> {
+    ghost least_limit = { last_index_of };
+
+    ghost with_limit = { with_limit_of P.Inx.greatest };
+
+    /// Sets the greatest capacity to `max`, as far as the pointers' indexes reach, or changes nothing where the last
+    /// live index is past `max`. Where there are slots past `max`, the free slots at the end are popped first.
+    fn set_max_capacity(&mut self, max: usize) -> Result<(), MaxCapacityReductionError> {
+        if max < self.last_index() {
+            return Err(MaxCapacityReductionError);
+        }
+        if max < self.slot_count() {
+            self.remove_free_end_slots();
+        }
+        self.limit_to(max);
+        Ok(())
+    }
+}
+
+impl<P: Ptr, T: Drop, S: NonZeroInxLimitedStack<ArenaSlot<P, T>>> Arena<P, T, S> {
+    // Sets the limit, which no slot is past.
+    fn limit_to(&mut self, max: usize)
+        requires { length self.old.slots ≤ max }
+        ensures { self.new ≡ in_room self.old
+            (limited self.old.room (min max (max_index_of P.Inx.greatest))) }
+    {
+        // The slots are within the capacity, and so are their indexes.
+        let _ = self.room_for();
+        match self.slots.set_max_capacity(max) {
+            Ok(()) => {}
+            Err(_) => unreachable!(),
+        }
+    }
+}

@@ -1,0 +1,252 @@
+//! The calls of a `DirectArena` that every arena has.
+ghost use Rattle.std.specs.Prelude.{◌≡◌, false, [], Some, None, IsSome, refl};
+ghost use Rattle.triple_arena.specs.ArenaRoom.{room_of};
+ghost use Rattle.triple_arena.specs.DirectContent.{as_content, no_counter, entry_at as entry_of_index, live_count as live_count_of, live_entries as live_entries_of, empty as empty_of, reallocated as reallocated_of, removed as removed_of, invalidated as invalidated_of, cleared as cleared_of, compressed as compressed_of, with_value as with_value_of, IsWellFormed as IsFormed};
+ghost use Rattle.triple_arena.specs.DirectLaws.{entry-with_value, live-with_value, room-with_value};
+ghost use Rattle.triple_arena.specs.LiveEntries.{entry-listed, live_entries-increase, live_entries-length};
+
+use crate::advancer::{LivePointers, PtrAdvancer};
+use crate::arena::{ValueAtMut, compact, equal_uncounted, max_index};
+use crate::direct::DirectArena;
+use crate::slot::ValueIfMut;
+use crate::{ArenaTrait, CompactArenaTrait, DirectSlot};
+use triple_arena_ptr::{
+    InvalidationOption, InvalidationResult, Ptr, PtrGen, PtrInx, ReallocationError,
+};
+use triple_arena_stack::{NonZeroInxArray, NonZeroInxGenericStack};
+
+impl<P: Ptr, T: Drop, S: NonZeroInxGenericStack<DirectSlot<P, T>> + Drop> ArenaTrait<P, T>
+    for DirectArena<P, T, S> {
+    type Alloc = S::Alloc;
+
+    type PtrAdvancer = PtrAdvancer<P>;
+
+    ghost entry_at = { entry_of_index };
+
+    ghost live_count = { live_count_of };
+
+    ghost counter = { no_counter };
+
+    ghost has_counter = { false };
+
+    ghost room = { λ d. d.room };
+
+    ghost takes_memory = { S.takes_memory };
+
+    ghost room_at = { λ n. room_of P.Inx.greatest (S.room_at n) };
+
+    ghost empty = { empty_of };
+
+    ghost reallocated = { reallocated_of };
+
+    ghost with_value = { with_value_of };
+
+    ghost is_formed = { λ d. IsFormed d };
+
+    ghost removed = { removed_of };
+
+    ghost invalidated = { invalidated_of P.Gen.last };
+
+    ghost cleared = { cleared_of };
+
+    ghost compressed = { compressed_of P.Gen.last };
+
+    ghost walk = { λ a. a };
+
+    ghost counter_if_has_counter = { λ d. refl };
+
+    ghost none_at_zero = { λ d. refl };
+
+    ghost advances = { λ before d given after step. step };
+
+    ghost live_entries = { live_entries_of };
+
+    ghost entry_with_value = { entry-with_value };
+
+    ghost live_with_value = { live-with_value };
+
+    ghost counter_with_value = { λ d i t. refl };
+
+    ghost room_with_value = { room-with_value };
+
+    ghost entry_listed = { λ d. entry-listed (as_content d) };
+
+    ghost live_entries_increase = { λ d. live_entries-increase (as_content d) };
+
+    ghost live_entries_counted = { λ d. live_entries-length (as_content d) };
+
+    fn new(alloc: S::Alloc) -> Self {
+        DirectArena::over(S::new(alloc))
+    }
+
+    fn with_min_capacity(alloc: S::Alloc, min: usize) -> Result<Self, ReallocationError> {
+        if min > max_index::<P>() {
+            drop(Self::new(alloc));
+            return Err(ReallocationError::BeyondMaxCapacity);
+        }
+        let slots = S::with_min_capacity(alloc, min)?;
+        Ok(DirectArena::over(slots))
+    }
+
+    fn capacity(&self) -> usize {
+        self.room_for()
+    }
+
+    fn max_capacity(&self) -> Option<usize> {
+        self.limit()
+    }
+
+    fn reallocate_min_capacity(&mut self, min: usize) -> Result<(), ReallocationError> {
+        let made = self.reallocate(min);
+        // The arena is well-formed after.
+        let _ = self.live();
+        made
+    }
+
+    fn len(&self) -> usize {
+        // The slots are within the capacity.
+        let _ = self.room_for();
+        self.live()
+    }
+
+    fn singular_generation(&self) -> Option<P::Gen> {
+        None
+    }
+
+    fn get(&self, p: P) -> Option<&T> {
+        // The number of slots is a `usize`, so no index past that is live.
+        let _ = self.slots.len();
+        match p.inx().try_into_usize() {
+            Some(i) => match self.slots.get(i) {
+                Some(slot) => slot.get(p.generation()),
+                None => None,
+            },
+            None => None,
+        }
+    }
+
+    fn get_inx(&self, i: P::Inx) -> Option<(P::Gen, &T)> {
+        // The number of slots is a `usize`, so no index past that is live.
+        let _ = self.slots.len();
+        match i.try_into_usize() {
+            Some(i) => match self.slots.get(i) {
+                Some(slot) => slot.entry(),
+                None => None,
+            },
+            None => None,
+        }
+    }
+
+    fn get_inx_mut_unwrap(&mut self, i: P::Inx) -> &mut T {
+        // The number of slots is a `usize`, so no index past that is live.
+        let _ = self.slots.len();
+        match i.try_into_usize() {
+            Some(i) => self.value_at_mut(i),
+            None => unreachable!(),
+        }
+    }
+
+    fn get_mut(&mut self, p: P) -> Option<&mut T> {
+        // The number of slots is a `usize`, so no index past that is live.
+        let _ = self.slots.len();
+        match p.inx().try_into_usize() {
+            Some(i) => match self.slots.get_mut(i) {
+                Some(slot) => slot.get_mut(p.generation()),
+                None => None,
+            },
+            None => None,
+        }
+    }
+
+    fn find_first_inx_ptr(&self) -> Option<P> {
+        self.first_of_all()
+    }
+
+    fn find_last_inx_ptr(&self) -> Option<P> {
+        self.last_of_all()
+    }
+
+    fn advancer(&self) -> PtrAdvancer<P> {
+        PtrAdvancer::over(0, self.slot_count(), false)
+    }
+
+    fn advancer_inx(&self, i: P::Inx, rev: bool) -> PtrAdvancer<P> {
+        PtrAdvancer::from_index(i, self.slot_count(), rev)
+    }
+
+    fn remove(&mut self, p: P) -> InvalidationResult<T> {
+        // The arena is well-formed before.
+        let _ = self.live();
+        match self.live_index(p) {
+            Some(i) => InvalidationResult::Success(self.remove_at(i).1),
+            None => InvalidationResult::InvalidPtr,
+        }
+    }
+
+    fn remove_inx(&mut self, i: P::Inx) -> InvalidationResult<(P::Gen, T)> {
+        // The arena is well-formed before.
+        let _ = self.live();
+        match self.live_inx(i) {
+            Some(i) => InvalidationResult::Success(self.remove_at(i)),
+            None => InvalidationResult::InvalidPtr,
+        }
+    }
+
+    fn invalidate(&mut self, p: P) -> InvalidationResult<P> {
+        // The arena is well-formed before.
+        let _ = self.live();
+        match self.live_index(p) {
+            Some(i) => {
+                let (generation, wrapped) = p.generation().generational_inc();
+                let renewed = self.renew_at(i, generation);
+                equal_uncounted(renewed, p);
+                // And after.
+                let _ = self.live();
+                if wrapped {
+                    InvalidationResult::GenerationOverflow(renewed)
+                } else {
+                    InvalidationResult::Success(renewed)
+                }
+            }
+            None => InvalidationResult::InvalidPtr,
+        }
+    }
+
+    fn clear(&mut self) -> InvalidationOption<()> {
+        self.empty();
+        // The arena is well-formed after.
+        let _ = self.live();
+        InvalidationOption::Success(())
+    }
+
+    fn compress_with<F: FnMut(P, T, P) -> T>(
+        &mut self,
+        reset: bool,
+        map: F,
+    ) -> InvalidationOption<()> {
+        // The slots are within the capacity, and so are their indexes.
+        let _ = self.room_for();
+        let wrapped = compact(&mut self.slots, None, reset, map);
+        // The arena is well-formed after.
+        let _ = self.live();
+        if wrapped {
+            InvalidationOption::GenerationOverflow(())
+        } else {
+            InvalidationOption::Success(())
+        }
+    }
+}
+
+impl<P: Ptr, T: Drop, S: NonZeroInxGenericStack<DirectSlot<P, T>> + Drop> CompactArenaTrait<P, T>
+    for DirectArena<P, T, S> {}
+
+impl<P: Ptr, T: Drop, const LIMIT: usize> Default
+    for DirectArena<P, T, NonZeroInxArray<DirectSlot<P, T>, LIMIT>> {
+    ghost is_default = { λ d. (d.slots ≡ [])
+        × (d.room ≡ room_of P.Inx.greatest (record { reserved = LIMIT; limit = Some LIMIT })) };
+
+    /// An empty direct arena in an array.
+    fn default() -> Self {
+        DirectArena::new(())
+    }
+}

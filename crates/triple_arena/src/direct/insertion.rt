@@ -1,0 +1,80 @@
+//! Insertion at a pointer of the caller's choice.
+ghost use Rattle.std.specs.Prelude.{◌≡◌, ◌<◌, ◌≤◌, ◌↔◌, IsOk, IfOk, IsErrOf, IsSome};
+ghost use Rattle.std.specs.Int.NonZero.{non_zero_usize_get};
+ghost use Rattle.triple_arena.specs.Changes.{IsDirectlyInserted};
+ghost use Rattle.triple_arena.specs.DirectContent.{entry_at, live_count, no_counter, room_for, reaching, inserted, IsPlace, IsWellFormed};
+ghost use Rattle.triple_arena_stack.specs.Room.{capacity};
+
+use crate::DirectSlot;
+use crate::direct::DirectArena;
+use std::num::NonZeroUsize;
+use triple_arena_ptr::{DirectInsertionError, Ptr, PtrInx};
+use triple_arena_stack::NonZeroInxGenericStack;
+
+// Appends free slots, so that there are `n` at least.
+fn reach<P: Ptr, T: Drop, S: NonZeroInxGenericStack<DirectSlot<P, T>>>(slots: &mut S, n: usize)
+    requires { n ≤ capacity (S.room slots.old) }
+    ensures slots { S.items slots.new ≡ reaching n (S.items slots.old) }
+    ensures room { S.room slots.new ≡ S.room slots.old }
+{
+    while slots.len() < n {
+        match slots.push_within_capacity(DirectSlot::free()) {
+            Ok(_) => {}
+            Err(_) => unreachable!(),
+        }
+    }
+}
+
+impl<P: Ptr, T: Drop, S: NonZeroInxGenericStack<DirectSlot<P, T>>> DirectArena<P, T, S> {
+    // The index of `p`, where an entry may be stored there.
+    pub(crate) fn place(&self, p: P) -> Result<NonZeroUsize, DirectInsertionError>
+        ensures index { IfOk result (λ i. non_zero_usize_get i ≡ P.index p) }
+        ensures place { IfOk result (λ i. IsPlace self.now (non_zero_usize_get i)) }
+        ensures variant { IsOk result ↔ IsPlace self.now (P.index p) }
+        ensures not_within { IsErrOf result DirectInsertionError.NotWithinCapacity
+            ↔ (room_for self.now < P.index p) }
+        ensures existing { IsErrOf result DirectInsertionError.ExistingElementAtIndex
+            ↔ IsSome (entry_at self.now (P.index p)) }
+    {
+        let capacity = self.room_for();
+        match p.inx().try_into_usize() {
+            Some(i) if i.get() <= capacity => {
+                if self.is_live(i) {
+                    Err(DirectInsertionError::ExistingElementAtIndex)
+                } else {
+                    Ok(i)
+                }
+            }
+            _ => Err(DirectInsertionError::NotWithinCapacity),
+        }
+    }
+
+    // Stores `t` with this generation at `i`, which is a place for it.
+    fn put_at(&mut self, i: NonZeroUsize, generation: P::Gen, t: T)
+        requires { IsPlace self.old (non_zero_usize_get i) }
+        ensures value { self.new ≡ inserted self.old (non_zero_usize_get i)
+            (P.Gen.number generation) t }
+    {
+        // The capacity is a `usize`, so one live entry more can be counted.
+        let _ = self.room_for();
+        reach(&mut self.slots, i.get());
+        *self.slots.item_mut(i) = DirectSlot::used(generation, t);
+        self.len += 1;
+    }
+
+    // Stores `t` as `put_at` does, and says what is at each index then.
+    pub(crate) fn insert_at(&mut self, i: NonZeroUsize, generation: P::Gen, t: T)
+        requires { IsPlace self.old (non_zero_usize_get i) }
+        ensures value { self.new ≡ inserted self.old (non_zero_usize_get i)
+            (P.Gen.number generation) t }
+        ensures inserted { IsDirectlyInserted entry_at live_count no_counter (λ d. d.room)
+            (non_zero_usize_get i) (P.Gen.number generation) t self.old self.new }
+        ensures formed { IsWellFormed self.new }
+    {
+        // The arena is well-formed before.
+        let _ = self.live();
+        self.put_at(i, generation, t);
+        // And after.
+        let _ = self.live();
+    }
+}

@@ -1,0 +1,61 @@
+//! The greatest capacity, where it can be set, and the free slots at the end.
+ghost use Rattle.std.specs.Prelude.{◌≡◌, ◌≤◌, length, min};
+ghost use Rattle.triple_arena_ptr.specs.Index.{max_index_of};
+ghost use Rattle.triple_arena_stack.specs.Room.{limited};
+ghost use Rattle.triple_arena.specs.DirectContent.{last_index as last_index_of, without_free_end, in_room, with_limit as with_limit_of, IsWellFormed};
+
+use crate::DirectSlot;
+use crate::advancer::LivePointers;
+use crate::arena::keep_first;
+use crate::direct::DirectArena;
+use triple_arena_ptr::{MaxCapacityReductionError, Ptr};
+use triple_arena_stack::{NonZeroInxGenericStack, NonZeroInxLimitedStack, SetMaxCapacity};
+
+impl<P: Ptr, T: Drop, S: NonZeroInxGenericStack<DirectSlot<P, T>>> DirectArena<P, T, S> {
+    /// Pops the free slots at the end, until the last slot is live or none is left.
+    pub fn pop_free_end_slots(&mut self)
+        ensures value { self.new ≡ without_free_end self.old }
+        ensures formed { IsWellFormed self.new }
+    {
+        let last = self.last_index();
+        keep_first(&mut self.slots, last);
+        // The arena is well-formed after.
+        let _ = self.live();
+    }
+}
+
+impl<P: Ptr, T: Drop, S: NonZeroInxLimitedStack<DirectSlot<P, T>>> SetMaxCapacity
+    for DirectArena<P, T, S> {
+    ghost least_limit = { last_index_of };
+
+    ghost with_limit = { with_limit_of P.Inx.greatest };
+
+    /// Sets the greatest capacity to `max`, as far as the pointers' indexes reach, or changes nothing where the last
+    /// live index is past `max`. Where there are slots past `max`, the free slots at the end are popped first.
+    fn set_max_capacity(&mut self, max: usize) -> Result<(), MaxCapacityReductionError> {
+        if max < self.last_index() {
+            return Err(MaxCapacityReductionError);
+        }
+        if max < self.slot_count() {
+            self.pop_free_end_slots();
+        }
+        self.limit_to(max);
+        Ok(())
+    }
+}
+
+impl<P: Ptr, T: Drop, S: NonZeroInxLimitedStack<DirectSlot<P, T>>> DirectArena<P, T, S> {
+    // Sets the limit, which no slot is past.
+    fn limit_to(&mut self, max: usize)
+        requires { length self.old.slots ≤ max }
+        ensures { self.new ≡ in_room self.old
+            (limited self.old.room (min max (max_index_of P.Inx.greatest))) }
+    {
+        // The slots are within the capacity, and so are their indexes.
+        let _ = self.room_for();
+        match self.slots.set_max_capacity(max) {
+            Ok(()) => {}
+            Err(_) => unreachable!(),
+        }
+    }
+}

@@ -1,0 +1,95 @@
+//! What is found in a direct arena, and the lend of a value.
+ghost use Rattle.std.specs.Prelude.{◌≡◌, ◌↔◌, ℕ, length, IsSome, IfSome, IsTrue, Option, Some};
+ghost use Rattle.std.specs.Int.NonZero.{non_zero_usize_get};
+ghost use Rattle.std.specs.Option.{option_map};
+ghost use Rattle.triple_arena.specs.Entries.{pointer_at as pointer_of_entry};
+ghost use Rattle.triple_arena.specs.DirectContent.{get, entry_at, with_value};
+
+use crate::DirectSlot;
+use crate::arena::{ValueAtMut, pointer_at};
+use crate::direct::DirectArena;
+use crate::slot::ValueMut;
+use std::num::NonZeroUsize;
+use triple_arena_ptr::{Ptr, PtrInx};
+use triple_arena_stack::NonZeroInxGenericStack;
+
+impl<P: Ptr, T: Drop, S: NonZeroInxGenericStack<DirectSlot<P, T>>> DirectArena<P, T, S> {
+    // The index of the entry that `p` points to, if it is live.
+    pub(crate) fn live_index(&self, p: P) -> Option<NonZeroUsize>
+        ensures live { IsSome result ↔ IsSome (get self.now (P.index p) (P.generation p)) }
+        ensures value { IfSome result (λ i. non_zero_usize_get i ≡ P.index p) }
+    {
+        // The number of slots is a `usize`, so no index past that is live.
+        let _ = self.slots.len();
+        match p.inx().try_into_usize() {
+            Some(i) => match self.slots.get(i) {
+                Some(slot) => {
+                    if slot.get(p.generation()).is_some() {
+                        Some(i)
+                    } else {
+                        None
+                    }
+                }
+                None => None,
+            },
+            None => None,
+        }
+    }
+
+    // Whether the index is live.
+    pub(crate) fn is_live(&self, i: NonZeroUsize) -> bool
+        ensures { IsTrue result ↔ IsSome (entry_at self.now (non_zero_usize_get i)) }
+    {
+        match self.slots.get(i) {
+            Some(slot) => slot.is_used(),
+            None => false,
+        }
+    }
+
+    // The number of this index, if it is live.
+    pub(crate) fn live_inx(&self, inx: P::Inx) -> Option<NonZeroUsize>
+        ensures live { IsSome result ↔ IsSome (entry_at self.now (P.Inx.number inx)) }
+        ensures value { IfSome result (λ i. non_zero_usize_get i ≡ P.Inx.number inx) }
+    {
+        // The number of slots is a `usize`, so no index past that is live.
+        let _ = self.slots.len();
+        match inx.try_into_usize() {
+            Some(i) if self.is_live(i) => Some(i),
+            _ => None,
+        }
+    }
+
+    // The number of slots.
+    pub(crate) fn slot_count(&self) -> usize
+        ensures { result ≡ length self.now.slots }
+    {
+        self.slots.len()
+    }
+
+    // The pointer to the entry at `i`, if it is live.
+    pub(crate) fn pointer(&self, i: NonZeroUsize) -> Option<P>
+        ensures { option_map (λ p. (P.index p, P.generation p)) result
+            ≡ pointer_of_entry (entry_at self.now) (non_zero_usize_get i) }
+    {
+        match self.slots.get(i) {
+            Some(slot) => match slot.entry() {
+                Some(entry) => Some(pointer_at(i, entry.0)),
+                None => None,
+            },
+            None => None,
+        }
+    }
+}
+
+impl<P: Ptr, T: Drop, S: NonZeroInxGenericStack<DirectSlot<P, T>>> ValueAtMut<T>
+    for DirectArena<P, T, S> {
+    ghost has_value = { λ d i. IsSome (entry_at d i) };
+
+    ghost value_at = { λ d i. option_map (λ e. e.1) (entry_at d i) };
+
+    ghost with_value_at = { with_value };
+
+    fn value_at_mut(&mut self, i: NonZeroUsize) -> &mut T {
+        self.slots.item_mut(i).value_mut()
+    }
+}

@@ -1,0 +1,43 @@
+//! The room of a direct arena, and its growth.
+ghost use Rattle.std.specs.Prelude.{◌≡◌, ◌≤◌, ◌↔◌, IsOk, OnOk, OnErr, IsErrOf, IsTrue};
+ghost use Rattle.triple_arena_ptr.specs.Index.{max_index_of};
+ghost use Rattle.triple_arena_stack.specs.Room.{IsBeyond};
+ghost use Rattle.triple_arena.specs.DirectContent.{room_for, reallocated, IsWellFormed};
+
+use crate::DirectSlot;
+use crate::direct::DirectArena;
+use crate::stack_room::{capacity_over, limit_over, reallocate_over};
+use triple_arena_ptr::{Ptr, ReallocationError};
+use triple_arena_stack::NonZeroInxGenericStack;
+
+impl<P: Ptr, T: Drop, S: NonZeroInxGenericStack<DirectSlot<P, T>>> DirectArena<P, T, S> {
+    // The greatest index that fits with no growth.
+    pub(crate) fn room_for(&self) -> usize
+        ensures value { result ≡ room_for self.now }
+        ensures bounded { result ≤ max_index_of P.Inx.greatest }
+        ensures formed { IsWellFormed self.now }
+    {
+        capacity_over::<P, DirectSlot<P, T>, S>(&self.slots)
+    }
+
+    // The greatest capacity, if there is one.
+    pub(crate) fn limit(&self) -> Option<usize>
+        ensures { result ≡ self.now.room.limit }
+    {
+        limit_over::<P, DirectSlot<P, T>, S>(&self.slots)
+    }
+
+    // Makes room for `min` entries, by a growth to exactly that where there is less.
+    pub(crate) fn reallocate(&mut self, min: usize) -> Result<(), ReallocationError>
+        ensures exact { OnOk result (self.new ≡ reallocated self.old min) }
+        ensures fits { OnOk result (min ≤ room_for self.new) }
+        ensures succeeds { min ≤ room_for self.old → IsOk result }
+        ensures kept { min ≤ room_for self.old → self.new ≡ self.old }
+        ensures beyond { IsErrOf result ReallocationError.BeyondMaxCapacity
+            ↔ IsBeyond self.old.room.limit min }
+        ensures memory { IsErrOf result ReallocationError.AllocError → IsTrue S.takes_memory }
+        ensures err { OnErr result (self.new ≡ self.old) }
+    {
+        reallocate_over::<P, DirectSlot<P, T>, S>(&mut self.slots, min)
+    }
+}

@@ -1,0 +1,47 @@
+//! Insertion at a pointer of the caller's choice.
+ghost use Rattle.std.specs.Prelude.{◌≡◌, ◌<◌, ◌↔◌, IsOk, IfOk, IsErrOf, IsSome};
+ghost use Rattle.std.specs.Borrow.{sem, RestsIfErr};
+ghost use Rattle.triple_arena.specs.DirectEntry.{entry_arena, entry_lender, entry_index, entry_generation};
+ghost use Rattle.triple_arena.specs.DirectContent.{DirectContent, entry_at, room_for, IsPlace};
+
+use crate::{ArenaDirectInsertEntry, DirectSlot};
+use triple_arena_ptr::{DirectInsertionError, Ptr};
+use triple_arena_stack::NonZeroInxGenericStack;
+
+/// What a place for an entry at a pointer of the caller's choice does.
+pub trait ArenaDirectInsertEntryTrait<P: Ptr, T> {
+    // The index is within the capacity, and no entry is there, as when the place was made.
+    ghost has_place: { Self → Type 0 };
+
+    /// Stores `t` under the pointer. It takes no memory and cannot fail.
+    fn insert(self, t: T)
+        requires { has_place self };
+}
+
+/// The arenas to which the caller gives whole pointers.
+pub trait ArenaDirectInsertTrait<P: Ptr, T: Drop> {
+    /// The stack that the arena keeps its slots in.
+    type Stack: NonZeroInxGenericStack<DirectSlot<P, T>>;
+
+    // The arena as its entries see it.
+    ghost content: { Self → DirectContent T };
+
+    /// A place for an entry under `p`. It answers `NotWithinCapacity` where the index is past the capacity, and else
+    /// `ExistingElementAtIndex` where an entry is there, of whatever generation. An error leaves the arena as it is.
+    fn direct_insert_within_capacity(
+        &mut self,
+        p: P,
+    ) -> Result<ArenaDirectInsertEntry<'_, P, T, Self::Stack>, DirectInsertionError>
+        ensures variant { IsOk result ↔ IsPlace (content self.old) (P.index p) }
+        ensures same_reference { IfOk result (λ e. entry_lender e ≡ self.entry.ghost_name) }
+        ensures arena { IfOk result (λ e. entry_arena e ≡ content self.old) }
+        ensures index { IfOk result (λ e. entry_index e ≡ P.index p) }
+        ensures generation { IfOk result
+            (λ e. entry_generation P.Gen.number e ≡ P.generation p) }
+        ensures not_within { IsErrOf result DirectInsertionError.NotWithinCapacity
+            ↔ (room_for (content self.old) < P.index p) }
+        ensures existing { IsErrOf result DirectInsertionError.ExistingElementAtIndex
+            ↔ IsSome (entry_at (content self.old) (P.index p)) }
+        ensures* err { sem 𝓛 (RestsIfErr Self.row self.entry entry_lender result
+            (λ a. a ≡ self.old)) };
+}

@@ -1,0 +1,58 @@
+//! The room of an arena, in that of its stack.
+ghost use Rattle.std.specs.Prelude.{◌≡◌, ◌^◌, ◌<◌, ◌≤◌, ◌↔◌, None, IsOk, OnOk, OnErr, IsErrOf, IsTrue, length};
+ghost use Rattle.triple_arena_ptr.specs.Index.{max_index_of};
+ghost use Rattle.triple_arena_stack.specs.Room.{capacity, IsBeyond};
+ghost use Rattle.triple_arena.specs.ArenaRoom.{room_of, room_with};
+
+use crate::arena::max_index;
+use triple_arena_ptr::{Ptr, ReallocationError};
+use triple_arena_stack::NonZeroInxGenericStack;
+
+// How many entries fit with no growth.
+pub(crate) fn capacity_over<P: Ptr, X: Drop, S: NonZeroInxGenericStack<X>>(slots: &S) -> usize
+    ensures value { result ≡ capacity (room_of P.Inx.greatest (S.room slots.now)) }
+    ensures can_double { (room_of P.Inx.greatest (S.room slots.now)).limit ≡ None
+        → result < 2 ^ 63 }
+    ensures bounded { result ≤ max_index_of P.Inx.greatest }
+{
+    slots.capacity().min(max_index::<P>())
+}
+
+// The greatest capacity, if there is one.
+pub(crate) fn limit_over<P: Ptr, X: Drop, S: NonZeroInxGenericStack<X>>(slots: &S) -> Option<usize>
+    ensures { result ≡ (room_of P.Inx.greatest (S.room slots.now)).limit }
+{
+    let max = max_index::<P>();
+    match slots.max_capacity() {
+        Some(limit) => Some(limit.min(max)),
+        None if max < usize::MAX => Some(max),
+        None => None,
+    }
+}
+
+// Makes room for `min` entries, by a growth to exactly that where there is less.
+pub(crate) fn reallocate_over<P: Ptr, X: Drop, S: NonZeroInxGenericStack<X>>(
+    slots: &mut S,
+    min: usize,
+) -> Result<(), ReallocationError>
+    ensures items { S.items slots.new ≡ S.items slots.old }
+    ensures room { OnOk result (room_of P.Inx.greatest (S.room slots.new)
+        ≡ room_with min (room_of P.Inx.greatest (S.room slots.old))) }
+    ensures fits { OnOk result (min ≤ capacity (room_of P.Inx.greatest (S.room slots.new))) }
+    ensures succeeds { min ≤ capacity (room_of P.Inx.greatest (S.room slots.old)) → IsOk result }
+    ensures kept { min ≤ capacity (room_of P.Inx.greatest (S.room slots.old))
+        → slots.new ≡ slots.old }
+    ensures beyond { IsErrOf result ReallocationError.BeyondMaxCapacity
+        ↔ IsBeyond (room_of P.Inx.greatest (S.room slots.old)).limit min }
+    ensures memory { IsErrOf result ReallocationError.AllocError → IsTrue S.takes_memory }
+    ensures err { OnErr result (slots.new ≡ slots.old) }
+{
+    if min <= capacity_over::<P, X, S>(slots) {
+        return Ok(());
+    }
+    let limit = limit_over::<P, X, S>(slots);
+    if limit.is_some() && limit.unwrap_or(0) < min {
+        return Err(ReallocationError::BeyondMaxCapacity);
+    }
+    slots.reallocate_min_capacity(min)
+}
