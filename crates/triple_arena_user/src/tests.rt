@@ -6,4 +6,5 @@ mod entries;
 mod refusals;
 mod renumbered;
 mod sequences;
+mod texts;
 mod writes;
