@@ -1,1 +1,2 @@
+mod FollowLemmas
 pub mod SceneLemmas

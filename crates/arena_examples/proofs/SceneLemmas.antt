@@ -6,7 +6,7 @@ use Rattle.std.proofs.lemmas.List.{get_or-set_other}
 use Rattle.triple_arena.specs.Changes.{IsInserted, IsRemoved}
 use Rattle.triple_arena.specs.Content.{Content, entry_at, live_count, some_counter, IsWellFormed}
 use Rattle.triple_arena.specs.Entries.{value_if}
-use Rattle.triple_arena_user.specs.Renumbered.{IsNamedBy}
+use Rattle.arena_examples.specs.Follow.{IsNamedBy}
 use Rattle.arena_examples.specs.Scene.{State, found, node_at, IsScene}
 
 the : {X : Type 0} {x y : X} → Some x ≡ Some y → x ≡ y
@@ -34,12 +34,15 @@ taken [] behind (suc n) e = absurd (omega (arith, e))
 taken (x ∷ front) behind zero e = absurd (omega (arith, e))
 taken (x ∷ front) behind (suc n) e = ap (λ l. x ∷ l) (taken front behind n (omega (arith, e)))
 
--- a removal that found a value leaves what stands at other indexes
-pub removed_elsewhere : {A M : Type 0} (value : A → M) (c d : Content M) (last : Option ℕ) (i : ℕ) (answer : Option A) {v : Option M}
-    → option_map value answer ≡ v → IsSome v
-    → OnSome answer (IsRemoved entry_at live_count some_counter (λ c. c.room) last i c d) → (j : ℕ) → j ≢ i → entry_at d j ≡ entry_at c j
-removed_elsewhere value c d last i None e some removed j other = absurd (true≢false (sym (rw (sym e) at some)))
-removed_elsewhere value c d last i (Some a) e some removed j other = removed.entries j ∙ rw (ne_eqb j i other) refl
+-- a removal leaves what stands at other indexes
+pub elsewhere : {M : Type 0} {c d : Content M} {last : Option ℕ} {i : ℕ} → IsRemoved entry_at live_count some_counter (λ c. c.room) last i c d
+    → (j : ℕ) → j ≢ i → entry_at d j ≡ entry_at c j
+elsewhere {i} removed j other = removed.entries j ∙ rw (ne_eqb j i other) refl
+
+-- what holds where there is an answer, and there is one with a value
+pub on_answer : {A M X : Type 0} (value : A → M) {v : Option M} (answer : Option A) → option_map value answer ≡ v → IsSome v → OnSome answer X → X
+on_answer value None e some on = absurd (true≢false (sym (rw (sym e) at some)))
+on_answer value (Some a) e some on = on
 
 module _ {P M N : Type 0} (index generation : P → ℕ) (node : M → N) where
   pub record Added (old new : State P M) : Type 0 where

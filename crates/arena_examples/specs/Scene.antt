@@ -1,13 +1,21 @@
 -- What is seen of a scene.
-use Rattle.std.specs.Prelude.{◌≡◌, ◌≢◌, ℕ, List, Option, Some, None, IsSome, slice_index_or}
+use Rattle.std.specs.Prelude.{◌≡◌, ◌≢◌, ℕ, List, length, Option, Some, None, IsSome, slice_index_or}
 use Rattle.std.specs.Option.{option_map}
-use Rattle.triple_arena.specs.Content.{Content, entry_at, IsWellFormed}
+use Rattle.triple_arena.specs.Content.{Content, entry_at, live_count, IsWellFormed}
 use Rattle.triple_arena.specs.Entries.{value_if}
 
 -- the nodes, and the pointer of each that was added, or none where it was removed
 pub record State (P M : Type 0) : Type 0 where
   pub nodes : Content M
   pub pointers : List (Option P)
+
+-- how many numbers were given: 0, 1, and so on
+abbrev pub given : {P M : Type 0} → State P M → ℕ
+given s = length s.pointers
+
+-- each index of the pointers has a node
+abbrev pub IsFull : {P M : Type 0} → State P M → Type 0
+IsFull s = s.nodes.room.limit ≡ Some (live_count s.nodes)
 
 module _ {P M N : Type 0} (index generation : P → ℕ) (node : M → N) where
   -- the node that a pointer finds, if there is one

@@ -1,14 +1,14 @@
 //! Nodes in an arena, named by numbers that a compression does not change.
-ghost use Rattle.std.specs.Prelude.{◌≡◌, ◌≢◌, ℕ, Some, None, IfOk, OnErr, option_copied};
+ghost use Rattle.std.specs.Prelude.{◌≡◌, ◌≢◌, ℕ, ◌+◌, Some, None, IfOk, OnOk, OnErr, IsErrOf, option_copied};
 ghost use Rattle.triple_arena.specs.Compression.{IsCompact};
 ghost use Rattle.triple_arena.specs.LiveEntries.{live_entries};
-ghost use Rattle.arena_examples.specs.Scene.{node_at as node_of};
+ghost use Rattle.arena_examples.specs.Scene.{node_at as node_of, given, IsFull};
 
+use crate::follow::{Moved, compress_with_table};
 use std::alloc::Global;
 use std::marker::Model;
 use std::mem;
 use triple_arena::{ArenaInsertTrait, ArenaTrait, HeapArena, Ptr, ReallocationError};
-use triple_arena_user::{Moved, compress_with_table};
 
 /// A node, with the number of its parent.
 #[derive(Drop)]
@@ -31,7 +31,7 @@ pub struct Scene<P: Ptr> {
 impl<P: Ptr> Model for Scene<P> {
     ghost use Rattle.arena_examples.specs.Scene.{IsScene, State};
     ghost use Rattle.arena_examples.specs.declared.scene.Node.{Node};
-    ghost use Rattle.triple_arena_user.specs.declared.renumbered.Moved.{Moved};
+    ghost use Rattle.arena_examples.specs.declared.follow.Moved.{Moved};
 
     ghost Value = { State P (Moved P Node P.Inx P.Gen) };
 
@@ -43,7 +43,8 @@ impl<P: Ptr> Model for Scene<P> {
 impl<P: Ptr> Scene<P> {
     /// A scene without a node. It takes no memory.
     pub fn new(alloc: Global) -> Self
-        ensures { (number : ℕ) → node_of P.index P.generation (λ m. m.value) result number ≡ None }
+        ensures empty { (number : ℕ) → node_of P.index P.generation (λ m. m.value) result number ≡ None }
+        ensures given { given result ≡ 0 }
     {
         Scene {
             nodes: HeapArena::<P, Moved<P, Node>, Global>::new(alloc),
@@ -51,15 +52,24 @@ impl<P: Ptr> Scene<P> {
         }
     }
 
-    /// Takes in a node, and gives the number that names it from now on.
+    /// Takes in a node, and gives the number that names it from now on: as many as were given before, so that none is
+    /// given twice.
+    ///
+    /// It answers `AllocError` where the memory was refused, and `BeyondMaxCapacity` only where there are as many nodes as
+    /// pointers have indexes. Then nothing changes.
     pub fn add(&mut self, node: Node) -> Result<usize, ReallocationError>
+        ensures number { IfOk result (λ number. number ≡ given self.old) }
+        ensures vacant { IfOk result (λ number.
+            node_of P.index P.generation (λ m. m.value) self.old number ≡ None) }
+        ensures given { OnOk result (given self.new ≡ given self.old + 1) }
         ensures added { IfOk result (λ number.
             node_of P.index P.generation (λ m. m.value) self.new number ≡ Some node) }
         ensures others { IfOk result (λ number. (k : ℕ) → k ≢ number
             → node_of P.index P.generation (λ m. m.value) self.new k
             ≡ node_of P.index P.generation (λ m. m.value) self.old k) }
-        ensures err { OnErr result ((k : ℕ) → node_of P.index P.generation (λ m. m.value) self.new k
-            ≡ node_of P.index P.generation (λ m. m.value) self.old k) }
+        ensures fits { OnOk result (IsFull self.old → ⊥) }
+        ensures beyond { IsErrOf result ReallocationError.BeyondMaxCapacity → IsFull self.old }
+        ensures err { OnErr result (self.new ≡ self.old) }
     {
         if self.pointers.reserve(1).is_err() {
             return Err(ReallocationError::AllocError);
@@ -87,6 +97,7 @@ impl<P: Ptr> Scene<P> {
     /// Takes out the node with this number, which names none from now on.
     pub fn remove(&mut self, number: usize) -> Option<Node>
         ensures node { result ≡ node_of P.index P.generation (λ m. m.value) self.old number }
+        ensures given { given self.new ≡ given self.old }
         ensures gone { node_of P.index P.generation (λ m. m.value) self.new number ≡ None }
         ensures others { (k : ℕ) → k ≢ number
             → node_of P.index P.generation (λ m. m.value) self.new k
@@ -103,6 +114,7 @@ impl<P: Ptr> Scene<P> {
         ensures same { (number : ℕ)
             → node_of P.index P.generation (λ m. m.value) self.new number
             ≡ node_of P.index P.generation (λ m. m.value) self.old number }
+        ensures given { given self.new ≡ given self.old }
         ensures compact { IsCompact (live_entries self.new.nodes) }
     {
         compress_with_table(&mut self.nodes, &mut self.pointers);

@@ -46,11 +46,13 @@ impl Scheduler {
         }
     }
 
-    /// Takes in a task, and gives the pointer that finds it from now on.
+    /// Takes in a task, and gives the pointer that finds it from now on, which found none before.
     ///
     /// It answers `AllocError` where the memory was refused, and `BeyondMaxCapacity` where no pointer is left to give.
     /// Then nothing changes.
     pub fn spawn(&mut self, task: Task) -> Result<P0, ReallocationError>
+        ensures vacant { IfOk result (λ p. task_at self.old (⟦<P0 as Ptr>⟧.index p)
+            (⟦<P0 as Ptr>⟧.generation p) ≡ None) }
         ensures stored { IfOk result (λ p. task_at self.new (⟦<P0 as Ptr>⟧.index p)
             (⟦<P0 as Ptr>⟧.generation p) ≡ Some task) }
         ensures others { IfOk result (λ p. (index generation : ℕ)

@@ -1,8 +1,10 @@
 //! The examples at work.
 
-use crate::{Node, Scene, Scheduler, Task};
+use crate::{Moved, Node, Scene, Scheduler, Task, compress_and_follow, compress_with_table};
+use std::alloc::Global;
+use std::process::Abort;
 use std::test::Fail;
-use triple_arena::{P0, Ptr};
+use triple_arena::{ArenaInsertTrait, ArenaTrait, HeapArena, P0, Ptr, PtrInx};
 
 #[test]
 fn a_cancelled_task_is_not_found_again(rt: HostRuntime) -> Result<(), Fail> {
@@ -73,4 +75,62 @@ fn a_compression_changes_no_name(rt: HostRuntime) -> Result<(), Fail> {
         );
     }
     Ok(())
+}
+
+type InMoved = HeapArena<P0, Moved<P0, u64>, Global>;
+
+fn keep(rt: &impl Abort, arena: &mut InMoved, value: u64) -> P0 {
+    let was = P0::invalid();
+    match arena.insert(Moved { was, value }) {
+        Ok(p) => p,
+        Err(_) => panic!(rt; "an insertion is refused"),
+    }
+}
+
+// The pointer has this index and this generation.
+fn is_at(rt: &impl Abort, p: P0, index: usize, generation: u64) {
+    assert_eq!(rt; p.inx().get(), index);
+    assert_eq!(rt; p.generation().get(), generation);
+}
+
+#[test]
+fn a_pointer_follows_its_entry(rt: HostRuntime) {
+    let mut arena = InMoved::new(rt.alloc());
+    let first = keep(&rt, &mut arena, 10);
+    keep(&rt, &mut arena, 11);
+    let third = keep(&rt, &mut arena, 12);
+    assert!(rt; !arena.remove(first).is_invalid());
+    match compress_and_follow(&mut arena, third) {
+        Some(p) => {
+            is_at(&rt, p, 2, 4);
+            match arena.get(p) {
+                Some(moved) => assert_eq!(rt; moved.value, 12),
+                None => panic!(rt; "the new pointer finds nothing"),
+            }
+        }
+        None => panic!(rt; "the pointer is not followed"),
+    }
+    assert_eq!(rt; compress_and_follow(&mut arena, third), None);
+    assert_eq!(rt; compress_and_follow(&mut arena, first), None);
+}
+
+#[test]
+fn a_table_follows(rt: HostRuntime) {
+    let mut arena = InMoved::new(rt.alloc());
+    let first = keep(&rt, &mut arena, 10);
+    let second = keep(&rt, &mut arena, 11);
+    let third = keep(&rt, &mut arena, 12);
+    assert!(rt; !arena.remove(second).is_invalid());
+    let mut table = [Some(third), None, Some(second), Some(first)];
+    compress_with_table(&mut arena, &mut table);
+    let [follows_third, none, follows_second, follows_first] = table;
+    assert_eq!(rt; none, None);
+    assert_eq!(rt; follows_second, None);
+    match (follows_first, follows_third) {
+        (Some(p), Some(q)) => {
+            is_at(&rt, p, 1, 4);
+            is_at(&rt, q, 2, 4);
+        }
+        _ => panic!(rt; "the pointers are not followed"),
+    }
 }

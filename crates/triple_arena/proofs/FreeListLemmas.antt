@@ -1,6 +1,6 @@
 -- The list of free slots, and how each change of the slots keeps it.
 use Rattle.std.proofs.Common.{◌≡◌, ◌≢◌, ℕ, zero, suc, ◌+◌, ◌-◌, ◌<◌, ◌≤◌, List, [], ◌∷◌, ◌++◌, map, length, get_or, set, take, Option, Some, None, is_some, count_by, cond, slice_get, refl, sym, ap, subst, ◌∙◌, arith, length-set}
-use Rattle.std.proofs.lemmas.List.{map-set, map_push, length-map, length_push, get_or-map, get_or-set_same, get_or-set_other}
+use Rattle.std.proofs.lemmas.List.{map-set, map_push, length-map, length_push, get_or-map, get_or-set_same, get_or-set_other, set-get_or}
 use Rattle.std.proofs.lemmas.List.Sums.{sum_by-set, sum_by_push}
 use Rattle.std.proofs.lemmas.Option.{slice_get_within, slice_get-get_or, get_or_from_slice_get}
 use Rattle.triple_arena.specs.Slot.{Slot, free, used, entry_of, link_of, value_of, with_slot_value, with_slot_generation}
@@ -388,6 +388,24 @@ module _ {T : Type 0} where
         content = rw (is, ← seen, left.free_is, map-set entry_of es (i - 1) (used e.0 w));
         entry_is = refl;
       }
+
+  -- a slot is written as it was
+  pub unchanged : {es es' : List (Slot T)} {len : ℕ} (i : ℕ) {head : Option ℕ} {room room' : Room} {g : ℕ} {old : Slot T} {c : Content T}
+      → IsSound es len head room → content_of es room g head ≡ c → slice_get es (i - 1) ≡ Some old → es' ≡ set es (i - 1) old → room' ≡ room
+      → Becomes es' len head room' g c
+  unchanged {es} i {old} sound seen was change kept =
+      let same : set es (i - 1) old ≡ es = ap (set es (i - 1)) (sym (get_or_from_slice_get es (i - 1) _ old was)) ∙ set-get_or es (i - 1) old in
+      rw (change, same, kept) record { sound = sound; content = seen }
+
+  -- a slot has another value, if it is live
+  pub written : {es es' : List (Slot T)} {len : ℕ} (i : ℕ) {head : Option ℕ} {room room' : Room} {g : ℕ} (w : T) {old : Slot T} {c : Content T}
+      → IsSound es len head room → content_of es room g head ≡ c → 0 < i → slice_get es (i - 1) ≡ Some old → es' ≡ set es (i - 1) (with_slot_value old w)
+      → room' ≡ room → Becomes es' len head room' g (with_value c i w)
+  written i w {old = free next} sound seen positive was change kept =
+      rw (entry_of_slot _ _ seen positive was) (unchanged i sound seen was change kept)
+  written i w {old = used h t} sound seen positive was change kept =
+      let live = rewritten i w sound seen (entry_of_slot _ _ seen positive was) was change kept in
+      record { sound = live.sound; content = live.content }
 
   -- a live slot has another generation
   pub renewed : {es es' : List (Slot T)} {len : ℕ} (i : ℕ) {head : Option ℕ} {room room' : Room} {g : ℕ} (h : ℕ) {old new : Slot T} {e : ℕ × T} {c : Content T}

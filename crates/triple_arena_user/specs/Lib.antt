@@ -1,3 +1,2 @@
 pub mod Node
 pub mod Nodes
-pub mod Renumbered

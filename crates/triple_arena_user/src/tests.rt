@@ -1,10 +1,7 @@
-//! What no clause of the arena says: whole pointers at concrete types, that memory is had where there is some, and
-//! what each call answers where it is refused.
-mod advancers;
-mod compress;
+//! What no clause of the arena says: that memory is had where there is some, and what a place for an entry leaves where
+//! it is not used; and the callers at concrete arenas.
 mod entries;
 mod refusals;
-mod renumbered;
-mod sequences;
 mod texts;
+mod values;
 mod writes;

@@ -12,6 +12,7 @@ use crate::arena::compression::{compact, renewal};
 use crate::arena::reading::ValueAtMut;
 use crate::arena::removal::equal_uncounted;
 use crate::arena::{Arena, max_index};
+use crate::slot::ValueIfMut;
 use crate::{ArenaSlot, ArenaTrait, CompactArenaTrait};
 use triple_arena_ptr::{
     InvalidationOption, InvalidationResult, Ptr, PtrGen, PtrInx, ReallocationError,
@@ -150,8 +151,13 @@ impl<P: Ptr, T: Drop, S: NonZeroInxGenericStack<ArenaSlot<P, T>> + Drop> ArenaTr
     }
 
     fn get_mut(&mut self, p: P) -> Option<&mut T> {
-        match self.live_index(p) {
-            Some(i) => Some(self.value_at_mut(i)),
+        // The number of slots is a `usize`, so no index past that is live.
+        let _ = self.slots.len();
+        match p.inx().try_into_usize() {
+            Some(i) => match self.slots.get_mut(i) {
+                Some(slot) => slot.get_mut(p.generation()),
+                None => None,
+            },
             None => None,
         }
     }

@@ -2,12 +2,14 @@
 ghost use Rattle.std.specs.Prelude.{◌≡◌, ℕ, ◌↔◌, false, IsTrue, IsSome};
 ghost use Rattle.triple_arena.specs.Entries.{value_if, with_value_at};
 
-use super::sequences::{InArray, InBoxed, InLimited, InVec, insert};
 use narrow_ptr::N3;
+use std::alloc::Global;
 use std::process::Abort;
 use std::test::Fail;
-use triple_arena::{ArenaInsertTrait, ArenaTrait};
-use triple_arena_ptr::{P0, P1, P5, Ptr};
+use triple_arena::{
+    ArenaInsertTrait, ArenaTrait, ArrayArena, BoxedArena, HeapArena, LimitedArena, P0, P1, P5, Ptr,
+    ReallocationError,
+};
 
 // Changes the value at an index, and says whether there was one.
 fn write_at<P: Ptr, A: ArenaTrait<P, u64>>(arena: &mut A, i: P::Inx, value: u64) -> bool
@@ -45,9 +47,12 @@ fn write<P: Ptr, A: ArenaTrait<P, u64>>(arena: &mut A, p: P, value: u64) -> bool
 }
 
 // A write by the index and one by the pointer reach one value, until it is removed.
-fn writes<P: Ptr, A: ArenaInsertTrait<P, u64>>(rt: &impl Abort, arena: &mut A) {
-    let first = insert(rt, arena, 10);
-    let second = insert(rt, arena, 20);
+fn writes<P: Ptr, A: ArenaInsertTrait<P, u64>>(
+    rt: &impl Abort,
+    arena: &mut A,
+) -> Result<(), ReallocationError> {
+    let first = arena.insert(10)?;
+    let second = arena.insert(20)?;
     assert!(rt; write_at(arena, first.inx(), 11));
     assert!(rt; write(arena, second, 21));
     assert_eq!(rt; arena.get(first), Some(&11));
@@ -56,13 +61,30 @@ fn writes<P: Ptr, A: ArenaInsertTrait<P, u64>>(rt: &impl Abort, arena: &mut A) {
     assert!(rt; !write_at(arena, first.inx(), 12));
     assert!(rt; !write(arena, first, 12));
     assert_eq!(rt; arena.get(second), Some(&21));
+    Ok(())
 }
 
 #[test]
-fn writes_by_index_and_pointer(rt: HostRuntime) -> Result<(), Fail> {
-    writes(&rt, &mut InVec::<P0>::new(rt.alloc()));
-    writes(&rt, &mut InLimited::<N3>::new(rt.alloc()));
-    writes(&rt, &mut InBoxed::<P1>::with_min_capacity(rt.alloc(), 2)?);
-    writes(&rt, &mut InArray::<P5, 2>::new(()));
+fn writes_in_a_vector(rt: HostRuntime) -> Result<(), Fail> {
+    writes(&rt, &mut HeapArena::<P0, u64, Global>::new(rt.alloc()))?;
+    Ok(())
+}
+
+#[test]
+fn writes_in_a_limited_vector(rt: HostRuntime) -> Result<(), Fail> {
+    writes(&rt, &mut LimitedArena::<N3, u64, Global>::new(rt.alloc()))?;
+    Ok(())
+}
+
+#[test]
+fn writes_in_a_boxed_slice(rt: HostRuntime) -> Result<(), Fail> {
+    let mut boxed = BoxedArena::<P1, u64, Global>::with_min_capacity(rt.alloc(), 2)?;
+    writes(&rt, &mut boxed)?;
+    Ok(())
+}
+
+#[test]
+fn writes_in_an_array(rt: HostRuntime) -> Result<(), Fail> {
+    writes(&rt, &mut ArrayArena::<P5, u64, 2>::new(()))?;
     Ok(())
 }

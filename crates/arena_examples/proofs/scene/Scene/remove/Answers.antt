@@ -1,6 +1,6 @@
 use Rattle.std.proofs.Common.{◌≡◌, ◌∙◌, Some, None, get_or, slice_set, ap, rules}
 use Rattle.arena_examples.specs.Scene.{node_at}
-use Rattle.arena_examples.proofs.SceneLemmas.{forgotten, removed_elsewhere}
+use Rattle.arena_examples.proofs.SceneLemmas.{forgotten, elsewhere, on_answer}
 use Rattle.arena_examples.proofs.scene.Scene.remove.Goals as goal
 
 pub invariant_of-self-in_err-moved : goal.invariant_of-self-in_err-moved
@@ -10,7 +10,7 @@ invariant_of-self-in_err-moved g c =
     (forgotten g.P.Ptr.index g.P.Ptr.generation (λ m. m.value)
     {new = record { nodes = c.remove.new.self; pointers = slice_set c.self.inside.pointers.items c.args.number c.replace.new.dest }} {p = c.in_ok-p.p} was
     (ap (slice_set c.self.inside.pointers.items c.args.number) c.replace.ensures.after)
-    (removed_elsewhere _ _ _ _ _ _ c.remove.ensures.value (c.self.invariant.live c.args.number c.in_ok-p.p was) c.remove.ensures.removed)
+    (elsewhere (on_answer _ _ c.remove.ensures.value (c.self.invariant.live c.args.number c.in_ok-p.p was) c.remove.ensures.removed))
     c.remove.ensures.formed c.self.invariant).scene
 
 pub invariant_of-self-2 : goal.invariant_of-self-2
@@ -20,7 +20,7 @@ invariant_of-self-2 g c =
     (forgotten g.P.Ptr.index g.P.Ptr.generation (λ m. m.value)
     {new = record { nodes = c.remove.new.self; pointers = slice_set c.self.inside.pointers.items c.args.number c.replace.new.dest }} {p = c.in_ok-p.p} was
     (ap (slice_set c.self.inside.pointers.items c.args.number) c.replace.ensures.after)
-    (removed_elsewhere _ _ _ _ _ _ c.remove.ensures.value (c.self.invariant.live c.args.number c.in_ok-p.p was) c.remove.ensures.removed)
+    (elsewhere (on_answer _ _ c.remove.ensures.value (c.self.invariant.live c.args.number c.in_ok-p.p was) c.remove.ensures.removed))
     c.remove.ensures.formed c.self.invariant).scene
 
 pub returns-clause-others : goal.returns-clause-others
@@ -30,6 +30,6 @@ returns-clause-others g c k other =
     (forgotten g.P.Ptr.index g.P.Ptr.generation (λ m. m.value)
     {new = record { nodes = c.remove.new.self; pointers = slice_set c.self.inside.pointers.items c.args.number c.replace.new.dest }} {p = c.in_ok-p.p} was
     (ap (slice_set c.self.inside.pointers.items c.args.number) c.replace.ensures.after)
-    (removed_elsewhere _ _ _ _ _ _ c.remove.ensures.value (c.self.invariant.live c.args.number c.in_ok-p.p was) c.remove.ensures.removed)
+    (elsewhere (on_answer _ _ c.remove.ensures.value (c.self.invariant.live c.args.number c.in_ok-p.p was) c.remove.ensures.removed))
     c.remove.ensures.formed c.self.invariant).others k other
     ∙ ap (λ s. node_at g.P.Ptr.index g.P.Ptr.generation (λ m. m.value) s k) c.self.view_is

@@ -1,0 +1,4 @@
+//! Whole pointers at concrete types, and what each call answers where it is refused.
+mod advancers;
+mod compress;
+mod sequences;

@@ -1,7 +1,0 @@
-use Rattle.triple_arena_user.proofs.RenumberedLemmas.{same_pointer, named_by}
-use Rattle.triple_arena_user.proofs.renumbered.find_moved.Goals as goal
-
-pub returns-then-eq : goal.returns-then-eq
-returns-then-eq g c =
-    named_by (λ m. m.was) _ _ _ _ c.get.ensures c.in-Some-get.is
-    (same_pointer g.P.Ptr.index g.P.Ptr.generation g.met.P.Ptr.determined _ _ _ _ c.eq.ensures (g.met.P.Ptr.equal _ _) c.if-eq.true)

@@ -1,0 +1,39 @@
+//! The callers of a compression, at a concrete arena.
+use crate::{map_values, raise, sum_up};
+use std::alloc::Global;
+use std::num::NonZeroUsize;
+use std::process::Abort;
+use std::test::Fail;
+use triple_arena::{ArenaInsertTrait, ArenaTrait, HeapArena, InvalidationOption, P0};
+
+type InVec = HeapArena<P0, u64, Global>;
+
+// The values at the first two indexes, and none at the third.
+fn holds(rt: &impl Abort, arena: &InVec, first: u64, second: u64) {
+    for (place, wanted) in [Some(first), Some(second), None].iter().enumerate() {
+        let found = match arena.get_inx(NonZeroUsize::MIN.saturating_add(place)) {
+            Some((_, value)) => Some(*value),
+            None => None,
+        };
+        assert_eq!(rt; found, *wanted);
+    }
+}
+
+#[test]
+fn changes_the_values(rt: HostRuntime) -> Result<(), Fail> {
+    let mut arena = InVec::new(rt.alloc());
+    let first = arena.insert(10)?;
+    arena.insert(11)?;
+    arena.insert(u64::MAX)?;
+    assert!(rt; !arena.remove(first).is_invalid());
+    assert_eq!(rt; raise(&mut arena, 5), InvalidationOption::Success(()));
+    holds(&rt, &arena, 16, 4);
+    assert_eq!(rt;
+        map_values(&mut arena, |value| value ^ 1),
+        InvalidationOption::Success(())
+    );
+    holds(&rt, &arena, 17, 5);
+    assert_eq!(rt; sum_up(&mut arena), InvalidationOption::Success(()));
+    holds(&rt, &arena, 17, 22);
+    Ok(())
+}
