@@ -2,5 +2,6 @@
 //! it is not used; and the callers at concrete arenas.
 mod entries;
 mod refusals;
+mod texts;
 mod values;
 mod writes;

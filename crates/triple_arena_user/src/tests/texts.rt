@@ -1,0 +1,98 @@
+//! The texts of arenas, and with them the calls on free slots, limits and recasting at concrete arenas.
+use std::alloc::Global;
+use std::fmt::Debug;
+use std::process::Abort;
+use std::test::Fail;
+use triple_arena::{
+    ArenaInsertTrait, ArenaTrait, ArrayArena, LimitedArena, MaxCapacityReductionError, P0, P5, Ptr,
+    Recast, Recaster, SetMaxCapacity,
+};
+
+// The arena's text, by `{:?}`.
+fn reads<A: Debug>(rt: &(impl Abort + Alloc), arena: &A, text: &str) {
+    match format!(in rt.alloc(); "{arena:?}") {
+        Ok(shown) => assert_eq!(rt; shown.as_str(), text),
+        Err(_) => panic!(rt; "no memory for a text"),
+    }
+}
+
+#[test]
+fn texts_of_arenas(rt: HostRuntime) -> Result<(), Fail> {
+    let mut arena = ArrayArena::<P0, &str, 2>::new(());
+    reads(&rt, &arena, "{}");
+    let first = arena.insert("test")?;
+    arena.insert("hello")?;
+    reads(&rt, &arena, "{P0[1](2): \"test\", P0[2](2): \"hello\"}");
+    assert!(rt; arena.remove(first).is_success());
+    reads(&rt, &arena, "{P0[2](2): \"hello\"}");
+    let mut uncounted = ArrayArena::<P5, u64, 2>::new(());
+    uncounted.insert(10)?;
+    reads(&rt, &uncounted, "{P5[1]: 10}");
+    Ok(())
+}
+
+#[test]
+fn free_slots_and_limits(rt: HostRuntime) -> Result<(), Fail> {
+    let mut arena = LimitedArena::<P0, u64, Global>::new(rt.alloc());
+    assert!(rt; arena.freelist_root().is_none());
+    let a = arena.insert(1)?;
+    let b = arena.insert(2)?;
+    arena.insert(3)?;
+    let d = arena.insert(4)?;
+    let e = arena.insert(5)?;
+    let f = arena.insert(6)?;
+
+    // The free list is 5, 1, 2, 4, and then rises.
+    assert!(rt; arena.remove(d).is_success());
+    assert!(rt; arena.remove(b).is_success());
+    assert!(rt; arena.remove(a).is_success());
+    assert!(rt; arena.remove(e).is_success());
+    arena.canonicalize_freelist();
+    assert_eq!(rt; arena.insert(7)?.inx().get(), 1);
+    assert_eq!(rt; arena.insert(8)?.inx().get(), 2);
+    assert_eq!(rt; arena.freelist_root(), Some(d.inx()));
+
+    // No limit below the last live index is accepted, and a refusal leaves the free slots.
+    assert_eq!(rt; arena.set_max_capacity(5), Err(MaxCapacityReductionError));
+    assert!(rt; arena.remove(f).is_success());
+    assert_eq!(rt; arena.set_max_capacity(2), Err(MaxCapacityReductionError));
+    assert_eq!(rt; arena.freelist_root(), Some(d.inx()));
+    assert_eq!(rt; arena.set_max_capacity(3), Ok(()));
+    assert_eq!(rt; arena.max_capacity(), Some(3));
+    assert_eq!(rt; arena.capacity(), 3);
+    assert!(rt; arena.freelist_root().is_none());
+    Ok(())
+}
+
+#[test]
+fn pointers_in_an_arena_are_recast(rt: HostRuntime) -> Result<(), Fail> {
+    let mut arena = ArrayArena::<P0, (u64, Option<P0>), 4>::new(());
+    let zero = arena.insert((0, None))?;
+    let first = arena.insert((42, Some(zero)))?;
+    arena.insert((1337, Some(first)))?;
+    arena.insert((1, Some(zero)))?;
+
+    // The renaming has the first two pointers alone, and leads each to the other.
+    let mut renaming = ArrayArena::<P0, P0, 2>::new(());
+    renaming.insert(first)?;
+    renaming.insert(zero)?;
+    assert_eq!(rt; arena.recast(&renaming), Ok(()));
+    reads(
+        &rt,
+        &arena,
+        "{P0[1](2): (0, None), P0[2](2): (42, Some(P0[2](2))), P0[3](2): (1337, Some(P0[1](2))), P0[4](2): (1, Some(P0[2](2)))}",
+    );
+
+    // With one of them gone, the recast stops at the value that holds it: what is before is renamed, the rest not.
+    assert!(rt; renaming.remove(zero).is_success());
+    assert_eq!(rt; arena.recast(&renaming), Err(zero));
+    reads(
+        &rt,
+        &arena,
+        "{P0[1](2): (0, None), P0[2](2): (42, Some(P0[1](2))), P0[3](2): (1337, Some(P0[1](2))), P0[4](2): (1, Some(P0[2](2)))}",
+    );
+    let mut gone = zero;
+    assert_eq!(rt; renaming.recast_item(&mut gone), Err(zero));
+    assert_eq!(rt; gone, zero);
+    Ok(())
+}
