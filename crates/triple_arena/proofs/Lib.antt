@@ -4,3 +4,4 @@ pub mod ExchangeLemmas
 pub mod WalkLemmas
 mod CompressionLemmas
 pub mod RecastingLemmas
+pub mod StepsLemmas

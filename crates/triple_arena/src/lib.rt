@@ -22,6 +22,7 @@ mod arena;
 mod arena_trait;
 mod disjointable_trait;
 mod insert_trait;
+pub mod laws;
 mod slot;
 
 /// The advancers of the arenas.
