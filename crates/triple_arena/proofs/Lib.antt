@@ -6,3 +6,4 @@ mod CompressionLemmas
 pub mod DirectLemmas
 mod DirectCompressionLemmas
 pub mod RecastingLemmas
+pub mod StepsLemmas

@@ -25,6 +25,7 @@ mod direct_insert_trait;
 mod direct_slot;
 mod disjointable_trait;
 mod insert_trait;
+pub mod laws;
 mod slot;
 mod stack_room;
 

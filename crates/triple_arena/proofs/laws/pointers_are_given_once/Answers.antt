@@ -1,0 +1,10 @@
+use Rattle.triple_arena.proofs.StepsLemmas.{given_once}
+use Rattle.triple_arena.specs.Steps.{Happens}
+use Rattle.std.proofs.Common.{subst}
+use Rattle.triple_arena.proofs.laws.pointers_are_given_once.Goals as goal
+
+pub returns : goal.returns
+returns g c greatest made history counts new happens =
+    given_once _ _ _ _ _ g.met.A.ArenaTrait.none_at_zero greatest new history
+    (subst (λ last. Happens g.A.ArenaTrait.entry_at g.A.ArenaTrait.live_count g.A.ArenaTrait.counter g.A.ArenaTrait.room
+    g.A.ArenaTrait.live_entries last made history) counts happens)

@@ -1,0 +1,83 @@
+-- What is done with an arena step by step, and the pointers that the steps give.
+use Rattle.std.specs.Prelude.{◌≡◌, ◌⊎◌, ℕ, Bool, true, false, IsTrue, List, [], ◌∷◌, ◌++◌, map, Option, Some, IsSome}
+use Rattle.std.specs.Option.{option_map}
+use Rattle.triple_arena_ptr.specs.Generation.{next_generation}
+use Rattle.triple_arena_stack.specs.Room.{Room}
+use Rattle.triple_arena.specs.Entries.{counter_wraps, generation_at, with_value_at}
+use Rattle.triple_arena.specs.Changes.{IsInserted, IsRemoved, IsInvalidated, IsCleared, IsCompressed, IsExchanged, IsReallocated}
+
+-- an entry stored at an index under a generation; the entry at an index removed; its pointer ended, and one with this
+-- generation given in its place; all entries removed; the entries moved to the first indexes; the values at two indexes
+-- exchanged; a value written; room made; and whatever leaves the entry at each index, and the counter
+pub data Step (T : Type 0) : Type 0 where
+  insert : ℕ → ℕ → T → Step T
+  remove : ℕ → Step T
+  invalidate : ℕ → ℕ → Step T
+  clear : Step T
+  compress : Step T
+  exchange : ℕ → ℕ → Step T
+  write : ℕ → T → Step T
+  reallocate : ℕ → Step T
+  keep : Step T
+
+-- it steps the counter
+abbrev pub counts : {T : Type 0} → Step T → Bool
+counts (remove i) = true
+counts (invalidate i g) = true
+counts clear = true
+counts compress = true
+counts _ = false
+
+-- p is one of these
+abbrev pub IsOneOf : List (ℕ × ℕ) → ℕ × ℕ → Type 0
+IsOneOf [] p = ⊥
+IsOneOf (q ∷ l) p = (q ≡ p) ⊎ IsOneOf l p
+
+-- none of these comes twice
+abbrev pub AreNew : List (ℕ × ℕ) → Type 0
+AreNew [] = Unit {0}
+AreNew (p ∷ l) = (IsOneOf l p → ⊥) × AreNew l
+
+module _ {S T : Type 0} (entry_of : S → ℕ → Option (ℕ × T)) where
+  -- a pointer with this index and generation finds an entry
+  abbrev pub Finds : S → ℕ × ℕ → Type 0
+  Finds s p = generation_at (entry_of s) p.0 ≡ Some p.1
+
+module _ {S T : Type 0} (listed : S → List (ℕ × (ℕ × T))) where
+  -- the pointers that a step gives, by what it leaves
+  abbrev pub given : Step T → S → List (ℕ × ℕ)
+  given (insert i g t) new = (i, g) ∷ []
+  given (invalidate i g) new = (i, g) ∷ []
+  given compress new = map (λ entry. (entry.0, entry.1.0)) (listed new)
+  given _ new = []
+
+  -- those of a history, which has each step with what it left, in the order of the steps
+  abbrev pub all_given : List (Step T × S) → List (ℕ × ℕ)
+  all_given [] = []
+  all_given (moment ∷ later) = given moment.0 moment.1 ++ all_given later
+
+-- what a history leaves
+abbrev pub reached : {S T : Type 0} → S → List (Step T × S) → S
+reached s [] = s
+reached s (moment ∷ later) = reached moment.1 later
+
+module _ {S T : Type 0} (entry_of : S → ℕ → Option (ℕ × T)) (live_of : S → ℕ) (counter_of : S → Option ℕ) (room_of : S → Room) (listed : S → List (ℕ × (ℕ × T))) (last : Option ℕ) where
+  -- what the calls say of a step
+  abbrev pub Takes : Step T → S → S → Type 0
+  Takes (insert i g t) old new = IsInserted entry_of live_of counter_of i i g t old new
+  Takes (remove i) old new = IsRemoved entry_of live_of counter_of room_of last i old new
+  Takes (invalidate i g) old new =
+      IsSome (entry_of old i) × (option_map (next_generation last) (counter_of old) ≡ Some g) × IsInvalidated entry_of live_of counter_of room_of last i g old new
+  Takes clear old new = IsCleared entry_of live_of counter_of room_of last old new
+  Takes compress old new = IsCompressed entry_of live_of counter_of room_of last listed false old new
+  Takes (exchange i j) old new =
+      IsSome (entry_of old i) × IsSome (entry_of old j) × IsExchanged entry_of live_of counter_of room_of i j old new
+  Takes (write i t) old new = ((j : ℕ) → entry_of new j ≡ with_value_at (entry_of old) i t j) × (counter_of new ≡ counter_of old)
+  Takes (reallocate n) old new = IsReallocated entry_of live_of counter_of room_of n old new
+  Takes keep old new = ((j : ℕ) → generation_at (entry_of new) j ≡ generation_at (entry_of old) j) × (counter_of new ≡ counter_of old)
+
+  -- the steps of a history are taken one after another, and none starts the generations again
+  abbrev pub Happens : S → List (Step T × S) → Type 0
+  Happens s [] = Unit {0}
+  Happens s (moment ∷ later) =
+      Takes moment.0 s moment.1 × (IsTrue (counts moment.0) → counter_wraps last (counter_of s) ≡ false) × Happens moment.1 later

@@ -1,0 +1,37 @@
+//! What follows from the calls of an arena for those who keep pointers. `specs/Steps.antt` has the words: a history is a list
+//! of steps, each with the arena that it left, and what a step changes is what the calls' contracts say.
+//!
+//! Where generations are counted (`P::Gen` is no `()`), and as long as no step of the counter starts them again and nobody
+//! sets, resets or copies it, a pointer never comes to mean another entry.
+ghost use Rattle.std.specs.Prelude.{◌≡◌, ◌⊎◌, ℕ, List, Some, true};
+ghost use Rattle.triple_arena.specs.Changes.{IsNew};
+ghost use Rattle.triple_arena.specs.Steps.{Step, AreNew, Finds, Happens, IsOneOf, all_given, reached};
+
+use crate::ArenaTrait;
+use triple_arena_ptr::Ptr;
+
+/// From a new arena on, each pointer that an insertion, an `invalidate` or a compression gives is one that no earlier step gave.
+pub fn pointers_are_given_once<P: Ptr, T: Drop, A: ArenaTrait<P, T>>()
+    ensures { (greatest : ℕ) (made : A) (history : List (Step T × A)) → P.Gen.last ≡ Some greatest
+        → IsNew A.entry_at A.live_count A.counter A.room (Some 2) (A.room made) made
+        → Happens A.entry_at A.live_count A.counter A.room A.live_entries P.Gen.last made history
+        → AreNew (all_given A.live_entries history) }
+{}
+
+/// A pointer that was given and has ended finds nothing ever after.
+pub fn ended_pointers_find_nothing<P: Ptr, T: Drop, A: ArenaTrait<P, T>>()
+    ensures { (greatest : ℕ) (made : A) (before after : List (Step T × A)) (p : ℕ × ℕ) → P.Gen.last ≡ Some greatest
+        → IsNew A.entry_at A.live_count A.counter A.room (Some 2) (A.room made) made
+        → Happens A.entry_at A.live_count A.counter A.room A.live_entries P.Gen.last made before
+        → Happens A.entry_at A.live_count A.counter A.room A.live_entries P.Gen.last (reached made before) after
+        → IsOneOf (all_given A.live_entries before) p → (Finds A.entry_at (reached made before) p → ⊥)
+        → Finds A.entry_at (reached (reached made before) after) p → ⊥ }
+{}
+
+/// A pointer with the first generation, as `invalid()` has, never finds anything.
+pub fn invalid_pointers_find_nothing<P: Ptr, T: Drop, A: ArenaTrait<P, T>>()
+    ensures { (greatest : ℕ) (made : A) (history : List (Step T × A)) (index : ℕ) → P.Gen.last ≡ Some greatest
+        → IsNew A.entry_at A.live_count A.counter A.room (Some 2) (A.room made) made
+        → Happens A.entry_at A.live_count A.counter A.room A.live_entries P.Gen.last made history
+        → Finds A.entry_at (reached made history) (index, 1) → ⊥ }
+{}
