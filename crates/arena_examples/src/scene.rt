@@ -1,6 +1,7 @@
 //! Nodes in an arena, named by numbers that a compression does not change.
-ghost use Rattle.std.specs.Prelude.{◌≡◌, ◌≢◌, ℕ, ◌+◌, Some, None, IfOk, OnOk, OnErr, IsErrOf, option_copied};
+ghost use Rattle.std.specs.Prelude.{◌≡◌, ◌≢◌, ℕ, ◌+◌, Some, None, IsSome, IfOk, OnOk, OnErr, IsErrOf, option_copied};
 ghost use Rattle.triple_arena.specs.Compression.{IsCompact};
+ghost use Rattle.triple_arena.specs.Content.{live_count};
 ghost use Rattle.triple_arena.specs.LiveEntries.{live_entries};
 ghost use Rattle.arena_examples.specs.Scene.{node_at as node_of, given, IsFull};
 
@@ -45,6 +46,8 @@ impl<P: Ptr> Scene<P> {
     pub fn new(alloc: Global) -> Self
         ensures empty { (number : ℕ) → node_of P.index P.generation (λ m. m.value) result number ≡ None }
         ensures given { given result ≡ 0 }
+        ensures live { live_count result.nodes ≡ 0 }
+        ensures room { result.nodes.room.reserved ≡ 0 }
     {
         Scene {
             nodes: HeapArena::<P, Moved<P, Node>, Global>::new(alloc),
@@ -62,6 +65,7 @@ impl<P: Ptr> Scene<P> {
         ensures vacant { IfOk result (λ number.
             node_of P.index P.generation (λ m. m.value) self.old number ≡ None) }
         ensures given { OnOk result (given self.new ≡ given self.old + 1) }
+        ensures live { OnOk result (live_count self.new.nodes ≡ live_count self.old.nodes + 1) }
         ensures added { IfOk result (λ number.
             node_of P.index P.generation (λ m. m.value) self.new number ≡ Some node) }
         ensures others { IfOk result (λ number. (k : ℕ) → k ≢ number
@@ -98,6 +102,8 @@ impl<P: Ptr> Scene<P> {
     pub fn remove(&mut self, number: usize) -> Option<Node>
         ensures node { result ≡ node_of P.index P.generation (λ m. m.value) self.old number }
         ensures given { given self.new ≡ given self.old }
+        ensures live { IsSome result → live_count self.new.nodes + 1 ≡ live_count self.old.nodes }
+        ensures room { self.new.nodes.room ≡ self.old.nodes.room }
         ensures gone { node_of P.index P.generation (λ m. m.value) self.new number ≡ None }
         ensures others { (k : ℕ) → k ≢ number
             → node_of P.index P.generation (λ m. m.value) self.new k
@@ -115,6 +121,8 @@ impl<P: Ptr> Scene<P> {
             → node_of P.index P.generation (λ m. m.value) self.new number
             ≡ node_of P.index P.generation (λ m. m.value) self.old number }
         ensures given { given self.new ≡ given self.old }
+        ensures live { live_count self.new.nodes ≡ live_count self.old.nodes }
+        ensures room { self.new.nodes.room ≡ self.old.nodes.room }
         ensures compact { IsCompact (live_entries self.new.nodes) }
     {
         compress_with_table(&mut self.nodes, &mut self.pointers);

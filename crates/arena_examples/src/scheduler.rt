@@ -1,5 +1,5 @@
 //! Tasks in an arena, named by pointers.
-ghost use Rattle.std.specs.Prelude.{◌≡◌, ◌≢◌, ◌⊎◌, ◌+◌, ◌-◌, ◌^◌, ◌<◌, ◌≤◌, ◌↔◌, ℕ, Some, None, IsOk, IsTrue, IsSome, IfOk, OnErr, option_copied, option_map};
+ghost use Rattle.std.specs.Prelude.{◌≡◌, ◌≢◌, ◌⊎◌, ◌+◌, ◌-◌, ◌^◌, ◌<◌, ◌≤◌, ◌↔◌, ℕ, Some, None, false, IsOk, IsTrue, IsSome, IfOk, IfNone, IsErrOf, OnErr, option_copied, option_map};
 ghost use Rattle.triple_arena.specs.Content.{live_count, room_for};
 ghost use Rattle.arena_examples.specs.Scheduler.{HasEnded, endings_left, task_at};
 
@@ -39,6 +39,7 @@ impl Scheduler {
     pub fn new(alloc: Global) -> Self
         ensures empty { (index generation : ℕ) → task_at result index generation ≡ None }
         ensures lasts { endings_left result ≡ 2 ^ 64 - 2 }
+        ensures room { result.tasks.room.reserved ≡ 0 }
     {
         Scheduler {
             tasks: HeapArena::<P0, Task, Global>::new(alloc),
@@ -63,6 +64,8 @@ impl Scheduler {
         ensures succeeds { 0 < endings_left self.old
             → live_count self.old.tasks < room_for self.old.tasks → IsOk result }
         ensures lasts { endings_left self.new ≡ endings_left self.old }
+        ensures beyond { IsErrOf result ReallocationError.BeyondMaxCapacity
+            ↔ IsTrue self.old.is_spent }
         ensures err { OnErr result (self.new ≡ self.old) }
     {
         if self.is_spent {
@@ -93,6 +96,8 @@ impl Scheduler {
             → (index ≢ ⟦<P0 as Ptr>⟧.index p) ⊎ (generation ≢ ⟦<P0 as Ptr>⟧.generation p)
             → task_at self.new index generation ≡ task_at self.old index generation }
         ensures lasts { endings_left self.old ≤ endings_left self.new + 1 }
+        ensures room { self.new.tasks.room ≡ self.old.tasks.room }
+        ensures none { IfNone result (self.new ≡ self.old) }
     {
         let removed = self.tasks.remove(p);
         if removed.is_overflow() {
@@ -115,6 +120,8 @@ impl Scheduler {
             → (index ≢ ⟦<P0 as Ptr>⟧.index p) ⊎ (generation ≢ ⟦<P0 as Ptr>⟧.generation p)
             → task_at self.new index generation ≡ task_at self.old index generation }
         ensures lasts { endings_left self.new ≡ endings_left self.old }
+        ensures room { self.new.tasks.room ≡ self.old.tasks.room }
+        ensures none { result ≡ false → self.new ≡ self.old }
     {
         match self.tasks.get_mut(p) {
             Some(task) => {
