@@ -1,5 +1,5 @@
 -- What is the last live index, and what the calls on the free slots leave.
-use Rattle.std.proofs.Common.{◌≡◌, ℕ, zero, suc, ◌+◌, ◌-◌, ◌<◌, ◌≤◌, List, [], ◌∷◌, length, take, drop, get_or, Option, Some, None, IsSome, Bool, is_some, is_none, count_by, filter, cond, eqb, leb, not, true, false, true≢false, inl, inr, refl, sym, ap, subst, ◌∙◌, arith, get_or-take, get_or-drop, length-take-le, length-drop}
+use Rattle.std.proofs.Common.{◌≡◌, ℕ, zero, suc, ◌+◌, ◌-◌, ◌<◌, ◌≤◌, List, [], ◌∷◌, length, take, drop, get_or, Option, Some, None, IsSome, Bool, is_some, is_none, count_by, filter, cond, eqb, leb, not, true, false, true≢false, inl, inr, refl, sym, ap, subst, ◌∙◌, arith, get_or-take, get_or-drop, take_all, le-leb, length-take-le, length-drop}
 use Rattle.std.specs.List.{suffix_len, AllByRecursion, IsDistinct, list_any}
 use Rattle.std.proofs.lemmas.Bool.{eq-eqb, ne_eqb}
 use Rattle.std.proofs.lemmas.Bool.Decides.{eqb_tells, leb_tells}
@@ -287,6 +287,19 @@ module _ {T : Type 0} where
         counted = omega (arith, sizes, live, counted);
         fits = omega (arith, sizes, within, fits);
       }
+
+  within_all : (c : Content T) (l : List ℕ) → AllVacant c l → filter (λ i. leb i (length c.slots)) l ≡ l
+  within_all c [] all = refl
+  within_all c (i ∷ l) all = rw (le-leb i (length c.slots) all.0.within) (ap (λ m. i ∷ m) (within_all c l all.1.1))
+
+  -- where the last slot is live there is none to go
+  pub no_free_end : (c : Content T) → IsWellFormed c → last_index c ≡ length c.slots → without_free_end c ≡ c
+  no_free_end c formed last =
+      let slots : take (last_index c) c.slots ≡ c.slots = take_all (last_index c) c.slots (omega (arith, last)) in
+      let free : filter (λ i. leb i (last_index c)) c.free ≡ c.free =
+      ap (λ n. filter (λ i. leb i n) c.free) last ∙ within_all c c.free formed.free in
+      ap (λ xs. record c { slots = xs; free = filter (λ i. leb i (last_index c)) c.free }) slots
+      ∙ ap (λ l. record c { free = l }) free
 
   -- the free indexes in another order
   pub entry-canonicalized : (c : Content T) (j : ℕ) → entry_at (canonicalized c) j ≡ entry_at c j

@@ -33,7 +33,12 @@ impl<P: Ptr, T: Drop, S: NonZeroInxGenericStack<ArenaSlot<P, T>>> Arena<P, T, S>
         ensures value { self.new ≡ without_free_end self.old }
         ensures formed { IsWellFormed self.new }
     {
+        // The arena is well-formed before.
+        let _ = self.live();
         let last = self.last_index();
+        if last == self.slot_count() {
+            return;
+        }
         // Turned over twice, the list has its order again.
         let turned = turn_over(&mut self.slots, self.head, last);
         self.head = turn_over(&mut self.slots, turned, last);

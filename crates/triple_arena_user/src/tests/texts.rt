@@ -1,12 +1,15 @@
 //! The texts of arenas, and with them the calls on free slots, limits and recasting at concrete arenas.
 use std::alloc::Global;
 use std::fmt::Debug;
+use std::num::NonZeroUsize;
 use std::process::Abort;
 use std::test::Fail;
 use triple_arena::{
-    ArenaInsertTrait, ArenaTrait, ArrayArena, LimitedArena, MaxCapacityReductionError, P0, P5, Ptr,
-    Recast, Recaster, SetMaxCapacity,
+    ArenaInsertTrait, ArenaTrait, ArrayArena, LimitedArena, P0, P5, Ptr, Recast, Recaster,
+    SetMaxCapacity,
 };
+
+type Limited = LimitedArena<P0, u64, Global>;
 
 // The arena's text, by `{:?}`.
 fn reads<A: Debug>(rt: &(impl Abort + Alloc), arena: &A, text: &str) {
@@ -31,36 +34,53 @@ fn texts_of_arenas(rt: HostRuntime) -> Result<(), Fail> {
     Ok(())
 }
 
+fn insert(rt: &impl Abort, arena: &mut Limited, value: u64) -> P0 {
+    match arena.insert(value) {
+        Ok(p) => p,
+        Err(_) => panic!(rt; "an insertion is refused"),
+    }
+}
+
+fn remove(rt: &impl Abort, arena: &mut Limited, p: P0) {
+    assert!(rt; arena.remove(p).is_success());
+}
+
+// The limit is set, or is refused, and then this is the first of the free indexes.
+fn limits(
+    rt: &impl Abort,
+    arena: &mut Limited,
+    max: usize,
+    accepted: bool,
+    head: Option<NonZeroUsize>,
+) {
+    assert_eq!(rt; arena.set_max_capacity(max).is_ok(), accepted);
+    assert_eq!(rt; arena.max_capacity() == Some(max), accepted);
+    assert_eq!(rt; arena.freelist_root(), head);
+}
+
 #[test]
 fn free_slots_and_limits(rt: HostRuntime) -> Result<(), Fail> {
-    let mut arena = LimitedArena::<P0, u64, Global>::new(rt.alloc());
-    assert!(rt; arena.freelist_root().is_none());
-    let a = arena.insert(1)?;
-    let b = arena.insert(2)?;
-    arena.insert(3)?;
-    let d = arena.insert(4)?;
-    let e = arena.insert(5)?;
-    let f = arena.insert(6)?;
+    let mut arena = Limited::new(rt.alloc());
+    let a = insert(&rt, &mut arena, 1);
+    let b = insert(&rt, &mut arena, 2);
+    insert(&rt, &mut arena, 3);
+    let d = insert(&rt, &mut arena, 4);
+    let e = insert(&rt, &mut arena, 5);
+    let f = insert(&rt, &mut arena, 6);
 
     // The free list is 5, 1, 2, 4, and then rises.
-    assert!(rt; arena.remove(d).is_success());
-    assert!(rt; arena.remove(b).is_success());
-    assert!(rt; arena.remove(a).is_success());
-    assert!(rt; arena.remove(e).is_success());
+    for p in [d, b, a, e] {
+        remove(&rt, &mut arena, p);
+    }
     arena.canonicalize_freelist();
-    assert_eq!(rt; arena.insert(7)?.inx().get(), 1);
-    assert_eq!(rt; arena.insert(8)?.inx().get(), 2);
-    assert_eq!(rt; arena.freelist_root(), Some(d.inx()));
+    assert_eq!(rt; insert(&rt, &mut arena, 7).inx(), a.inx());
+    assert_eq!(rt; insert(&rt, &mut arena, 8).inx(), b.inx());
 
     // No limit below the last live index is accepted, and a refusal leaves the free slots.
-    assert_eq!(rt; arena.set_max_capacity(5), Err(MaxCapacityReductionError));
-    assert!(rt; arena.remove(f).is_success());
-    assert_eq!(rt; arena.set_max_capacity(2), Err(MaxCapacityReductionError));
-    assert_eq!(rt; arena.freelist_root(), Some(d.inx()));
-    assert_eq!(rt; arena.set_max_capacity(3), Ok(()));
-    assert_eq!(rt; arena.max_capacity(), Some(3));
-    assert_eq!(rt; arena.capacity(), 3);
-    assert!(rt; arena.freelist_root().is_none());
+    limits(&rt, &mut arena, 5, false, Some(d.inx()));
+    remove(&rt, &mut arena, f);
+    limits(&rt, &mut arena, 2, false, Some(d.inx()));
+    limits(&rt, &mut arena, 3, true, None);
     Ok(())
 }
 

@@ -1,8 +1,14 @@
 use Rattle.std.proofs.Common.{leb, sym, subst, ap, ◌∙◌}
 use Rattle.triple_arena.specs.ArenaRoom.{room_of}
+use Rattle.triple_arena.specs.FreeListLaws.{no_free_end}
 use Rattle.triple_arena.specs.Layout.{IsChain}
 use Rattle.triple_arena.proofs.FreeSlotsLemmas.{chain_again, cut}
 use Rattle.triple_arena.proofs.arena.Arena.remove_free_end_slots.Goals as goal
+
+pub returns-then-last-slot_count-clause-value : goal.returns-then-last-slot_count-clause-value
+returns-then-last-slot_count-clause-value g c =
+    let last = sym c.last_index-last.ensures ∙ c.if-last-slot_count.true ∙ c.slot_count.ensures in
+    sym (no_free_end c.args.self.now c.live.ensures.formed last)
 
 pub turn_over-self-inside-requires : goal.turn_over-self-inside-requires
 turn_over-self-inside-requires g c =
