@@ -34,7 +34,7 @@ pub struct RouteBook<A: Allocator = Global> {
 }
 
 impl<A: Allocator> Model for RouteBook<A> {
-    ghost use Rattle.std.specs.Prelude.{ℕ, ◌≤◌, length, vec_capacity};
+    ghost use Rattle.std.specs.Prelude.{◌≡◌, ℕ, ◌≤◌, length, vec_capacity};
     ghost use Rattle.route_book.specs.State.{State};
 
     ghost Value = { State };
@@ -48,8 +48,8 @@ impl<A: Allocator> Model for RouteBook<A> {
     ghost invariant = { λ b. record {
       book : IsBook b.places.items b.by_key.items b.last;
       fits : length b.places.items ≤ b.place_room;
-      room : b.place_room ≤ vec_capacity b.places;
-      order_room : b.place_room ≤ vec_capacity b.by_key;
+      room : b.place_room ≡ vec_capacity b.places;
+      order_room : b.place_room ≡ vec_capacity b.by_key;
     } };
 }
 
@@ -230,12 +230,13 @@ fn add<A: Allocator>(
     requires order_room { vec_len by_key.old < vec_capacity by_key.old }
     ensures places { places.new.items ≡ places.old.items ++ place ∷ [] }
     ensures by_key { by_key.new.items ≡ insert by_key.old.items at (length places.old.items) }
-    ensures capacity { vec_capacity places.old ≤ vec_capacity places.new }
-    ensures order_capacity { vec_capacity by_key.old ≤ vec_capacity by_key.new }
+    ensures capacity { vec_capacity places.new ≡ vec_capacity places.old }
+    ensures order_capacity { vec_capacity by_key.new ≡ vec_capacity by_key.old }
 {
-    if by_key.insert(at, places.len()).is_err() || places.push(place).is_err() {
+    if by_key.insert(at, places.len()).is_err() {
         unreachable!();
     }
+    places.push_reserved(place);
 }
 
 // Where the key stands in the order of the keys, or where it would.
