@@ -2,6 +2,7 @@
 #![tactic(auto)]
 
 mod concrete;
+mod direct;
 mod generic;
 mod news;
 mod one_crate;

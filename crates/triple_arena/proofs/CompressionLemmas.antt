@@ -326,7 +326,8 @@ module _ {P T F : Type 0} (index generation : P → ℕ) (step : F → P → T �
         all = omega arith;
       }
 
-  given_values : (g : ℕ) (moves : List (Move P T)) → map (λ t. Some (g, t)) (map value_of (map (entry_after index generation) moves)) ≡ map (stored (λ _. g)) moves
+  given_values : (g : ℕ) (moves : List (Move P T))
+      → map (λ t. Some (g, t)) (map value_of (map (entry_after index generation) moves)) ≡ map (stored (λ _. g)) moves
   given_values g [] = refl
   given_values g (m ∷ moves) = ap (λ l. Some (g, m.given) ∷ l) (given_values g moves)
 
