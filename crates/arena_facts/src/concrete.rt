@@ -37,6 +37,7 @@ pub fn insert_within_capacity<P: Ptr, T: Drop, S: NonZeroInxGenericStack<ArenaSl
     ensures formed { IsWellFormed arena.new }
     ensures was_formed { IsWellFormed arena.old }
 {
+    // Well-formed before.
     let _ = arena.len();
     arena.insert_within_capacity(t)
 }
@@ -66,6 +67,7 @@ pub fn insert_reallocating<P: Ptr, T: Drop, S: NonZeroInxGenericStack<ArenaSlot<
     ensures formed { IsWellFormed arena.new }
     ensures was_formed { IsWellFormed arena.old }
 {
+    // Well-formed before.
     let _ = arena.len();
     arena.insert_reallocating(t)
 }
@@ -95,6 +97,7 @@ pub fn insert<P: Ptr, T: Drop, S: NonZeroInxGenericStack<ArenaSlot<P, T>> + Drop
     ensures formed { IsWellFormed arena.new }
     ensures was_formed { IsWellFormed arena.old }
 {
+    // Well-formed before.
     let _ = arena.len();
     arena.insert(t)
 }
@@ -120,6 +123,7 @@ pub fn remove<P: Ptr, T: Drop, S: NonZeroInxGenericStack<ArenaSlot<P, T>> + Drop
     ensures formed { IsWellFormed arena.new }
     ensures was_formed { IsWellFormed arena.old }
 {
+    // Well-formed before.
     let _ = arena.len();
     arena.remove(p)
 }
@@ -145,6 +149,7 @@ pub fn remove_inx<P: Ptr, T: Drop, S: NonZeroInxGenericStack<ArenaSlot<P, T>> + 
     ensures formed { IsWellFormed arena.new }
     ensures was_formed { IsWellFormed arena.old }
 {
+    // Well-formed before.
     let _ = arena.len();
     arena.remove_inx(i)
 }
@@ -174,6 +179,7 @@ pub fn invalidate<P: Ptr, T: Drop, S: NonZeroInxGenericStack<ArenaSlot<P, T>> + 
     ensures formed { IsWellFormed arena.new }
     ensures was_formed { IsWellFormed arena.old }
 {
+    // Well-formed before.
     let _ = arena.len();
     arena.invalidate(p)
 }
@@ -187,6 +193,7 @@ pub fn clear<P: Ptr, T: Drop, S: NonZeroInxGenericStack<ArenaSlot<P, T>> + Drop>
     ensures formed { IsWellFormed arena.new }
     ensures was_formed { IsWellFormed arena.old }
 {
+    // Well-formed before.
     let _ = arena.len();
     arena.clear()
 }
@@ -231,6 +238,7 @@ pub fn capacity<P: Ptr, T: Drop, S: NonZeroInxGenericStack<ArenaSlot<P, T>> + Dr
     ensures bounded { result ≤ max_index_of P.Inx.greatest }
     ensures formed { IsWellFormed arena.now }
 {
+    // Well-formed before.
     let _ = arena.len();
     arena.capacity()
 }
@@ -253,6 +261,7 @@ pub fn reallocate_min_capacity<P: Ptr, T: Drop, S: NonZeroInxGenericStack<ArenaS
     ensures formed { IsWellFormed arena.new }
     ensures was_formed { IsWellFormed arena.old }
 {
+    // Well-formed before.
     let _ = arena.len();
     arena.reallocate_min_capacity(min)
 }
@@ -273,6 +282,7 @@ pub fn swap_inx<P: Ptr, T: Drop, S: NonZeroInxGenericStack<ArenaSlot<P, T>> + Dr
     ensures formed { IsWellFormed arena.new }
     ensures was_formed { IsWellFormed arena.old }
 {
+    // Well-formed before.
     let _ = arena.len();
     arena.swap_inx(i, j);
 }
@@ -300,6 +310,7 @@ pub fn swap<P: Ptr, T: Drop, S: NonZeroInxGenericStack<ArenaSlot<P, T>> + Drop>(
     ensures formed { IsWellFormed arena.new }
     ensures was_formed { IsWellFormed arena.old }
 {
+    // Well-formed before.
     let _ = arena.len();
     arena.swap(p, q)
 }
@@ -325,6 +336,7 @@ pub fn compress_with<
     ensures formed { IsWellFormed arena.new }
     ensures was_formed { IsWellFormed arena.old }
 {
+    // Well-formed before.
     let _ = arena.len();
     arena.compress_with(reset, map)
 }
@@ -346,6 +358,7 @@ pub fn compress<P: Ptr, T: Drop, S: NonZeroInxGenericStack<ArenaSlot<P, T>> + Dr
     ensures formed { IsWellFormed arena.new }
     ensures was_formed { IsWellFormed arena.old }
 {
+    // Well-formed before.
     let _ = arena.len();
     arena.compress(reset)
 }

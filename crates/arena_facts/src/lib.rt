@@ -1,4 +1,6 @@
-//! What callers could use before.
+//! What a caller learns of the calls of an arena by their contracts alone: the facts, clause by clause, that one record and one
+//! exact state an operation carry, in code that is generic in the arena and at `Arena` and `DirectArena`. Nothing here has a
+//! proof of its own.
 #![tactic(auto)]
 
 mod concrete;
@@ -6,3 +8,4 @@ mod direct;
 mod generic;
 mod news;
 mod one_crate;
+mod rules;

@@ -138,3 +138,23 @@ fn each_request_in_turn(rt: HostRuntime) -> Result<(), Fail> {
     assert!(rt; refusals < 99);
     Ok(())
 }
+
+// A stack that is made empty asks for nothing, nor does what takes items out of it.
+fn asks_for_nothing<'a, S: NonZeroInxGenericStack<u64, Alloc = &'a Heap> + Drop>(
+    rt: &impl Abort,
+    heap: &'a Heap,
+) {
+    let mut stack = S::new(heap);
+    assert_eq!(rt; stack.pop(), None);
+    stack.clear();
+    assert_eq!(rt; stack.capacity(), 0);
+    assert!(rt; !heap.has_refused());
+}
+
+#[test]
+fn empty_stacks_ask_for_nothing(rt: HostRuntime) {
+    let heap = RefusingAllocator::new(rt.alloc(), 1);
+    asks_for_nothing::<NonZeroInxVec<u64, &Heap>>(&rt, &heap);
+    asks_for_nothing::<NonZeroInxLimitedVec<u64, &Heap>>(&rt, &heap);
+    asks_for_nothing::<NonZeroInxBoxedSlice<u64, &Heap>>(&rt, &heap);
+}
