@@ -27,3 +27,4 @@ pub mod DirectState
 pub mod DirectLayout
 pub mod DirectLaws
 pub mod DirectEntry
+pub mod Iterators

@@ -15,6 +15,7 @@ mod free_slots;
 mod generation;
 mod indexing;
 mod insertion;
+mod iterators;
 mod max_capacity;
 mod reading;
 mod recast;

@@ -7,6 +7,7 @@ mod calls;
 mod entry;
 mod indexing;
 mod insertion;
+mod iterators;
 mod max_capacity;
 mod reading;
 mod removal;

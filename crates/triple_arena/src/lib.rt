@@ -25,13 +25,38 @@ mod direct_insert_trait;
 mod direct_slot;
 mod disjointable_trait;
 mod insert_trait;
+mod iterators;
 pub mod laws;
 mod slot;
 mod stack_room;
 
-/// The advancers of the arenas.
+/// The advancers of the arenas, and the iterators of `Arena`.
 pub mod arena_iterators {
     pub use crate::advancer::PtrAdvancer;
+    use crate::{ArenaSlot, iterators};
+
+    /// The pointers and the values of an arena.
+    pub type Iter<'a, P, T> = iterators::Iter<'a, P, T, ArenaSlot<P, T>>;
+
+    /// The pointers of an arena.
+    pub type Ptrs<'a, P, T> = iterators::Ptrs<'a, P, T, ArenaSlot<P, T>>;
+
+    /// The values of an arena.
+    pub type Vals<'a, P, T> = iterators::Vals<'a, P, T, ArenaSlot<P, T>>;
+}
+
+/// The iterators of `DirectArena`.
+pub mod direct_iterators {
+    use crate::{DirectSlot, iterators};
+
+    /// The pointers and the values of a direct arena.
+    pub type Iter<'a, P, T> = iterators::Iter<'a, P, T, DirectSlot<P, T>>;
+
+    /// The pointers of a direct arena.
+    pub type Ptrs<'a, P, T> = iterators::Ptrs<'a, P, T, DirectSlot<P, T>>;
+
+    /// The values of a direct arena.
+    pub type Vals<'a, P, T> = iterators::Vals<'a, P, T, DirectSlot<P, T>>;
 }
 
 pub use arena::{

@@ -1,11 +1,13 @@
 //! What a crate above the arena can prove by the arena's public contracts alone: of a stack of nodes that are linked by
-//! pointers, and of values that change by a compression.
+//! pointers, of values that change by a compression, and of sums by iterators.
 #![tactic(auto)]
 
 mod nodes;
+mod sums;
 mod values;
 
 pub use nodes::{Node, Nodes};
+pub use sums::{direct_sum_of, sum_of};
 pub use values::{map_values, raise, sum_up};
 
 #[cfg(test)]

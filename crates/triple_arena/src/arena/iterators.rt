@@ -1,0 +1,47 @@
+//! Going over the entries of an arena by iterators.
+ghost use Rattle.std.specs.Prelude.{◌≡◌, map};
+ghost use Rattle.triple_arena.specs.Compression.{value_of};
+ghost use Rattle.triple_arena.specs.Iterators.{pointer_of};
+ghost use Rattle.triple_arena.specs.LiveEntries.{live_entries};
+
+use crate::arena_iterators::{Iter, Ptrs, Vals};
+use crate::{Arena, ArenaSlot, iterators};
+use triple_arena_ptr::Ptr;
+use triple_arena_stack::NonZeroInxGenericStack;
+
+impl<P: Ptr, T: Drop, S: NonZeroInxGenericStack<ArenaSlot<P, T>>> Arena<P, T, S> {
+    /// The pointers to the entries, in the order of the indexes.
+    pub fn ptrs(&self) -> Ptrs<'_, P, T>
+        ensures { result ≡ map pointer_of (live_entries self.now) }
+    {
+        iterators::Ptrs::of(self.iter())
+    }
+
+    /// The values, in the order of the indexes.
+    pub fn vals(&self) -> Vals<'_, P, T>
+        ensures { result ≡ map value_of (live_entries self.now) }
+    {
+        iterators::Vals::of(self.iter())
+    }
+
+    /// The pointers and the values of the entries, in the order of the indexes.
+    pub fn iter(&self) -> Iter<'_, P, T>
+        ensures { result ≡ live_entries self.now }
+    {
+        let _ = self.room_for();
+        iterators::Iter::over(self.slots.as_slice())
+    }
+}
+
+impl<'a, P: Ptr, T: Drop, S: NonZeroInxGenericStack<ArenaSlot<P, T>>> IntoIterator
+    for &'a Arena<P, T, S> {
+    type Item = (P, &'a T);
+
+    type IntoIter = Iter<'a, P, T>;
+
+    ghost into_iter_gives = { λ arena it. it ≡ live_entries arena.now };
+
+    fn into_iter(self) -> Iter<'a, P, T> {
+        self.iter()
+    }
+}
