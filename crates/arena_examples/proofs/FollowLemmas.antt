@@ -67,7 +67,8 @@ module _ {T : Type 0} where
   place_within (x ∷ xs) (suc k) e found = let rest = place_within xs k e found in omega arith
 
   -- where the indexes increase, what stands at a place is what its index finds
-  pub found_at_index : (xs : List (ℕ × (ℕ × T))) (k : ℕ) (e : ℕ × (ℕ × T)) → IsStrictlyIncreasing (map index_of xs) → slice_get xs k ≡ Some e → look_up xs e.0 ≡ Some e.1
+  pub found_at_index : (xs : List (ℕ × (ℕ × T))) (k : ℕ) (e : ℕ × (ℕ × T)) → IsStrictlyIncreasing (map index_of xs) → slice_get xs k ≡ Some e
+      → look_up xs e.0 ≡ Some e.1
   found_at_index [] k e increasing found = absurd (cc)
   found_at_index (x ∷ xs) zero e increasing found =
       let is : x ≡ e = cc in
@@ -89,7 +90,8 @@ some_still f (Some x) = refl
 
 module _ {M P : Type 0} (was : M → P) where
   -- what a pointer finds, by the reference that was answered
-  pub named_by : {o : Option (Bor M)} {found : Option M} {b : Bor M} {p : P} → option_copied o ≡ found → o ≡ Some b → was b.now ≡ p → option_map was found ≡ Some p
+  pub named_by : {o : Option (Bor M)} {found : Option M} {b : Bor M} {p : P} → option_copied o ≡ found → o ≡ Some b → was b.now ≡ p
+      → option_map was found ≡ Some p
   named_by copied is names = ap (option_map was) (sym copied ∙ ap option_copied is) ∙ ap Some names
 
 module _ {P M V : Type 0} (index generation : P → ℕ) (was : M → P) (value : M → V) where
@@ -103,12 +105,15 @@ module _ {P M V : Type 0} (index generation : P → ℕ) (was : M → P) (value 
     pub compact : IsCompact new
 
   -- where each call of a map keeps the pointer and the value that it got
-  pub kept_by : {F : Type 0} {step : F → P → M → P → M → F → Type 0} {f : F} {old new : List (ℕ × (ℕ × M))} → IsMapped index generation step f old new → ((h : F) (from : P) (t : M) (to : P) (u : M) (k : F) → step h from t to u k → (was u ≡ from) × (value u ≡ value t)) → AllZip (Keeps index generation was value) old new
+  pub kept_by : {F : Type 0} {step : F → P → M → P → M → F → Type 0} {f : F} {old new : List (ℕ × (ℕ × M))} → IsMapped index generation step f old new
+      → ((h : F) (from : P) (t : M) (to : P) (u : M) (k : F) → step h from t to u k → (was u ≡ from) × (value u ≡ value t))
+      → AllZip (Keeps index generation was value) old new
   kept_by m one =
       entries_related m (λ _. Unit {0}) (Keeps index generation was value) tt
       (λ h from t to u k all s. let r = one h from t to u k s in ((ap index r.0, ap generation r.0, r.1), tt))
 
-  pub values_kept : (old new : List (ℕ × (ℕ × M))) → AllZip (Keeps index generation was value) old new → map value (map value_of new) ≡ map value (map value_of old)
+  pub values_kept : (old new : List (ℕ × (ℕ × M))) → AllZip (Keeps index generation was value) old new
+      → map value (map value_of new) ≡ map value (map value_of old)
   values_kept [] [] kept = refl
   values_kept [] (y ∷ new) kept = absurd kept
   values_kept (x ∷ old) [] kept = absurd kept
@@ -121,7 +126,8 @@ module _ {P : Type 0} (index generation : P → ℕ) (determined : (p q : P) →
       let parts = and_parts (index p == index q) (generation p == generation q) (sym tested ∙ sym tells ∙ holds) in
       determined p q (eqb-true (index p) (index q) parts.0) (eqb-true (generation p) (generation q) parts.1)
 
-module _ {P M V : Type 0} (index generation : P → ℕ) (was : M → P) (value : M → V) (determined : (p q : P) → index p ≡ index q → generation p ≡ generation q → p ≡ q) (before after : ℕ → Option (ℕ × M)) (old new : List (ℕ × (ℕ × M))) (m : Moves index generation was value before after old new) where
+module _ {P M V : Type 0} (index generation : P → ℕ) (was : M → P) (value : M → V) (determined : (p q : P) → index p ≡ index q → generation p ≡ generation q → p ≡ q)
+    (before after : ℕ → Option (ℕ × M)) (old new : List (ℕ × (ℕ × M))) (m : Moves index generation was value before after old new) where
   -- where q finds an entry that has the old pointer p
   record Follows (p q : P) : Type 0 where
     pub follows : option_map value (value_if (generation q) (after (index q))) ≡ option_map value (value_if (generation p) (before (index p)))
@@ -140,7 +146,8 @@ module _ {P M V : Type 0} (index generation : P → ℕ) (was : M → P) (value 
                 let b = found_beside (Keeps index generation was value) old new (index q) e m.kept (sym (m.new_listed (index q)) ∙ stands) in
                 let at : index p ≡ b.0.0 = ap index (sym is) ∙ b.1.related.0 in
                 let given : b.0.1.0 ≡ generation p = sym (b.1.related.1) ∙ ap generation is in
-                let finds : before (index p) ≡ Some b.0.1 = m.old_listed (index p) ∙ ap (look_up old) at ∙ found_at_index old b.1.place b.0 m.old_rises b.1.stands in
+                let finds : before (index p) ≡ Some b.0.1 =
+                m.old_listed (index p) ∙ ap (look_up old) at ∙ found_at_index old b.1.place b.0 m.old_rises b.1.stands in
                 let numbered : index q ≡ b.1.place + 1 = m.compact b.1.place (index q, e) b.1.beside in
                 let back : index q - 1 ≡ b.1.place = omega arith in
                 record {
@@ -184,7 +191,9 @@ module _ {P M V : Type 0} (index generation : P → ℕ) (was : M → P) (value 
       let q_follows = follows_to p q named in
       let stood = value_if (generation p) (before (index p)) in
       let stands = value_if (generation q) (after (index q)) in
-      let some : is_some stood ≡ true = sym (some_still value stood) ∙ sym (ap is_some q_follows.follows) ∙ some_still value stands ∙ sym (some_still was stands) ∙ ap is_some named in
+      let some : is_some stood ≡ true =
+      sym (some_still value stood) ∙ sym (ap is_some q_follows.follows) ∙ some_still value stands ∙ sym (some_still was stands)
+      ∙ ap is_some named in
       record {
         variant = (λ _. some, λ _. refl);
         follows = q_follows.follows;
@@ -192,7 +201,8 @@ module _ {P M V : Type 0} (index generation : P → ℕ) (was : M → P) (value 
       }
 
   -- and for a pointer of a table
-  pub pointer_followed : (o answer : Option P) → IsNamedBy was index generation after o answer → IsFollowed (λ p. option_map value (value_if (generation p) (before (index p)))) (λ p. option_map value (value_if (generation p) (after (index p)))) o answer
+  pub pointer_followed : (o answer : Option P) → IsNamedBy was index generation after o answer
+      → IsFollowed (λ p. option_map value (value_if (generation p) (before (index p)))) (λ p. option_map value (value_if (generation p) (after (index p)))) o answer
   pointer_followed None answer named = named
   pointer_followed (Some p) None named = nothing (value_if (generation p) (before (index p))) (none_followed p named)
     where

@@ -307,11 +307,16 @@ module _ {T : Type 0} where
       let whole = ap length l.rest_is in
       let fits = t.fits in
       let unturned : IsChain (set es (i - 1) (free turned)) l.next l.others = chain_set es i (free turned) l.next l.others l.positive l.once l.chain in
-      let chain : IsChain (set es (i - 1) (free turned)) (Some i) (i ∷ t.done) =
-      (refl, l.positive, (turned, linked es (i - 1) (free l.next) (free turned) l.found, chain_set es i (free turned) turned t.done l.positive apart.0 t.chain)) in
+      let chain : IsChain (set es (i - 1) (free turned)) (Some i) (i ∷ t.done) = (
+        refl,
+        l.positive,
+        (turned, linked es (i - 1) (free l.next) (free turned) l.found, chain_set es i (free turned) turned t.done l.positive apart.0 t.chain),
+      ) in
       let passes : leb i last ≡ true = le-leb i last below in
       let before = chain_links es (length es) left t.rest fits t.unturned in
-      let after = chain_links (set es (i - 1) (free turned)) (length (set es (i - 1) (free turned))) l.next l.others (omega (arith, sizes, whole, fits)) unturned in
+      let after =
+      chain_links (set es (i - 1) (free turned)) (length (set es (i - 1) (free turned))) l.next l.others (omega (arith, sizes, whole, fits))
+      unturned in
       let less = ap length before in
       let more = ap length after in
       rw (written, first, to)

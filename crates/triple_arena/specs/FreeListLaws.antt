@@ -345,7 +345,8 @@ module _ {T : Type 0} where
   pub formed-canonicalized : (c : Content T) → IsWellFormed c → IsWellFormed (canonicalized c)
   formed-canonicalized c formed =
       record {
-        free = all_vacant_from (canonicalized c) 1 c.slots (omega arith) refl (λ k. let first : 1 + k ≡ suc k = omega arith in ap (entry_at (canonicalized c)) (sym first));
+        free = all_vacant_from (canonicalized c) 1 c.slots (omega arith) refl
+            (λ k. let first : 1 + k ≡ suc k = omega arith in ap (entry_at (canonicalized c)) (sym first));
         counted = vacant-counted 1 c.slots;
         fits = formed.fits;
       }

@@ -94,7 +94,8 @@ module _ {T : Type 0} where
       let reserved = capacity-reserved c.room in
       let fits = formed.fits in
       record {
-        free = vacant-kept (fitted c max) (with_limit greatest c max) (omega arith) (λ j none. entry-same_slots (with_limit greatest c max) (fitted c max) refl j
+        free = vacant-kept (fitted c max) (with_limit greatest c max) (omega arith)
+            (λ j none. entry-same_slots (with_limit greatest c max) (fitted c max) refl j
             ∙ none) (fitted c max).free well.free;
         counted = well.counted;
         fits = omega (arith, less, within, reserved, fits, indexed);

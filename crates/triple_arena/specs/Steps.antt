@@ -61,13 +61,15 @@ abbrev pub reached : {S T : Type 0} → S → List (Step T × S) → S
 reached s [] = s
 reached s (moment ∷ later) = reached moment.1 later
 
-module _ {S T : Type 0} (entry_of : S → ℕ → Option (ℕ × T)) (live_of : S → ℕ) (counter_of : S → Option ℕ) (room_of : S → Room) (listed : S → List (ℕ × (ℕ × T))) (last : Option ℕ) where
+module _ {S T : Type 0} (entry_of : S → ℕ → Option (ℕ × T)) (live_of : S → ℕ) (counter_of : S → Option ℕ)
+    (room_of : S → Room) (listed : S → List (ℕ × (ℕ × T))) (last : Option ℕ) where
   -- what the calls say of a step
   abbrev pub Takes : Step T → S → S → Type 0
   Takes (insert i g t) old new = IsInserted entry_of live_of counter_of i i g t old new
   Takes (remove i) old new = IsRemoved entry_of live_of counter_of room_of last i old new
   Takes (invalidate i g) old new =
-      IsSome (entry_of old i) × (option_map (next_generation last) (counter_of old) ≡ Some g) × IsInvalidated entry_of live_of counter_of room_of last i g old new
+      IsSome (entry_of old i) × (option_map (next_generation last) (counter_of old) ≡ Some g)
+      × IsInvalidated entry_of live_of counter_of room_of last i g old new
   Takes clear old new = IsCleared entry_of live_of counter_of room_of last old new
   Takes compress old new = IsCompressed entry_of live_of counter_of room_of last listed false old new
   Takes (exchange i j) old new =

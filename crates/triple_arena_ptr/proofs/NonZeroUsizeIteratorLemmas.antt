@@ -28,5 +28,6 @@ numbers_back first last before taken within next is_last =
     ∙ ap (λ k. numbers_through first before ++ k ∷ []) end
 
 -- a call that gives an item leaves fewer
-pub fewer_left : {A : Type 0} (x : A) (before after : List ℕ) → length before ≡ suc (length after) → MakesProgress (λ _. ⊤) (item_count (λ left. left)) before (Some x) after
+pub fewer_left : {A : Type 0} (x : A) (before after : List ℕ) → length before ≡ suc (length after)
+    → MakesProgress (λ _. ⊤) (item_count (λ left. left)) before (Some x) after
 fewer_left x before after one = record { on = λ finite. (tt, finite, omega arith); keeps = tt; rests = λ _. tt }

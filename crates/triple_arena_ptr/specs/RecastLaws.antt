@@ -17,7 +17,8 @@ pub renamed-append : {I : Type 0} (f : I → Option I) (xs ys : List I)
 renamed-append f [] ys = refl
 renamed-append f (x ∷ xs) ys = after (f x) (renamed-append f xs ys)
   where
-    after : (o : Option _) → renamed f (xs ++ ys) ≡ renamed f xs ++ where_ok (recast_answer f xs) (renamed f ys) ys → renamed_item o x ∷ items_after o (xs ++ ys) (renamed f (xs ++ ys))
+    after : (o : Option _) → renamed f (xs ++ ys) ≡ renamed f xs ++ where_ok (recast_answer f xs) (renamed f ys) ys
+        → renamed_item o x ∷ items_after o (xs ++ ys) (renamed f (xs ++ ys))
         ≡ (renamed_item o x ∷ items_after o xs (renamed f xs)) ++ where_ok (answer_before o x (recast_answer f xs)) (renamed f ys) ys
     after None rest = refl
     after (Some y) rest = ap (λ l. y ∷ l) rest
@@ -28,7 +29,8 @@ pub recast_answer-append : {I : Type 0} (f : I → Option I) (xs ys : List I)
 recast_answer-append f [] ys = refl
 recast_answer-append f (x ∷ xs) ys = after (f x) (recast_answer-append f xs ys)
   where
-    after : (o : Option _) → recast_answer f (xs ++ ys) ≡ where_ok (recast_answer f xs) (recast_answer f ys) (recast_answer f xs) → answer_before o x (recast_answer f (xs ++ ys))
+    after : (o : Option _) → recast_answer f (xs ++ ys) ≡ where_ok (recast_answer f xs) (recast_answer f ys) (recast_answer f xs)
+        → answer_before o x (recast_answer f (xs ++ ys))
         ≡ where_ok (answer_before o x (recast_answer f xs)) (recast_answer f ys) (answer_before o x (recast_answer f xs))
     after None rest = refl
     after (Some y) rest = rest

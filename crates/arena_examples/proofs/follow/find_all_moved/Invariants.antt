@@ -6,6 +6,7 @@ use Rattle.arena_examples.proofs.follow.find_all_moved.Given as goal
 abbrev pub invariant-loop-at : goal.invariant-loop-at
 invariant-loop-at g l =
     record {
-      passed : (k : ℕ) → k < l.at → IsNamedBy (λ m. m.was) g.P.Ptr.index g.P.Ptr.generation (g.A.ArenaTrait.entry_at l.arena) (slice_index_or l.fn.table k None) (slice_index_or l.table k None);
+      passed : (k : ℕ) → k < l.at
+          → IsNamedBy (λ m. m.was) g.P.Ptr.index g.P.Ptr.generation (g.A.ArenaTrait.entry_at l.arena) (slice_index_or l.fn.table k None) (slice_index_or l.table k None);
       ahead : (k : ℕ) → l.at ≤ k → slice_index_or l.table k None ≡ slice_index_or l.fn.table k None;
     }
