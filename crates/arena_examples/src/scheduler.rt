@@ -1,6 +1,6 @@
 //! Tasks in an arena, named by pointers.
 ghost use Rattle.std.specs.Prelude.{◌≡◌, ◌≢◌, ◌⊎◌, ◌+◌, ◌-◌, ◌^◌, ◌<◌, ◌≤◌, ◌↔◌, ℕ, Some, None, false, IsOk, IsTrue, IsSome, IfOk, IfNone, IsErrOf, OnErr, option_copied, option_map};
-ghost use Rattle.triple_arena.specs.Content.{live_count, room_for};
+ghost use Rattle.triple_arena.specs.Content.{live_count, arena_capacity};
 ghost use Rattle.arena_examples.specs.Scheduler.{HasEnded, endings_left, task_at};
 
 use std::alloc::Global;
@@ -62,7 +62,7 @@ impl Scheduler {
         ensures ended { (index generation : ℕ) → HasEnded self.old index generation
             → HasEnded self.new index generation }
         ensures succeeds { 0 < endings_left self.old
-            → live_count self.old.tasks < room_for self.old.tasks → IsOk result }
+            → live_count self.old.tasks < arena_capacity self.old.tasks → IsOk result }
         ensures lasts { endings_left self.new ≡ endings_left self.old }
         ensures beyond { IsErrOf result ReallocationError.BeyondMaxCapacity
             ↔ IsTrue self.old.is_spent }

@@ -8,7 +8,7 @@ ghost use Rattle.triple_arena_ptr.specs.InvalidationResult.{answer_of};
 ghost use Rattle.triple_arena_stack.specs.Room.{capacity as capacity_of, grown, with_reserved, IsBeyond};
 ghost use Rattle.triple_arena.specs.ArenaRoom.{room_of};
 ghost use Rattle.triple_arena.specs.Entries.{with_entry, without, with_generation_at, with_values_exchanged};
-ghost use Rattle.triple_arena.specs.Content.{get, entry_at as entry_of_index, live_count as live_of, room_for, next_index as next_of, inserted, removed, invalidated, cleared, with_exchange, in_room, IsWellFormed};
+ghost use Rattle.triple_arena.specs.Content.{get, entry_at as entry_of_index, live_count as live_count_of, arena_capacity, next_index as next_of, inserted, removed, invalidated, cleared, with_exchange, in_room, IsWellFormed};
 ghost use Rattle.triple_arena.specs.LiveEntries.{live_entries as live_entries_of};
 ghost use Rattle.triple_arena.specs.Compression.{renewed, renewal_wraps, entry_of_listed, generation_of, live_values, compacted, IsCompact, IsMapped};
 
@@ -23,14 +23,14 @@ pub fn insert_within_capacity<P: Ptr, T: Drop, S: NonZeroInxGenericStack<ArenaSl
     arena: &mut Arena<P, T, S>,
     t: T,
 ) -> Result<P, NotWithinCapacityError>
-    ensures variant { IsOk result ↔ (live_of arena.old < room_for arena.old) }
+    ensures variant { IsOk result ↔ (live_count_of arena.old < arena_capacity arena.old) }
     ensures content { OnOk result (arena.new ≡ inserted arena.old t) }
     ensures index { IfOk result (λ p. P.index p ≡ next_of arena.old) }
     ensures generation { IfOk result (λ p. P.generation p ≡ arena.old.counter) }
     ensures vacant { OnOk result (entry_of_index arena.old (next_of arena.old) ≡ None) }
     ensures entries { IfOk result (λ p. (j : ℕ) → entry_of_index arena.new j
         ≡ with_entry (entry_of_index arena.old) (P.index p) (P.generation p, t) j) }
-    ensures live { OnOk result (live_of arena.new ≡ live_of arena.old + 1) }
+    ensures live { OnOk result (live_count_of arena.new ≡ live_count_of arena.old + 1) }
     ensures counter { arena.new.counter ≡ arena.old.counter }
     ensures room { arena.new.room ≡ arena.old.room }
     ensures err { OnErr result (arena.new ≡ arena.old) }
@@ -46,23 +46,23 @@ pub fn insert_reallocating<P: Ptr, T: Drop, S: NonZeroInxGenericStack<ArenaSlot<
     arena: &mut Arena<P, T, S>,
     t: T,
 ) -> Result<P, ReallocationError>
-    ensures content { live_of arena.old < room_for arena.old
+    ensures content { live_count_of arena.old < arena_capacity arena.old
         → OnOk result (arena.new ≡ inserted arena.old t) }
-    ensures content_grown { live_of arena.old ≡ room_for arena.old
+    ensures content_grown { live_count_of arena.old ≡ arena_capacity arena.old
         → OnOk result (arena.new ≡ inserted (in_room arena.old (grown arena.old.room)) t) }
     ensures index { IfOk result (λ p. P.index p ≡ next_of arena.old) }
     ensures generation { IfOk result (λ p. P.generation p ≡ arena.old.counter) }
     ensures vacant { OnOk result (entry_of_index arena.old (next_of arena.old) ≡ None) }
     ensures entries { IfOk result (λ p. (j : ℕ) → entry_of_index arena.new j
         ≡ with_entry (entry_of_index arena.old) (P.index p) (P.generation p, t) j) }
-    ensures live { OnOk result (live_of arena.new ≡ live_of arena.old + 1) }
+    ensures live { OnOk result (live_count_of arena.new ≡ live_count_of arena.old + 1) }
     ensures counter { arena.new.counter ≡ arena.old.counter }
-    ensures kept { live_of arena.old < room_for arena.old → arena.new.room ≡ arena.old.room }
-    ensures grown { live_of arena.old ≡ room_for arena.old
+    ensures kept { live_count_of arena.old < arena_capacity arena.old → arena.new.room ≡ arena.old.room }
+    ensures grown { live_count_of arena.old ≡ arena_capacity arena.old
         → OnOk result (arena.new.room ≡ grown arena.old.room) }
-    ensures succeeds { live_of arena.old < room_for arena.old → IsOk result }
+    ensures succeeds { live_count_of arena.old < arena_capacity arena.old → IsOk result }
     ensures beyond { IsErrOf result ReallocationError.BeyondMaxCapacity
-        ↔ (arena.old.room.limit ≡ Some (live_of arena.old)) }
+        ↔ (arena.old.room.limit ≡ Some (live_count_of arena.old)) }
     ensures err { OnErr result (arena.new ≡ arena.old) }
     ensures formed { IsWellFormed arena.new }
     ensures was_formed { IsWellFormed arena.old }
@@ -76,23 +76,23 @@ pub fn insert<P: Ptr, T: Drop, S: NonZeroInxGenericStack<ArenaSlot<P, T>> + Drop
     arena: &mut Arena<P, T, S>,
     t: T,
 ) -> Result<P, ReallocationError>
-    ensures content { live_of arena.old < room_for arena.old
+    ensures content { live_count_of arena.old < arena_capacity arena.old
         → OnOk result (arena.new ≡ inserted arena.old t) }
-    ensures content_grown { live_of arena.old ≡ room_for arena.old
+    ensures content_grown { live_count_of arena.old ≡ arena_capacity arena.old
         → OnOk result (arena.new ≡ inserted (in_room arena.old (grown arena.old.room)) t) }
     ensures index { IfOk result (λ p. P.index p ≡ next_of arena.old) }
     ensures generation { IfOk result (λ p. P.generation p ≡ arena.old.counter) }
     ensures vacant { OnOk result (entry_of_index arena.old (next_of arena.old) ≡ None) }
     ensures entries { IfOk result (λ p. (j : ℕ) → entry_of_index arena.new j
         ≡ with_entry (entry_of_index arena.old) (P.index p) (P.generation p, t) j) }
-    ensures live { OnOk result (live_of arena.new ≡ live_of arena.old + 1) }
+    ensures live { OnOk result (live_count_of arena.new ≡ live_count_of arena.old + 1) }
     ensures counter { arena.new.counter ≡ arena.old.counter }
-    ensures kept { live_of arena.old < room_for arena.old → arena.new.room ≡ arena.old.room }
-    ensures grown { live_of arena.old ≡ room_for arena.old
+    ensures kept { live_count_of arena.old < arena_capacity arena.old → arena.new.room ≡ arena.old.room }
+    ensures grown { live_count_of arena.old ≡ arena_capacity arena.old
         → OnOk result (arena.new.room ≡ grown arena.old.room) }
-    ensures succeeds { live_of arena.old < room_for arena.old → IsOk result }
+    ensures succeeds { live_count_of arena.old < arena_capacity arena.old → IsOk result }
     ensures beyond { IsErrOf result ReallocationError.BeyondMaxCapacity
-        ↔ (arena.old.room.limit ≡ Some (live_of arena.old)) }
+        ↔ (arena.old.room.limit ≡ Some (live_count_of arena.old)) }
     ensures err { OnErr result (arena.new ≡ arena.old) }
     ensures formed { IsWellFormed arena.new }
     ensures was_formed { IsWellFormed arena.old }
@@ -115,7 +115,7 @@ pub fn remove<P: Ptr, T: Drop, S: NonZeroInxGenericStack<ArenaSlot<P, T>> + Drop
     ensures entries { IfSome (answer_of result)
         (λ a. (j : ℕ) → entry_of_index arena.new j
         ≡ without (entry_of_index arena.old) (P.index p) j) }
-    ensures live { IfSome (answer_of result) (λ a. live_of arena.new + 1 ≡ live_of arena.old) }
+    ensures live { IfSome (answer_of result) (λ a. live_count_of arena.new + 1 ≡ live_count_of arena.old) }
     ensures counter { IfSome (answer_of result)
         (λ a. arena.new.counter ≡ next_generation P.Gen.last arena.old.counter) }
     ensures room { arena.new.room ≡ arena.old.room }
@@ -141,7 +141,7 @@ pub fn remove_inx<P: Ptr, T: Drop, S: NonZeroInxGenericStack<ArenaSlot<P, T>> + 
     ensures entries { IfSome (answer_of result)
         (λ a. (j : ℕ) → entry_of_index arena.new j
         ≡ without (entry_of_index arena.old) (P.Inx.number i) j) }
-    ensures live { IfSome (answer_of result) (λ a. live_of arena.new + 1 ≡ live_of arena.old) }
+    ensures live { IfSome (answer_of result) (λ a. live_count_of arena.new + 1 ≡ live_count_of arena.old) }
     ensures counter { IfSome (answer_of result)
         (λ a. arena.new.counter ≡ next_generation P.Gen.last arena.old.counter) }
     ensures room { arena.new.room ≡ arena.old.room }
@@ -171,7 +171,7 @@ pub fn invalidate<P: Ptr, T: Drop, S: NonZeroInxGenericStack<ArenaSlot<P, T>> + 
         (λ a. (j : ℕ) → entry_of_index arena.new j
         ≡ with_generation_at (entry_of_index arena.old) (P.index p)
         (P.generation (value_of a)) j) }
-    ensures live { live_of arena.new ≡ live_of arena.old }
+    ensures live { live_count_of arena.new ≡ live_count_of arena.old }
     ensures counter { IfSome (answer_of result)
         (λ a. arena.new.counter ≡ next_generation P.Gen.last arena.old.counter) }
     ensures room { arena.new.room ≡ arena.old.room }
@@ -221,7 +221,7 @@ pub fn with_min_capacity<P: Ptr, T: Drop, S: NonZeroInxGenericStack<ArenaSlot<P,
     ensures room { IfOk result (λ a. a.room ≡ room_of P.Inx.greatest (S.room_at min)) }
     ensures entries { IfOk result (λ a. (j : ℕ) → entry_of_index a j ≡ None) }
     ensures formed { IfOk result (λ a. IsWellFormed a) }
-    ensures fits { IfOk result (λ a. min ≤ room_for a) }
+    ensures fits { IfOk result (λ a. min ≤ arena_capacity a) }
     ensures succeeds { min ≤ capacity_of (room_of P.Inx.greatest (S.room_at 0)) → IsOk result }
     ensures beyond { IsErrOf result ReallocationError.BeyondMaxCapacity
         ↔ IsBeyond (room_of P.Inx.greatest (S.room_at min)).limit min }
@@ -232,8 +232,8 @@ pub fn with_min_capacity<P: Ptr, T: Drop, S: NonZeroInxGenericStack<ArenaSlot<P,
 pub fn capacity<P: Ptr, T: Drop, S: NonZeroInxGenericStack<ArenaSlot<P, T>> + Drop>(
     arena: &Arena<P, T, S>,
 ) -> usize
-    ensures value { result ≡ room_for arena.now }
-    ensures holds_all { live_of arena.now ≤ result }
+    ensures value { result ≡ arena_capacity arena.now }
+    ensures holds_all { live_count_of arena.now ≤ result }
     ensures indexes { (j : ℕ) → IsSome (entry_of_index arena.now j) → j ≤ result }
     ensures bounded { result ≤ max_index_of P.Inx.greatest }
     ensures formed { IsWellFormed arena.now }
@@ -247,14 +247,14 @@ pub fn reallocate_min_capacity<P: Ptr, T: Drop, S: NonZeroInxGenericStack<ArenaS
     arena: &mut Arena<P, T, S>,
     min: usize,
 ) -> Result<(), ReallocationError>
-    ensures kept { min ≤ room_for arena.old → arena.new ≡ arena.old }
-    ensures grown { room_for arena.old < min
+    ensures kept { min ≤ arena_capacity arena.old → arena.new ≡ arena.old }
+    ensures grown { arena_capacity arena.old < min
         → OnOk result (arena.new ≡ in_room arena.old (with_reserved arena.old.room min)) }
-    ensures fits { OnOk result (min ≤ room_for arena.new) }
+    ensures fits { OnOk result (min ≤ arena_capacity arena.new) }
     ensures entries { (j : ℕ) → entry_of_index arena.new j ≡ entry_of_index arena.old j }
-    ensures live { live_of arena.new ≡ live_of arena.old }
+    ensures live { live_count_of arena.new ≡ live_count_of arena.old }
     ensures counter { arena.new.counter ≡ arena.old.counter }
-    ensures succeeds { min ≤ room_for arena.old → IsOk result }
+    ensures succeeds { min ≤ arena_capacity arena.old → IsOk result }
     ensures beyond { IsErrOf result ReallocationError.BeyondMaxCapacity
         ↔ IsBeyond arena.old.room.limit min }
     ensures err { OnErr result (arena.new ≡ arena.old) }
@@ -276,7 +276,7 @@ pub fn swap_inx<P: Ptr, T: Drop, S: NonZeroInxGenericStack<ArenaSlot<P, T>> + Dr
     ensures content { arena.new ≡ with_exchange arena.old (P.Inx.number i) (P.Inx.number j) }
     ensures entries { (k : ℕ) → entry_of_index arena.new k
         ≡ with_values_exchanged (entry_of_index arena.old) (P.Inx.number i) (P.Inx.number j) k }
-    ensures live { live_of arena.new ≡ live_of arena.old }
+    ensures live { live_count_of arena.new ≡ live_count_of arena.old }
     ensures counter { arena.new.counter ≡ arena.old.counter }
     ensures room { arena.new.room ≡ arena.old.room }
     ensures formed { IsWellFormed arena.new }
@@ -303,7 +303,7 @@ pub fn swap<P: Ptr, T: Drop, S: NonZeroInxGenericStack<ArenaSlot<P, T>> + Drop>(
     ensures content { OnOk result (arena.new ≡ with_exchange arena.old (P.index p) (P.index q)) }
     ensures entries { OnOk result ((k : ℕ) → entry_of_index arena.new k
         ≡ with_values_exchanged (entry_of_index arena.old) (P.index p) (P.index q) k) }
-    ensures live { live_of arena.new ≡ live_of arena.old }
+    ensures live { live_count_of arena.new ≡ live_count_of arena.old }
     ensures counter { arena.new.counter ≡ arena.old.counter }
     ensures room { arena.new.room ≡ arena.old.room }
     ensures err { OnErr result (arena.new ≡ arena.old) }
@@ -332,7 +332,7 @@ pub fn compress_with<
     ensures generations { list_map generation_of (live_entries_of arena.new)
         ≡ list_map (λ e. renewed P.Gen.last reset arena.old.counter) (live_entries_of arena.old) }
     ensures overflow { overflowed result ≡ renewal_wraps P.Gen.last reset arena.old.counter }
-    ensures live { live_of arena.new ≡ live_of arena.old }
+    ensures live { live_count_of arena.new ≡ live_count_of arena.old }
     ensures formed { IsWellFormed arena.new }
     ensures was_formed { IsWellFormed arena.old }
 {
@@ -354,7 +354,7 @@ pub fn compress<P: Ptr, T: Drop, S: NonZeroInxGenericStack<ArenaSlot<P, T>> + Dr
     ensures generations { list_map generation_of (live_entries_of arena.new)
         ≡ list_map (λ e. renewed P.Gen.last reset arena.old.counter) (live_entries_of arena.old) }
     ensures overflow { overflowed result ≡ renewal_wraps P.Gen.last reset arena.old.counter }
-    ensures live { live_of arena.new ≡ live_of arena.old }
+    ensures live { live_count_of arena.new ≡ live_count_of arena.old }
     ensures formed { IsWellFormed arena.new }
     ensures was_formed { IsWellFormed arena.old }
 {

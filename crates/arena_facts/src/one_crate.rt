@@ -1,6 +1,6 @@
 //! A caller whose code names `triple_arena` alone.
 ghost use Rattle.std.specs.Prelude.{◌≡◌, ℕ, ◌+◌, ◌<◌, OnOk, IfOk, IsOk, Some};
-ghost use Rattle.triple_arena.specs.Content.{entry_at, live_count, room_for, inserted, grown_if_full};
+ghost use Rattle.triple_arena.specs.Content.{entry_at, live_count, arena_capacity, inserted, grown_if_full};
 
 use std::alloc::{Allocator, Global};
 use triple_arena::{ArenaInsertTrait, ArenaTrait, HeapArena, P0, Ptr, ReallocationError};
@@ -16,7 +16,7 @@ pub fn store(arena: &mut HeapArena<P0, u64, Global>, t: u64) -> Result<P0, Reall
     ensures exact { OnOk result (arena.new ≡ inserted (grown_if_full arena.old) t) }
     ensures stored { IfOk result (λ p. entry_at arena.new (⟦<P0 as Ptr>⟧.index p)
         ≡ Some (arena.old.counter, t)) }
-    ensures succeeds { live_count arena.old < room_for arena.old → IsOk result }
+    ensures succeeds { live_count arena.old < arena_capacity arena.old → IsOk result }
 {
     arena.insert(t)
 }

@@ -6,8 +6,8 @@ use Rattle.std.proofs.lemmas.Option.{get_or_from_slice_get}
 use Rattle.std.proofs.lemmas.List.Sums.{sum_by-set, count_by-le-length}
 use Rattle.triple_arena_stack.specs.Room.{Room, capacity}
 use Rattle.triple_arena.specs.Changes.{IsInvalidated}
-use Rattle.triple_arena.specs.ContentLaws.{entry_at_slot, live_of}
-use Rattle.triple_arena.specs.DirectContent.{DirectContent, as_content, entry_at, room_for, live_count, no_counter, reaching, with_value, with_generation, inserted, removed, last_index, IsPlace}
+use Rattle.triple_arena.specs.ContentLaws.{entry_at_slot, live_entry}
+use Rattle.triple_arena.specs.DirectContent.{DirectContent, as_content, entry_at, arena_capacity, live_count, no_counter, reaching, with_value, with_generation, inserted, removed, last_index, IsPlace}
 use Rattle.triple_arena.specs.DirectLaws.{live-inserted, formed-inserted, live-removed, formed-removed, live-without_free_end, formed-without_free_end, entry-with_generation, live-with_generation, room-with_generation}
 use Rattle.triple_arena.specs.DirectSlot.{with_slot_value, with_slot_generation}
 use Rattle.triple_arena.specs.DirectLayout.{direct_of, IsSound}
@@ -69,7 +69,7 @@ module _ {T : Type 0} where
 
   -- what is live and one more fit in the capacity
   pub one_more : {xs : List (Option (ℕ × T))} (len : ℕ) {n : ℕ} {room room' : Room} (d : DirectContent T) {e : DirectContent T}
-      → Becomes xs (len + 1) room' e → room' ≡ room → n ≡ room_for d → d.room ≡ room → len + 1 ≤ n
+      → Becomes xs (len + 1) room' e → room' ≡ room → n ≡ arena_capacity d → d.room ≡ room → len + 1 ≤ n
   one_more {xs} len d left kept is same =
       let counted = left.sound.counted in
       let few = count_by-le-length is_some xs in
@@ -82,7 +82,7 @@ module _ {T : Type 0} where
       → direct_of xs room ≡ d → entry_at d i ≡ Some old → IsSound (set xs (i - 1) (Some e)) len room
   replaced {xs} i {room} e {old} sound seen is =
       let there : entry_at (direct_of xs room) i ≡ Some old = ap (λ x. entry_at x i) seen ∙ is in
-      let l = live_of (as_content (direct_of xs room)) i (ap is_some there) in
+      let l = live_entry (as_content (direct_of xs room)) i (ap is_some there) in
       let more = rw l.read at (sum_by-set (λ o. cond (is_some o) 1 0) xs (i - 1) (Some e) None l.within) in
       let counted = sound.counted in
       let sizes = length-set xs (i - 1) (Some e) in

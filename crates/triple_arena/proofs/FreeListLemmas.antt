@@ -9,7 +9,7 @@ use Rattle.std.specs.Option.{option_map}
 use Rattle.std.proofs.lemmas.Bool.{eq-eqb, ne_eqb}
 use Rattle.std.proofs.Math.Seq.{take-append_seam}
 use Rattle.triple_arena_stack.specs.Room.{Room, capacity}
-use Rattle.triple_arena.specs.Content.{Content, entry_at, get, live_count, room_for, inserted, vacated, with_value, with_generation, Lacks, AllVacant, IsWellFormed}
+use Rattle.triple_arena.specs.Content.{Content, entry_at, get, live_count, arena_capacity, inserted, vacated, with_value, with_generation, Lacks, AllVacant, IsWellFormed}
 use Rattle.triple_arena.specs.Entries.{value_if}
 use Rattle.triple_arena.specs.ContentLaws.{entry_at_slot}
 use Rattle.triple_arena.specs.Layout.{links, content_of, IsChain, IsSound}
@@ -160,7 +160,7 @@ module _ {T : Type 0} where
 
   -- with no head there is room behind the slots, where there is room at all
   pub room_behind : {es : List (Slot T)} {len : ℕ} {head : Option ℕ} {room : Room} {g : ℕ} {c : Content T} → head ≡ None → IsSound es len head room
-      → content_of es room g head ≡ c → live_count c < room_for c → length es < capacity room
+      → content_of es room g head ≡ c → live_count c < arena_capacity c → length es < capacity room
   room_behind {es} {len} {room} is sound seen below =
       let s = rw is at sound in
       let full = full_at_none es len room s in
@@ -235,7 +235,7 @@ module _ {T : Type 0} where
 
   -- a live slot behind full slots
   pub pushed : {es es' : List (Slot T)} {len : ℕ} {head : Option ℕ} {room room' : Room} {g : ℕ} {t : T} {new : Slot T} {c : Content T} → head ≡ None
-      → IsSound es len head room → live_count c < room_for c → es' ≡ es ++ new ∷ [] → new ≡ used g t → room' ≡ room → content_of es room g head ≡ c
+      → IsSound es len head room → live_count c < arena_capacity c → es' ≡ es ++ new ∷ [] → new ≡ used g t → room' ≡ room → content_of es room g head ≡ c
       → Becomes es' (len + 1) head room' g (inserted c t)
   pushed {es} {len} {room} {g} {t} is sound below written filling kept seen =
       let s = rw is at sound in

@@ -56,8 +56,8 @@ module _ {T : Type 0} where
   some_counter c = Some c.counter
 
   -- how many entries fit with no growth
-  abbrev pub room_for : Content T → ℕ
-  room_for c = capacity c.room
+  abbrev pub arena_capacity : Content T → ℕ
+  arena_capacity c = capacity c.room
 
   -- the index of the next entry: the first free one, or one past the slots
   abbrev pub next_index : Content T → ℕ
@@ -185,4 +185,4 @@ module _ {T : Type 0} where
   pub record IsWellFormed (c : Content T) : Type 0 where
     pub free : AllVacant c c.free
     pub counted : live_count c + length c.free ≡ length c.slots
-    pub fits : length c.slots ≤ room_for c
+    pub fits : length c.slots ≤ arena_capacity c

@@ -7,7 +7,7 @@ use Rattle.std.proofs.lemmas.List.{get_or-set_same, get_or-set_other, length-set
 use Rattle.std.proofs.lemmas.List.Sums.{sum_by-set}
 use Rattle.triple_arena.specs.Entries.{with_value_at}
 use Rattle.triple_arena_stack.specs.Room.{capacity}
-use Rattle.triple_arena.specs.Content.{Content, entry_at, live_count, room_for, next_index, with_value, Lacks, AllVacant, IsWellFormed}
+use Rattle.triple_arena.specs.Content.{Content, entry_at, live_count, arena_capacity, next_index, with_value, Lacks, AllVacant, IsWellFormed}
 
 module _ {T : Type 0} where
   -- the entry at an index from 1 on
@@ -30,8 +30,8 @@ module _ {T : Type 0} where
     pub within : i - 1 < length c.slots
     pub read : get_or c.slots (i - 1) None ≡ Some entry
 
-  pub live_of : (c : Content T) (i : ℕ) → IsSome (entry_at c i) → Live c i
-  live_of c i some = by_entry (entry_at c i) refl some
+  pub live_entry : (c : Content T) (i : ℕ) → IsSome (entry_at c i) → Live c i
+  live_entry c i some = by_entry (entry_at c i) refl some
     where
       by_entry : (o : Option (ℕ × T)) → entry_at c i ≡ o → IsSome o → Live c i
       by_entry None e some = absurd (true≢false (sym some))
@@ -69,9 +69,9 @@ module _ {T : Type 0} where
   entry-no_slots c none (suc k) = rw none refl
 
   -- each live index is within the capacity
-  pub live-within : (c : Content T) → IsWellFormed c → (j : ℕ) → IsSome (entry_at c j) → j ≤ room_for c
+  pub live-within : (c : Content T) → IsWellFormed c → (j : ℕ) → IsSome (entry_at c j) → j ≤ arena_capacity c
   live-within c formed j some =
-      let l = live_of c j some in
+      let l = live_entry c j some in
       omega (arith, l.positive, l.within, formed.fits)
 
   -- a live index is not a free one
@@ -116,7 +116,7 @@ module _ {T : Type 0} where
           ]
       by_entry (Some x) e =
           let some : IsSome (entry_at c i) = rw e refl in
-          let l = live_of c i some in
+          let l = live_entry c i some in
           rw e (entry-set c (record c { slots = set c.slots (i - 1) (Some (x.0, t)) }) i j (Some (x.0, t)) l.positive l.within refl)
 
   -- a write of a value changes the slots alone, and keeps their number and how many are live
@@ -165,7 +165,7 @@ module _ {T : Type 0} where
       by_entry None e = rw e refl
       by_entry (Some x) e =
           let some : IsSome (entry_at c i) = rw e refl in
-          let l = live_of c i some in
+          let l = live_entry c i some in
           let counted = rw l.read at (sum_by-set (λ o. cond (is_some o) 1 0) c.slots (i - 1) (Some (x.0, t)) None l.within) in
           rw e (omega (arith, counted))
 

@@ -6,7 +6,7 @@ use Rattle.triple_arena_ptr.specs.Generation.{next_generation}
 use Rattle.triple_arena_stack.specs.Room.{Room, capacity}
 use Rattle.triple_arena.specs.ArenaRoom.{room_with}
 use Rattle.triple_arena.specs.Entries.{value_if}
-use Rattle.triple_arena.specs.Content.{Content, entry_at as entry_of, live_count as live_of, with_value as with_value_of, with_generation as with_generation_of, last_index as last_index_of, without_free_end as without_free_end_of, with_limit as with_limit_of}
+use Rattle.triple_arena.specs.Content.{Content, entry_at as entry_of, live_count as live_count_of, with_value as with_value_of, with_generation as with_generation_of, last_index as last_index_of, without_free_end as without_free_end_of, with_limit as with_limit_of}
 use Rattle.triple_arena.specs.LiveEntries.{live_entries as live_entries_of}
 use Rattle.triple_arena.specs.Compression.{renewed, generation_of}
 
@@ -49,7 +49,7 @@ module _ {T : Type 0} where
 
   -- how many indexes are live
   abbrev pub live_count : DirectContent T → ℕ
-  live_count d = live_of (as_content d)
+  live_count d = live_count_of (as_content d)
 
   -- the index, generation and value of each live entry, in the order of the indexes
   abbrev pub live_entries : DirectContent T → List (ℕ × (ℕ × T))
@@ -60,8 +60,8 @@ module _ {T : Type 0} where
   no_counter d = None
 
   -- the greatest index that fits with no growth
-  abbrev pub room_for : DirectContent T → ℕ
-  room_for d = capacity d.room
+  abbrev pub arena_capacity : DirectContent T → ℕ
+  arena_capacity d = capacity d.room
 
   -- free slots at the end, so that there are this many at least
   abbrev pub reaching : ℕ → List (Option (ℕ × T)) → List (Option (ℕ × T))
@@ -70,7 +70,7 @@ module _ {T : Type 0} where
   -- an entry may be stored at this index: it is one of those that fit, and it is free
   pub record IsPlace (d : DirectContent T) (index : ℕ) : Type 0 where
     pub positive : 0 < index
-    pub fits : index ≤ room_for d
+    pub fits : index ≤ arena_capacity d
     pub vacant : entry_at d index ≡ None
 
   -- the content with one more entry, at this index, which is free
@@ -130,4 +130,4 @@ module _ {T : Type 0} where
 
   -- the slots are within the capacity
   abbrev pub IsWellFormed : DirectContent T → Type 0
-  IsWellFormed d = length d.slots ≤ room_for d
+  IsWellFormed d = length d.slots ≤ arena_capacity d

@@ -11,11 +11,11 @@ use Rattle.triple_arena_ptr.specs.Index.{max_index_of}
 use Rattle.triple_arena_stack.specs.Room.{Room, capacity, limited}
 use Rattle.triple_arena.specs.Entries.{with_entry, without, with_value_at, with_generation_at}
 use Rattle.triple_arena.specs.Content.{Content}
-use Rattle.triple_arena.specs.ContentLaws.{entry_at_slot, live_of, entry-set, entry-same_slots, live-within, entry-with_value as entry-with_value_of, live-with_value as live-with_value_of, slots-with_value as slots-with_value_of, room-with_value as room-with_value_of}
+use Rattle.triple_arena.specs.ContentLaws.{entry_at_slot, live_entry, entry-set, entry-same_slots, live-within, entry-with_value as entry-with_value_of, live-with_value as live-with_value_of, slots-with_value as slots-with_value_of, room-with_value as room-with_value_of}
 use Rattle.triple_arena.specs.GenerationLaws.{entry-with_generation as entry-with_generation_of, live-with_generation as live-with_generation_of, slots-with_generation as slots-with_generation_of, room-with_generation as room-with_generation_of}
 use Rattle.triple_arena.specs.FreeListLaws.{last_index-is, entry-without_free_end as entry-without_free_end_of, live-without_free_end as live-without_free_end_of, slots-without_free_end as slots-without_free_end_of}
 use Rattle.triple_arena.specs.LimitLaws.{capacity-reserved, fitted-within, fitted-less, entry-with_limit as entry-with_limit_of, live-with_limit as live-with_limit_of, slots-with_limit as slots-with_limit_of, room-with_limit as room-with_limit_of}
-use Rattle.triple_arena.specs.DirectContent.{DirectContent, as_content, entry_at, live_count, room_for, reaching, IsPlace, inserted, removed, with_value, with_generation, with_next_generation, invalidated, cleared, in_room, last_index, without_free_end, with_limit, IsWellFormed}
+use Rattle.triple_arena.specs.DirectContent.{DirectContent, as_content, entry_at, live_count, arena_capacity, reaching, IsPlace, inserted, removed, with_value, with_generation, with_next_generation, invalidated, cleared, in_room, last_index, without_free_end, with_limit, IsWellFormed}
 
 free_counts : (X : Type 0) (m : ℕ) → count_by {X = Option X} is_some (replicate m None) ≡ 0
 free_counts X zero = refl
@@ -89,13 +89,13 @@ module _ {T : Type 0} where
   -- a removal leaves no entry at its index
   pub entry-removed : (d : DirectContent T) (i : ℕ) → IsSome (entry_at d i) → (j : ℕ) → entry_at (removed d i) j ≡ without (entry_at d) i j
   entry-removed d i some j =
-      let l = live_of (as_content d) i some in
+      let l = live_entry (as_content d) i some in
       entry-set (as_content d) (as_content (removed d i)) i j None l.positive l.within refl
 
   -- and takes one from what is live
   pub live-removed : (d : DirectContent T) (i : ℕ) → IsSome (entry_at d i) → live_count (removed d i) + 1 ≡ live_count d
   live-removed d i some =
-      let l = live_of (as_content d) i some in
+      let l = live_entry (as_content d) i some in
       let counted = rw l.read at (sum_by-set (λ o. cond (is_some o) 1 0) d.slots (i - 1) None None l.within) in
       omega (arith, counted)
 
@@ -201,7 +201,7 @@ module _ {T : Type 0} where
   entry-in_room d r zero = refl
   entry-in_room d r (suc k) = refl
 
-  pub formed-in_room : (d : DirectContent T) (r : Room) → room_for d ≤ capacity r → IsWellFormed d → IsWellFormed (in_room d r)
+  pub formed-in_room : (d : DirectContent T) (r : Room) → arena_capacity d ≤ capacity r → IsWellFormed d → IsWellFormed (in_room d r)
   formed-in_room d r more formed = omega (arith, formed, more)
 
   -- the entries stay where the free slots at the end go
@@ -250,9 +250,9 @@ module _ {T : Type 0} where
       omega (arith, within, less, reserved, formed, indexed)
 
   -- each live index is within the capacity
-  pub live_index-within : (d : DirectContent T) → IsWellFormed d → (j : ℕ) → IsSome (entry_at d j) → j ≤ room_for d
+  pub live_index-within : (d : DirectContent T) → IsWellFormed d → (j : ℕ) → IsSome (entry_at d j) → j ≤ arena_capacity d
   live_index-within d formed j some =
-      let l = live_of (as_content d) j some in
+      let l = live_entry (as_content d) j some in
       omega (arith, l.positive, l.within, formed)
 
 -- what a direct insertion changes and keeps

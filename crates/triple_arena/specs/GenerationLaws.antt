@@ -7,7 +7,7 @@ use Rattle.triple_arena_ptr.specs.Generation.{next_generation}
 use Rattle.triple_arena_stack.specs.Room.{capacity}
 use Rattle.triple_arena.specs.Entries.{with_generation_at}
 use Rattle.triple_arena.specs.Content.{Content, entry_at, live_count, with_generation, invalidated, stepped, IsWellFormed}
-use Rattle.triple_arena.specs.ContentLaws.{live_of, entry-set, entry-same_slots, vacant-kept}
+use Rattle.triple_arena.specs.ContentLaws.{live_entry, entry-set, entry-same_slots, vacant-kept}
 use Rattle.triple_arena.specs.RemovalLaws.{formed-stepped}
 
 module _ {T : Type 0} where
@@ -23,7 +23,7 @@ module _ {T : Type 0} where
           ]
       by_entry (Some x) e =
           let some : IsSome (entry_at c i) = rw e refl in
-          let l = live_of c i some in
+          let l = live_entry c i some in
           rw e (entry-set c (record c { slots = set c.slots (i - 1) (Some (g, x.1)) }) i j (Some (g, x.1)) l.positive l.within refl)
 
   -- and the number of live entries, the counter and the room stay
@@ -34,7 +34,7 @@ module _ {T : Type 0} where
       by_entry None e = rw e refl
       by_entry (Some x) e =
           let some : IsSome (entry_at c i) = rw e refl in
-          let l = live_of c i some in
+          let l = live_entry c i some in
           let counted = rw l.read at (sum_by-set (λ o. cond (is_some o) 1 0) c.slots (i - 1) (Some (g, x.1)) None l.within) in
           rw e (omega (arith, counted))
 

@@ -8,7 +8,7 @@ use Rattle.std.proofs.lemmas.List.Sums.{sum_by-set, sum_by_push}
 use Rattle.std.proofs.Math.Seq.{get_or-append_seam}
 use Rattle.triple_arena_stack.specs.Room.{Room, within, capacity, grown, room_after}
 use Rattle.triple_arena.specs.Entries.{with_entry}
-use Rattle.triple_arena.specs.Content.{Content, entry_at, live_count, room_for, next_index, inserted, in_room, grown_if_full, Lacks, AllVacant, IsWellFormed}
+use Rattle.triple_arena.specs.Content.{Content, entry_at, live_count, arena_capacity, next_index, inserted, in_room, grown_if_full, Lacks, AllVacant, IsWellFormed}
 use Rattle.triple_arena.specs.ContentLaws.{entry_at_slot, entry-set, entry-same_slots, vacant-kept, vacant-others}
 
 -- the room that a growth leaves is no smaller
@@ -114,7 +114,7 @@ module _ {T : Type 0} where
           rw e (omega (arith, same, all.0.within))
 
   -- an insertion with room keeps a content well-formed
-  pub formed-inserted : (c : Content T) (t : T) → IsWellFormed c → live_count c < room_for c → IsWellFormed (inserted c t)
+  pub formed-inserted : (c : Content T) (t : T) → IsWellFormed c → live_count c < arena_capacity c → IsWellFormed (inserted c t)
   formed-inserted c t formed room = by_list c.free refl formed.free
     where
       by_list : (l : List ℕ) → c.free ≡ l → AllVacant c l → IsWellFormed (inserted c t)
@@ -147,7 +147,7 @@ module _ {T : Type 0} where
           })
 
   -- greater room keeps a content well formed
-  pub formed-in_room : (c : Content T) (r : Room) → room_for c ≤ capacity r → IsWellFormed c → IsWellFormed (in_room c r)
+  pub formed-in_room : (c : Content T) (r : Room) → arena_capacity c ≤ capacity r → IsWellFormed c → IsWellFormed (in_room c r)
   formed-in_room c r more formed =
       record {
         free = vacant-kept c (in_room c r) (omega arith) (λ j none. none) c.free formed.free;

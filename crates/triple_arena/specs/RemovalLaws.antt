@@ -9,7 +9,7 @@ use Rattle.triple_arena_ptr.specs.Generation.{next_generation}
 use Rattle.triple_arena.specs.Entries.{without}
 use Rattle.triple_arena_stack.specs.Room.{capacity}
 use Rattle.triple_arena.specs.Content.{Content, entry_at, live_count, next_index, vacated, removed, stepped, cleared, AllVacant, IsWellFormed}
-use Rattle.triple_arena.specs.ContentLaws.{live_of, entry-set, entry-same_slots, entry-no_slots, live-lacks, vacant-kept, vacant-others}
+use Rattle.triple_arena.specs.ContentLaws.{live_entry, entry-set, entry-same_slots, entry-no_slots, live-lacks, vacant-kept, vacant-others}
 
 module _ {T : Type 0} where
   take_here : (xs : List (Option (ℕ × T))) (n : ℕ) → n + 1 ≡ length xs → get_or (take n xs) n None ≡ None
@@ -28,7 +28,7 @@ module _ {T : Type 0} where
   -- a removal leaves no entry at the index, and the others
   pub entry-vacated : (c : Content T) (i : ℕ) → IsSome (entry_at c i) → (j : ℕ) → entry_at (vacated c i) j ≡ without (entry_at c) i j
   entry-vacated c i some j =
-      let l = live_of c i some in
+      let l = live_entry c i some in
       let positive = l.positive in
       let within = l.within in
       elim (eqb_tells i (length c.slots)) [
@@ -39,7 +39,7 @@ module _ {T : Type 0} where
       front : (j : ℕ) → (i - 1) + 1 ≡ length c.slots → entry_at (record c { slots = take (i - 1) c.slots }) j ≡ without (entry_at c) i j
       front zero e = elim (eqb_tells 0 i) [ inl same ↦ rw same.0 refl | inr other ↦ rw other.0 refl ]
       front (suc k) e =
-          let l = live_of c i some in
+          let l = live_entry c i some in
           let positive = l.positive in
           elim (eqb_tells k (i - 1)) [
             | inl same ↦ rw (eq-eqb (suc k) i (omega (arith, same.1))) (ap (λ n. get_or (take (i - 1) c.slots) n None) same.1 ∙ take_here c.slots (i - 1) e)
@@ -49,7 +49,7 @@ module _ {T : Type 0} where
   -- a removal takes one from what is live
   pub live-vacated : (c : Content T) (i : ℕ) → IsSome (entry_at c i) → live_count (vacated c i) + 1 ≡ live_count c
   live-vacated c i some =
-      let l = live_of c i some in
+      let l = live_entry c i some in
       let positive = l.positive in
       let within = l.within in
       elim (eqb_tells i (length c.slots)) [
@@ -98,7 +98,7 @@ module _ {T : Type 0} where
   -- the slot of a removed entry is free
   vacant-vacated : (c : Content T) (i : ℕ) → IsSome (entry_at c i) → AllVacant c c.free → AllVacant (vacated c i) (vacated c i).free
   vacant-vacated c i some all =
-      let l = live_of c i some in
+      let l = live_entry c i some in
       let positive = l.positive in
       let below = l.within in
       let lacks = live-lacks c i some c.free all in
@@ -121,7 +121,7 @@ module _ {T : Type 0} where
 
   pub formed-vacated : (c : Content T) (i : ℕ) → IsSome (entry_at c i) → IsWellFormed c → IsWellFormed (vacated c i)
   formed-vacated c i some formed =
-      let l = live_of c i some in
+      let l = live_entry c i some in
       let positive = l.positive in
       let below = l.within in
       let live = live-vacated c i some in

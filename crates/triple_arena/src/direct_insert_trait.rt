@@ -2,7 +2,7 @@
 ghost use Rattle.std.specs.Prelude.{◌≡◌, ◌<◌, ◌↔◌, IsOk, IfOk, IsErrOf, IsSome};
 ghost use Rattle.std.specs.Borrow.{sem, RestsIfErr};
 ghost use Rattle.triple_arena.specs.DirectEntry.{entry_arena, entry_lender, entry_index, entry_generation};
-ghost use Rattle.triple_arena.specs.DirectContent.{DirectContent, entry_at, room_for, IsPlace};
+ghost use Rattle.triple_arena.specs.DirectContent.{DirectContent, entry_at, arena_capacity, IsPlace};
 
 use crate::{ArenaDirectInsertEntry, DirectSlot};
 use triple_arena_ptr::{DirectInsertionError, Ptr};
@@ -39,7 +39,7 @@ pub trait ArenaDirectInsertTrait<P: Ptr, T: Drop> {
         ensures generation { IfOk result
             (λ e. entry_generation P.Gen.number e ≡ P.generation p) }
         ensures not_within { IsErrOf result DirectInsertionError.NotWithinCapacity
-            ↔ (room_for (content self.old) < P.index p) }
+            ↔ (arena_capacity (content self.old) < P.index p) }
         ensures existing { IsErrOf result DirectInsertionError.ExistingElementAtIndex
             ↔ IsSome (entry_at (content self.old) (P.index p)) }
         ensures* err { sem 𝓛 (RestsIfErr Self.row self.entry entry_lender result

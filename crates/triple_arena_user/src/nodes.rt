@@ -1,6 +1,6 @@
 //! Nodes in an arena.
 ghost use Rattle.std.specs.Prelude.{false, ◌≡◌, ◌≢◌, ℕ, ◌+◌, ◌<◌, ◌↔◌, Some, None, IsOk, IsTrue, IsSome, IsNone, IfOk, OnOk, OnErr, option_copied};
-ghost use Rattle.triple_arena.specs.Content.{entry_at, live_count, room_for};
+ghost use Rattle.triple_arena.specs.Content.{entry_at, live_count, arena_capacity};
 ghost use Rattle.triple_arena.specs.Entries.{with_entry, without};
 ghost use Rattle.triple_arena_user.specs.Nodes.{value_at};
 
@@ -77,7 +77,7 @@ impl<P: Ptr, T: Drop, S: NonZeroInxGenericStack<ArenaSlot<P, Node<P, T>>> + Drop
 
     /// Stores `value` in a node on top of the others.
     pub fn push(&mut self, value: T) -> Result<P, NotWithinCapacityError>
-        ensures variant { IsOk result ↔ (live_count self.old.arena < room_for self.old.arena) }
+        ensures variant { IsOk result ↔ (live_count self.old.arena < arena_capacity self.old.arena) }
         ensures stored { IfOk result (λ p. value_at self.new (P.index p) (P.generation p)
             ≡ Some value) }
         ensures nodes { IfOk result (λ p. (j : ℕ) → entry_at self.new.arena j

@@ -93,7 +93,7 @@ impl<P: Ptr, T: Drop, S: NonZeroInxGenericStack<ArenaSlot<P, T>> + Drop> ArenaTr
     }
 
     fn capacity(&self) -> usize {
-        self.room_for()
+        self.own_capacity()
     }
 
     fn max_capacity(&self) -> Option<usize> {
@@ -244,7 +244,7 @@ impl<P: Ptr, T: Drop, S: NonZeroInxGenericStack<ArenaSlot<P, T>> + Drop> ArenaTr
         map: F,
     ) -> InvalidationOption<()> {
         // The slots are within the capacity, and so are their indexes.
-        let _ = self.room_for();
+        let _ = self.own_capacity();
         let (generation, wrapped) = renewal(self.counter, reset);
         compact(&mut self.slots, Some(generation), reset, map);
         self.counter = generation;

@@ -4,7 +4,7 @@ ghost use Rattle.std.specs.Borrow.{sem, RestsIfErr};
 ghost use Rattle.triple_arena_stack.specs.Push.{IsRefusal};
 ghost use Rattle.triple_arena.specs.Changes.{IsInserted};
 ghost use Rattle.triple_arena.specs.InsertEntry.{entry_arena, entry_lender};
-ghost use Rattle.triple_arena.specs.Content.{Content, entry_at, some_counter, live_count, room_for, next_index, inserted, grown_if_full, IsWellFormed};
+ghost use Rattle.triple_arena.specs.Content.{Content, entry_at, some_counter, live_count, arena_capacity, next_index, inserted, grown_if_full, IsWellFormed};
 
 use crate::{Arena, ArenaSlot};
 use triple_arena_ptr::{NotWithinCapacityError, Ptr, ReallocationError};
@@ -45,14 +45,14 @@ impl<'a, P: Ptr, T: Drop, S: NonZeroInxGenericStack<ArenaSlot<P, T>>> ArenaInser
 
     ghost generation = { λ e. (entry_arena e).counter };
 
-    ghost has_room = { λ e. live_count (entry_arena e) < room_for (entry_arena e) };
+    ghost has_room = { λ e. live_count (entry_arena e) < arena_capacity (entry_arena e) };
 
     fn ptr(&self) -> P {
         self.arena.next_ptr()
     }
 
     fn insert(self, t: T) -> P
-        requires { live_count (entry_arena self) < room_for (entry_arena self) }
+        requires { live_count (entry_arena self) < arena_capacity (entry_arena self) }
 
         // `self.exit.0.now` is the arena as it is left.
         ensures inserted { IsInserted entry_at live_count some_counter
@@ -81,7 +81,7 @@ pub trait ArenaInsertEntries<P: Ptr, T: Drop> {
         &mut self,
     ) -> Result<ArenaInsertEntry<'_, P, T, Self::Stack>, NotWithinCapacityError>
         ensures variant { IsOk result
-            ↔ (live_count (content self.old) < room_for (content self.old)) }
+            ↔ (live_count (content self.old) < arena_capacity (content self.old)) }
         ensures same_reference { IfOk result (λ e. entry_lender e ≡ self.entry.ghost_name) }
         ensures arena { IfOk result (λ e. entry_arena e ≡ content self.old) }
         ensures* err { sem 𝓛 (RestsIfErr Self.row self.entry entry_lender result
@@ -93,7 +93,7 @@ pub trait ArenaInsertEntries<P: Ptr, T: Drop> {
         &mut self,
     ) -> Result<ArenaInsertEntry<'_, P, T, Self::Stack>, ReallocationError>
         ensures same_reference { IfOk result (λ e. entry_lender e ≡ self.entry.ghost_name) }
-        ensures has_room { IfOk result (λ e. live_count (entry_arena e) < room_for (entry_arena e)) }
+        ensures has_room { IfOk result (λ e. live_count (entry_arena e) < arena_capacity (entry_arena e)) }
         ensures arena { IfOk result (λ e. entry_arena e ≡ grown_if_full (content self.old)) }
         ensures refusal { IsRefusal Self.Stack.takes_memory (live_count (content self.old))
             (content self.old).room result }
@@ -103,7 +103,7 @@ pub trait ArenaInsertEntries<P: Ptr, T: Drop> {
     /// The same as `entry_insert_reallocating`.
     fn entry_insert(&mut self) -> Result<ArenaInsertEntry<'_, P, T, Self::Stack>, ReallocationError>
         ensures same_reference { IfOk result (λ e. entry_lender e ≡ self.entry.ghost_name) }
-        ensures has_room { IfOk result (λ e. live_count (entry_arena e) < room_for (entry_arena e)) }
+        ensures has_room { IfOk result (λ e. live_count (entry_arena e) < arena_capacity (entry_arena e)) }
         ensures arena { IfOk result (λ e. entry_arena e ≡ grown_if_full (content self.old)) }
         ensures refusal { IsRefusal Self.Stack.takes_memory (live_count (content self.old))
             (content self.old).room result }
@@ -120,7 +120,7 @@ impl<P: Ptr, T: Drop, S: NonZeroInxGenericStack<ArenaSlot<P, T>>> ArenaInsertEnt
     fn entry_insert_within_capacity(
         &mut self,
     ) -> Result<ArenaInsertEntry<'_, P, T, S>, NotWithinCapacityError> {
-        if self.live() == self.room_for() {
+        if self.live() == self.own_capacity() {
             return Err(NotWithinCapacityError);
         }
         Ok(ArenaInsertEntry { arena: self })

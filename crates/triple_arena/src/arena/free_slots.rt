@@ -20,7 +20,7 @@ impl<P: Ptr, T: Drop, S: NonZeroInxGenericStack<ArenaSlot<P, T>>> Arena<P, T, S>
         ensures { option_map P.Inx.number result ≡ slice_get self.now.free 0 }
     {
         // Each slot has an index of the pointer type.
-        let _ = self.room_for();
+        let _ = self.own_capacity();
         match self.head {
             Some(head) => P::Inx::try_from_usize(head),
             None => None,

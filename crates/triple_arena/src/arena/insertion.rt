@@ -1,7 +1,7 @@
 //! Insertion at an index that the arena chooses.
 ghost use Rattle.std.specs.Prelude.{◌≡◌, ◌<◌, refl};
 ghost use Rattle.triple_arena.specs.Changes.{IsInserted};
-ghost use Rattle.triple_arena.specs.Content.{entry_at, some_counter, live_count, room_for, next_index as next_of, inserted as inserted_of, grown_if_full as grown_of, IsWellFormed};
+ghost use Rattle.triple_arena.specs.Content.{entry_at, some_counter, live_count, arena_capacity, next_index as next_of, inserted as inserted_of, grown_if_full as grown_of, IsWellFormed};
 ghost use Rattle.triple_arena.specs.ContentLaws.{next-with_value};
 
 use crate::arena::{Arena, pointer_at};
@@ -25,7 +25,7 @@ impl<P: Ptr, T: Drop, S: NonZeroInxGenericStack<ArenaSlot<P, T>> + Drop> ArenaIn
 
     #[inline]
     fn insert_within_capacity(&mut self, t: T) -> Result<P, NotWithinCapacityError> {
-        if self.live() == self.room_for() {
+        if self.live() == self.own_capacity() {
             return Err(NotWithinCapacityError);
         }
         Ok(self.insert_entry(t))
@@ -43,7 +43,7 @@ impl<P: Ptr, T: Drop, S: NonZeroInxGenericStack<ArenaSlot<P, T>> + Drop> ArenaIn
 impl<P: Ptr, T: Drop, S: NonZeroInxGenericStack<ArenaSlot<P, T>>> Arena<P, T, S> {
     // The pointer of the next entry.
     pub(crate) fn next_ptr(&self) -> P
-        requires { live_count self.now < room_for self.now }
+        requires { live_count self.now < arena_capacity self.now }
         ensures has_index { P.index result ≡ next_of self.now }
         ensures has_generation { P.generation result ≡ self.now.counter }
     {
@@ -61,7 +61,7 @@ impl<P: Ptr, T: Drop, S: NonZeroInxGenericStack<ArenaSlot<P, T>>> Arena<P, T, S>
     // Stores `t` at the first free index, or in a slot more.
     #[inline]
     pub(crate) fn insert_in_room(&mut self, t: T) -> P
-        requires { live_count self.old < room_for self.old }
+        requires { live_count self.old < arena_capacity self.old }
         ensures value { self.new ≡ inserted_of self.old t }
         ensures has_index { P.index result ≡ next_of self.old }
         ensures has_generation { P.generation result ≡ self.old.counter }
@@ -89,7 +89,7 @@ impl<P: Ptr, T: Drop, S: NonZeroInxGenericStack<ArenaSlot<P, T>>> Arena<P, T, S>
     // Stores `t` as `insert_in_room` does, and says what is at each index then.
     #[inline]
     pub(crate) fn insert_entry(&mut self, t: T) -> P
-        requires { live_count self.old < room_for self.old }
+        requires { live_count self.old < arena_capacity self.old }
         ensures value { self.new ≡ inserted_of self.old t }
         ensures inserted { IsInserted entry_at live_count some_counter (next_of self.old)
             (P.index result) (P.generation result) t self.old self.new }

@@ -28,7 +28,7 @@ impl<P: Ptr, T: Drop, S: NonZeroInxGenericStack<ArenaSlot<P, T>>> Arena<P, T, S>
     pub fn iter(&self) -> Iter<'_, P, T>
         ensures { result ≡ live_entries self.now }
     {
-        let _ = self.room_for();
+        let _ = self.own_capacity();
         iterators::Iter::over(self.slots.as_slice())
     }
 }

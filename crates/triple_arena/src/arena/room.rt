@@ -3,7 +3,7 @@ ghost use Rattle.std.specs.Prelude.{◌≡◌, ◌^◌, ◌<◌, ◌≤◌, ◌�
 ghost use Rattle.triple_arena_ptr.specs.Index.{max_index_of};
 ghost use Rattle.triple_arena_stack.specs.Push.{IsRefusal};
 ghost use Rattle.triple_arena_stack.specs.Room.{grown, IsBeyond};
-ghost use Rattle.triple_arena.specs.Content.{live_count, room_for, reallocated, grown_if_full, in_room, IsWellFormed};
+ghost use Rattle.triple_arena.specs.Content.{live_count, arena_capacity, reallocated, grown_if_full, in_room, IsWellFormed};
 
 use crate::ArenaSlot;
 use crate::arena::Arena;
@@ -13,8 +13,8 @@ use triple_arena_stack::NonZeroInxGenericStack;
 
 impl<P: Ptr, T: Drop, S: NonZeroInxGenericStack<ArenaSlot<P, T>>> Arena<P, T, S> {
     // How many entries fit with no growth.
-    pub(crate) fn room_for(&self) -> usize
-        ensures value { result ≡ room_for self.now }
+    pub(crate) fn own_capacity(&self) -> usize
+        ensures value { result ≡ arena_capacity self.now }
         ensures can_double { self.now.room.limit ≡ None → result < 2 ^ 63 }
         ensures bounded { result ≤ max_index_of P.Inx.greatest }
         ensures formed { IsWellFormed self.now }
@@ -32,8 +32,8 @@ impl<P: Ptr, T: Drop, S: NonZeroInxGenericStack<ArenaSlot<P, T>>> Arena<P, T, S>
     // Makes room for `min` entries, by a growth to exactly that where there is less.
     pub(crate) fn reallocate(&mut self, min: usize) -> Result<(), ReallocationError>
         ensures exact { OnOk result (self.new ≡ reallocated self.old min) }
-        ensures fits { OnOk result (min ≤ room_for self.new) }
-        ensures succeeds { min ≤ room_for self.old → IsOk result }
+        ensures fits { OnOk result (min ≤ arena_capacity self.new) }
+        ensures succeeds { min ≤ arena_capacity self.old → IsOk result }
         ensures beyond { IsErrOf result ReallocationError.BeyondMaxCapacity
             ↔ IsBeyond self.old.room.limit min }
         ensures memory { IsErrOf result ReallocationError.AllocError → IsTrue S.takes_memory }
@@ -46,12 +46,12 @@ impl<P: Ptr, T: Drop, S: NonZeroInxGenericStack<ArenaSlot<P, T>>> Arena<P, T, S>
     // greatest capacity.
     #[inline]
     pub(crate) fn make_room(&mut self) -> Result<(), ReallocationError>
-        ensures ok { OnOk result (live_count self.new < room_for self.new) }
+        ensures ok { OnOk result (live_count self.new < arena_capacity self.new) }
         ensures exact { OnOk result (self.new ≡ grown_if_full self.old) }
         ensures refusal { IsRefusal S.takes_memory (live_count self.old) self.old.room result }
         ensures err { OnErr result (self.new ≡ self.old) }
     {
-        if self.live() < self.room_for() {
+        if self.live() < self.own_capacity() {
             return Ok(());
         }
         self.grow()
@@ -61,13 +61,13 @@ impl<P: Ptr, T: Drop, S: NonZeroInxGenericStack<ArenaSlot<P, T>>> Arena<P, T, S>
     #[cold]
     #[inline(never)]
     fn grow(&mut self) -> Result<(), ReallocationError>
-        requires { live_count self.old ≡ room_for self.old }
-        ensures ok { OnOk result (live_count self.new < room_for self.new) }
+        requires { live_count self.old ≡ arena_capacity self.old }
+        ensures ok { OnOk result (live_count self.new < arena_capacity self.new) }
         ensures grown { OnOk result (self.new ≡ in_room self.old (grown self.old.room)) }
         ensures refusal { IsRefusal S.takes_memory (live_count self.old) self.old.room result }
         ensures err { OnErr result (self.new ≡ self.old) }
     {
-        let capacity = self.room_for();
+        let capacity = self.own_capacity();
         let wanted = capacity.saturating_mul(2).max(4);
         match self.limit() {
             None => self.reallocate(wanted),

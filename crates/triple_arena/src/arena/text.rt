@@ -11,7 +11,7 @@ impl<P: Ptr, T: fmt::Debug + Drop, S: NonZeroInxGenericStack<ArenaSlot<P, T>>> f
     for Arena<P, T, S> {
     fn fmt<W: fmt::Write>(&self, f: &mut fmt::Formatter<W>) -> fmt::Result {
         // The slots are within the capacity, and so are their indexes.
-        let _ = self.room_for();
+        let _ = self.own_capacity();
         let mut out = f.debug_map();
         for before in 0..self.slots.len() {
             let i = NonZeroUsize::MIN.saturating_add(before);

@@ -89,7 +89,7 @@ impl<P: Ptr, T: Drop, S: NonZeroInxGenericStack<DirectSlot<P, T>> + Drop> ArenaT
     }
 
     fn capacity(&self) -> usize {
-        self.room_for()
+        self.own_capacity()
     }
 
     fn max_capacity(&self) -> Option<usize> {
@@ -105,7 +105,7 @@ impl<P: Ptr, T: Drop, S: NonZeroInxGenericStack<DirectSlot<P, T>> + Drop> ArenaT
 
     fn len(&self) -> usize {
         // The slots are within the capacity.
-        let _ = self.room_for();
+        let _ = self.own_capacity();
         self.live()
     }
 
@@ -225,7 +225,7 @@ impl<P: Ptr, T: Drop, S: NonZeroInxGenericStack<DirectSlot<P, T>> + Drop> ArenaT
         map: F,
     ) -> InvalidationOption<()> {
         // The slots are within the capacity, and so are their indexes.
-        let _ = self.room_for();
+        let _ = self.own_capacity();
         let wrapped = compact(&mut self.slots, None, reset, map);
         // The arena is well-formed after.
         let _ = self.live();

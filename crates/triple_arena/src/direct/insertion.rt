@@ -2,7 +2,7 @@
 ghost use Rattle.std.specs.Prelude.{◌≡◌, ◌<◌, ◌≤◌, ◌↔◌, IsOk, IfOk, IsErrOf, IsSome};
 ghost use Rattle.std.specs.Int.NonZero.{non_zero_usize_get};
 ghost use Rattle.triple_arena.specs.Changes.{IsDirectlyInserted};
-ghost use Rattle.triple_arena.specs.DirectContent.{entry_at, live_count, no_counter, room_for, reaching, inserted, IsPlace, IsWellFormed};
+ghost use Rattle.triple_arena.specs.DirectContent.{entry_at, live_count, no_counter, arena_capacity, reaching, inserted, IsPlace, IsWellFormed};
 ghost use Rattle.triple_arena_stack.specs.Room.{capacity};
 
 use crate::DirectSlot;
@@ -32,11 +32,11 @@ impl<P: Ptr, T: Drop, S: NonZeroInxGenericStack<DirectSlot<P, T>>> DirectArena<P
         ensures place { IfOk result (λ i. IsPlace self.now (non_zero_usize_get i)) }
         ensures variant { IsOk result ↔ IsPlace self.now (P.index p) }
         ensures not_within { IsErrOf result DirectInsertionError.NotWithinCapacity
-            ↔ (room_for self.now < P.index p) }
+            ↔ (arena_capacity self.now < P.index p) }
         ensures existing { IsErrOf result DirectInsertionError.ExistingElementAtIndex
             ↔ IsSome (entry_at self.now (P.index p)) }
     {
-        let capacity = self.room_for();
+        let capacity = self.own_capacity();
         match p.inx().try_into_usize() {
             Some(i) if i.get() <= capacity => {
                 if self.is_live(i) {
@@ -56,7 +56,7 @@ impl<P: Ptr, T: Drop, S: NonZeroInxGenericStack<DirectSlot<P, T>>> DirectArena<P
             (P.Gen.number generation) t }
     {
         // The capacity is a `usize`, so one live entry more can be counted.
-        let _ = self.room_for();
+        let _ = self.own_capacity();
         reach(&mut self.slots, i.get());
         *self.slots.item_mut(i) = DirectSlot::used(generation, t);
         self.len += 1;

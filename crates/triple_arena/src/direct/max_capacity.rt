@@ -52,7 +52,7 @@ impl<P: Ptr, T: Drop, S: NonZeroInxLimitedStack<DirectSlot<P, T>>> DirectArena<P
             (limited self.old.room (min max (max_index_of P.Inx.greatest))) }
     {
         // The slots are within the capacity, and so are their indexes.
-        let _ = self.room_for();
+        let _ = self.own_capacity();
         match self.slots.set_max_capacity(max) {
             Ok(()) => {}
             Err(_) => unreachable!(),

@@ -2,7 +2,7 @@
 ghost use Rattle.std.specs.Prelude.{◌≡◌, ◌≤◌, ◌↔◌, IsOk, OnOk, OnErr, IsErrOf, IsTrue};
 ghost use Rattle.triple_arena_ptr.specs.Index.{max_index_of};
 ghost use Rattle.triple_arena_stack.specs.Room.{IsBeyond};
-ghost use Rattle.triple_arena.specs.DirectContent.{room_for, reallocated, IsWellFormed};
+ghost use Rattle.triple_arena.specs.DirectContent.{arena_capacity, reallocated, IsWellFormed};
 
 use crate::DirectSlot;
 use crate::direct::DirectArena;
@@ -12,8 +12,8 @@ use triple_arena_stack::NonZeroInxGenericStack;
 
 impl<P: Ptr, T: Drop, S: NonZeroInxGenericStack<DirectSlot<P, T>>> DirectArena<P, T, S> {
     // The greatest index that fits with no growth.
-    pub(crate) fn room_for(&self) -> usize
-        ensures value { result ≡ room_for self.now }
+    pub(crate) fn own_capacity(&self) -> usize
+        ensures value { result ≡ arena_capacity self.now }
         ensures bounded { result ≤ max_index_of P.Inx.greatest }
         ensures formed { IsWellFormed self.now }
     {
@@ -30,9 +30,9 @@ impl<P: Ptr, T: Drop, S: NonZeroInxGenericStack<DirectSlot<P, T>>> DirectArena<P
     // Makes room for `min` entries, by a growth to exactly that where there is less.
     pub(crate) fn reallocate(&mut self, min: usize) -> Result<(), ReallocationError>
         ensures exact { OnOk result (self.new ≡ reallocated self.old min) }
-        ensures fits { OnOk result (min ≤ room_for self.new) }
-        ensures succeeds { min ≤ room_for self.old → IsOk result }
-        ensures kept { min ≤ room_for self.old → self.new ≡ self.old }
+        ensures fits { OnOk result (min ≤ arena_capacity self.new) }
+        ensures succeeds { min ≤ arena_capacity self.old → IsOk result }
+        ensures kept { min ≤ arena_capacity self.old → self.new ≡ self.old }
         ensures beyond { IsErrOf result ReallocationError.BeyondMaxCapacity
             ↔ IsBeyond self.old.room.limit min }
         ensures memory { IsErrOf result ReallocationError.AllocError → IsTrue S.takes_memory }

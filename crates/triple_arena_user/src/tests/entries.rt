@@ -1,7 +1,7 @@
 //! Entries tell their pointer first, and leave the arena where they are not used; and values change places.
 ghost use Rattle.std.specs.Prelude.{◌≡◌, ◌<◌, Some, None, false, OnOk, OnErr, IfSome, IfNone, IsTrue};
 ghost use Rattle.triple_arena_stack.specs.Room.{grown};
-ghost use Rattle.triple_arena.specs.Content.{live_count, room_for, next_index, inserted, in_room};
+ghost use Rattle.triple_arena.specs.Content.{live_count, arena_capacity, next_index, inserted, in_room};
 
 use std::alloc::Global;
 use std::process::Abort;
@@ -20,9 +20,9 @@ fn insert_by_entry<P: Ptr, S: NonZeroInxGenericStack<ArenaSlot<P, u64>>>(
     arena: &mut Arena<P, u64, S>,
     t: u64,
 ) -> Option<P>
-    ensures stored { live_count arena.old < room_for arena.old
+    ensures stored { live_count arena.old < arena_capacity arena.old
         → IfSome result (λ p. arena.new ≡ inserted arena.old t) }
-    ensures stored_in_more { live_count arena.old ≡ room_for arena.old
+    ensures stored_in_more { live_count arena.old ≡ arena_capacity arena.old
         → IfSome result (λ p. arena.new ≡ inserted (in_room arena.old (grown arena.old.room)) t) }
     ensures index { IfSome result (λ p. P.index p ≡ next_index arena.old) }
     ensures generation { IfSome result (λ p. P.generation p ≡ arena.old.counter) }
@@ -42,8 +42,8 @@ fn insert_by_entry<P: Ptr, S: NonZeroInxGenericStack<ArenaSlot<P, u64>>>(
 fn only_asks<P: Ptr, S: NonZeroInxGenericStack<ArenaSlot<P, u64>>>(
     arena: &mut Arena<P, u64, S>,
 ) -> bool
-    ensures kept { live_count arena.old < room_for arena.old → arena.new ≡ arena.old }
-    ensures grown { live_count arena.old ≡ room_for arena.old
+    ensures kept { live_count arena.old < arena_capacity arena.old → arena.new ≡ arena.old }
+    ensures grown { live_count arena.old ≡ arena_capacity arena.old
         → IsTrue result → arena.new ≡ in_room arena.old (grown arena.old.room) }
     ensures refused { result ≡ false → arena.new ≡ arena.old }
 {

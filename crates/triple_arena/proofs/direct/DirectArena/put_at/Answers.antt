@@ -16,7 +16,7 @@ overflow_add-self g c =
     (c.reach.ensures.slots ∙ ap (λ n. reaching n (g.S.NonZeroInxGenericStack.items c.self.inside.slots)) c.get.ensures.value) c.used.ensures
     (g.met.S.NonZeroInxGenericStack.items_with_items c.reach.new.slots
     (with_item (g.S.NonZeroInxGenericStack.items c.reach.new.slots) (non_zero_usize_get c.args.i) c.used.result)) room in
-    let fits = one_more _ c.args.self.now left room c.room_for.ensures.value (ap (λ d. d.room) (sym c.self.view_is)) in
+    let fits = one_more _ c.args.self.now left room c.own_capacity.ensures.value (ap (λ d. d.room) (sym c.self.view_is)) in
     Prim.search rules
 
 pub invariant_of-self : goal.invariant_of-self

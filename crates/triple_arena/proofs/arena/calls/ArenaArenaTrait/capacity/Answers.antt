@@ -4,6 +4,6 @@ use Rattle.triple_arena.proofs.arena.calls.ArenaArenaTrait.capacity.Goals as goa
 
 pub returns-clause-indexes : goal.returns-clause-indexes
 returns-clause-indexes g c j some =
-    let e = c.room_for.ensures in
+    let e = c.own_capacity.ensures in
     let within = live-within _ e.formed j some in
     omega (arith, within, e.value)
