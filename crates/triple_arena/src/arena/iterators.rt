@@ -28,6 +28,7 @@ impl<P: Ptr, T: Drop, S: NonZeroInxGenericStack<ArenaSlot<P, T>>> Arena<P, T, S>
     pub fn iter(&self) -> Iter<'_, P, T>
         ensures { result ≡ live_entries self.now }
     {
+        // Each slot has an index of the pointer type.
         let _ = self.own_capacity();
         iterators::Iter::over(self.slots.as_slice())
     }

@@ -1,10 +1,13 @@
 //! The callers of a compression, at a concrete arena.
-use crate::{map_values, raise, sum_up};
+use crate::{direct_sum_of, map_values, raise, sum_of, sum_up};
 use std::alloc::Global;
 use std::num::NonZeroUsize;
 use std::process::Abort;
 use std::test::Fail;
-use triple_arena::{ArenaInsertTrait, ArenaTrait, HeapArena, InvalidationOption, P0};
+use triple_arena::{
+    ArenaDirectInsertEntryTrait, ArenaDirectInsertTrait, ArenaInsertTrait, ArenaTrait,
+    ArrayDirectArena, HeapArena, InvalidationOption, P0,
+};
 
 type InVec = HeapArena<P0, u64, Global>;
 
@@ -35,5 +38,20 @@ fn changes_the_values(rt: HostRuntime) -> Result<(), Fail> {
     holds(&rt, &arena, 17, 5);
     assert_eq!(rt; sum_up(&mut arena), InvalidationOption::Success(()));
     holds(&rt, &arena, 17, 22);
+    Ok(())
+}
+
+#[test]
+fn sums_the_values(rt: HostRuntime) -> Result<(), Fail> {
+    let mut arena = InVec::new(rt.alloc());
+    arena.insert(10)?;
+    let second = arena.insert(11)?;
+    arena.insert(12)?;
+    assert!(rt; !arena.remove(second).is_invalid());
+    assert_eq!(rt; sum_of(&arena), 22);
+    let mut mirror = ArrayDirectArena::<P0, u64, 4>::new(());
+    assert_eq!(rt; direct_sum_of(&mirror), 0);
+    mirror.direct_insert_within_capacity(second)?.insert(7);
+    assert_eq!(rt; direct_sum_of(&mirror), 7);
     Ok(())
 }
