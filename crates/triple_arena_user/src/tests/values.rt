@@ -5,8 +5,7 @@ use std::num::NonZeroUsize;
 use std::process::Abort;
 use std::test::Fail;
 use triple_arena::{
-    ArenaDirectInsertEntryTrait, ArenaDirectInsertTrait, ArenaInsertTrait, ArenaTrait,
-    ArrayDirectArena, HeapArena, InvalidationOption, P0,
+    ArenaInsertTrait, ArenaTrait, ArrayDirectArena, HeapArena, InvalidationOption, P0,
 };
 
 type InVec = HeapArena<P0, u64, Global>;
@@ -49,9 +48,6 @@ fn sums_the_values(rt: HostRuntime) -> Result<(), Fail> {
     arena.insert(12)?;
     assert!(rt; !arena.remove(second).is_invalid());
     assert_eq!(rt; sum_of(&arena), 22);
-    let mut mirror = ArrayDirectArena::<P0, u64, 4>::new(());
-    assert_eq!(rt; direct_sum_of(&mirror), 0);
-    mirror.direct_insert_within_capacity(second)?.insert(7);
-    assert_eq!(rt; direct_sum_of(&mirror), 7);
+    assert_eq!(rt; direct_sum_of(&ArrayDirectArena::<P0, u64, 4>::new(())), 0);
     Ok(())
 }
