@@ -1,0 +1,77 @@
+-- Where an insertion puts its link.
+use Rattle.std.specs.Prelude.{◌≡◌, ◌≢◌, ℕ, ◌==◌, Option, Some, None, if◌then◌else◌}
+use Rattle.std.specs.Option.{option_map}
+use Rattle.triple_arena_chain.specs.declared.kind.InsertKind.{InsertKind}
+use Rattle.triple_arena_chain.specs.declared.kind.InsertKind.TheVariants.{Disconnected, SingleLinkCyclic, ChainEnd, ChainEndInx, ChainStart, ChainStartInx, NextTo, NextToInx, PrevTo, PrevToInx, AtInterlink, AtInterlinkInx, Bridge, BridgeInx}
+use Rattle.triple_arena_chain.specs.Chains.{Ends}
+
+-- a place for one link more: between two neighbours, of which either may be missing, or in a ring of its own
+pub data Place : Type 0 where
+  between : Ends → Place
+  own_ring : Place
+
+-- after a link that has no next
+abbrev pub at_end : ℕ → Option Ends → Option Place
+at_end i None = None
+at_end i (Some ends) = by_next ends.1
+  where
+    by_next : Option ℕ → Option Place
+    by_next None = Some (between (Some i, None))
+    by_next (Some _) = None
+
+-- before a link that has no previous one
+abbrev pub at_start : ℕ → Option Ends → Option Place
+at_start i None = None
+at_start i (Some ends) = by_prev ends.0
+  where
+    by_prev : Option ℕ → Option Place
+    by_prev None = Some (between (None, Some i))
+    by_prev (Some _) = None
+
+-- directly after a link
+abbrev pub after_link : ℕ → Option Ends → Option Place
+after_link i ends = option_map (λ e. between (Some i, e.1)) ends
+
+-- directly before a link
+abbrev pub before_link : ℕ → Option Ends → Option Place
+before_link i ends = option_map (λ e. between (e.0, Some i)) ends
+
+-- between two links of which the second is the next of the first
+abbrev pub at_interlink : ℕ → ℕ → Option Ends → Option Ends → Option Place
+at_interlink i j None _ = None
+at_interlink i j (Some first) None = None
+at_interlink i j (Some first) (Some second) = by_next first.1
+  where
+    by_next : Option ℕ → Option Place
+    by_next None = None
+    by_next (Some k) = if k == j then Some (between (Some i, Some j)) else None
+
+-- between a link that has no next and one that has no previous one
+abbrev pub at_bridge : ℕ → ℕ → Option Ends → Option Ends → Option Place
+at_bridge i j None _ = None
+at_bridge i j (Some first) None = None
+at_bridge i j (Some first) (Some second) = by_ends first.1 second.0
+  where
+    by_ends : Option ℕ → Option ℕ → Option Place
+    by_ends None None = Some (between (Some i, Some j))
+    by_ends None (Some _) = None
+    by_ends (Some _) _ = None
+
+module _ {P I : Type 0} (index : P → ℕ) (number : I → ℕ) (ends_of : P → Option Ends) (ends_at : ℕ → Option Ends) where
+  -- the place that a kind asks for, or nothing where the links are not as it requires: by the ends of what a pointer
+  -- finds, and by those of what is at an index
+  abbrev pub place_of : InsertKind P I → Option Place
+  place_of Disconnected = Some (between (None, None))
+  place_of SingleLinkCyclic = Some own_ring
+  place_of (ChainEnd p) = at_end (index p) (ends_of p)
+  place_of (ChainEndInx i) = at_end (number i) (ends_at (number i))
+  place_of (ChainStart p) = at_start (index p) (ends_of p)
+  place_of (ChainStartInx i) = at_start (number i) (ends_at (number i))
+  place_of (NextTo p) = after_link (index p) (ends_of p)
+  place_of (NextToInx i) = after_link (number i) (ends_at (number i))
+  place_of (PrevTo p) = before_link (index p) (ends_of p)
+  place_of (PrevToInx i) = before_link (number i) (ends_at (number i))
+  place_of (AtInterlink p q) = at_interlink (index p) (index q) (ends_of p) (ends_of q)
+  place_of (AtInterlinkInx i j) = at_interlink (number i) (number j) (ends_at (number i)) (ends_at (number j))
+  place_of (Bridge p q) = at_bridge (index p) (index q) (ends_of p) (ends_of q)
+  place_of (BridgeInx i j) = at_bridge (number i) (number j) (ends_at (number i)) (ends_at (number j))

@@ -1,0 +1,5 @@
+pub mod Chains
+pub mod ChainLaws
+pub mod Kinds
+pub mod Links
+pub mod LinkLaws

@@ -1,0 +1,184 @@
+-- What a write of an interlink, and of a value in a link, changes and keeps.
+use Rattle.std.proofs.Common.{◌≡◌, ◌==◌, if◌then◌else◌, ℕ, length, Option, Some, None, refl, sym, ap, subst, ◌∙◌, inl, inr}
+use Rattle.std.specs.Option.{option_map}
+use Rattle.std.proofs.lemmas.Bool.Decides.{eqb_tells}
+use Rattle.triple_arena.specs.Entries.{with_value_at}
+use Rattle.triple_arena.specs.Content.{Content, entry_at, live_count, with_value, IsWellFormed}
+use Rattle.triple_arena.specs.ContentLaws.{formed-with_value, entry-with_value, live-with_value, slots-with_value, counter-with_value, free-with_value, room-with_value}
+use Rattle.triple_arena_chain.specs.declared.link.IndexLink.{IndexLink}
+use Rattle.triple_arena_chain.specs.Chains.{Ends, IsAgreed, next_in, prev_in, with_next, with_prev, with_next_if, with_prev_if, renext, reprev}
+use Rattle.triple_arena_chain.specs.Links.{valued, values_in, with_link, with_link_of, with_value_in, IsKept, link_ends, entry_ends, ends_in, with_next_of, with_prev_of, IsChained}
+
+module _ {I T : Type 0} where
+  abbrev changed : (IndexLink I T → IndexLink I T) → ℕ × IndexLink I T → ℕ × IndexLink I T
+  changed f entry = (entry.0, f entry.1)
+
+  abbrev changed_ends : (I → ℕ) → (IndexLink I T → IndexLink I T) → ℕ × IndexLink I T → Ends
+  changed_ends number f entry = link_ends number (f entry.1)
+
+  -- a write of a link changes the entry at its index alone
+  pub entry-with_link : (c : Content (IndexLink I T)) (i : ℕ) (f : IndexLink I T → IndexLink I T) (k : ℕ)
+      → entry_at (with_link c i f) k ≡ (if k == i then option_map (changed f) (entry_at c i) else entry_at c k)
+  entry-with_link c i f k = by_entry (entry_at c i) refl
+    where
+      by_entry : (o : Option (ℕ × IndexLink I T)) → entry_at c i ≡ o
+          → entry_at (with_link c i f) k ≡ (if k == i then option_map (changed f) (entry_at c i) else entry_at c k)
+      by_entry None is =
+          ap (λ d. entry_at d k) (ap (with_link_of c i f) is)
+          ∙ elim (eqb_tells k i) [
+            | inl same ↦ rw (same.0, is) (ap (entry_at c) same.1 ∙ is)
+            | inr other ↦ rw other.0 refl
+          ]
+      by_entry (Some e) is =
+          ap (λ d. entry_at d k) (ap (with_link_of c i f) is)
+          ∙ entry-with_value c i (f e.1) k
+          ∙ elim (eqb_tells k i) [
+            | inl same ↦ rw (same.0, is) refl
+            | inr other ↦ rw other.0 refl
+          ]
+
+  pub kept-with_link : (c : Content (IndexLink I T)) (i : ℕ) (f : IndexLink I T → IndexLink I T) → IsKept c (with_link c i f)
+  kept-with_link c i f = by_entry (entry_at c i) refl
+    where
+      by_entry : (o : Option (ℕ × IndexLink I T)) → entry_at c i ≡ o → IsKept c (with_link c i f)
+      by_entry None is =
+          subst (IsKept c) (sym (ap (with_link_of c i f) is)) (record { live = refl; slots = refl; free = refl; counter = refl; room = refl })
+      by_entry (Some e) is =
+          subst (IsKept c) (sym (ap (with_link_of c i f) is))
+          (record {
+            live = live-with_value c i (f e.1);
+            slots = slots-with_value c i (f e.1);
+            free = free-with_value c i (f e.1);
+            counter = counter-with_value c i (f e.1);
+            room = room-with_value c i (f e.1);
+          })
+
+  pub formed-with_link : (c : Content (IndexLink I T)) (i : ℕ) (f : IndexLink I T → IndexLink I T) → IsWellFormed c → IsWellFormed (with_link c i f)
+  formed-with_link c i f formed = by_entry (entry_at c i) refl
+    where
+      by_entry : (o : Option (ℕ × IndexLink I T)) → entry_at c i ≡ o → IsWellFormed (with_link c i f)
+      by_entry None is = subst IsWellFormed (sym (ap (with_link_of c i f) is)) formed
+      by_entry (Some e) is = subst IsWellFormed (sym (ap (with_link_of c i f) is)) (formed-with_value c i (f e.1) formed)
+
+  -- a write that leaves the values of links leaves the values
+  values-with_link : (c : Content (IndexLink I T)) (i : ℕ) (f : IndexLink I T → IndexLink I T) → ((l : IndexLink I T) → (f l).t ≡ l.t)
+      → (k : ℕ) → values_in (with_link c i f) k ≡ values_in c k
+  values-with_link c i f same k =
+      ap (option_map valued) (entry-with_link c i f k)
+      ∙ elim (eqb_tells k i) [
+        | inl at ↦ rw at.0 (by_entry (entry_at c i) ∙ ap (values_in c) (sym at.1))
+        | inr other ↦ rw other.0 refl
+      ]
+    where
+      by_entry : (o : Option (ℕ × IndexLink I T)) → option_map valued (option_map (changed f) o) ≡ option_map valued o
+      by_entry None = refl
+      by_entry (Some e) = ap (λ t. Some (e.0, t)) (same e.1)
+
+module _ {I T : Type 0} (number : I → ℕ) where
+  ends-with_link : (c : Content (IndexLink I T)) (i : ℕ) (f : IndexLink I T → IndexLink I T) (k : ℕ)
+      → ends_in number (with_link c i f) k
+      ≡ (if k == i then option_map (changed_ends number f) (entry_at c i) else ends_in number c k)
+  ends-with_link c i f k =
+      ap (option_map (entry_ends number)) (entry-with_link c i f k)
+      ∙ elim (eqb_tells k i) [
+        | inl at ↦ rw at.0 (by_entry (entry_at c i))
+        | inr other ↦ rw other.0 refl
+      ]
+    where
+      by_entry : (o : Option (ℕ × IndexLink I T)) → option_map (entry_ends number) (option_map (changed f) o)
+          ≡ option_map (changed_ends number f) o
+      by_entry None = refl
+      by_entry (Some e) = refl
+
+  -- another next of a link
+  pub ends-with_next_of : (c : Content (IndexLink I T)) (at next : Option I) (k : ℕ)
+      → ends_in number (with_next_of number c at next) k ≡ with_next_if (ends_in number c) (option_map number at) (option_map number next) k
+  ends-with_next_of c None next k = refl
+  ends-with_next_of c (Some i) next k =
+      ends-with_link c (number i) (λ link. record link { next = next }) k
+      ∙ elim (eqb_tells k (number i)) [
+        | inl at ↦ rw at.0 (by_entry (entry_at c (number i)) ∙ ap (λ n. renext (option_map number next) (ends_in number c n)) (sym at.1))
+        | inr other ↦ rw other.0 refl
+      ]
+    where
+      by_entry : (o : Option (ℕ × IndexLink I T)) → option_map (changed_ends number (λ link. record link { next = next })) o
+          ≡ renext (option_map number next) (option_map (entry_ends number) o)
+      by_entry None = refl
+      by_entry (Some e) = refl
+
+  -- another previous one of a link
+  pub ends-with_prev_of : (c : Content (IndexLink I T)) (at prev : Option I) (k : ℕ)
+      → ends_in number (with_prev_of number c at prev) k ≡ with_prev_if (ends_in number c) (option_map number at) (option_map number prev) k
+  ends-with_prev_of c None prev k = refl
+  ends-with_prev_of c (Some i) prev k =
+      ends-with_link c (number i) (λ link. record link { prev = prev }) k
+      ∙ elim (eqb_tells k (number i)) [
+        | inl at ↦ rw at.0 (by_entry (entry_at c (number i)) ∙ ap (λ n. reprev (option_map number prev) (ends_in number c n)) (sym at.1))
+        | inr other ↦ rw other.0 refl
+      ]
+    where
+      by_entry : (o : Option (ℕ × IndexLink I T)) → option_map (changed_ends number (λ link. record link { prev = prev })) o
+          ≡ reprev (option_map number prev) (option_map (entry_ends number) o)
+      by_entry None = refl
+      by_entry (Some e) = refl
+
+  kept-same : (c : Content (IndexLink I T)) → IsKept c c
+  kept-same c = record { live = refl; slots = refl; free = refl; counter = refl; room = refl }
+
+  pub values-with_next_of : (c : Content (IndexLink I T)) (at next : Option I) (k : ℕ) → values_in (with_next_of number c at next) k ≡ values_in c k
+  values-with_next_of c None next k = refl
+  values-with_next_of c (Some i) next k = values-with_link c (number i) (λ link. record link { next = next }) (λ l. refl) k
+
+  pub values-with_prev_of : (c : Content (IndexLink I T)) (at prev : Option I) (k : ℕ) → values_in (with_prev_of number c at prev) k ≡ values_in c k
+  values-with_prev_of c None prev k = refl
+  values-with_prev_of c (Some i) prev k = values-with_link c (number i) (λ link. record link { prev = prev }) (λ l. refl) k
+
+  pub kept-with_next_of : (c : Content (IndexLink I T)) (at next : Option I) → IsKept c (with_next_of number c at next)
+  kept-with_next_of c None next = kept-same c
+  kept-with_next_of c (Some i) next = kept-with_link c (number i) (λ link. record link { next = next })
+
+  pub kept-with_prev_of : (c : Content (IndexLink I T)) (at prev : Option I) → IsKept c (with_prev_of number c at prev)
+  kept-with_prev_of c None prev = kept-same c
+  kept-with_prev_of c (Some i) prev = kept-with_link c (number i) (λ link. record link { prev = prev })
+
+  pub formed-with_next_of : (c : Content (IndexLink I T)) (at next : Option I) → IsWellFormed c → IsWellFormed (with_next_of number c at next)
+  formed-with_next_of c None next formed = formed
+  formed-with_next_of c (Some i) next formed = formed-with_link c (number i) (λ link. record link { next = next }) formed
+
+  pub formed-with_prev_of : (c : Content (IndexLink I T)) (at prev : Option I) → IsWellFormed c → IsWellFormed (with_prev_of number c at prev)
+  formed-with_prev_of c None prev formed = formed
+  formed-with_prev_of c (Some i) prev formed = formed-with_link c (number i) (λ link. record link { prev = prev }) formed
+
+  -- another value in a link leaves the interlinks
+  pub ends-with_value_in : (c : Content (IndexLink I T)) (i : ℕ) (t : T) (k : ℕ) → ends_in number (with_value_in c i t) k ≡ ends_in number c k
+  ends-with_value_in c i t k =
+      ends-with_link c i (λ link. record link { t = t }) k
+      ∙ elim (eqb_tells k i) [
+        | inl at ↦ rw at.0 (ap (ends_in number c) (sym at.1))
+        | inr other ↦ rw other.0 refl
+      ]
+
+module _ {I T : Type 0} where
+  -- and is what it was written
+  pub values-with_value_in : (c : Content (IndexLink I T)) (i : ℕ) (t : T) (k : ℕ)
+      → values_in (with_value_in c i t) k ≡ with_value_at (values_in c) i t k
+  values-with_value_in c i t k =
+      ap (option_map valued) (entry-with_link c i (λ link. record link { t = t }) k)
+      ∙ elim (eqb_tells k i) [
+        | inl at ↦ rw at.0 (by_entry (entry_at c i))
+        | inr other ↦ rw other.0 refl
+      ]
+    where
+      by_entry : (o : Option (ℕ × IndexLink I T)) → option_map valued (option_map (changed (λ link. record link { t = t })) o)
+          ≡ option_map (λ (e : ℕ × T). (let v : ℕ × T = (e.0, t) in v)) (option_map valued o)
+      by_entry None = refl
+      by_entry (Some e) = refl
+
+  pub kept-with_value_in : (c : Content (IndexLink I T)) (i : ℕ) (t : T) → IsKept c (with_value_in c i t)
+  kept-with_value_in c i t = kept-with_link c i (λ link. record link { t = t })
+
+  pub formed-with_value_in : (c : Content (IndexLink I T)) (i : ℕ) (t : T) → IsWellFormed c → IsWellFormed (with_value_in c i t)
+  formed-with_value_in c i t formed = formed-with_link c i (λ link. record link { t = t }) formed
+
+-- what a write of a value changes and keeps
+pub ruleset link_writes = (formed-with_value_in, values-with_value_in, ends-with_value_in, kept-with_value_in)

@@ -1,0 +1,73 @@
+-- The links of a chain arena: what their interlinks are, what their values are, and what a write of either leaves.
+use Rattle.std.specs.Prelude.{◌≡◌, ℕ, length, Option, Some, None}
+use Rattle.std.specs.Option.{option_map}
+use Rattle.triple_arena.specs.Content.{Content, entry_at, get, live_count, with_value, IsWellFormed}
+use Rattle.triple_arena_chain.specs.declared.link.IndexLink.{IndexLink}
+use Rattle.triple_arena_chain.specs.Chains.{Ends, IsAgreed}
+
+module _ {I T : Type 0} where
+  -- an entry with the value of its link alone
+  abbrev pub valued : ℕ × IndexLink I T → ℕ × T
+  valued entry = (entry.0, entry.1.t)
+
+  -- the generation and the value at an index
+  abbrev pub values_in : Content (IndexLink I T) → ℕ → Option (ℕ × T)
+  values_in c i = option_map valued (entry_at c i)
+
+  -- the link of this entry, if there is one, as a function leaves it, at its index
+  abbrev pub with_link_of : Content (IndexLink I T) → ℕ → (IndexLink I T → IndexLink I T) → Option (ℕ × IndexLink I T) → Content (IndexLink I T)
+  with_link_of c i change None = c
+  with_link_of c i change (Some entry) = with_value c i (change entry.1)
+
+  -- the link at an index as this function leaves it, if there is one
+  abbrev pub with_link : Content (IndexLink I T) → ℕ → (IndexLink I T → IndexLink I T) → Content (IndexLink I T)
+  with_link c i change = with_link_of c i change (entry_at c i)
+
+  -- the links with another value at an index, if there is one
+  abbrev pub with_value_in : Content (IndexLink I T) → ℕ → T → Content (IndexLink I T)
+  with_value_in c i t = with_link c i (λ link. record link { t = t })
+
+  -- the same indexes are live and free, and the counter and the room are the same
+  pub record IsKept (old new : Content (IndexLink I T)) : Type 0 where
+    pub live : live_count new ≡ live_count old
+    pub slots : length new.slots ≡ length old.slots
+    pub free : new.free ≡ old.free
+    pub counter : new.counter ≡ old.counter
+    pub room : new.room ≡ old.room
+
+module _ {I T : Type 0} (number : I → ℕ) where
+  -- the previous and the next index of a link
+  abbrev pub link_ends : IndexLink I T → Ends
+  link_ends link = (option_map number link.prev, option_map number link.next)
+
+  abbrev pub entry_ends : ℕ × IndexLink I T → Ends
+  entry_ends entry = link_ends entry.1
+
+  -- the interlinks at an index
+  abbrev pub ends_in : Content (IndexLink I T) → ℕ → Option Ends
+  ends_in c i = option_map entry_ends (entry_at c i)
+
+  -- those of the link at an index, where it has this generation
+  abbrev pub ends_found : Content (IndexLink I T) → ℕ → ℕ → Option Ends
+  ends_found c i g = option_map link_ends (get c i g)
+
+  -- the link at an index with another next, if these are there
+  abbrev pub with_next_of : Content (IndexLink I T) → Option I → Option I → Content (IndexLink I T)
+  with_next_of c None next = c
+  with_next_of c (Some i) next = with_link c (number i) (λ link. record link { next = next })
+
+  -- the link at an index with another previous one, if these are there
+  abbrev pub with_prev_of : Content (IndexLink I T) → Option I → Option I → Content (IndexLink I T)
+  with_prev_of c None prev = c
+  with_prev_of c (Some i) prev = with_link c (number i) (λ link. record link { prev = prev })
+
+  -- the arena is well-formed, and the interlinks agree both ways
+  pub record IsChained (c : Content (IndexLink I T)) : Type 0 where
+    pub formed : IsWellFormed c
+    pub agreed : IsAgreed (ends_in c)
+
+  -- these interlinks, and all else as it was
+  pub record IsRelinked (wanted : ℕ → Option Ends) (old new : Content (IndexLink I T)) : Type 0 where
+    pub ends : (k : ℕ) → ends_in new k ≡ wanted k
+    pub values : (k : ℕ) → values_in new k ≡ values_in old k
+    pub kept : IsKept old new

@@ -1,0 +1,50 @@
+//! Links in chains.
+ghost use Rattle.std.specs.Prelude.{◌≡◌, Some, None, option_copied};
+ghost use Rattle.std.specs.Option.{option_map};
+ghost use Rattle.triple_arena.specs.Content.{get, entry_at};
+
+mod interlinks;
+
+use crate::LinkNoGen;
+use std::marker::Model;
+use triple_arena::{Arena, ArenaSlot, ArenaTrait, NonZeroInxGenericStack, Ptr};
+
+/// Links in chains, which are lists and rings: each link is in one chain, once.
+#[derive(Drop)]
+pub struct ChainArena<P: Ptr, T: Drop, S: NonZeroInxGenericStack<ArenaSlot<P, LinkNoGen<P, T>>>> {
+    arena: Arena<P, LinkNoGen<P, T>, S>,
+}
+
+impl<P: Ptr, T: Drop, S: NonZeroInxGenericStack<ArenaSlot<P, LinkNoGen<P, T>>>> Model
+    for ChainArena<P, T, S> {
+    ghost use Rattle.triple_arena.specs.Content.{Content};
+    ghost use Rattle.triple_arena_chain.specs.declared.link.IndexLink.{IndexLink};
+    ghost use Rattle.triple_arena_chain.specs.Links.{IsChained};
+
+    ghost Value = { Content (IndexLink P.Inx T) };
+
+    ghost view = { λ a. a.arena };
+
+    ghost invariant = { λ a. IsChained P.Inx.number a.arena };
+}
+
+impl<P: Ptr, T: Drop, S: NonZeroInxGenericStack<ArenaSlot<P, LinkNoGen<P, T>>> + Drop> ChainArena<
+    P,
+    T,
+    S,
+> {
+    /// The link that `p` points to, if it is live.
+    pub fn get_link_no_gen(&self, p: P) -> Option<&LinkNoGen<P, T>>
+        ensures { option_copied result ≡ get self.now (P.index p) (P.generation p) }
+    {
+        self.arena.get(p)
+    }
+
+    /// The generation and the link at an index, if it is live.
+    pub fn get_inx_link_no_gen(&self, i: P::Inx) -> Option<(P::Gen, &LinkNoGen<P, T>)>
+        ensures { option_map (λ e. (P.Gen.number e.0, e.1.now)) result
+            ≡ entry_at self.now (P.Inx.number i) }
+    {
+        self.arena.get_inx(i)
+    }
+}

@@ -1,0 +1,43 @@
+//! Interlinks, read and written where the links lie.
+ghost use Rattle.std.specs.Prelude.{◌≡◌, ◌↔◌, Some, None, IsSome, IfSome, IsTrue};
+ghost use Rattle.triple_arena.specs.Content.{entry_at, IsWellFormed};
+ghost use Rattle.triple_arena_chain.specs.Links.{with_next_of, with_prev_of};
+
+use crate::LinkNoGen;
+use triple_arena::{Arena, ArenaSlot, ArenaTrait, NonZeroInxGenericStack, Ptr};
+
+// Gives the link at `at`, which is live if it is an index, another next.
+pub(crate) fn set_next<
+    P: Ptr,
+    T: Drop,
+    S: NonZeroInxGenericStack<ArenaSlot<P, LinkNoGen<P, T>>> + Drop,
+>(
+    arena: &mut Arena<P, LinkNoGen<P, T>, S>,
+    at: Option<P::Inx>,
+    next: Option<P::Inx>,
+)
+    requires { IfSome at (λ i. IsSome (entry_at arena.old (P.Inx.number i))) }
+    ensures { arena.new ≡ with_next_of P.Inx.number arena.old at next }
+{
+    if let Some(i) = at {
+        arena.get_inx_mut_unwrap(i).next = next;
+    }
+}
+
+// Gives the link at `at`, which is live if it is an index, another previous one.
+pub(crate) fn set_prev<
+    P: Ptr,
+    T: Drop,
+    S: NonZeroInxGenericStack<ArenaSlot<P, LinkNoGen<P, T>>> + Drop,
+>(
+    arena: &mut Arena<P, LinkNoGen<P, T>, S>,
+    at: Option<P::Inx>,
+    prev: Option<P::Inx>,
+)
+    requires { IfSome at (λ i. IsSome (entry_at arena.old (P.Inx.number i))) }
+    ensures { arena.new ≡ with_prev_of P.Inx.number arena.old at prev }
+{
+    if let Some(i) = at {
+        arena.get_inx_mut_unwrap(i).prev = prev;
+    }
+}

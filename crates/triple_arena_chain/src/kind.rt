@@ -1,0 +1,40 @@
+//! Where an insertion puts its link.
+use triple_arena_ptr::Ptr;
+
+/// Where an insertion puts its link, by pointers of the type `P` or by indexes of the type `I`, whose generation is not
+/// looked at.
+#[derive(Clone, Copy, Debug, PartialEq, Eq, PartialOrd, Ord, Hash)]
+pub enum InsertKind<P, I> {
+    /// In a linear chain of its own.
+    Disconnected,
+    /// In a ring of its own.
+    SingleLinkCyclic,
+    /// After a link that has no next.
+    ChainEnd(P),
+    /// The same by the index.
+    ChainEndInx(I),
+    /// Before a link that has no previous one.
+    ChainStart(P),
+    /// The same by the index.
+    ChainStartInx(I),
+    /// Directly after a link, between it and its next if it has one.
+    NextTo(P),
+    /// The same by the index.
+    NextToInx(I),
+    /// Directly before a link, between it and its previous one if it has one.
+    PrevTo(P),
+    /// The same by the index.
+    PrevToInx(I),
+    /// Between two links of which the second is the next of the first.
+    AtInterlink(P, P),
+    /// The same by the indexes.
+    AtInterlinkInx(I, I),
+    /// Between a link that has no next and one that has no previous one. Between the end and the start of one linear
+    /// chain it makes a ring.
+    Bridge(P, P),
+    /// The same by the indexes.
+    BridgeInx(I, I),
+}
+
+/// Where an insertion puts its link.
+pub type LinkInsertKind<P> = InsertKind<P, <P as Ptr>::Inx>;
