@@ -1,0 +1,4 @@
+pub mod AgreedLemmas
+pub mod PlaceLemmas
+pub mod TakeOutLemmas
+pub mod ExchangeLemmas

@@ -3,66 +3,73 @@ use Rattle.std.specs.Prelude.{◌≡◌, ◌≢◌, ℕ, ◌==◌, Option, Some,
 use Rattle.std.specs.Option.{option_map}
 use Rattle.triple_arena_chain.specs.declared.kind.InsertKind.{InsertKind}
 use Rattle.triple_arena_chain.specs.declared.kind.InsertKind.TheVariants.{Disconnected, SingleLinkCyclic, ChainEnd, ChainEndInx, ChainStart, ChainStartInx, NextTo, NextToInx, PrevTo, PrevToInx, AtInterlink, AtInterlinkInx, Bridge, BridgeInx}
+use Rattle.triple_arena_chain.specs.declared.place.Place.{Place}
+use Rattle.triple_arena_chain.specs.declared.place.Place.TheVariants.{Between, OwnRing}
 use Rattle.triple_arena_chain.specs.Chains.{Ends}
 
--- a place for one link more: between two neighbours, of which either may be missing, or in a ring of its own
-pub data Place : Type 0 where
-  between : Ends → Place
-  own_ring : Place
+module _ {I : Type 0} (number : I → ℕ) where
+  -- the ends of a link by their numbers
+  abbrev pub ends_by : Option I × Option I → Ends
+  ends_by ends = (option_map number ends.0, option_map number ends.1)
+
+  -- a place by the numbers of its neighbours
+  abbrev pub place_by : Place I → Place ℕ
+  place_by (Between before after) = Between (option_map number before) (option_map number after)
+  place_by OwnRing = OwnRing
 
 -- after a link that has no next
-abbrev pub at_end : ℕ → Option Ends → Option Place
+abbrev pub at_end : ℕ → Option Ends → Option (Place ℕ)
 at_end i None = None
 at_end i (Some ends) = by_next ends.1
   where
-    by_next : Option ℕ → Option Place
-    by_next None = Some (between (Some i, None))
+    by_next : Option ℕ → Option (Place ℕ)
+    by_next None = Some (Between (Some i) None)
     by_next (Some _) = None
 
 -- before a link that has no previous one
-abbrev pub at_start : ℕ → Option Ends → Option Place
+abbrev pub at_start : ℕ → Option Ends → Option (Place ℕ)
 at_start i None = None
 at_start i (Some ends) = by_prev ends.0
   where
-    by_prev : Option ℕ → Option Place
-    by_prev None = Some (between (None, Some i))
+    by_prev : Option ℕ → Option (Place ℕ)
+    by_prev None = Some (Between None (Some i))
     by_prev (Some _) = None
 
 -- directly after a link
-abbrev pub after_link : ℕ → Option Ends → Option Place
-after_link i ends = option_map (λ e. between (Some i, e.1)) ends
+abbrev pub after_link : ℕ → Option Ends → Option (Place ℕ)
+after_link i ends = option_map (λ e. Between (Some i) e.1) ends
 
 -- directly before a link
-abbrev pub before_link : ℕ → Option Ends → Option Place
-before_link i ends = option_map (λ e. between (e.0, Some i)) ends
+abbrev pub before_link : ℕ → Option Ends → Option (Place ℕ)
+before_link i ends = option_map (λ e. Between e.0 (Some i)) ends
 
 -- between two links of which the second is the next of the first
-abbrev pub at_interlink : ℕ → ℕ → Option Ends → Option Ends → Option Place
+abbrev pub at_interlink : ℕ → ℕ → Option Ends → Option Ends → Option (Place ℕ)
 at_interlink i j None _ = None
 at_interlink i j (Some first) None = None
 at_interlink i j (Some first) (Some second) = by_next first.1
   where
-    by_next : Option ℕ → Option Place
+    by_next : Option ℕ → Option (Place ℕ)
     by_next None = None
-    by_next (Some k) = if k == j then Some (between (Some i, Some j)) else None
+    by_next (Some k) = if k == j then Some (Between (Some i) (Some j)) else None
 
 -- between a link that has no next and one that has no previous one
-abbrev pub at_bridge : ℕ → ℕ → Option Ends → Option Ends → Option Place
+abbrev pub at_bridge : ℕ → ℕ → Option Ends → Option Ends → Option (Place ℕ)
 at_bridge i j None _ = None
 at_bridge i j (Some first) None = None
 at_bridge i j (Some first) (Some second) = by_ends first.1 second.0
   where
-    by_ends : Option ℕ → Option ℕ → Option Place
-    by_ends None None = Some (between (Some i, Some j))
+    by_ends : Option ℕ → Option ℕ → Option (Place ℕ)
+    by_ends None None = Some (Between (Some i) (Some j))
     by_ends None (Some _) = None
     by_ends (Some _) _ = None
 
 module _ {P I : Type 0} (index : P → ℕ) (number : I → ℕ) (ends_of : P → Option Ends) (ends_at : ℕ → Option Ends) where
   -- the place that a kind asks for, or nothing where the links are not as it requires: by the ends of what a pointer
   -- finds, and by those of what is at an index
-  abbrev pub place_of : InsertKind P I → Option Place
-  place_of Disconnected = Some (between (None, None))
-  place_of SingleLinkCyclic = Some own_ring
+  abbrev pub place_of : InsertKind P I → Option (Place ℕ)
+  place_of Disconnected = Some (Between None None)
+  place_of SingleLinkCyclic = Some OwnRing
   place_of (ChainEnd p) = at_end (index p) (ends_of p)
   place_of (ChainEndInx i) = at_end (number i) (ends_at (number i))
   place_of (ChainStart p) = at_start (index p) (ends_of p)

@@ -4,6 +4,7 @@ ghost use Rattle.std.specs.Option.{option_map};
 ghost use Rattle.triple_arena.specs.Content.{get, entry_at};
 
 mod interlinks;
+mod requirement;
 
 use crate::LinkNoGen;
 use std::marker::Model;

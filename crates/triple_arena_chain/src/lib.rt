@@ -7,6 +7,7 @@
 mod chain_arena;
 mod kind;
 mod link;
+mod place;
 
 pub use chain_arena::ChainArena;
 pub use kind::{InsertKind, LinkInsertKind};

@@ -1,0 +1,78 @@
+//! What an insertion's kind requires of the links.
+ghost use Rattle.std.specs.Prelude.{◌≡◌, ◌↔◌, Some, None, IsSome, IsTrue};
+ghost use Rattle.std.specs.Option.{option_map};
+ghost use Rattle.triple_arena_chain.specs.Links.{ends_in, ends_found};
+ghost use Rattle.triple_arena_chain.specs.Kinds.{ends_by, place_by, place_of};
+
+use crate::place::{Place, after_end, before_start, bridging, inside};
+use crate::{ChainArena, LinkInsertKind, LinkNoGen};
+use triple_arena::{ArenaSlot, ArenaTrait, NonZeroInxGenericStack, Ptr};
+
+impl<P: Ptr, T: Drop, S: NonZeroInxGenericStack<ArenaSlot<P, LinkNoGen<P, T>>> + Drop> ChainArena<
+    P,
+    T,
+    S,
+> {
+    // The previous and the next index of the link that `p` points to.
+    fn ends_of(&self, p: P) -> Option<(Option<P::Inx>, Option<P::Inx>)>
+        ensures { option_map (ends_by P.Inx.number) result
+            ≡ ends_found P.Inx.number self.now (P.index p) (P.generation p) }
+    {
+        match self.arena.get(p) {
+            Some(link) => Some((link.prev, link.next)),
+            None => None,
+        }
+    }
+
+    // Those of the link at an index.
+    fn ends_at(&self, i: P::Inx) -> Option<(Option<P::Inx>, Option<P::Inx>)>
+        ensures { option_map (ends_by P.Inx.number) result
+            ≡ ends_in P.Inx.number self.now (P.Inx.number i) }
+    {
+        match self.arena.get_inx(i) {
+            Some((_, link)) => Some((link.prev, link.next)),
+            None => None,
+        }
+    }
+
+    // The place that the kind asks for, or `None` where its requirement is not met.
+    pub(crate) fn place(&self, kind: LinkInsertKind<P>) -> Option<Place<P::Inx>>
+        ensures { option_map (place_by P.Inx.number) result ≡ place_of P.index P.Inx.number
+            (λ p. ends_found P.Inx.number self.now (P.index p) (P.generation p))
+            (ends_in P.Inx.number self.now) kind }
+    {
+        match kind {
+            LinkInsertKind::Disconnected => Some(Place::Between(None, None)),
+            LinkInsertKind::SingleLinkCyclic => Some(Place::OwnRing),
+            LinkInsertKind::ChainEnd(p) => after_end(p.inx(), self.ends_of(p)?),
+            LinkInsertKind::ChainEndInx(i) => after_end(i, self.ends_at(i)?),
+            LinkInsertKind::ChainStart(p) => before_start(p.inx(), self.ends_of(p)?),
+            LinkInsertKind::ChainStartInx(i) => before_start(i, self.ends_at(i)?),
+            LinkInsertKind::NextTo(p) => Some(Place::Between(Some(p.inx()), self.ends_of(p)?.1)),
+            LinkInsertKind::NextToInx(i) => Some(Place::Between(Some(i), self.ends_at(i)?.1)),
+            LinkInsertKind::PrevTo(p) => Some(Place::Between(self.ends_of(p)?.0, Some(p.inx()))),
+            LinkInsertKind::PrevToInx(i) => Some(Place::Between(self.ends_at(i)?.0, Some(i))),
+            LinkInsertKind::AtInterlink(p, q) => {
+                inside(p.inx(), q.inx(), self.ends_of(p)?, self.ends_of(q)?)
+            }
+            LinkInsertKind::AtInterlinkInx(i, j) => {
+                inside(i, j, self.ends_at(i)?, self.ends_at(j)?)
+            }
+            LinkInsertKind::Bridge(p, q) => {
+                bridging(p.inx(), q.inx(), self.ends_of(p)?, self.ends_of(q)?)
+            }
+            LinkInsertKind::BridgeInx(i, j) => {
+                bridging(i, j, self.ends_at(i)?, self.ends_at(j)?)
+            }
+        }
+    }
+
+    /// Whether the links are as the kind requires.
+    pub fn meets(&self, kind: &LinkInsertKind<P>) -> bool
+        ensures { IsTrue result ↔ IsSome (place_of P.index P.Inx.number
+            (λ p. ends_found P.Inx.number self.now (P.index p) (P.generation p))
+            (ends_in P.Inx.number self.now) kind.now) }
+    {
+        self.place(*kind).is_some()
+    }
+}
