@@ -2,3 +2,5 @@ pub mod AgreedLemmas
 pub mod PlaceLemmas
 pub mod TakeOutLemmas
 pub mod ExchangeLemmas
+pub mod InsertionLemmas
+pub mod KindLemmas

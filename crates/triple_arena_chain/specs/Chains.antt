@@ -2,6 +2,8 @@
 -- is live.
 use Rattle.std.specs.Prelude.{◌≡◌, ◌≢◌, ℕ, ◌==◌, List, [], ◌∷◌, ◌++◌, Option, Some, None, if◌then◌else◌, IsSome, ◌⊎◌}
 use Rattle.std.specs.Option.{option_map}
+use Rattle.triple_arena_chain.specs.declared.place.Place.{Place}
+use Rattle.triple_arena_chain.specs.declared.place.Place.TheVariants.{Between, OwnRing}
 
 -- the previous and the next index
 abbrev pub Ends : Type 0
@@ -136,3 +138,13 @@ renamed_ends name (Some v) = Some (option_map name v.0, option_map name v.1)
 -- the interlinks under other names, where a renaming done twice is none
 abbrev pub renamed : (ℕ → ℕ) → (ℕ → Option Ends) → ℕ → Option Ends
 renamed name ends k = renamed_ends name (ends (name k))
+
+-- one more index may stand at this place
+abbrev pub IsPlace : (ℕ → Option Ends) → Place ℕ → Type 0
+IsPlace ends (Between before after) = IsGap ends (before, after)
+IsPlace ends OwnRing = Unit {0}
+
+-- the interlinks with one more index at this place
+abbrev pub put_in : (ℕ → Option Ends) → ℕ → Place ℕ → ℕ → Option Ends
+put_in ends n (Between before after) = placed ends n (before, after)
+put_in ends n OwnRing = added ends n (Some n, Some n)

@@ -1,9 +1,12 @@
 -- The links of a chain arena: what their interlinks are, what their values are, and what a write of either leaves.
-use Rattle.std.specs.Prelude.{◌≡◌, ℕ, length, Option, Some, None}
+use Rattle.std.specs.Prelude.{◌≡◌, ℕ, ◌+◌, max, length, drop, Option, Some, None}
 use Rattle.std.specs.Option.{option_map}
-use Rattle.triple_arena.specs.Content.{Content, entry_at, get, live_count, with_value, IsWellFormed}
+use Rattle.triple_arena.specs.Content.{Content, entry_at, get, live_count, next_index, with_value, IsWellFormed}
+use Rattle.triple_arena.specs.Entries.{with_entry}
 use Rattle.triple_arena_chain.specs.declared.link.IndexLink.{IndexLink}
-use Rattle.triple_arena_chain.specs.Chains.{Ends, IsAgreed}
+use Rattle.triple_arena_chain.specs.declared.place.Place.{Place}
+use Rattle.triple_arena_chain.specs.declared.place.Place.TheVariants.{Between, OwnRing}
+use Rattle.triple_arena_chain.specs.Chains.{Ends, IsAgreed, put_in}
 
 module _ {I T : Type 0} where
   -- an entry with the value of its link alone
@@ -65,6 +68,28 @@ module _ {I T : Type 0} (number : I → ℕ) where
   pub record IsChained (c : Content (IndexLink I T)) : Type 0 where
     pub formed : IsWellFormed c
     pub agreed : IsAgreed (ends_in c)
+
+  -- the link for a value at this place, where its own index is `i`
+  abbrev pub link_for : Place I → I → T → IndexLink I T
+  link_for (Between before after) i t = record { prev = before; next = after; t = t }
+  link_for OwnRing i t = record { prev = Some i; next = Some i; t = t }
+
+  -- the neighbours at this place name what is at `i`
+  abbrev pub joined_to : Content (IndexLink I T) → Place I → I → Content (IndexLink I T)
+  joined_to c (Between before after) i = with_prev_of (with_next_of c before (Some i)) after (Some i)
+  joined_to c OwnRing i = c
+
+  -- one link more at this place, under the next index and the counter; all others stay
+  pub record IsPlaced (place : Place ℕ) (i g : ℕ) (t : T) (old new : Content (IndexLink I T)) : Type 0 where
+    pub index : i ≡ next_index old
+    pub generation : g ≡ old.counter
+    pub vacant : entry_at old i ≡ None
+    pub ends : (k : ℕ) → ends_in new k ≡ put_in (ends_in old) i place k
+    pub values : (k : ℕ) → values_in new k ≡ with_entry (values_in old) i (g, t) k
+    pub live : live_count new ≡ live_count old + 1
+    pub counter : new.counter ≡ old.counter
+    pub free : new.free ≡ drop 1 old.free
+    pub slots : length new.slots ≡ max (length old.slots) (next_index old)
 
   -- these interlinks, and all else as it was
   pub record IsRelinked (wanted : ℕ → Option Ends) (old new : Content (IndexLink I T)) : Type 0 where
