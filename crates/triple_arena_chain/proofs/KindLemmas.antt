@@ -2,6 +2,10 @@
 use Rattle.std.proofs.Common.{◌≡◌, ℕ, ◌==◌, if◌then◌else◌, Option, Some, None, IsSome, refl, sym, ap, subst, ◌∙◌, inl, inr}
 use Rattle.std.specs.Option.{option_map}
 use Rattle.std.proofs.lemmas.Bool.Decides.{eqb_tells}
+use Rattle.triple_arena.specs.Entries.{value_if}
+use Rattle.triple_arena.specs.Content.{Content, entry_at}
+use Rattle.triple_arena_chain.specs.declared.link.IndexLink.{IndexLink}
+use Rattle.triple_arena_chain.specs.Links.{link_ends, ends_in, ends_found, place_among, IsChained}
 use Rattle.triple_arena_chain.specs.declared.kind.InsertKind.{InsertKind}
 use Rattle.triple_arena_chain.specs.declared.kind.InsertKind.TheVariants.{Disconnected, SingleLinkCyclic, ChainEnd, ChainEndInx, ChainStart, ChainStartInx, NextTo, NextToInx, PrevTo, PrevToInx, AtInterlink, AtInterlinkInx, Bridge, BridgeInx}
 use Rattle.triple_arena_chain.specs.declared.place.Place.{Place}
@@ -143,3 +147,22 @@ module _ (e : ℕ → Option Ends) (agreed : IsAgreed e) where
   places index number ends_of (Bridge p q) place at is = by_bridge (index p) (index q) (ends_of p) (ends_of q) place (at p) (at q) is
   places index number ends_of (BridgeInx i j) place at is =
       by_bridge (number i) (number j) (e (number i)) (e (number j)) place (λ v h. h) (λ v h. h) is
+
+module _ {P I T : Type 0} (index generation : P → ℕ) (number : I → ℕ) where
+  -- what a pointer finds is what is at its index
+  found : (c : Content (IndexLink I T)) (i g : ℕ) (v : Ends) → ends_found number c i g ≡ Some v → ends_in number c i ≡ Some v
+  found c i g v h = by (entry_at c i) refl h
+    where
+      by : (o : Option (ℕ × IndexLink I T)) → entry_at c i ≡ o → option_map (link_ends number) (value_if g o) ≡ Some v → ends_in number c i ≡ Some v
+      by None at is = absurd (let no : None ≡ Some v = is in cc)
+      by (Some e) at is =
+          elim (eqb_tells e.0 g) [
+            | inl same ↦ rw at (let it : Some (link_ends number e.1) ≡ Some v = rw same.0 at is in it)
+            | inr differs ↦ absurd (let no : None ≡ Some v = rw differs.0 at is in cc)
+          ]
+
+  pub placeable : (c : Content (IndexLink I T)) (kind : InsertKind P I) (place : Place ℕ) → IsChained number c
+      → place_among index generation number c kind ≡ Some place → IsPlace (ends_in number c) place
+  placeable c kind place chained is =
+      places (ends_in number c) chained.agreed index number (λ p. ends_found number c (index p) (generation p)) kind place
+      (λ p v h. found c (index p) (generation p) v h) is

@@ -1,5 +1,5 @@
 -- What a write of an interlink, and of a value in a link, changes and keeps.
-use Rattle.std.proofs.Common.{◌≡◌, ◌==◌, if◌then◌else◌, ℕ, length, Option, Some, None, refl, sym, ap, subst, ◌∙◌, inl, inr}
+use Rattle.std.proofs.Common.{◌≡◌, ◌==◌, if◌then◌else◌, ℕ, length, true, Option, Some, None, IsSome, IfSome, is_some, refl, sym, ap, subst, ◌∙◌, inl, inr}
 use Rattle.std.specs.Option.{option_map}
 use Rattle.std.proofs.lemmas.Bool.Decides.{eqb_tells}
 use Rattle.triple_arena.specs.Entries.{with_value_at}
@@ -122,6 +122,30 @@ module _ {I T : Type 0} (number : I → ℕ) where
       by_entry None = refl
       by_entry (Some e) = refl
 
+  -- what was live is live
+  live-with_link : (c : Content (IndexLink I T)) (i : ℕ) (f : IndexLink I T → IndexLink I T) (k : ℕ) → IsSome (entry_at c k)
+      → IsSome (entry_at (with_link c i f) k)
+  live-with_link c i f k some =
+      ap is_some (entry-with_link c i f k)
+      ∙ elim (eqb_tells k i) [
+        | inl at ↦ rw at.0 (by_entry (entry_at c i) (subst (λ n. IsSome (entry_at c n)) at.1 some))
+        | inr other ↦ rw other.0 some
+      ]
+    where
+      by_entry : (o : Option (ℕ × IndexLink I T)) → IsSome o → is_some (option_map (changed f) o) ≡ true
+      by_entry None h = h
+      by_entry (Some e) h = refl
+
+  pub live-with_next_of : (c : Content (IndexLink I T)) (at next : Option I) (k : ℕ) → IsSome (entry_at c k)
+      → IsSome (entry_at (with_next_of number c at next) k)
+  live-with_next_of c None next k some = some
+  live-with_next_of c (Some i) next k some = live-with_link c (number i) (λ link. record link { next = next }) k some
+
+  pub neighbor-with_next_of : (c : Content (IndexLink I T)) (at next other : Option I) → IfSome other (λ i. IsSome (entry_at c (number i)))
+      → IfSome other (λ i. IsSome (entry_at (with_next_of number c at next) (number i)))
+  neighbor-with_next_of c at next None live = tt
+  neighbor-with_next_of c at next (Some j) live = live-with_next_of c at next (number j) live
+
   kept-same : (c : Content (IndexLink I T)) → IsKept c c
   kept-same c = record { live = refl; slots = refl; free = refl; counter = refl; room = refl }
 
@@ -182,3 +206,6 @@ module _ {I T : Type 0} where
 
 -- what a write of a value changes and keeps
 pub ruleset link_writes = (formed-with_value_in, values-with_value_in, ends-with_value_in, kept-with_value_in)
+
+-- what is live stays live where an interlink is written
+pub ruleset live_links = (neighbor-with_next_of)

@@ -1,9 +1,11 @@
 -- The links of a chain arena: what their interlinks are, what their values are, and what a write of either leaves.
-use Rattle.std.specs.Prelude.{◌≡◌, ℕ, ◌+◌, max, length, drop, Option, Some, None}
+use Rattle.std.specs.Prelude.{◌≡◌, ℕ, ◌+◌, max, length, drop, Option, Some, None, IsSome, IfSome}
 use Rattle.std.specs.Option.{option_map}
 use Rattle.triple_arena.specs.Content.{Content, entry_at, get, live_count, next_index, with_value, IsWellFormed}
 use Rattle.triple_arena.specs.Entries.{with_entry}
 use Rattle.triple_arena_chain.specs.declared.link.IndexLink.{IndexLink}
+use Rattle.triple_arena_chain.specs.Kinds.{place_of}
+use Rattle.triple_arena_chain.specs.declared.kind.InsertKind.{InsertKind}
 use Rattle.triple_arena_chain.specs.declared.place.Place.{Place}
 use Rattle.triple_arena_chain.specs.declared.place.Place.TheVariants.{Between, OwnRing}
 use Rattle.triple_arena_chain.specs.Chains.{Ends, IsAgreed, put_in}
@@ -74,6 +76,11 @@ module _ {I T : Type 0} (number : I → ℕ) where
   link_for (Between before after) i t = record { prev = before; next = after; t = t }
   link_for OwnRing i t = record { prev = Some i; next = Some i; t = t }
 
+  -- the neighbours at this place are live
+  abbrev pub AreNeighborsLive : Content (IndexLink I T) → Place I → Type 0
+  AreNeighborsLive c (Between before after) = IfSome before (λ i. IsSome (entry_at c (number i))) × IfSome after (λ i. IsSome (entry_at c (number i)))
+  AreNeighborsLive c OwnRing = Unit {0}
+
   -- the neighbours at this place name what is at `i`
   abbrev pub joined_to : Content (IndexLink I T) → Place I → I → Content (IndexLink I T)
   joined_to c (Between before after) i = with_prev_of (with_next_of c before (Some i)) after (Some i)
@@ -96,3 +103,8 @@ module _ {I T : Type 0} (number : I → ℕ) where
     pub ends : (k : ℕ) → ends_in new k ≡ wanted k
     pub values : (k : ℕ) → values_in new k ≡ values_in old k
     pub kept : IsKept old new
+
+module _ {P I T : Type 0} (index generation : P → ℕ) (number : I → ℕ) where
+  -- the place that a kind asks for among these links, or nothing where they are not as it requires
+  abbrev pub place_among : Content (IndexLink I T) → InsertKind P I → Option (Place ℕ)
+  place_among c kind = place_of index number (λ p. ends_found number c (index p) (generation p)) (ends_in number c) kind

@@ -1,8 +1,10 @@
 //! Links in chains.
-ghost use Rattle.std.specs.Prelude.{◌≡◌, Some, None, option_copied};
+ghost use Rattle.std.specs.Prelude.{◌≡◌, ◌<◌, ◌↔◌, Some, None, IsTrue, option_copied};
 ghost use Rattle.std.specs.Option.{option_map};
-ghost use Rattle.triple_arena.specs.Content.{get, entry_at};
+ghost use Rattle.triple_arena.specs.Content.{get, entry_at, live_count, arena_capacity};
+ghost use Rattle.triple_arena_chain.specs.Links.{IsChained};
 
+mod insertion;
 mod interlinks;
 mod requirement;
 
@@ -47,5 +49,13 @@ impl<P: Ptr, T: Drop, S: NonZeroInxGenericStack<ArenaSlot<P, LinkNoGen<P, T>>> +
             ≡ entry_at self.now (P.Inx.number i) }
     {
         self.arena.get_inx(i)
+    }
+
+    // Whether there is room for one link more. The interlinks agree.
+    pub(crate) fn has_room(&self) -> bool
+        ensures value { IsTrue result ↔ (live_count self.now < arena_capacity self.now) }
+        ensures chained { IsChained P.Inx.number self.now }
+    {
+        self.arena.len() < self.arena.capacity()
     }
 }

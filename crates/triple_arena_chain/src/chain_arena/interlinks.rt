@@ -1,9 +1,10 @@
 //! Interlinks, read and written where the links lie.
 ghost use Rattle.std.specs.Prelude.{◌≡◌, ◌↔◌, Some, None, IsSome, IfSome, IsTrue};
 ghost use Rattle.triple_arena.specs.Content.{entry_at, IsWellFormed};
-ghost use Rattle.triple_arena_chain.specs.Links.{with_next_of, with_prev_of};
+ghost use Rattle.triple_arena_chain.specs.Links.{with_next_of, with_prev_of, joined_to, AreNeighborsLive};
 
 use crate::LinkNoGen;
+use crate::place::Place;
 use triple_arena::{Arena, ArenaSlot, ArenaTrait, NonZeroInxGenericStack, Ptr};
 
 // Gives the link at `at`, which is live if it is an index, another next.
@@ -39,5 +40,28 @@ pub(crate) fn set_prev<
 {
     if let Some(i) = at {
         arena.get_inx_mut_unwrap(i).prev = prev;
+    }
+}
+
+// The neighbours at a place, which are live, name what is at `i`.
+#[tactic(auto, using(crate::specs::LinkLaws::live_links))]
+pub(crate) fn join<
+    P: Ptr,
+    T: Drop,
+    S: NonZeroInxGenericStack<ArenaSlot<P, LinkNoGen<P, T>>> + Drop,
+>(
+    arena: &mut Arena<P, LinkNoGen<P, T>, S>,
+    place: Place<P::Inx>,
+    i: P::Inx,
+)
+    requires { AreNeighborsLive P.Inx.number arena.old place }
+    ensures { arena.new ≡ joined_to P.Inx.number arena.old place i }
+{
+    match place {
+        Place::Between(prev, next) => {
+            set_next(arena, prev, Some(i));
+            set_prev(arena, next, Some(i));
+        }
+        Place::OwnRing => {}
     }
 }

@@ -1,8 +1,8 @@
 //! What an insertion's kind requires of the links.
 ghost use Rattle.std.specs.Prelude.{◌≡◌, ◌↔◌, Some, None, IsSome, IsTrue};
 ghost use Rattle.std.specs.Option.{option_map};
-ghost use Rattle.triple_arena_chain.specs.Links.{ends_in, ends_found};
-ghost use Rattle.triple_arena_chain.specs.Kinds.{ends_by, place_by, place_of};
+ghost use Rattle.triple_arena_chain.specs.Links.{ends_in, ends_found, place_among};
+ghost use Rattle.triple_arena_chain.specs.Kinds.{ends_by, place_by};
 
 use crate::place::{Place, after_end, before_start, bridging, inside};
 use crate::{ChainArena, LinkInsertKind, LinkNoGen};
@@ -37,9 +37,8 @@ impl<P: Ptr, T: Drop, S: NonZeroInxGenericStack<ArenaSlot<P, LinkNoGen<P, T>>> +
 
     // The place that the kind asks for, or `None` where its requirement is not met.
     pub(crate) fn place(&self, kind: LinkInsertKind<P>) -> Option<Place<P::Inx>>
-        ensures { option_map (place_by P.Inx.number) result ≡ place_of P.index P.Inx.number
-            (λ p. ends_found P.Inx.number self.now (P.index p) (P.generation p))
-            (ends_in P.Inx.number self.now) kind }
+        ensures { option_map (place_by P.Inx.number) result
+            ≡ place_among P.index P.generation P.Inx.number self.now kind }
     {
         match kind {
             LinkInsertKind::Disconnected => Some(Place::Between(None, None)),
@@ -69,9 +68,8 @@ impl<P: Ptr, T: Drop, S: NonZeroInxGenericStack<ArenaSlot<P, LinkNoGen<P, T>>> +
 
     /// Whether the links are as the kind requires.
     pub fn meets(&self, kind: &LinkInsertKind<P>) -> bool
-        ensures { IsTrue result ↔ IsSome (place_of P.index P.Inx.number
-            (λ p. ends_found P.Inx.number self.now (P.index p) (P.generation p))
-            (ends_in P.Inx.number self.now) kind.now) }
+        ensures { IsTrue result
+            ↔ IsSome (place_among P.index P.generation P.Inx.number self.now kind.now) }
     {
         self.place(*kind).is_some()
     }
