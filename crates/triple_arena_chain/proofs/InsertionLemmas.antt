@@ -86,7 +86,7 @@ module _ {I T : Type 0} (number : I → ℕ) where
       values-with_prev_of number (with_next_of number d before (Some i)) after (Some i) k ∙ values-with_next_of number d before (Some i) k
   values-joined d OwnRing i k = refl
 
-  kept-after : (a b c : Content (IndexLink I T)) → IsKept a b → IsKept b c → IsKept a c
+  pub kept-after : (a b c : Content (IndexLink I T)) → IsKept a b → IsKept b c → IsKept a c
   kept-after a b c first second =
       record {
         live = second.live ∙ first.live;

@@ -148,9 +148,9 @@ module _ (e : ℕ → Option Ends) (agreed : IsAgreed e) where
   places index number ends_of (BridgeInx i j) place at is =
       by_bridge (number i) (number j) (e (number i)) (e (number j)) place (λ v h. h) (λ v h. h) is
 
-module _ {P I T : Type 0} (index generation : P → ℕ) (number : I → ℕ) where
+module _ {I T : Type 0} (number : I → ℕ) where
   -- what a pointer finds is what is at its index
-  found : (c : Content (IndexLink I T)) (i g : ℕ) (v : Ends) → ends_found number c i g ≡ Some v → ends_in number c i ≡ Some v
+  pub found : (c : Content (IndexLink I T)) (i g : ℕ) (v : Ends) → ends_found number c i g ≡ Some v → ends_in number c i ≡ Some v
   found c i g v h = by (entry_at c i) refl h
     where
       by : (o : Option (ℕ × IndexLink I T)) → entry_at c i ≡ o → option_map (link_ends number) (value_if g o) ≡ Some v → ends_in number c i ≡ Some v
@@ -161,8 +161,9 @@ module _ {P I T : Type 0} (index generation : P → ℕ) (number : I → ℕ) wh
             | inr differs ↦ absurd (let no : None ≡ Some v = rw differs.0 at is in cc)
           ]
 
+module _ {P I T : Type 0} (index generation : P → ℕ) (number : I → ℕ) where
   pub placeable : (c : Content (IndexLink I T)) (kind : InsertKind P I) (place : Place ℕ) → IsChained number c
       → place_among index generation number c kind ≡ Some place → IsPlace (ends_in number c) place
   placeable c kind place chained is =
       places (ends_in number c) chained.agreed index number (λ p. ends_found number c (index p) (generation p)) kind place
-      (λ p v h. found c (index p) (generation p) v h) is
+      (λ p v h. found number c (index p) (generation p) v h) is

@@ -4,3 +4,4 @@ pub mod TakeOutLemmas
 pub mod ExchangeLemmas
 pub mod InsertionLemmas
 pub mod KindLemmas
+pub mod ConnectionLemmas

@@ -148,3 +148,12 @@ IsPlace ends OwnRing = Unit {0}
 abbrev pub put_in : (ℕ → Option Ends) → ℕ → Place ℕ → ℕ → Option Ends
 put_in ends n (Between before after) = placed ends n (before, after)
 put_in ends n OwnRing = added ends n (Some n, Some n)
+
+-- the interlinks where this index, which has these neighbours, was taken out from between them
+abbrev pub taken_from : (ℕ → Option Ends) → ℕ → Option Ends → ℕ → Option Ends
+taken_from ends p None = ends
+taken_from ends p (Some own) = dropped (bridged ends own.0 own.1) p
+
+-- the interlinks where an index was taken out from between its neighbours
+abbrev pub taken_out : (ℕ → Option Ends) → ℕ → ℕ → Option Ends
+taken_out ends p = taken_from ends p (ends p)

@@ -1,16 +1,21 @@
 -- The links of a chain arena: what their interlinks are, what their values are, and what a write of either leaves.
 use Rattle.std.specs.Prelude.{◌≡◌, ℕ, ◌+◌, max, length, drop, Option, Some, None, IsSome, IfSome}
 use Rattle.std.specs.Option.{option_map}
-use Rattle.triple_arena.specs.Content.{Content, entry_at, get, live_count, next_index, with_value, IsWellFormed}
-use Rattle.triple_arena.specs.Entries.{with_entry}
+use Rattle.triple_arena.specs.Content.{Content, entry_at, get, live_count, next_index, with_value, removed, IsWellFormed}
+use Rattle.triple_arena_ptr.specs.Generation.{next_generation}
+use Rattle.triple_arena.specs.Entries.{with_entry, without}
 use Rattle.triple_arena_chain.specs.declared.link.IndexLink.{IndexLink}
 use Rattle.triple_arena_chain.specs.Kinds.{place_of}
 use Rattle.triple_arena_chain.specs.declared.kind.InsertKind.{InsertKind}
 use Rattle.triple_arena_chain.specs.declared.place.Place.{Place}
 use Rattle.triple_arena_chain.specs.declared.place.Place.TheVariants.{Between, OwnRing}
-use Rattle.triple_arena_chain.specs.Chains.{Ends, IsAgreed, put_in}
+use Rattle.triple_arena_chain.specs.Chains.{Ends, IsAgreed, put_in, taken_out}
 
 module _ {I T : Type 0} where
+  -- the previous and the next index of a link
+  abbrev pub prev_next_of : IndexLink I T → Option I × Option I
+  prev_next_of link = (link.prev, link.next)
+
   -- an entry with the value of its link alone
   abbrev pub valued : ℕ × IndexLink I T → ℕ × T
   valued entry = (entry.0, entry.1.t)
@@ -103,6 +108,16 @@ module _ {I T : Type 0} (number : I → ℕ) where
     pub ends : (k : ℕ) → ends_in new k ≡ wanted k
     pub values : (k : ℕ) → values_in new k ≡ values_in old k
     pub kept : IsKept old new
+
+  -- the link at this index is gone, and its neighbours are joined; all others stay, and the counter steps
+  pub record IsTakenOut (last : Option ℕ) (i : ℕ) (old new : Content (IndexLink I T)) : Type 0 where
+    pub ends : (k : ℕ) → ends_in new k ≡ taken_out (ends_in old) i k
+    pub values : (k : ℕ) → values_in new k ≡ without (values_in old) i k
+    pub live : live_count new + 1 ≡ live_count old
+    pub counter : new.counter ≡ next_generation last old.counter
+    pub free : new.free ≡ (removed last old i).free
+    pub slots : length new.slots ≡ length (removed last old i).slots
+    pub room : new.room ≡ old.room
 
 module _ {P I T : Type 0} (index generation : P → ℕ) (number : I → ℕ) where
   -- the place that a kind asks for among these links, or nothing where they are not as it requires

@@ -4,8 +4,10 @@ ghost use Rattle.std.specs.Option.{option_map};
 ghost use Rattle.triple_arena.specs.Content.{get, entry_at, live_count, arena_capacity};
 ghost use Rattle.triple_arena_chain.specs.Links.{IsChained};
 
+mod connections;
 mod insertion;
 mod interlinks;
+mod removal;
 mod requirement;
 
 use crate::LinkNoGen;

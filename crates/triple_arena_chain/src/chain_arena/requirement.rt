@@ -1,7 +1,8 @@
 //! What an insertion's kind requires of the links.
 ghost use Rattle.std.specs.Prelude.{◌≡◌, ◌↔◌, Some, None, IsSome, IsTrue};
 ghost use Rattle.std.specs.Option.{option_map};
-ghost use Rattle.triple_arena_chain.specs.Links.{ends_in, ends_found, place_among};
+ghost use Rattle.triple_arena.specs.Content.{get};
+ghost use Rattle.triple_arena_chain.specs.Links.{prev_next_of, ends_in, ends_found, place_among};
 ghost use Rattle.triple_arena_chain.specs.Kinds.{ends_by, place_by};
 
 use crate::place::{Place, after_end, before_start, bridging, inside};
@@ -14,8 +15,10 @@ impl<P: Ptr, T: Drop, S: NonZeroInxGenericStack<ArenaSlot<P, LinkNoGen<P, T>>> +
     S,
 > {
     // The previous and the next index of the link that `p` points to.
-    fn ends_of(&self, p: P) -> Option<(Option<P::Inx>, Option<P::Inx>)>
-        ensures { option_map (ends_by P.Inx.number) result
+    pub(crate) fn ends_of(&self, p: P) -> Option<(Option<P::Inx>, Option<P::Inx>)>
+        ensures value { result
+            ≡ option_map prev_next_of (get self.now (P.index p) (P.generation p)) }
+        ensures numbers { option_map (ends_by P.Inx.number) result
             ≡ ends_found P.Inx.number self.now (P.index p) (P.generation p) }
     {
         match self.arena.get(p) {

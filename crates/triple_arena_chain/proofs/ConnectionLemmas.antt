@@ -1,0 +1,175 @@
+-- Links that are connected, parted, exchanged and taken out.
+use Rattle.std.proofs.Common.{◌≡◌, ◌≢◌, ◌==◌, if◌then◌else◌, ℕ, ◌+◌, ◌-◌, ◌∷◌, length, Option, Some, None, IsSome, is_some, option_map, refl, sym, ap, subst, ◌∙◌, inl, inr, arith}
+use Rattle.std.proofs.lemmas.Bool.Decides.{eqb_tells}
+use Rattle.triple_arena_ptr.specs.Generation.{next_generation}
+use Rattle.triple_arena.specs.Entries.{value_if, without}
+use Rattle.triple_arena.specs.Content.{Content, entry_at, get, live_count, removed, IsWellFormed}
+use Rattle.triple_arena.specs.RemovalLaws.{formed-removed, entry-removed, live-removed, slots-removed, counter-removed, free-removed, room-removed}
+use Rattle.triple_arena_chain.specs.declared.link.IndexLink.{IndexLink}
+use Rattle.triple_arena_chain.specs.Chains.{Ends, with_next, with_prev, with_next_if, with_prev_if, linked, unlinked, exchanged, dropped, bridged, taken_from, taken_out, IsAgreed, next_at, prev_at, next_in, prev_in}
+use Rattle.triple_arena_chain.specs.declared.place.Place.{Place}
+use Rattle.triple_arena_chain.specs.Kinds.{at_bridge}
+use Rattle.triple_arena_chain.proofs.KindLemmas.{found}
+use Rattle.triple_arena_chain.specs.Links.{prev_next_of, valued, values_in, entry_ends, ends_in, ends_found, link_ends, with_link, with_next_of, with_prev_of, IsKept, IsChained, IsRelinked, IsTakenOut}
+use Rattle.triple_arena_chain.specs.LinkLaws.{entry-with_link, ends-with_next_of, ends-with_prev_of, values-with_next_of, values-with_prev_of, kept-with_next_of, kept-with_prev_of, formed-with_next_of, formed-with_prev_of}
+use Rattle.triple_arena_chain.proofs.AgreedLemmas.{IsAgreed-linked, IsAgreed-unlinked, valid_next, valid_prev}
+use Rattle.triple_arena_chain.proofs.TakeOutLemmas.{IsAgreed-taken}
+use Rattle.triple_arena_chain.proofs.ExchangeLemmas.{exchanged_is, exchanged_self, IsAgreed-exchanged}
+use Rattle.triple_arena_chain.proofs.InsertionLemmas.{IsAgreed-same, with_next_if-same, with_prev_if-same, kept-after}
+
+-- an exchange of nexts keeps the two ways agreed, also of an index with itself
+agreed-exchanged : (e : ℕ → Option Ends) (p q s t : ℕ) → next_at e p ≡ Some s → next_at e q ≡ Some t → IsAgreed e → IsAgreed (exchanged e p q s t)
+agreed-exchanged e p q s t out_p out_q agreed =
+    elim (eqb_tells p q) [
+      | inl same ↦
+          let both : Some s ≡ Some t = sym out_p ∙ ap (next_at e) same.1 ∙ out_q in
+          let s_is : s ≡ t = cc in
+          subst (λ x. IsAgreed (exchanged e p x s t)) same.1
+          (subst (λ x. IsAgreed (exchanged e p p s x)) s_is (IsAgreed-same e (exchanged e p p s s) (exchanged_self e p s out_p agreed) agreed))
+      | inr differs ↦
+          IsAgreed-same (linked (linked (unlinked (unlinked e p s) q t) p t) q s) (exchanged e p q s t) (exchanged_is e p q s t)
+          (IsAgreed-exchanged e p q s t differs.1 out_p out_q agreed)
+    ]
+
+module _ {I T : Type 0} (number : I → ℕ) where
+  live_ends : (c : Content (IndexLink I T)) (k : ℕ) (v : Ends) → ends_in number c k ≡ Some v → IsSome (entry_at c k)
+  live_ends c k v is = by (entry_at c k) refl is
+    where
+      by : (o : Option (ℕ × IndexLink I T)) → entry_at c k ≡ o → option_map (entry_ends number) o ≡ Some v → IsSome (entry_at c k)
+      by None at is = absurd (let no : None ≡ Some v = is in cc)
+      by (Some e) at is = rw at refl
+
+  -- what a link names is live
+  pub live_next : (c : Content (IndexLink I T)) (p n : ℕ) → IsChained number c → next_at (ends_in number c) p ≡ Some n → IsSome (entry_at c n)
+  live_next c p n chained is =
+      let v = valid_prev (ends_in number c n) p (chained.agreed.forward p n is) in
+      live_ends c n v.0 v.1
+
+  pub live_prev : (c : Content (IndexLink I T)) (p n : ℕ) → IsChained number c → prev_at (ends_in number c) p ≡ Some n → IsSome (entry_at c n)
+  live_prev c p n chained is =
+      let v = valid_next (ends_in number c n) p (chained.agreed.backward n p is) in
+      live_ends c n v.0 v.1
+
+  -- these interlinks, which agree, and all else as it was
+  pub record Relinked (wanted : ℕ → Option Ends) (c d : Content (IndexLink I T)) : Type 0 where
+    pub relinked : IsRelinked number wanted c d
+    pub chained : IsChained number d
+
+  -- a write of a next and one of a previous one
+  pub two_writes : (c d1 d2 : Content (IndexLink I T)) (b n a p : Option I) → IsWellFormed c → d1 ≡ with_next_of number c b n
+      → d2 ≡ with_prev_of number d1 a p
+      → IsAgreed (with_prev_if (with_next_if (ends_in number c) (option_map number b) (option_map number n)) (option_map number a) (option_map number p))
+      → Relinked (with_prev_if (with_next_if (ends_in number c) (option_map number b) (option_map number n)) (option_map number a) (option_map number p)) c d2
+  two_writes c d1 d2 b n a p formed first second agreed =
+      let e1 = with_next_of number c b n in
+      let e2 = with_prev_of number e1 a p in
+      let is : d2 ≡ e2 = second ∙ ap (λ d. with_prev_of number d a p) first in
+      let wanted = with_prev_if (with_next_if (ends_in number c) (option_map number b) (option_map number n)) (option_map number a) (option_map number p) in
+      let ends : (k : ℕ) → ends_in number e2 k ≡ wanted k =
+      λ k. ends-with_prev_of number e1 a p k
+      ∙ with_prev_if-same (with_next_if (ends_in number c) (option_map number b) (option_map number n)) (ends_in number e1) (option_map number a)
+      (option_map number p)
+      (ends-with_next_of number c b n)
+      k in
+      rw is
+      (record {
+        relinked = record {
+          ends = ends;
+          values = λ k. values-with_prev_of number e1 a p k ∙ values-with_next_of number c b n k;
+          kept = kept-after number c e1 e2 (kept-with_next_of number c b n) (kept-with_prev_of number e1 a p);
+        };
+        chained = record {
+          formed = formed-with_prev_of number e1 a p (formed-with_next_of number c b n formed);
+          agreed = IsAgreed-same wanted (ends_in number e2) ends agreed;
+        };
+      })
+
+  pub linked_by : (c d1 d2 : Content (IndexLink I T)) (i j : I) (v w : Ends) → IsChained number c → ends_in number c (number i) ≡ Some v → v.1 ≡ None
+      → ends_in number c (number j) ≡ Some w → w.0 ≡ None → d1 ≡ with_next_of number c (Some i) (Some j) → d2 ≡ with_prev_of number d1 (Some j) (Some i)
+      → Relinked (linked (ends_in number c) (number i) (number j)) c d2
+  linked_by c d1 d2 i j v w chained at_i end at_j start first second =
+      two_writes c d1 d2 (Some i) (Some j) (Some j) (Some i) chained.formed first second
+      (IsAgreed-linked (ends_in number c) (number i) (number j) v w at_i end at_j start chained.agreed)
+
+  pub parted_by : (c d1 d2 : Content (IndexLink I T)) (i j : I) → IsChained number c → next_at (ends_in number c) (number i) ≡ Some (number j)
+      → d1 ≡ with_next_of number c (Some i) None → d2 ≡ with_prev_of number d1 (Some j) None
+      → Relinked (unlinked (ends_in number c) (number i) (number j)) c d2
+  parted_by c d1 d2 i j chained out first second =
+      let e = ends_in number c in
+      let v = valid_next (e (number i)) (number j) out in
+      let w = valid_prev (e (number j)) (number i) (chained.agreed.forward (number i) (number j) out) in
+      two_writes c d1 d2 (Some i) None (Some j) None chained.formed first second
+      (IsAgreed-unlinked e (number i) (number j) v.0 w.0 v.1 (sym (ap next_in v.1) ∙ out) w.1 chained.agreed)
+
+  pub exchanged_by : (c d1 d2 d3 d4 : Content (IndexLink I T)) (i j s t : I) → IsChained number c
+      → next_at (ends_in number c) (number i) ≡ Some (number s) → next_at (ends_in number c) (number j) ≡ Some (number t)
+      → d1 ≡ with_next_of number c (Some i) (Some t) → d2 ≡ with_next_of number d1 (Some j) (Some s) → d3 ≡ with_prev_of number d2 (Some t) (Some i)
+      → d4 ≡ with_prev_of number d3 (Some s) (Some j) → Relinked (exchanged (ends_in number c) (number i) (number j) (number s) (number t)) c d4
+  exchanged_by c d1 d2 d3 d4 i j s t chained out_i out_j first second third fourth =
+      let e = ends_in number c in
+      let e1 = with_next_of number c (Some i) (Some t) in
+      let e2 = with_next_of number e1 (Some j) (Some s) in
+      let e3 = with_prev_of number e2 (Some t) (Some i) in
+      let e4 = with_prev_of number e3 (Some s) (Some j) in
+      let is2 : d2 ≡ e2 = second ∙ ap (λ d. with_next_of number d (Some j) (Some s)) first in
+      let is3 : d3 ≡ e3 = third ∙ ap (λ d. with_prev_of number d (Some t) (Some i)) is2 in
+      let is : d4 ≡ e4 = fourth ∙ ap (λ d. with_prev_of number d (Some s) (Some j)) is3 in
+      let w1 = with_next e (number i) (Some (number t)) in
+      let w2 = with_next w1 (number j) (Some (number s)) in
+      let w3 = with_prev w2 (number t) (Some (number i)) in
+      let same2 : (k : ℕ) → ends_in number e2 k ≡ w2 k =
+      λ k. ends-with_next_of number e1 (Some j) (Some s) k
+      ∙ with_next_if-same w1 (ends_in number e1) (Some (number j)) (Some (number s)) (ends-with_next_of number c (Some i) (Some t)) k in
+      let same3 : (k : ℕ) → ends_in number e3 k ≡ w3 k =
+      λ k. ends-with_prev_of number e2 (Some t) (Some i) k
+      ∙ with_prev_if-same w2 (ends_in number e2) (Some (number t)) (Some (number i)) same2 k in
+      let ends : (k : ℕ) → ends_in number e4 k ≡ exchanged e (number i) (number j) (number s) (number t) k =
+      λ k. ends-with_prev_of number e3 (Some s) (Some j) k
+      ∙ with_prev_if-same w3 (ends_in number e3) (Some (number s)) (Some (number j)) same3 k in
+      let kept2 = kept-after number c e1 e2 (kept-with_next_of number c (Some i) (Some t)) (kept-with_next_of number e1 (Some j) (Some s)) in
+      let kept3 = kept-after number c e2 e3 kept2 (kept-with_prev_of number e2 (Some t) (Some i)) in
+      rw is
+      (record {
+        relinked = record {
+          ends = ends;
+          values = λ k.
+              values-with_prev_of number e3 (Some s) (Some j) k
+              ∙ values-with_prev_of number e2 (Some t) (Some i) k
+              ∙ values-with_next_of number e1 (Some j) (Some s) k
+              ∙ values-with_next_of number c (Some i) (Some t) k;
+          kept = kept-after number c e3 e4 kept3 (kept-with_prev_of number e3 (Some s) (Some j));
+        };
+        chained = record {
+          formed =
+              formed-with_prev_of number e3 (Some s) (Some j)
+              (formed-with_prev_of number e2 (Some t) (Some i)
+              (formed-with_next_of number e1 (Some j) (Some s) (formed-with_next_of number c (Some i) (Some t) chained.formed)));
+          agreed =
+              IsAgreed-same (exchanged e (number i) (number j) (number s) (number t)) (ends_in number e4) ends
+              (agreed-exchanged e (number i) (number j) (number s) (number t) out_i out_j chained.agreed);
+        };
+      })
+
+  -- the same where the numbers are those of pointers
+  pub connected : (c d1 d2 : Content (IndexLink I T)) (i j : I) (p gp q gq : ℕ) (place : Place ℕ) → IsChained number c → number i ≡ p → number j ≡ q
+      → at_bridge p q (ends_found number c p gp) (ends_found number c q gq) ≡ Some place → d1 ≡ with_next_of number c (Some i) (Some j)
+      → d2 ≡ with_prev_of number d1 (Some j) (Some i) → Relinked (linked (ends_in number c) p q) c d2
+  connected c d1 d2 i j p gp q gq place chained is_p is_q bridge first second =
+      by (ends_found number c p gp) (ends_found number c q gq) refl refl bridge
+    where
+      by : (o o' : Option Ends) → ends_found number c p gp ≡ o → ends_found number c q gq ≡ o' → at_bridge p q o o' ≡ Some place
+          → Relinked (linked (ends_in number c) p q) c d2
+      by None o' at at' h = absurd (let no : None ≡ Some place = h in cc)
+      by (Some v) None at at' h = absurd (let no : None ≡ Some place = h in cc)
+      by (Some v) (Some w) at at' h = by_ends v.1 w.0 refl refl h
+        where
+          by_ends : (n m : Option ℕ) → v.1 ≡ n → w.0 ≡ m → at_bridge p q (Some (v.0, n)) (Some (m, w.1)) ≡ Some place
+              → Relinked (linked (ends_in number c) p q) c d2
+          by_ends None None end start h =
+              let at_i : ends_in number c (number i) ≡ Some v = ap (ends_in number c) is_p ∙ found number c p gp v at in
+              let at_j : ends_in number c (number j) ≡ Some w = ap (ends_in number c) is_q ∙ found number c q gq w at' in
+              let done = linked_by c d1 d2 i j v w chained at_i end at_j start first second in
+              subst (λ n. Relinked (linked (ends_in number c) p n) c d2) is_q
+              (subst (λ n. Relinked (linked (ends_in number c) n (number j)) c d2) is_p done)
+          by_ends None (Some m) end start h = absurd (let no : None ≡ Some place = h in cc)
+          by_ends (Some n) m end start h = absurd (let no : None ≡ Some place = h in cc)
