@@ -11,7 +11,7 @@ use Rattle.triple_arena_chain.specs.declared.place.Place.{Place}
 use Rattle.triple_arena_chain.specs.Kinds.{at_bridge}
 use Rattle.triple_arena_chain.proofs.KindLemmas.{found}
 use Rattle.triple_arena_chain.specs.Links.{prev_next_of, valued, values_in, entry_ends, ends_in, ends_found, link_ends, with_link, with_next_of, with_prev_of, IsKept, IsChained, IsRelinked, IsTakenOut}
-use Rattle.triple_arena_chain.specs.LinkLaws.{entry-with_link, ends-with_next_of, ends-with_prev_of, values-with_next_of, values-with_prev_of, kept-with_next_of, kept-with_prev_of, formed-with_next_of, formed-with_prev_of}
+use Rattle.triple_arena_chain.specs.LinkLaws.{entry-with_link, live-with_next_of, ends-with_next_of, ends-with_prev_of, values-with_next_of, values-with_prev_of, kept-with_next_of, kept-with_prev_of, formed-with_next_of, formed-with_prev_of}
 use Rattle.triple_arena_chain.proofs.AgreedLemmas.{IsAgreed-linked, IsAgreed-unlinked, valid_next, valid_prev}
 use Rattle.triple_arena_chain.proofs.TakeOutLemmas.{IsAgreed-taken}
 use Rattle.triple_arena_chain.proofs.ExchangeLemmas.{exchanged_is, exchanged_self, IsAgreed-exchanged}
@@ -173,3 +173,47 @@ module _ {I T : Type 0} (number : I → ℕ) where
               (subst (λ n. Relinked (linked (ends_in number c) n (number j)) c d2) is_p done)
           by_ends None (Some m) end start h = absurd (let no : None ≡ Some place = h in cc)
           by_ends (Some n) m end start h = absurd (let no : None ≡ Some place = h in cc)
+
+  -- the next of what a pointer finds
+  pub next_found : (c : Content (IndexLink I T)) (p gp n : ℕ) (b : Option ℕ) → ends_found number c p gp ≡ Some (b, Some n)
+      → next_at (ends_in number c) p ≡ Some n
+  next_found c p gp n b is = ap next_in (found number c p gp (b, Some n) is)
+
+  pub prev_found : (c : Content (IndexLink I T)) (p gp n : ℕ) (a : Option ℕ) → ends_found number c p gp ≡ Some (Some n, a)
+      → prev_at (ends_in number c) p ≡ Some n
+  prev_found c p gp n a is = ap prev_in (found number c p gp (Some n, a) is)
+
+  -- the next of a link is live, also once an interlink was written
+  pub next_live_after : (c d : Content (IndexLink I T)) (at next : Option I) (p gp n : ℕ) (b : Option ℕ) → IsChained number c
+      → ends_found number c p gp ≡ Some (b, Some n) → d ≡ with_next_of number c at next → IsSome (entry_at d n)
+  next_live_after c d at next p gp n b chained is written =
+      subst (λ x. IsSome (entry_at x n)) (sym written) (live-with_next_of number c at next n (live_next c p n chained (next_found c p gp n b is)))
+
+  pub prev_live : (c : Content (IndexLink I T)) (p gp n : ℕ) (a : Option ℕ) → IsChained number c → ends_found number c p gp ≡ Some (Some n, a)
+      → IsSome (entry_at c n)
+  prev_live c p gp n a chained is = live_prev c p n chained (prev_found c p gp n a is)
+
+  pub found_live : (c : Content (IndexLink I T)) (p gp : ℕ) (v : Ends) → ends_found number c p gp ≡ Some v → IsSome (entry_at c p)
+  found_live c p gp v is = live_ends c p v (found number c p gp v is)
+
+  pub parted_next : (c d1 d2 : Content (IndexLink I T)) (i j : I) (p gp : ℕ) (b : Option ℕ) → IsChained number c → number i ≡ p
+      → ends_found number c p gp ≡ Some (b, Some (number j)) → d1 ≡ with_next_of number c (Some i) None → d2 ≡ with_prev_of number d1 (Some j) None
+      → (q : ℕ) → next_at (ends_in number c) p ≡ Some q → Relinked (unlinked (ends_in number c) p q) c d2
+  parted_next c d1 d2 i j p gp b chained is_p is first second q next =
+      let out = next_found c p gp (number j) b is in
+      let both : Some (number j) ≡ Some q = sym out ∙ next in
+      let same : number j ≡ q = cc in
+      subst (λ n. Relinked (unlinked (ends_in number c) p n) c d2) same
+      (subst (λ n. Relinked (unlinked (ends_in number c) n (number j)) c d2) is_p
+      (parted_by c d1 d2 i j chained (ap (next_at (ends_in number c)) is_p ∙ out) first second))
+
+  pub parted_prev : (c d1 d2 : Content (IndexLink I T)) (i j : I) (p gp : ℕ) (a : Option ℕ) → IsChained number c → number j ≡ p
+      → ends_found number c p gp ≡ Some (Some (number i), a) → d1 ≡ with_next_of number c (Some i) None → d2 ≡ with_prev_of number d1 (Some j) None
+      → (q : ℕ) → prev_at (ends_in number c) p ≡ Some q → Relinked (unlinked (ends_in number c) q p) c d2
+  parted_prev c d1 d2 i j p gp a chained is_p is first second q prev =
+      let into = prev_found c p gp (number i) a is in
+      let both : Some (number i) ≡ Some q = sym into ∙ prev in
+      let same : number i ≡ q = cc in
+      let out = chained.agreed.backward (number i) (number j) (ap (prev_at (ends_in number c)) is_p ∙ into) in
+      subst (λ n. Relinked (unlinked (ends_in number c) n p) c d2) same
+      (subst (λ n. Relinked (unlinked (ends_in number c) (number i) n) c d2) is_p (parted_by c d1 d2 i j chained out first second))
