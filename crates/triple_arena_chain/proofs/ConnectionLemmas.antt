@@ -217,3 +217,10 @@ module _ {I T : Type 0} (number : I → ℕ) where
       let out = chained.agreed.backward (number i) (number j) (ap (prev_at (ends_in number c)) is_p ∙ into) in
       subst (λ n. Relinked (unlinked (ends_in number c) n p) c d2) same
       (subst (λ n. Relinked (unlinked (ends_in number c) (number i) n) c d2) is_p (parted_by c d1 d2 i j chained out first second))
+
+  -- what a pointer finds is live, also once an interlink was written
+  pub found_live_after : (c d : Content (IndexLink I T)) (at next : Option I) (i : I) (p gp : ℕ) (v : Ends) → number i ≡ p
+      → ends_found number c p gp ≡ Some v → d ≡ with_next_of number c at next → IsSome (entry_at d (number i))
+  found_live_after c d at next i p gp v is_p is written =
+      subst (λ n. IsSome (entry_at d n)) (sym is_p)
+      (subst (λ x. IsSome (entry_at x p)) (sym written) (live-with_next_of number c at next p (found_live c p gp v is)))
