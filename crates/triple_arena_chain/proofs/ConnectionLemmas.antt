@@ -11,7 +11,7 @@ use Rattle.triple_arena_chain.specs.declared.place.Place.{Place}
 use Rattle.triple_arena_chain.specs.Kinds.{at_bridge}
 use Rattle.triple_arena_chain.proofs.KindLemmas.{found}
 use Rattle.triple_arena_chain.specs.Links.{prev_next_of, valued, values_in, entry_ends, ends_in, ends_found, link_ends, with_link, with_next_of, with_prev_of, IsKept, IsChained, IsRelinked, IsTakenOut}
-use Rattle.triple_arena_chain.specs.LinkLaws.{entry-with_link, live-with_next_of, ends-with_next_of, ends-with_prev_of, values-with_next_of, values-with_prev_of, kept-with_next_of, kept-with_prev_of, formed-with_next_of, formed-with_prev_of}
+use Rattle.triple_arena_chain.specs.LinkLaws.{entry-with_link, live-with_link, live-with_next_of, ends-with_next_of, ends-with_prev_of, values-with_next_of, values-with_prev_of, kept-with_next_of, kept-with_prev_of, formed-with_next_of, formed-with_prev_of}
 use Rattle.triple_arena_chain.proofs.AgreedLemmas.{IsAgreed-linked, IsAgreed-unlinked, valid_next, valid_prev}
 use Rattle.triple_arena_chain.proofs.TakeOutLemmas.{IsAgreed-taken}
 use Rattle.triple_arena_chain.proofs.ExchangeLemmas.{exchanged_is, exchanged_self, IsAgreed-exchanged}
@@ -224,3 +224,36 @@ module _ {I T : Type 0} (number : I → ℕ) where
   found_live_after c d at next i p gp v is_p is written =
       subst (λ n. IsSome (entry_at d n)) (sym is_p)
       (subst (λ x. IsSome (entry_at x p)) (sym written) (live-with_next_of number c at next p (found_live c p gp v is)))
+
+  -- the next of what a pointer finds is live, once both nexts were written
+  pub next_live_after_two : (c d1 d2 : Content (IndexLink I T)) (at1 next1 at2 next2 : Option I) (p gp n : ℕ) (b : Option ℕ) → IsChained number c
+      → ends_found number c p gp ≡ Some (b, Some n) → d1 ≡ with_next_of number c at1 next1 → d2 ≡ with_next_of number d1 at2 next2
+      → IsSome (entry_at d2 n)
+  next_live_after_two c d1 d2 at1 next1 at2 next2 p gp n b chained is first second =
+      subst (λ x. IsSome (entry_at x n)) (sym second)
+      (live-with_next_of number d1 at2 next2 n (next_live_after c d1 at1 next1 p gp n b chained is first))
+
+  pub live-with_prev_of : (c : Content (IndexLink I T)) (at prev : Option I) (k : ℕ) → IsSome (entry_at c k)
+      → IsSome (entry_at (with_prev_of number c at prev) k)
+  live-with_prev_of c None prev k some = some
+  live-with_prev_of c (Some i) prev k some = live-with_link c (number i) (λ link. record link { prev = prev }) k some
+
+  pub exchanged_at : (c d1 d2 d3 d4 : Content (IndexLink I T)) (i j s t : I) (p gp q gq : ℕ) (b b' : Option ℕ) → IsChained number c → number i ≡ p
+      → number j ≡ q → ends_found number c p gp ≡ Some (b, Some (number s)) → ends_found number c q gq ≡ Some (b', Some (number t))
+      → d1 ≡ with_next_of number c (Some i) (Some t) → d2 ≡ with_next_of number d1 (Some j) (Some s) → d3 ≡ with_prev_of number d2 (Some t) (Some i)
+      → d4 ≡ with_prev_of number d3 (Some s) (Some j) → (m n : ℕ) → next_at (ends_in number c) p ≡ Some m → next_at (ends_in number c) q ≡ Some n
+      → Relinked (exchanged (ends_in number c) p q m n) c d4
+  exchanged_at c d1 d2 d3 d4 i j s t p gp q gq b b' chained is_p is_q at_p at_q first second third fourth m n next_p next_q =
+      let out_p = next_found c p gp (number s) b at_p in
+      let out_q = next_found c q gq (number t) b' at_q in
+      let both_p : Some (number s) ≡ Some m = sym out_p ∙ next_p in
+      let both_q : Some (number t) ≡ Some n = sym out_q ∙ next_q in
+      let m_is : number s ≡ m = cc in
+      let n_is : number t ≡ n = cc in
+      let e = ends_in number c in
+      let done =
+      exchanged_by c d1 d2 d3 d4 i j s t chained (ap (next_at e) is_p ∙ out_p) (ap (next_at e) is_q ∙ out_q) first second third fourth in
+      subst (λ x. Relinked (exchanged e p q m x) c d4) n_is
+      (subst (λ x. Relinked (exchanged e p q x (number t)) c d4) m_is
+      (subst (λ x. Relinked (exchanged e p x (number s) (number t)) c d4) is_q
+      (subst (λ x. Relinked (exchanged e x (number j) (number s) (number t)) c d4) is_p done)))

@@ -123,7 +123,7 @@ module _ {I T : Type 0} (number : I → ℕ) where
       by_entry (Some e) = refl
 
   -- what was live is live
-  live-with_link : (c : Content (IndexLink I T)) (i : ℕ) (f : IndexLink I T → IndexLink I T) (k : ℕ) → IsSome (entry_at c k)
+  pub live-with_link : (c : Content (IndexLink I T)) (i : ℕ) (f : IndexLink I T → IndexLink I T) (k : ℕ) → IsSome (entry_at c k)
       → IsSome (entry_at (with_link c i f) k)
   live-with_link c i f k some =
       ap is_some (entry-with_link c i f k)

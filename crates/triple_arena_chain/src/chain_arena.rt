@@ -7,7 +7,6 @@ ghost use Rattle.triple_arena_chain.specs.Links.{IsChained};
 mod connections;
 mod insertion;
 mod interlinks;
-mod removal;
 mod requirement;
 
 use crate::LinkNoGen;

@@ -1,7 +1,7 @@
-//! Links that are connected, parted and exchanged.
+//! Links that are connected and parted.
 ghost use Rattle.std.specs.Prelude.{◌≡◌, ◌↔◌, ℕ, Some, None, IsSome, IfNone, OnSome};
 ghost use Rattle.triple_arena_chain.specs.declared.kind.InsertKind.TheVariants.{Bridge};
-ghost use Rattle.triple_arena_chain.specs.Chains.{next_in, prev_in, next_at, prev_at, linked, unlinked, exchanged};
+ghost use Rattle.triple_arena_chain.specs.Chains.{next_in, prev_in, next_at, prev_at, linked, unlinked};
 ghost use Rattle.triple_arena_chain.specs.Links.{ends_in, ends_found, place_among, IsRelinked};
 
 use crate::chain_arena::interlinks::{set_next, set_prev};
@@ -65,33 +65,6 @@ impl<P: Ptr, T: Drop, S: NonZeroInxGenericStack<ArenaSlot<P, LinkNoGen<P, T>>> +
         let prev = self.ends_of(p)?.0?;
         set_next(&mut self.arena, Some(prev), None);
         set_prev(&mut self.arena, Some(p.inx()), None);
-        Some(())
-    }
-
-    /// Gives each of `p` and `q` the other's next. It answers `None`, and changes nothing, where one of them is invalid or
-    /// has no next. Where `q` is the next of `p`, it becomes a ring of one; where they are links of one ring, it becomes
-    /// two; where they are links of two chains, these exchange what follows.
-    pub fn exchange_next(&mut self, p: P, q: P) -> Option<()>
-        ensures variant { IsSome result
-            ↔ (IsSome (next_in (ends_found P.Inx.number self.old (P.index p) (P.generation p)))
-            × IsSome (next_in (ends_found P.Inx.number self.old (P.index q) (P.generation q)))) }
-        ensures relinked { OnSome result ((s t : ℕ)
-            → next_at (ends_in P.Inx.number self.old) (P.index p) ≡ Some s
-            → next_at (ends_in P.Inx.number self.old) (P.index q) ≡ Some t
-            → IsRelinked P.Inx.number
-            (exchanged (ends_in P.Inx.number self.old) (P.index p) (P.index q) s t) self.old self.new) }
-        ensures none { IfNone result (self.new ≡ self.old) }
-    {
-        // The interlinks agree.
-        let _ = self.has_room();
-        let s = self.ends_of(p)?.1?;
-        let t = self.ends_of(q)?.1?;
-        let i = p.inx();
-        let j = q.inx();
-        set_next(&mut self.arena, Some(i), Some(t));
-        set_next(&mut self.arena, Some(j), Some(s));
-        set_prev(&mut self.arena, Some(t), Some(i));
-        set_prev(&mut self.arena, Some(s), Some(j));
         Some(())
     }
 }
