@@ -6,7 +6,7 @@ use Rattle.triple_arena_ptr.specs.Generation.{next_generation}
 use Rattle.triple_arena_stack.specs.Room.{Room, capacity}
 use Rattle.triple_arena.specs.ArenaRoom.{room_with}
 use Rattle.triple_arena.specs.Entries.{value_if}
-use Rattle.triple_arena.specs.Content.{Content, entry_at as entry_of, live_count as live_count_of, with_value as with_value_of, with_generation as with_generation_of, last_index as last_index_of, without_free_end as without_free_end_of, with_limit as with_limit_of}
+use Rattle.triple_arena.specs.Content.{Content, entry_at as entry_of, live_count as live_count_of, with_value as with_value_of, with_exchange as with_exchange_of, with_generation as with_generation_of, last_index as last_index_of, without_free_end as without_free_end_of, with_limit as with_limit_of}
 use Rattle.triple_arena.specs.LiveEntries.{live_entries as live_entries_of}
 use Rattle.triple_arena.specs.Compression.{renewed, generation_of}
 
@@ -84,6 +84,10 @@ module _ {T : Type 0} where
   -- the content with another value at this index, if it is live
   abbrev pub with_value : DirectContent T → ℕ → T → DirectContent T
   with_value d index t = of_content (with_value_of (as_content d) index t)
+
+  -- the content with the values at two indexes exchanged, if both are live
+  abbrev pub with_exchange : DirectContent T → ℕ → ℕ → DirectContent T
+  with_exchange d i j = of_content (with_exchange_of (as_content d) i j)
 
   -- the content with another generation at this index, if it is live
   abbrev pub with_generation : DirectContent T → ℕ → ℕ → DirectContent T

@@ -27,4 +27,5 @@ pub mod DirectState
 pub mod DirectLayout
 pub mod DirectLaws
 pub mod DirectEntry
+pub mod DirectExchangeLaws
 pub mod Iterators

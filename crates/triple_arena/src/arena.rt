@@ -27,9 +27,11 @@ use crate::ArenaSlot;
 pub(crate) use compression::{compact, keep_first};
 pub use entry::{ArenaInsertEntries, ArenaInsertEntry, ArenaInsertEntryTrait};
 pub(crate) use reading::ValueAtMut;
+pub(crate) use recast::{RecastByIndex, recast_values};
 pub(crate) use removal::equal_uncounted;
 use std::marker::{Model, PhantomData};
 use std::num::NonZeroUsize;
+pub(crate) use text::write_entries;
 use triple_arena_ptr::{Ptr, PtrGen, PtrInx};
 use triple_arena_stack::{
     NonZeroInxArray, NonZeroInxBoxedSlice, NonZeroInxGenericStack, NonZeroInxLimitedVec,
