@@ -3,6 +3,8 @@ pub mod FreeSlotsLemmas
 pub mod ExchangeLemmas
 pub mod WalkLemmas
 mod CompressionLemmas
+mod TransferLemmas
+mod TakeOverLemmas
 pub mod DirectLemmas
 mod DirectExchangeLemmas
 mod DirectCompressionLemmas

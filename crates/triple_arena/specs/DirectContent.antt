@@ -111,6 +111,10 @@ module _ {T : Type 0} where
   compressed last d reset values =
       record d { slots = map Some (zip (map (renewed last reset) (map generation_of (live_entries d))) values) }
 
+  -- the content with these values alone, at the indexes from 1 on, each with this generation
+  abbrev pub rowed : DirectContent T → ℕ → List T → DirectContent T
+  rowed d g values = record d { slots = map (λ t. Some (g, t)) values }
+
   -- the greatest live index, or 0 where no index is live
   abbrev pub last_index : DirectContent T → ℕ
   last_index d = last_index_of (as_content d)
@@ -131,6 +135,10 @@ module _ {T : Type 0} where
   -- the content with at least this capacity
   abbrev pub reallocated : DirectContent T → ℕ → DirectContent T
   reallocated d least = in_room d (room_with least d.room)
+
+  -- the content with these values alone, so many, at the indexes from 1 on, each with this generation, in a room for them
+  abbrev pub filled : DirectContent T → ℕ → ℕ → List T → DirectContent T
+  filled d n g values = rowed (reallocated d n) g values
 
   -- the slots are within the capacity
   abbrev pub IsWellFormed : DirectContent T → Type 0

@@ -21,6 +21,8 @@ pub mod LiveEntries
 pub mod Compression
 pub mod CompressionLaws
 pub mod SlotCompression
+pub mod Transfer
+pub mod SlotTransfer
 pub mod DirectContent
 pub mod DirectSlot
 pub mod DirectState

@@ -22,9 +22,10 @@ mod recast;
 mod removal;
 mod room;
 mod text;
+mod transfer;
 
 use crate::ArenaSlot;
-pub(crate) use compression::{compact, keep_first};
+pub(crate) use compression::{compact, keep_first, take_entry};
 pub use entry::{ArenaInsertEntries, ArenaInsertEntry, ArenaInsertEntryTrait};
 pub(crate) use reading::ValueAtMut;
 pub(crate) use recast::{RecastByIndex, recast_values};

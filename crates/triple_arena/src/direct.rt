@@ -15,6 +15,7 @@ mod recast;
 mod removal;
 mod room;
 mod text;
+mod transfer;
 
 use crate::DirectSlot;
 pub use entry::ArenaDirectInsertEntry;

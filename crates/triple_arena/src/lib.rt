@@ -29,6 +29,7 @@ mod iterators;
 pub mod laws;
 mod slot;
 mod stack_room;
+mod transfer;
 
 /// The advancers of the arenas, and the iterators of `Arena`.
 pub mod arena_iterators {
@@ -73,6 +74,7 @@ pub use direct_slot::DirectSlot;
 pub use disjointable_trait::DisjointableArenaTrait;
 pub use insert_trait::ArenaInsertTrait;
 pub use slot::ArenaSlot;
+pub use transfer::{ArenaTransferSource, ArenaTransferTrait};
 pub use triple_arena_ptr::{
     Advancer, AllocError, DirectInsertionError, GetDisjointMutError, InvalidationOption,
     InvalidationResult, MaxCapacityReductionError, NotWithinCapacityError, P0, P1, P2, P3, P4, P5,

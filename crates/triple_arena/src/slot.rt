@@ -52,8 +52,8 @@ impl<G, T> ValueMut<T> for SlotState<G, T> {
     }
 }
 
-// What a compression does with a slot.
-pub(crate) trait EntrySlot<P: Ptr, T> {
+// What a compression and a transfer do with a slot.
+pub trait EntrySlot<P: Ptr, T> {
     // The generation and the value, if it is allocated.
     ghost entry: { Self → Option (ℕ × T) };
 
