@@ -109,14 +109,14 @@ module _ {P T F : Type 0} (index generation : P → ℕ) (step : F → P → T �
   partly_same state slots count told p = rw (state, slots, count, told) p
 
   -- the next slot, and what comes behind it
-  record Next (f : F) (renew : ℕ → ℕ) (wraps : ℕ → Bool) (old : List (Option (ℕ × T))) (f' : F) (now : List (Option (ℕ × T))) (at live : ℕ)
+  pub record Next (f : F) (renew : ℕ → ℕ) (wraps : ℕ → Bool) (old : List (Option (ℕ × T))) (f' : F) (now : List (Option (ℕ × T))) (at live : ℕ)
       (wrapped : Bool) (o : Option (ℕ × T)) : Type 0 where
     pub p : Partly f renew wraps old f' now at live wrapped
     pub rest : List (Option (ℕ × T))
     pub rest_is : p.rest ≡ o ∷ rest
     pub emptied : set now at None ≡ map (stored renew) p.moves ++ ((p.gap ++ None ∷ []) ++ rest)
 
-  next_of : {f : F} {renew : ℕ → ℕ} {wraps : ℕ → Bool} {old : List (Option (ℕ × T))} {f' : F} {now : List (Option (ℕ × T))} {at live : ℕ}
+  pub next_of : {f : F} {renew : ℕ → ℕ} {wraps : ℕ → Bool} {old : List (Option (ℕ × T))} {f' : F} {now : List (Option (ℕ × T))} {at live : ℕ}
       {wrapped : Bool} {o : Option (ℕ × T)} → Partly f renew wraps old f' now at live wrapped → slice_get now at ≡ Some o → at < length now
       → Next f renew wraps old f' now at live wrapped o
   next_of {renew} {now} {at} {o} p found below =
@@ -268,6 +268,13 @@ module _ {P T F : Type 0} (index generation : P → ℕ) (step : F → P → T �
         after = p.after ∙ ap (listed_from 1) (sym front);
         slots = front;
       }
+
+  -- and the last call left the map so
+  pub partly_last : {f : F} {renew : ℕ → ℕ} {wraps : ℕ → Bool} {old : List (Option (ℕ × T))} {f' : F} {now new : List (Option (ℕ × T))} {at live : ℕ}
+      {wrapped : Bool} (p : Partly f renew wraps old f' now at live wrapped) (past : length now ≤ at) (kept : new ≡ take live now)
+      → (partly_all p past kept).last ≡ f'
+  unfolding partly_all
+  partly_last p past kept = refl
 
   -- and the test holds of one of their generations, or of none
   pub partly_told : {f : F} {renew : ℕ → ℕ} {wraps : ℕ → Bool} {old : List (Option (ℕ × T))} {f' : F} {now : List (Option (ℕ × T))} {at live : ℕ}

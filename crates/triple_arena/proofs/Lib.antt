@@ -5,6 +5,7 @@ pub mod WalkLemmas
 mod CompressionLemmas
 mod TransferLemmas
 mod TakeOverLemmas
+mod RecasterLemmas
 pub mod DirectLemmas
 mod DirectExchangeLemmas
 mod DirectCompressionLemmas

@@ -31,3 +31,5 @@ pub mod DirectLaws
 pub mod DirectEntry
 pub mod DirectExchangeLaws
 pub mod Iterators
+pub mod Recaster
+pub mod SlotRecaster

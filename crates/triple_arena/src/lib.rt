@@ -62,7 +62,7 @@ pub mod direct_iterators {
 
 pub use arena::{
     Arena, ArenaInsertEntries, ArenaInsertEntry, ArenaInsertEntryTrait, ArrayArena, BoxedArena,
-    HeapArena, LimitedArena,
+    HeapArena, LimitedArena, compress_recaster,
 };
 pub use arena_trait::{ArenaTrait, CompactArenaTrait};
 pub use direct::{

@@ -55,7 +55,7 @@ pub(crate) fn take_entry<P: Ptr, T: Drop, L: EntrySlot<P, T> + Drop, S: NonZeroI
 }
 
 // Stores an entry at `i`.
-fn put_entry<P: Ptr, T: Drop, L: EntrySlot<P, T> + Drop, S: NonZeroInxGenericStack<L>>(
+pub(crate) fn put_entry<P: Ptr, T: Drop, L: EntrySlot<P, T> + Drop, S: NonZeroInxGenericStack<L>>(
     slots: &mut S,
     i: NonZeroUsize,
     generation: P::Gen,
