@@ -1,5 +1,5 @@
 -- What a compression that notes the new pointers has done, and what it leaves.
-use Rattle.std.proofs.Common.{◌≡◌, ℕ, Bool, inl, inr, add-zero, zero, suc, ◌+◌, ◌-◌, ◌<◌, ◌≤◌, List, [], ◌∷◌, ◌++◌, map, length, get_or, set, replicate, Option, Some, None, IsSome, slice_get, refl, sym, ap, ◌∙◌, arith, append_assoc, append-nil}
+use Rattle.std.proofs.Common.{◌≡◌, ℕ, Bool, inl, inr, zero, suc, ◌+◌, ◌-◌, ◌<◌, ◌≤◌, List, [], ◌∷◌, ◌++◌, map, length, get_or, set, replicate, Option, Some, None, IsSome, slice_get, refl, sym, ap, ◌∙◌, arith, append_assoc, append-nil}
 use Rattle.std.specs.List.{FoldsTo}
 use Rattle.triple_arena.specs.Iterators.{pointer_of}
 use Rattle.triple_arena.specs.LiveEntries.{listed_from}
@@ -11,6 +11,7 @@ use Rattle.triple_arena.specs.Compression.{Move, index_of, entry_of_listed, valu
 use Rattle.triple_arena.specs.SlotCompression.{Compacts}
 use Rattle.triple_arena.specs.DirectContent.{DirectContent, entry_at, arena_capacity, reaching, live_entries, IsPlace}
 use Rattle.triple_arena.specs.Recaster.{pointer_in, IsRecaster}
+use Rattle.triple_arena.specs.RecasterLaws.{stands}
 use Rattle.triple_arena.specs.SlotRecaster.{notes, CompactsNoting}
 
 module _ {X : Type 0} where
@@ -119,24 +120,6 @@ module _ {P T : Type 0} (index generation : P → ℕ) where
       reaches (length entries) (at + 1, e) there
 
 module _ {T : Type 0} where
-  -- a listed entry stands in its slot
-  record Stands (n : ℕ) (xs : List (Option (ℕ × T))) (e : ℕ × (ℕ × T)) : Type 0 where
-    pub at : ℕ
-    pub index : index_of e ≡ n + at
-    pub slot : get_or xs at None ≡ Some (entry_of_listed e)
-
-  stands : (n : ℕ) (xs : List (Option (ℕ × T))) (k : ℕ) (e : ℕ × (ℕ × T)) → slice_get (listed_from n xs) k ≡ Some e → Stands n xs e
-  stands n [] k e found = absurd (cc)
-  stands n (None ∷ xs) k e found =
-      let rest = stands (n + 1) xs k e found in
-      record { at = suc rest.at; index = omega (arith, rest.index); slot = rest.slot }
-  stands n (Some y ∷ xs) zero e found =
-      let same : (n, y) ≡ e = cc in
-      record { at = zero; index = sym (ap index_of same) ∙ sym (add-zero n); slot = ap (λ x. Some (entry_of_listed x)) same }
-  stands n (Some y ∷ xs) (suc k) e found =
-      let rest = stands (n + 1) xs k e found in
-      record { at = suc rest.at; index = omega (arith, rest.index); slot = rest.slot }
-
   -- no listed entry is past the last live index
   pub listed-within : (c : Content T) (k : ℕ) (e : ℕ × (ℕ × T)) → slice_get (listed_from 1 c.slots) k ≡ Some e → index_of e ≤ last_index c
   listed-within c k e found =

@@ -33,3 +33,4 @@ pub mod DirectExchangeLaws
 pub mod Iterators
 pub mod Recaster
 pub mod SlotRecaster
+pub mod RecasterLaws
