@@ -3,7 +3,11 @@ pub mod FreeSlotsLemmas
 pub mod ExchangeLemmas
 pub mod WalkLemmas
 mod CompressionLemmas
+mod TransferLemmas
+mod TakeOverLemmas
+mod RecasterLemmas
 pub mod DirectLemmas
+mod DirectExchangeLemmas
 mod DirectCompressionLemmas
 pub mod RecastingLemmas
 pub mod StepsLemmas

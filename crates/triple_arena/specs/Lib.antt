@@ -22,10 +22,16 @@ pub mod Compression
 pub mod CompressionLaws
 pub mod CompactedLaws
 pub mod SlotCompression
+pub mod Transfer
+pub mod SlotTransfer
 pub mod DirectContent
 pub mod DirectSlot
 pub mod DirectState
 pub mod DirectLayout
 pub mod DirectLaws
 pub mod DirectEntry
+pub mod DirectExchangeLaws
 pub mod Iterators
+pub mod Recaster
+pub mod SlotRecaster
+pub mod RecasterLaws

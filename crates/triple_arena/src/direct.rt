@@ -5,13 +5,17 @@ ghost use Rattle.triple_arena.specs.DirectContent.{live_count, empty, IsWellForm
 
 mod calls;
 mod entry;
+mod exchange;
 mod indexing;
 mod insertion;
 mod iterators;
 mod max_capacity;
 mod reading;
+mod recast;
 mod removal;
 mod room;
+mod text;
+mod transfer;
 
 use crate::DirectSlot;
 pub use entry::ArenaDirectInsertEntry;

@@ -29,6 +29,7 @@ mod iterators;
 pub mod laws;
 mod slot;
 mod stack_room;
+mod transfer;
 
 /// The advancers of the arenas, and the iterators of `Arena`.
 pub mod arena_iterators {
@@ -61,7 +62,7 @@ pub mod direct_iterators {
 
 pub use arena::{
     Arena, ArenaInsertEntries, ArenaInsertEntry, ArenaInsertEntryTrait, ArrayArena, BoxedArena,
-    HeapArena, LimitedArena,
+    HeapArena, LimitedArena, compress_recaster,
 };
 pub use arena_trait::{ArenaTrait, CompactArenaTrait};
 pub use direct::{
@@ -73,6 +74,7 @@ pub use direct_slot::DirectSlot;
 pub use disjointable_trait::DisjointableArenaTrait;
 pub use insert_trait::ArenaInsertTrait;
 pub use slot::ArenaSlot;
+pub use transfer::{ArenaTransferSource, ArenaTransferTrait};
 pub use triple_arena_ptr::{
     Advancer, AllocError, DirectInsertionError, GetDisjointMutError, InvalidationOption,
     InvalidationResult, MaxCapacityReductionError, NotWithinCapacityError, P0, P1, P2, P3, P4, P5,

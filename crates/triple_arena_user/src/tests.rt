@@ -3,5 +3,6 @@
 mod entries;
 mod refusals;
 mod texts;
+mod transfers;
 mod values;
 mod writes;
