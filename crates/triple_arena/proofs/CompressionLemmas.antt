@@ -42,7 +42,7 @@ module _ {X : Type 0} where
 
 module _ {T : Type 0} where
   -- one more live slot at the end
-  listed-push : (n : ℕ) (xs : List (Option (ℕ × T))) (e : ℕ × T) → listed_from n (xs ++ Some e ∷ []) ≡ listed_from n xs ++ (n + length xs, e) ∷ []
+  pub listed-push : (n : ℕ) (xs : List (Option (ℕ × T))) (e : ℕ × T) → listed_from n (xs ++ Some e ∷ []) ≡ listed_from n xs ++ (n + length xs, e) ∷ []
   listed-push n [] e = ap (λ k. (k, e) ∷ []) (omega arith)
   listed-push n (None ∷ xs) e =
       let next : (n + 1) + length xs ≡ n + length (None ∷ xs) = omega arith in

@@ -5,5 +5,6 @@ pub mod WalkLemmas
 mod CompressionLemmas
 pub mod DirectLemmas
 mod DirectCompressionLemmas
+mod CopyLemmas
 pub mod RecastingLemmas
 pub mod StepsLemmas

@@ -20,6 +20,7 @@
 mod advancer;
 mod arena;
 mod arena_trait;
+mod copy;
 mod direct;
 mod direct_insert_trait;
 mod direct_slot;
@@ -64,6 +65,7 @@ pub use arena::{
     HeapArena, LimitedArena,
 };
 pub use arena_trait::{ArenaTrait, CompactArenaTrait};
+pub use copy::{ArenaCloneFromWith, ArenaCloneSource};
 pub use direct::{
     ArenaDirectInsertEntry, ArrayDirectArena, BoxedDirectArena, DirectArena, HeapDirectArena,
     LimitedDirectArena,
