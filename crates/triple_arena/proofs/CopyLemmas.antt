@@ -1,5 +1,5 @@
 -- How a copy comes to be, slot by slot.
-use Rattle.std.proofs.Common.{◌≡◌, ℕ, zero, suc, ◌+◌, ◌-◌, ◌<◌, ◌≤◌, List, [], ◌∷◌, ◌++◌, map, length, replicate, Option, Some, None, is_some, count_by, refl, sym, ap, subst, ◌∙◌, arith, append_assoc, append-nil, length-append, true, false, true≢false, inl, inr, le-leb}
+use Rattle.std.proofs.Common.{◌≡◌, ℕ, zero, suc, ◌+◌, ◌-◌, ◌<◌, ◌≤◌, List, [], ◌∷◌, ◌++◌, map, length, replicate, Option, Some, None, is_some, count_by, refl, sym, ap, subst, ◌∙◌, arith, append_assoc, append-nil, length-append, true, false, true≢false, inl, inr, le-leb, Bool, eqb}
 use Rattle.std.specs.Prelude.{Result, Ok, Err, unwrap_or, ◌⊎◌}
 use Rattle.std.specs.Borrow.{Bor}
 use Rattle.std.specs.List.{FoldsTo, last_or}
@@ -12,11 +12,12 @@ use Rattle.triple_arena.specs.ArenaRoom.{room_with}
 use Rattle.triple_arena.specs.Entries.{generation_at, look_up}
 use Rattle.triple_arena.specs.Slot.{Slot, entry_of}
 use Rattle.triple_arena.specs.Layout.{content_of, IsChain, IsSound}
-use Rattle.triple_arena.specs.Content.{Content, entry_at, live_count, vacant_from, cleared}
+use Rattle.triple_arena.specs.Content.{Content, entry_at, live_count, some_counter, vacant_from, reallocated, cleared}
 use Rattle.triple_arena.specs.FreeListLaws.{vacant-counted}
+use Rattle.triple_arena.specs.Changes.{IsNew}
 use Rattle.triple_arena.specs.Compression.{index_of}
-use Rattle.triple_arena.specs.LiveEntries.{listed_from, listed-length, live_entries}
-use Rattle.triple_arena.specs.Copy.{last_listed, spread, copied, Call, Calls, entry_shown, entry_made, IsMappedCopy, IsRefusedCopy}
+use Rattle.triple_arena.specs.LiveEntries.{listed_from, listed-length, live_entries, entry-listed, live_entries-length}
+use Rattle.triple_arena.specs.Copy.{last_listed, spread, copied, Call, Calls, entry_shown, entry_made, IsMappedCopy, IsRefusedCopy, IsCopy}
 use Rattle.triple_arena.proofs.CompressionLemmas.{listed-push}
 use Rattle.triple_arena.proofs.FreeListLemmas.{sound_of, Becomes}
 
@@ -333,3 +334,104 @@ module _ {P U T A F : Type 0} (index generation : P → ℕ) (step : F → P →
         mapped = rw same m;
         exact = rw (s.free_is, same, spreads, counter_is, ← room_is, stays) refl;
       }
+
+  same_pointers : (calls : List (Call P U T)) (j : ℕ)
+      → option_map (λ (e : ℕ × T). e.0) (look_up (map (made_at index generation step) calls) j)
+      ≡ option_map (λ (e : ℕ × U). e.0) (look_up (map (shown_at index generation step) calls) j)
+  same_pointers [] j = refl
+  same_pointers (call ∷ calls) j = by_test (same_pointers calls j) (eqb (index call.pointer) j) refl
+    where
+      by_test : option_map (λ (e : ℕ × T). e.0) (look_up (map (made_at index generation step) calls) j)
+          ≡ option_map (λ (e : ℕ × U). e.0) (look_up (map (shown_at index generation step) calls) j) → (b : Bool) → eqb (index call.pointer) j ≡ b
+          → option_map (λ (e : ℕ × T). e.0) (look_up (map (made_at index generation step) (call ∷ calls)) j)
+          ≡ option_map (λ (e : ℕ × U). e.0) (look_up (map (shown_at index generation step) (call ∷ calls)) j)
+      by_test rest true is = rw is refl
+      by_test rest false is = rw is rest
+
+  -- what is known of any copy, by what its entries are
+  pub record Mirrors (source : ℕ → Option (ℕ × U)) (source_live : ℕ) (entries : List (ℕ × (ℕ × U))) (new : List (ℕ × (ℕ × T))) : Type 0 where
+    pub pointers : (j : ℕ) → option_map (λ (e : ℕ × T). e.0) (look_up new j) ≡ generation_at source j
+    pub live : length new ≡ source_live
+    pub last : last_listed new ≡ last_listed entries
+
+  pub mirrors : {f : F} {old : List (ℕ × (ℕ × U))} {source : ℕ → Option (ℕ × U)} {source_live : ℕ} {entries : List (ℕ × (ℕ × U))} {new : List (ℕ × (ℕ × T))}
+      → IsMappedCopy index generation step f old new → old ≡ entries → ((j : ℕ) → source j ≡ look_up entries j) → length entries ≡ source_live
+      → Mirrors source source_live entries new
+  mirrors {f} {old} {source} {source_live} {entries} {new} m same listed counted =
+      let before = ap length m.before in
+      let after = ap length m.after in
+      let befores = length-map m.calls (shown_at index generation step) in
+      let afters = length-map m.calls (made_at index generation step) in
+      let all = ap length same in
+      record {
+        pointers = λ j.
+            ap (λ l. option_map (λ (e : ℕ × T). e.0) (look_up l j)) (sym m.after)
+            ∙ same_pointers m.calls j
+            ∙ ap (λ l. option_map (λ (e : ℕ × U). e.0) (look_up l j)) (m.before ∙ same)
+            ∙ ap (option_map (λ (e : ℕ × U). e.0)) (sym (listed j));
+        live = omega arith;
+        last = sym (last_copied m) ∙ ap last_listed same;
+      }
+
+module _ {T : Type 0} where
+  -- a copy into an arena that was grown to the last index
+  pub copied_grown : (c : Content T) (n : ℕ) (counter : Option ℕ) (entries : List (ℕ × (ℕ × T))) → last_listed entries ≡ n → n ≤ capacity (room_with n c.room)
+      → copied (reallocated c n) counter entries ≡ copied c counter entries
+  copied_grown c n counter entries last fits =
+      let in_this : Room → Content T =
+      λ r. record { slots = spread 1 entries; counter = unwrap_or counter c.counter; free = vacant_from 1 (spread 1 entries); room = r } in
+      let stays : room_with (last_listed entries) (room_with n c.room) ≡ room_with (last_listed entries) c.room = rw last (room_enough n (room_with n c.room) fits) in
+      ap in_this stays
+
+  -- what an arena is that was grown and then became a copy
+  pub record GrownCopy {U : Type 0} (source : ℕ → Option (ℕ × U)) (source_live last : ℕ) (counter : Option ℕ) (c new : Content T) : Type 0 where
+    pub exact : new ≡ copied c counter (live_entries new)
+    pub copy : IsCopy entry_at live_count some_counter (λ d. d.room) source source_live last counter c new
+
+  -- an arena that was grown and then cleared
+  pub emptied : (g : Option ℕ) {n last : ℕ} (c : Content T) {grown new : Content T} → new ≡ cleared g grown → grown ≡ reallocated c n → n ≡ last
+      → IsNew entry_at live_count some_counter (λ d. d.room) (option_map (next_generation g) (some_counter c)) (room_with last c.room) new
+      × (new ≡ cleared g (reallocated c last))
+  emptied g {n} {last} c {grown} {new} is grew at =
+      let whole : new ≡ cleared g (reallocated c last) = is ∙ ap (cleared g) (grew ∙ ap (reallocated c) at) in
+      (
+        record {
+          entries = λ j. ap (λ x. entry_at x j) whole ∙ no_entry g (reallocated c last) j;
+          live = ap live_count whole;
+          counter = ap some_counter whole;
+          room = ap (λ x. x.room) whole;
+        },
+        whole,
+      )
+    where
+      no_entry : (g : Option ℕ) (c : Content T) (j : ℕ) → entry_at (cleared g c) j ≡ None
+      no_entry g c zero = refl
+      no_entry g c (suc j) = refl
+
+module _ {P U T A F : Type 0} (index generation : P → ℕ) (step : F → P → Bor U → Result T A → F → Type 0) where
+  pub grown_copy : {f : F} {old : List (ℕ × (ℕ × U))} {source : ℕ → Option (ℕ × U)} {source_live n : ℕ} {entries : List (ℕ × (ℕ × U))} {counter given : Option ℕ}
+      (c : Content T) {grown new : Content T} → IsMappedCopy index generation step f old (live_entries new) → old ≡ entries
+      → ((j : ℕ) → source j ≡ look_up entries j) → length entries ≡ source_live
+      → new ≡ copied grown given (live_entries new) → given ≡ counter → grown ≡ reallocated c n → n ≡ last_listed entries → n ≤ capacity grown.room
+      → GrownCopy source source_live (last_listed entries) counter c new
+  grown_copy {f} {old} {source} {source_live} {n} {entries} {counter} {given} c {grown} {new} m same listed counted is takes grew at fits =
+      let q = mirrors index generation step m same listed counted in
+      let live = live_entries-length new in
+      let l = q.live in
+      let enough : n ≤ capacity (room_with n c.room) = subst (λ x. n ≤ capacity x.room) grew fits in
+      let exact : new ≡ copied c counter (live_entries new) =
+      is ∙ ap (λ x. copied x given (live_entries new)) grew ∙ ap (λ o. copied (reallocated c n) o (live_entries new)) takes
+      ∙ copied_grown c n counter (live_entries new) (q.last ∙ sym at) enough in
+      record {
+        exact = exact;
+        copy = record {
+          pointers = λ j. ap (option_map (λ (e : ℕ × T). e.0)) (entry-listed new j) ∙ q.pointers j;
+          live = omega arith;
+          counter = ap some_counter exact;
+          room = ap (λ x. x.room) exact ∙ ap (λ k. room_with k c.room) q.last;
+        };
+      }
+
+  pub refused_same : {f : F} {old entries : List (ℕ × (ℕ × U))} → old ≡ entries → IsRefusedCopy index generation step f old
+      → IsRefusedCopy index generation step f entries
+  refused_same {f} same r = subst (IsRefusedCopy index generation step f) same r
