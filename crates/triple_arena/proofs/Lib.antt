@@ -6,5 +6,6 @@ mod CompressionLemmas
 pub mod DirectLemmas
 mod DirectCompressionLemmas
 mod CopyLemmas
+mod DirectCopyLemmas
 pub mod RecastingLemmas
 pub mod StepsLemmas
