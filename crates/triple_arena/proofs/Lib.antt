@@ -9,5 +9,7 @@ mod RecasterLemmas
 pub mod DirectLemmas
 mod DirectExchangeLemmas
 mod DirectCompressionLemmas
+mod CopyLemmas
+mod DirectCopyLemmas
 pub mod RecastingLemmas
 pub mod StepsLemmas

@@ -35,3 +35,4 @@ pub mod Iterators
 pub mod Recaster
 pub mod SlotRecaster
 pub mod RecasterLaws
+pub mod Copy

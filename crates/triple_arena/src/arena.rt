@@ -9,6 +9,7 @@ ghost use Rattle.triple_arena.specs.Content.{live_count, empty, IsWellFormed};
 
 mod calls;
 mod compression;
+mod copy;
 mod entry;
 mod exchange;
 mod free_slots;

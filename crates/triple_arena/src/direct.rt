@@ -4,6 +4,7 @@ ghost use Rattle.triple_arena.specs.ArenaRoom.{room_of};
 ghost use Rattle.triple_arena.specs.DirectContent.{live_count, empty, IsWellFormed};
 
 mod calls;
+mod copy;
 mod entry;
 mod exchange;
 mod indexing;

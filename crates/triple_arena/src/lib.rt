@@ -20,6 +20,7 @@
 mod advancer;
 mod arena;
 mod arena_trait;
+mod copy;
 mod direct;
 mod direct_insert_trait;
 mod direct_slot;
@@ -65,6 +66,7 @@ pub use arena::{
     HeapArena, LimitedArena, compress_recaster,
 };
 pub use arena_trait::{ArenaTrait, CompactArenaTrait};
+pub use copy::{ArenaCloneFromWith, ArenaCloneSource};
 pub use direct::{
     ArenaDirectInsertEntry, ArrayDirectArena, BoxedDirectArena, DirectArena, HeapDirectArena,
     LimitedDirectArena,
