@@ -7,3 +7,4 @@ pub mod DirectLemmas
 mod DirectCompressionLemmas
 pub mod RecastingLemmas
 pub mod StepsLemmas
+pub mod DrainLemmas

@@ -28,3 +28,4 @@ pub mod DirectLayout
 pub mod DirectLaws
 pub mod DirectEntry
 pub mod Iterators
+pub mod Drains

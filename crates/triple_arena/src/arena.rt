@@ -9,6 +9,7 @@ ghost use Rattle.triple_arena.specs.Content.{live_count, empty, IsWellFormed};
 
 mod calls;
 mod compression;
+mod drain;
 mod entry;
 mod exchange;
 mod free_slots;
@@ -25,6 +26,7 @@ mod text;
 
 use crate::ArenaSlot;
 pub(crate) use compression::{compact, keep_first};
+pub use drain::Drain;
 pub use entry::{ArenaInsertEntries, ArenaInsertEntry, ArenaInsertEntryTrait};
 pub(crate) use reading::ValueAtMut;
 pub(crate) use removal::equal_uncounted;

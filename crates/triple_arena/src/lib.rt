@@ -33,6 +33,7 @@ mod stack_room;
 /// The advancers of the arenas, and the iterators of `Arena`.
 pub mod arena_iterators {
     pub use crate::advancer::PtrAdvancer;
+    pub use crate::arena::Drain;
     use crate::{ArenaSlot, iterators};
 
     /// The pointers and the values of an arena.
