@@ -101,7 +101,7 @@ module _ {T : Type 0} where
   removals_none last c none = rw (none_left c none) refl
 
   -- an index is passed once its entry is gone
-  passed_on : (old new : Content T) (i : ℕ) → ((j : ℕ) → j < i → entry_at old j ≡ None) → ((j : ℕ) → entry_at new j ≡ without (entry_at old) i j)
+  pub passed_on : (old new : Content T) (i : ℕ) → ((j : ℕ) → j < i → entry_at old j ≡ None) → ((j : ℕ) → entry_at new j ≡ without (entry_at old) i j)
       → (j : ℕ) → j ≤ i → entry_at new j ≡ None
   passed_on old new i lower taken j within =
       elim (eqb_tells j i) [

@@ -8,3 +8,4 @@ mod DirectCompressionLemmas
 pub mod RecastingLemmas
 pub mod StepsLemmas
 pub mod DrainLemmas
+pub mod DirectDrainLemmas

@@ -29,3 +29,4 @@ pub mod DirectLaws
 pub mod DirectEntry
 pub mod Iterators
 pub mod Drains
+pub mod DirectDrains

@@ -4,6 +4,7 @@ ghost use Rattle.triple_arena.specs.ArenaRoom.{room_of};
 ghost use Rattle.triple_arena.specs.DirectContent.{live_count, empty, IsWellFormed};
 
 mod calls;
+mod drain;
 mod entry;
 mod indexing;
 mod insertion;
@@ -14,6 +15,7 @@ mod removal;
 mod room;
 
 use crate::DirectSlot;
+pub use drain::Drain;
 pub use entry::ArenaDirectInsertEntry;
 use std::marker::{Model, PhantomData};
 use triple_arena_ptr::Ptr;

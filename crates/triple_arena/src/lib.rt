@@ -48,6 +48,7 @@ pub mod arena_iterators {
 
 /// The iterators of `DirectArena`.
 pub mod direct_iterators {
+    pub use crate::direct::Drain;
     use crate::{DirectSlot, iterators};
 
     /// The pointers and the values of a direct arena.
