@@ -34,7 +34,7 @@ module _ {T : Type 0} where
   listed_none n xs none = listed_same n [] xs none
 
   -- the first entry, and the others once it is gone
-  listed_first : (n k : ℕ) (e : ℕ × T) (xs ys : List (Option (ℕ × T))) → ((j : ℕ) → j < k → get_or xs j None ≡ None) → get_or xs k None ≡ Some e
+  pub listed_first : (n k : ℕ) (e : ℕ × T) (xs ys : List (Option (ℕ × T))) → ((j : ℕ) → j < k → get_or xs j None ≡ None) → get_or xs k None ≡ Some e
       → get_or ys k None ≡ None → ((j : ℕ) → j ≢ k → get_or ys j None ≡ get_or xs j None) → listed_from n xs ≡ (n + k, e) ∷ listed_from n ys
   listed_first n k e [] ys lower found gone others = absurd (cc)
   listed_first n zero e (x ∷ xs) [] lower found gone others =

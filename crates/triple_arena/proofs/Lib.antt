@@ -9,3 +9,4 @@ pub mod RecastingLemmas
 pub mod StepsLemmas
 pub mod DrainLemmas
 pub mod DirectDrainLemmas
+pub mod IteratorLemmas

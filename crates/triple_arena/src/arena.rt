@@ -25,7 +25,7 @@ mod room;
 mod text;
 
 use crate::ArenaSlot;
-pub(crate) use compression::{compact, keep_first};
+pub(crate) use compression::{compact, keep_first, take_entry};
 pub use drain::Drain;
 pub use entry::{ArenaInsertEntries, ArenaInsertEntry, ArenaInsertEntryTrait};
 pub(crate) use reading::ValueAtMut;

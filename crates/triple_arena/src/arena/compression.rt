@@ -40,7 +40,7 @@ fn renewal_of_entry<G: PtrGen>(given: Option<G>, reset: bool, own: G) -> (G, boo
 }
 
 // Takes what stands at `i`, if it is live, and leaves a free slot.
-fn take_entry<P: Ptr, T: Drop, L: EntrySlot<P, T> + Drop, S: NonZeroInxGenericStack<L>>(
+pub(crate) fn take_entry<P: Ptr, T: Drop, L: EntrySlot<P, T> + Drop, S: NonZeroInxGenericStack<L>>(
     slots: &mut S,
     i: NonZeroUsize,
 ) -> Option<(P::Gen, T)>
