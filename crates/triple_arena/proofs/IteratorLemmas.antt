@@ -78,3 +78,17 @@ module _ {T : Type 0} where
         first = subst (λ k. listed_from 1 xs ≡ (k, (number g, t)) ∷ listed_from 1 ys) index first;
         vacant = subst (λ k. AreVacant k ys) (sym place) (more_vacant n ys kept gone);
       }
+
+  -- no more entries are listed than there are slots
+  pub listed_within : (n : ℕ) (xs : List (Option (ℕ × T))) → length (listed_from n xs) ≤ length xs
+  listed_within n [] = omega arith
+  listed_within n (None ∷ xs) = let rest = listed_within (n + 1) xs in omega (arith, rest)
+  listed_within n (Some e ∷ xs) = let rest = listed_within (n + 1) xs in omega (arith, rest)
+
+  -- nor than there are behind the first ones that have none
+  pub listed_behind : (n k : ℕ) (xs : List (Option (ℕ × T))) → AreVacant k xs → length (listed_from n xs) ≤ length xs - k
+  listed_behind n k [] vacant = omega arith
+  listed_behind n zero xs vacant = let all = listed_within n xs in omega (arith, all)
+  listed_behind n (suc k) (x ∷ xs) vacant =
+      let rest = listed_behind (n + 1) k xs (λ j below. vacant (suc j) (omega (arith, below))) in
+      rw (vacant 0 (omega arith)) (omega (arith, rest))

@@ -74,6 +74,11 @@ impl<P: Ptr, T: Drop, E: EntrySlot<P, T> + Drop, S: NonZeroInxGenericStack<E> + 
         }
         None
     }
+
+    // No more entries come than slots are left.
+    fn size_hint(&self) -> (usize, Option<usize>) {
+        (0, Some(self.slots.len().saturating_sub(self.passed)))
+    }
 }
 
 impl<P: Ptr, T: Drop, E: EntrySlot<P, T> + Drop, S: NonZeroInxGenericStack<E> + Drop> FusedIterator
