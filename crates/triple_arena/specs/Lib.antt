@@ -30,3 +30,4 @@ pub mod DirectEntry
 pub mod Iterators
 pub mod Drains
 pub mod DirectDrains
+pub mod IteratorLaws
