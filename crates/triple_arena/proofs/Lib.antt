@@ -13,3 +13,6 @@ mod CopyLemmas
 mod DirectCopyLemmas
 pub mod RecastingLemmas
 pub mod StepsLemmas
+pub mod DrainLemmas
+pub mod DirectDrainLemmas
+pub mod IteratorLemmas

@@ -36,3 +36,6 @@ pub mod Recaster
 pub mod SlotRecaster
 pub mod RecasterLaws
 pub mod Copy
+pub mod Drains
+pub mod DirectDrains
+pub mod IteratorLaws

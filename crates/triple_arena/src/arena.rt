@@ -10,6 +10,7 @@ ghost use Rattle.triple_arena.specs.Content.{live_count, empty, IsWellFormed};
 mod calls;
 mod compression;
 mod copy;
+mod drain;
 mod entry;
 mod exchange;
 mod free_slots;
@@ -28,6 +29,7 @@ mod transfer;
 
 use crate::ArenaSlot;
 pub(crate) use compression::{compact, keep_first, take_entry};
+pub use drain::Drain;
 pub use entry::{ArenaInsertEntries, ArenaInsertEntry, ArenaInsertEntryTrait};
 pub(crate) use reading::ValueAtMut;
 pub(crate) use recast::{RecastByIndex, recast_values};

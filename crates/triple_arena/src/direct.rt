@@ -5,6 +5,7 @@ ghost use Rattle.triple_arena.specs.DirectContent.{live_count, empty, IsWellForm
 
 mod calls;
 mod copy;
+mod drain;
 mod entry;
 mod exchange;
 mod indexing;
@@ -19,6 +20,7 @@ mod text;
 mod transfer;
 
 use crate::DirectSlot;
+pub use drain::Drain;
 pub use entry::ArenaDirectInsertEntry;
 use std::marker::{Model, PhantomData};
 use triple_arena_ptr::Ptr;

@@ -8,8 +8,11 @@ ghost use Rattle.triple_arena.specs.Iterators.{pointer_of};
 ghost use Rattle.triple_arena.specs.LiveEntries.{listed_from};
 ghost use Rattle.triple_arena.specs.Slot.{entry_of};
 
+mod owned;
+
 use crate::arena::pointer_at;
 use crate::{ArenaSlot, DirectSlot};
+pub use owned::CapacityDrain;
 use std::iter::FusedIterator;
 use std::marker::{Model, PhantomData};
 use std::num::NonZeroUsize;
@@ -96,6 +99,11 @@ impl<'a, P: Ptr, T, E: LentEntry<P, T>> Iterator for Iter<'a, P, T, E> {
         }
         None
     }
+
+    // No more entries come than slots are left.
+    fn size_hint(&self) -> (usize, Option<usize>) {
+        (0, Some(self.slots.len()))
+    }
 }
 
 impl<'a, P: Ptr, T, E: LentEntry<P, T>> FusedIterator for Iter<'a, P, T, E> {}
@@ -136,6 +144,10 @@ impl<'a, P: Ptr, T, E: LentEntry<P, T>> Iterator for Ptrs<'a, P, T, E> {
             Some((p, _)) => Some(p),
             None => None,
         }
+    }
+
+    fn size_hint(&self) -> (usize, Option<usize>) {
+        self.entries.size_hint()
     }
 }
 
@@ -179,7 +191,6 @@ impl<'a, P: Ptr, T, E: LentEntry<P, T>> Iterator for Vals<'a, P, T, E> {
         }
     }
 
-    // Written out: the one that a trait gives has no proof where the items are lent and `E` may have lifetimes.
     fn size_hint(&self) -> (usize, Option<usize>) {
         self.entries.size_hint()
     }

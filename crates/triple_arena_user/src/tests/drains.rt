@@ -1,0 +1,213 @@
+//! Drains, taken whole and dropped early, and arenas that are gone over by value.
+use crate::{find_equal, find_first};
+use std::alloc::Global;
+use std::num::{NonZeroU8, NonZeroU64, NonZeroUsize};
+use std::process::Abort;
+use std::test::Fail;
+use triple_arena::{
+    Arena, ArenaDirectInsertEntryTrait, ArenaDirectInsertTrait, ArenaInsertTrait,
+    ArenaSlot, ArenaTrait, ArrayArena, ArrayDirectArena, DirectArena, DirectInsertionError, DirectSlot, HeapArena,
+    HeapDirectArena, InvalidationOption, NonZeroInxGenericStack, P0, P1, P5, Ptr, PtrGen, PtrInx,
+    ReallocationError,
+};
+
+// Four entries, with a free slot between them.
+fn fill<P: Ptr, S: NonZeroInxGenericStack<ArenaSlot<P, u64>> + Drop>(
+    rt: &impl Abort,
+    arena: &mut Arena<P, u64, S>,
+) -> Result<[(P, u64); 4], ReallocationError> {
+    let first = arena.insert(10)?;
+    let second = arena.insert(20)?;
+    let third = arena.insert(30)?;
+    let fourth = arena.insert(40)?;
+    let fifth = arena.insert(50)?;
+    assert!(rt; !arena.remove(second).is_invalid());
+    Ok([(first, 10), (third, 30), (fourth, 40), (fifth, 50)])
+}
+
+// Takes so many of the items, and answers the counter after them.
+fn take<P: Ptr, S: NonZeroInxGenericStack<ArenaSlot<P, u64>>>(
+    rt: &impl Abort,
+    arena: &mut Arena<P, u64, S>,
+    items: &[(P, u64)],
+) -> P::Gen {
+    let mut counter = arena.generation();
+    let mut drain = arena.drain();
+    for item in items {
+        let (next, wraps) = counter.generational_inc();
+        counter = next;
+        let wanted = if wraps {
+            InvalidationOption::GenerationOverflow(*item)
+        } else {
+            InvalidationOption::Success(*item)
+        };
+        assert_eq!(rt; drain.next(), Some(wanted));
+    }
+    counter
+}
+
+// A drain that is dropped after so many items takes the others too, each by a step of the counter.
+fn drains<P: Ptr, S: NonZeroInxGenericStack<ArenaSlot<P, u64>> + Drop>(
+    rt: &impl Abort,
+    arena: &mut Arena<P, u64, S>,
+    count: usize,
+) -> Result<(), ReallocationError> {
+    let items = fill(rt, arena)?;
+    let capacity = arena.capacity();
+    let mut counter = take(rt, arena, &items[..count]);
+    for _ in count..4 {
+        counter = counter.generational_inc().0;
+    }
+    assert!(rt; arena.is_empty());
+    assert!(rt; arena.backing().is_empty());
+    assert!(rt; arena.freelist_root().is_none());
+    assert_eq!(rt; arena.capacity(), capacity);
+    assert_eq!(rt; arena.generation(), counter);
+    let next = arena.insert(60)?;
+    assert_eq!(rt; next.inx().try_into_usize(), Some(NonZeroUsize::MIN));
+    assert_eq!(rt; next.generation(), counter);
+    drop(arena.drain());
+    Ok(())
+}
+
+#[test]
+fn drains_a_vector(rt: HostRuntime) -> Result<(), Fail> {
+    let mut arena = HeapArena::<P0, u64, Global>::new(rt.alloc());
+    for count in 0..5 {
+        drains(&rt, &mut arena, count)?;
+    }
+    Ok(())
+}
+
+#[test]
+fn drains_an_array(rt: HostRuntime) -> Result<(), Fail> {
+    let mut arena = ArrayArena::<P5, u64, 5>::new(());
+    for count in 0..5 {
+        drains(&rt, &mut arena, count)?;
+    }
+    Ok(())
+}
+
+// Sixty rounds of six steps and more go past the greatest generation.
+#[test]
+fn drains_past_the_greatest_generation(rt: HostRuntime) -> Result<(), Fail> {
+    let mut arena = ArrayArena::<P1, u64, 5>::new(());
+    for round in 0..60 {
+        drains(&rt, &mut arena, round % 5)?;
+    }
+    Ok(())
+}
+
+// The steps go from 254 to 255, then to 2, 3 and 4.
+#[test]
+fn tells_the_item_at_which_the_generations_start_again(rt: HostRuntime) -> Result<(), Fail> {
+    let mut arena = HeapArena::<P1, u64, Global>::new(rt.alloc());
+    let items = fill(&rt, &mut arena)?;
+    arena.set_generation(NonZeroU8::MIN.saturating_add(253));
+    let mut drain = arena.drain();
+    assert_eq!(rt; drain.len(), 4);
+    assert_eq!(rt; drain.next(), Some(InvalidationOption::Success(items[0])));
+    assert_eq!(rt; drain.next(), Some(InvalidationOption::GenerationOverflow(items[1])));
+    assert_eq!(rt; drain.next(), Some(InvalidationOption::Success(items[2])));
+    assert_eq!(rt; drain.len(), 1);
+    drop(drain);
+    assert_eq!(rt; arena.generation().get(), 4);
+    Ok(())
+}
+
+// Entries at the indexes 1, 3 and 6.
+fn fill_direct<S: NonZeroInxGenericStack<DirectSlot<P0, u64>> + Drop>(
+    arena: &mut DirectArena<P0, u64, S>,
+) -> Result<[(P0, u64); 3], DirectInsertionError> {
+    let first = P0::_from_raw(at(1), generation(9));
+    let second = P0::_from_raw(at(3), generation(8));
+    let third = P0::_from_raw(at(6), generation(9));
+    arena.direct_insert_within_capacity(third)?.insert(60);
+    arena.direct_insert_within_capacity(first)?.insert(10);
+    arena.direct_insert_within_capacity(second)?.insert(30);
+    Ok([(first, 10), (second, 30), (third, 60)])
+}
+
+fn at(index: usize) -> NonZeroUsize {
+    NonZeroUsize::MIN.saturating_add(index.saturating_sub(1))
+}
+
+fn generation(number: u64) -> NonZeroU64 {
+    NonZeroU64::MIN.saturating_add(number.saturating_sub(1))
+}
+
+// Takes so many of the items of a direct arena.
+fn take_direct<S: NonZeroInxGenericStack<DirectSlot<P0, u64>>>(
+    rt: &impl Abort,
+    arena: &mut DirectArena<P0, u64, S>,
+    items: &[(P0, u64)],
+) {
+    let mut drain = arena.drain();
+    for item in items {
+        assert_eq!(rt; drain.next(), Some(InvalidationOption::Success(*item)));
+    }
+}
+
+// A drain of a direct arena that is dropped after so many items takes the others too.
+fn drains_direct<S: NonZeroInxGenericStack<DirectSlot<P0, u64>> + Drop>(
+    rt: &impl Abort,
+    arena: &mut DirectArena<P0, u64, S>,
+    count: usize,
+) -> Result<(), DirectInsertionError> {
+    let items = fill_direct(arena)?;
+    let capacity = arena.capacity();
+    assert_eq!(rt; find_equal(arena, &30), Some(items[1].0));
+    assert_eq!(rt; find_equal(arena, &31), None);
+    take_direct(rt, arena, &items[..count]);
+    assert!(rt; arena.is_empty());
+    assert!(rt; arena.backing().is_empty());
+    assert_eq!(rt; arena.capacity(), capacity);
+    Ok(())
+}
+
+#[test]
+fn drains_a_direct_vector(rt: HostRuntime) -> Result<(), Fail> {
+    let mut arena = HeapDirectArena::<P0, u64, Global>::with_min_capacity(rt.alloc(), 6)?;
+    for count in 0..4 {
+        drains_direct(&rt, &mut arena, count)?;
+    }
+    Ok(())
+}
+
+#[test]
+fn drains_a_direct_array(rt: HostRuntime) -> Result<(), Fail> {
+    let mut arena = ArrayDirectArena::<P0, u64, 6>::new(());
+    for count in 0..4 {
+        drains_direct(&rt, &mut arena, count)?;
+    }
+    Ok(())
+}
+
+#[test]
+fn goes_over_an_arena_by_value(rt: HostRuntime) -> Result<(), Fail> {
+    let mut arena = HeapArena::<P0, u64, Global>::new(rt.alloc());
+    let items = fill(&rt, &mut arena)?;
+    assert_eq!(rt; find_first(&arena, |value| *value > 10), Some(items[1].0));
+    assert_eq!(rt; find_first(&arena, |value| *value > 50), None);
+    let mut left = arena.into_iter();
+    assert_eq!(rt; left.next(), Some(items[0]));
+    assert_eq!(rt; left.size_hint(), (0, Some(4)));
+    assert_eq!(rt; left.next(), Some(items[1]));
+    assert_eq!(rt; left.next(), Some(items[2]));
+    assert_eq!(rt; left.next(), Some(items[3]));
+    assert_eq!(rt; left.next(), None);
+    Ok(())
+}
+
+#[test]
+fn goes_over_a_direct_arena_by_value(rt: HostRuntime) -> Result<(), Fail> {
+    let mut arena = ArrayDirectArena::<P0, u64, 6>::new(());
+    let items = fill_direct(&mut arena)?;
+    let mut seen = 0;
+    for (place, item) in arena.into_iter().enumerate() {
+        assert_eq!(rt; items.get(place), Some(&item));
+        seen = place;
+    }
+    assert_eq!(rt; seen, 2);
+    Ok(())
+}
