@@ -165,9 +165,9 @@ module _ {P T : Type 0} {index generation : P → ℕ} (c c' : Content T) (d : D
   recaster-is_renaming kept compact =
       record {
         renames = λ i g. (
-            (λ some. let f = some_of (get c i g) some in ap is_some (recaster-renames i g f.0 f.1).1),
-            (λ some. let f = some_of (get_of d i g) some in recaster-names_valid i g f.0 f.1),
-          );
+          (λ some. let f = some_of (get c i g) some in ap is_some (recaster-renames i g f.0 f.1).1),
+          (λ some. let f = some_of (get_of d i g) some in recaster-names_valid i g f.0 f.1),
+        );
         follows = recaster-follows kept;
         apart = recaster-apart compact;
         onto = λ j h some. let f = some_of (get c' j h) some in recaster-onto j h f.0 f.1;

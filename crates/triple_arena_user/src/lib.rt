@@ -2,10 +2,12 @@
 //! pointers, of values that change by a compression, and of sums by iterators.
 #![tactic(auto)]
 
+mod documents;
 mod nodes;
 mod sums;
 mod values;
 
+pub use documents::tidy;
 pub use nodes::{Node, Nodes};
 pub use sums::{direct_sum_of, sum_of};
 pub use values::{map_values, raise, sum_up};
