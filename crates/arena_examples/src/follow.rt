@@ -3,8 +3,8 @@ ghost use Rattle.std.specs.Prelude.{◌≡◌, ℕ, ◌-◌, ◌↔◌, false, S
 ghost use Rattle.std.specs.Option.{option_map};
 ghost use Rattle.std.specs.List.{AllZip};
 ghost use Rattle.triple_arena.specs.Entries.{value_if};
-ghost use Rattle.triple_arena_ptr.specs.Generation.{next_generation};
-ghost use Rattle.triple_arena.specs.Compression.{index_of, value_of, generation_of, generation_given, IsCompact};
+ghost use Rattle.triple_arena.specs.Changes.{IsCompressed};
+ghost use Rattle.triple_arena.specs.Compression.{index_of, value_of};
 ghost use Rattle.arena_examples.specs.Follow.{IsFollowed, IsNamed, IsNamedBy, Keeps};
 
 use triple_arena::{Advancer, ArenaTrait, Ptr};
@@ -22,14 +22,8 @@ fn remember<P: Ptr, T: Drop, A: ArenaTrait<P, Moved<P, T>>>(arena: &mut A)
         (A.live_entries arena.old) (A.live_entries arena.new) }
     ensures values { list_map (λ m. m.value) (list_map value_of (A.live_entries arena.new))
         ≡ list_map (λ m. m.value) (list_map value_of (A.live_entries arena.old)) }
-    ensures compact { IsCompact (A.live_entries arena.new) }
-    ensures count { A.live_count arena.new ≡ A.live_count arena.old }
-    ensures generations { list_map generation_of (A.live_entries arena.new)
-        ≡ list_map (λ e. generation_given P.Gen.last false (A.counter arena.old) (generation_of e))
-        (A.live_entries arena.old) }
-    ensures counter { A.counter arena.new
-        ≡ option_map (next_generation P.Gen.last) (A.counter arena.old) }
-    ensures room { A.room arena.new ≡ A.room arena.old }
+    ensures compressed { IsCompressed A.entry_at A.live_count A.counter A.room P.Gen.last
+        A.live_entries false arena.old arena.new }
 {
     arena.compress_with(
         false,
@@ -71,14 +65,8 @@ pub fn compress_and_follow<P: Ptr, T: Drop, A: ArenaTrait<P, Moved<P, T>>>(
         (slice_get (A.live_entries arena.old) (P.index q - 1)) ≡ Some (P.index p)) }
     ensures values { list_map (λ m. m.value) (list_map value_of (A.live_entries arena.new))
         ≡ list_map (λ m. m.value) (list_map value_of (A.live_entries arena.old)) }
-    ensures compact { IsCompact (A.live_entries arena.new) }
-    ensures count { A.live_count arena.new ≡ A.live_count arena.old }
-    ensures generations { list_map generation_of (A.live_entries arena.new)
-        ≡ list_map (λ e. generation_given P.Gen.last false (A.counter arena.old) (generation_of e))
-        (A.live_entries arena.old) }
-    ensures counter { A.counter arena.new
-        ≡ option_map (next_generation P.Gen.last) (A.counter arena.old) }
-    ensures room { A.room arena.new ≡ A.room arena.old }
+    ensures compressed { IsCompressed A.entry_at A.live_count A.counter A.room P.Gen.last
+        A.live_entries false arena.old arena.new }
 {
     remember(arena);
     find_moved(arena, p)
@@ -118,14 +106,8 @@ pub fn compress_with_table<P: Ptr, T: Drop, A: ArenaTrait<P, Moved<P, T>>>(
         (slice_index_or table.old k None) (slice_index_or table.new k None) }
     ensures kept { AllZip (Keeps P.index P.generation (λ m. m.was) (λ m. m.value))
         (A.live_entries arena.old) (A.live_entries arena.new) }
-    ensures compact { IsCompact (A.live_entries arena.new) }
-    ensures count { A.live_count arena.new ≡ A.live_count arena.old }
-    ensures generations { list_map generation_of (A.live_entries arena.new)
-        ≡ list_map (λ e. generation_given P.Gen.last false (A.counter arena.old) (generation_of e))
-        (A.live_entries arena.old) }
-    ensures counter { A.counter arena.new
-        ≡ option_map (next_generation P.Gen.last) (A.counter arena.old) }
-    ensures room { A.room arena.new ≡ A.room arena.old }
+    ensures compressed { IsCompressed A.entry_at A.live_count A.counter A.room P.Gen.last
+        A.live_entries false arena.old arena.new }
 {
     remember(arena);
     find_all_moved(arena, table);

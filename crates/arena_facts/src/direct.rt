@@ -12,7 +12,7 @@ use triple_arena::{
 };
 
 /// An entry under a pointer of the caller's choice.
-pub fn put<P: Ptr, S: NonZeroInxGenericStack<DirectSlot<P, u64>>>(
+pub fn put<P: Ptr, S: NonZeroInxGenericStack<DirectSlot<P, u64>> + Drop>(
     arena: &mut DirectArena<P, u64, S>,
     p: P,
     t: u64,

@@ -1,12 +1,13 @@
 //! What the rules of each exact state give to a function that names them.
 ghost use Rattle.std.specs.Prelude.{◌≡◌, ◌==◌, ◌-◌, ℕ, [], ◌∷◌, length, drop, max, OnOk, OnSome, if◌then◌else◌};
 ghost use Rattle.triple_arena_ptr.specs.InvalidationResult.{answer_of};
+ghost use Rattle.triple_arena.specs.DirectContent.{live_count as direct_live_count};
 ghost use Rattle.triple_arena.specs.Content.{entry_at, live_count, next_index, IsWellFormed};
 
 use triple_arena::{
-    Arena, ArenaInsertTrait, ArenaSlot, ArenaTrait, DisjointableArenaTrait, GetDisjointMutError,
-    InvalidationOption, InvalidationResult, NonZeroInxGenericStack, NotWithinCapacityError, Ptr,
-    ReallocationError,
+    Arena, ArenaInsertTrait, ArenaSlot, ArenaTrait, DirectArena, DirectSlot,
+    DisjointableArenaTrait, GetDisjointMutError, InvalidationOption, InvalidationResult,
+    NonZeroInxGenericStack, NotWithinCapacityError, Ptr, ReallocationError,
 };
 
 /// The slots and the free indexes after an insertion.
@@ -47,6 +48,29 @@ pub fn remove<P: Ptr, T: Drop, S: NonZeroInxGenericStack<ArenaSlot<P, T>> + Drop
         ≡ (if P.index p == length arena.old.slots then arena.old.free else (P.index p ∷ arena.old.free))) }
 {
     arena.remove(p)
+}
+
+/// The slots and the free indexes after a compression.
+#[tactic(auto, using(triple_arena::specs::CompactedLaws::compressions))]
+pub fn compress<P: Ptr, T: Drop, S: NonZeroInxGenericStack<ArenaSlot<P, T>> + Drop>(
+    arena: &mut Arena<P, T, S>,
+    reset: bool,
+) -> InvalidationOption<()>
+    ensures slots { length arena.new.slots ≡ live_count arena.old }
+    ensures free { arena.new.free ≡ [] }
+{
+    arena.compress(reset)
+}
+
+/// The slots after a compression of an arena to which the caller gives the pointers.
+#[tactic(auto, using(triple_arena::specs::CompactedLaws::direct_compressions))]
+pub fn compress_direct<P: Ptr, T: Drop, S: NonZeroInxGenericStack<DirectSlot<P, T>> + Drop>(
+    arena: &mut DirectArena<P, T, S>,
+    reset: bool,
+) -> InvalidationOption<()>
+    ensures slots { length arena.new.slots ≡ direct_live_count arena.old }
+{
+    arena.compress(reset)
 }
 
 /// The slots and the next index after a clearing.

@@ -20,6 +20,7 @@ pub mod InsertEntry
 pub mod LiveEntries
 pub mod Compression
 pub mod CompressionLaws
+pub mod CompactedLaws
 pub mod SlotCompression
 pub mod Transfer
 pub mod SlotTransfer

@@ -4,7 +4,7 @@ ghost use Rattle.std.specs.Borrow.{sem, RestsIfErr};
 ghost use Rattle.triple_arena.specs.DirectEntry.{entry_arena, entry_lender, entry_index, entry_generation};
 ghost use Rattle.triple_arena.specs.DirectContent.{DirectContent, entry_at, arena_capacity, IsPlace};
 
-use crate::{ArenaDirectInsertEntry, DirectSlot};
+use crate::{ArenaDirectInsertEntry, ArenaTrait, DirectSlot};
 use triple_arena_ptr::{DirectInsertionError, Ptr};
 use triple_arena_stack::NonZeroInxGenericStack;
 
@@ -19,7 +19,7 @@ pub trait ArenaDirectInsertEntryTrait<P: Ptr, T> {
 }
 
 /// The arenas to which the caller gives whole pointers.
-pub trait ArenaDirectInsertTrait<P: Ptr, T: Drop> {
+pub trait ArenaDirectInsertTrait<P: Ptr, T: Drop>: ArenaTrait<P, T> {
     /// The stack that the arena keeps its slots in.
     type Stack: NonZeroInxGenericStack<DirectSlot<P, T>>;
 

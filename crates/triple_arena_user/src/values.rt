@@ -1,10 +1,9 @@
 //! Values that change by a compression, in code that is generic in the arena.
 ghost use Rattle.std.specs.Prelude.{◌≡◌, ℕ, ◌+◌, ◌%◌, ◌^◌, false, map as list_map};
-ghost use Rattle.std.specs.Option.{option_map};
 ghost use Rattle.std.specs.List.{AllZip};
-ghost use Rattle.triple_arena_ptr.specs.Generation.{next_generation};
 ghost use Rattle.triple_arena_ptr.specs.InvalidationOption.{overflowed};
-ghost use Rattle.triple_arena.specs.Compression.{value_of, generation_of, generation_given, compression_wraps, given_in_turn, IsCompact};
+ghost use Rattle.triple_arena.specs.Changes.{IsCompressed};
+ghost use Rattle.triple_arena.specs.Compression.{value_of, generation_of, compression_wraps, given_in_turn};
 
 use triple_arena::{ArenaTrait, InvalidationOption, Ptr};
 
@@ -12,16 +11,10 @@ use triple_arena::{ArenaTrait, InvalidationOption, Ptr};
 pub fn raise<P: Ptr, A: ArenaTrait<P, u64>>(arena: &mut A, by: u64) -> InvalidationOption<()>
     ensures values { list_map value_of (A.live_entries arena.new)
         ≡ list_map (λ v. (v + by) % 2 ^ 64) (list_map value_of (A.live_entries arena.old)) }
-    ensures compact { IsCompact (A.live_entries arena.new) }
-    ensures count { A.live_count arena.new ≡ A.live_count arena.old }
     ensures overflow { overflowed result ≡ compression_wraps P.Gen.last false (A.counter arena.old)
         (list_map generation_of (A.live_entries arena.old)) }
-    ensures generations { list_map generation_of (A.live_entries arena.new)
-        ≡ list_map (λ e. generation_given P.Gen.last false (A.counter arena.old) (generation_of e))
-        (A.live_entries arena.old) }
-    ensures counter { A.counter arena.new
-        ≡ option_map (next_generation P.Gen.last) (A.counter arena.old) }
-    ensures room { A.room arena.new ≡ A.room arena.old }
+    ensures compressed { IsCompressed A.entry_at A.live_count A.counter A.room P.Gen.last
+        A.live_entries false arena.old arena.new }
 {
     arena.compress_with(false, |_, value, _| value.wrapping_add(by))
 }
@@ -34,16 +27,10 @@ pub fn map_values<P: Ptr, T: Drop, A: ArenaTrait<P, T>, F: Fn(T) -> T>(
     requires { F.IsAlwaysCallable f }
     ensures values { AllZip (F.post f) (list_map value_of (A.live_entries arena.old))
         (list_map value_of (A.live_entries arena.new)) }
-    ensures compact { IsCompact (A.live_entries arena.new) }
-    ensures count { A.live_count arena.new ≡ A.live_count arena.old }
     ensures overflow { overflowed result ≡ compression_wraps P.Gen.last false (A.counter arena.old)
         (list_map generation_of (A.live_entries arena.old)) }
-    ensures generations { list_map generation_of (A.live_entries arena.new)
-        ≡ list_map (λ e. generation_given P.Gen.last false (A.counter arena.old) (generation_of e))
-        (A.live_entries arena.old) }
-    ensures counter { A.counter arena.new
-        ≡ option_map (next_generation P.Gen.last) (A.counter arena.old) }
-    ensures room { A.room arena.new ≡ A.room arena.old }
+    ensures compressed { IsCompressed A.entry_at A.live_count A.counter A.room P.Gen.last
+        A.live_entries false arena.old arena.new }
 {
     arena.compress_with(false, |_, value, _| f(value))
 }
@@ -53,16 +40,10 @@ pub fn sum_up<P: Ptr, A: ArenaTrait<P, u64>>(arena: &mut A) -> InvalidationOptio
     ensures values { list_map value_of (A.live_entries arena.new)
         ≡ given_in_turn (λ sum v. (sum + v) % 2 ^ 64) (λ sum v. (sum + v) % 2 ^ 64) 0
         (list_map value_of (A.live_entries arena.old)) }
-    ensures compact { IsCompact (A.live_entries arena.new) }
-    ensures count { A.live_count arena.new ≡ A.live_count arena.old }
     ensures overflow { overflowed result ≡ compression_wraps P.Gen.last false (A.counter arena.old)
         (list_map generation_of (A.live_entries arena.old)) }
-    ensures generations { list_map generation_of (A.live_entries arena.new)
-        ≡ list_map (λ e. generation_given P.Gen.last false (A.counter arena.old) (generation_of e))
-        (A.live_entries arena.old) }
-    ensures counter { A.counter arena.new
-        ≡ option_map (next_generation P.Gen.last) (A.counter arena.old) }
-    ensures room { A.room arena.new ≡ A.room arena.old }
+    ensures compressed { IsCompressed A.entry_at A.live_count A.counter A.room P.Gen.last
+        A.live_entries false arena.old arena.new }
 {
     let mut sum = 0u64;
     arena.compress_with(false, |_, value, _| {

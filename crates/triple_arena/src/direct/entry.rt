@@ -50,8 +50,10 @@ impl<'a, P: Ptr, T: Drop, S: NonZeroInxGenericStack<DirectSlot<P, T>>> ArenaDire
     }
 }
 
-impl<P: Ptr, T: Drop, S: NonZeroInxGenericStack<DirectSlot<P, T>>> ArenaDirectInsertTrait<P, T>
-    for DirectArena<P, T, S> {
+impl<P: Ptr, T: Drop, S: NonZeroInxGenericStack<DirectSlot<P, T>> + Drop> ArenaDirectInsertTrait<
+    P,
+    T,
+> for DirectArena<P, T, S> {
     type Stack = S;
 
     ghost content = { λ d. d };

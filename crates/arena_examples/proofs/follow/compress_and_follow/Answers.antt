@@ -16,7 +16,7 @@ returns g c =
       new_listed = laws.entry_listed new;
       old_rises = laws.live_entries_increase old;
       new_rises = laws.live_entries_increase new;
-      compact = c.remember.ensures.compact;
+      compact = c.remember.ensures.compressed.compact;
     }
     c.args.p c.find_moved.result c.find_moved.ensures in
     record {
@@ -24,9 +24,5 @@ returns g c =
       follows = told.follows;
       place = told.place;
       values = c.remember.ensures.values;
-      compact = c.remember.ensures.compact;
-      count = c.remember.ensures.count;
-      generations = c.remember.ensures.generations;
-      counter = c.remember.ensures.counter;
-      room = c.remember.ensures.room;
+      compressed = c.remember.ensures.compressed;
     }

@@ -15,6 +15,6 @@ returns-clause-table g c k =
       new_listed = laws.entry_listed new;
       old_rises = laws.live_entries_increase old;
       new_rises = laws.live_entries_increase new;
-      compact = c.remember.ensures.compact;
+      compact = c.remember.ensures.compressed.compact;
     }
     _ _ (c.find_all_moved.ensures k)
