@@ -1,6 +1,6 @@
 -- What the map of a compression says of the pointers: each that was valid is renamed to one that finds the same value, and
 -- each that is valid afterwards is the new name of one, and of no other. The laws take the clause `recaster` first.
-use Rattle.std.proofs.Common.{◌≡◌, ◌==◌, ℕ, zero, suc, ◌+◌, ◌<◌, ◌≤◌, Bool, true, false, List, [], ◌∷◌, map, length, get_or, Option, Some, None, IsSome, slice_get, slice_index, is_some, true≢false, inl, inr, refl, sym, ap, ◌∙◌, arith, add-zero}
+use Rattle.std.proofs.Common.{◌≡◌, ℕ, zero, suc, ◌+◌, List, [], ◌∷◌, map, get_or, Option, Some, None, IsSome, slice_get, is_some, true≢false, inl, inr, refl, sym, ap, ◌∙◌, arith, add-zero}
 use Rattle.std.specs.Option.{option_map}
 use Rattle.std.proofs.lemmas.Bool.{eq-eqb}
 use Rattle.std.proofs.lemmas.Bool.Decides.{eqb_tells}

@@ -1,4 +1,4 @@
-use Rattle.std.proofs.Common.{map, slice_get, ap, sym, ◌∙◌, arith}
+use Rattle.std.proofs.Common.{slice_get, ap, sym, ◌∙◌, arith}
 use Rattle.triple_arena.specs.ArenaRoom.{room_of}
 use Rattle.triple_arena.specs.Compression.{compacted, renewed}
 use Rattle.triple_arena.specs.LiveEntries.{listed_from}
