@@ -1,5 +1,5 @@
 -- The slots after two values changed places.
-use Rattle.std.proofs.Common.{◌≡◌, ◌≢◌, ℕ, ◌-◌, List, set, Option, Some, IsSome, inl, inr, refl, sym, ap, ◌∙◌}
+use Rattle.std.proofs.Common.{◌≡◌, ◌≢◌, ℕ, List, Option, Some, IsSome, refl, sym, ◌∙◌}
 use Rattle.std.proofs.lemmas.Bool.{ne_eqb}
 use Rattle.triple_arena.specs.Content.{Content, entry_at, with_value, with_exchange}
 use Rattle.triple_arena.specs.ContentLaws.{entry-with_value}

@@ -1,5 +1,5 @@
 -- What a compression that notes the new pointers has done, and what it leaves.
-use Rattle.std.proofs.Common.{◌≡◌, ℕ, Bool, inl, inr, zero, suc, ◌+◌, ◌-◌, ◌<◌, ◌≤◌, List, [], ◌∷◌, ◌++◌, map, length, get_or, set, replicate, Option, Some, None, IsSome, slice_get, refl, sym, ap, ◌∙◌, arith, append_assoc, append-nil}
+use Rattle.std.proofs.Common.{◌≡◌, ℕ, Bool, inl, inr, zero, suc, ◌+◌, ◌-◌, ◌<◌, ◌≤◌, List, [], ◌∷◌, ◌++◌, map, length, get_or, set, replicate, Option, Some, None, slice_get, refl, sym, ap, ◌∙◌, arith, append_assoc, append-nil}
 use Rattle.std.specs.List.{FoldsTo}
 use Rattle.triple_arena.specs.Iterators.{pointer_of}
 use Rattle.triple_arena.specs.LiveEntries.{listed_from}
@@ -7,8 +7,7 @@ use Rattle.std.proofs.lemmas.Bool.Decides.{leb_tells}
 use Rattle.triple_arena.specs.Content.{Content, last_index}
 use Rattle.triple_arena.specs.FreeListLaws.{last_index-is}
 use Rattle.triple_arena.proofs.CompressionLemmas.{Partly, next_of, get_here}
-use Rattle.triple_arena.specs.Compression.{Move, index_of, entry_of_listed, value_of, entry_before, entry_after}
-use Rattle.triple_arena.specs.SlotCompression.{Compacts}
+use Rattle.triple_arena.specs.Compression.{Move, index_of, entry_of_listed, entry_before, entry_after}
 use Rattle.triple_arena.specs.DirectContent.{DirectContent, entry_at, arena_capacity, reaching, live_entries, IsPlace}
 use Rattle.triple_arena.specs.Recaster.{pointer_in, IsRecaster}
 use Rattle.triple_arena.specs.RecasterLaws.{stands}

@@ -1,10 +1,9 @@
 -- What a transfer has done after so many slots of the source, and what it leaves.
-use Rattle.std.proofs.Common.{◌≡◌, ℕ, Bool, zero, suc, ◌+◌, ◌-◌, ◌<◌, ◌≤◌, List, [], ◌∷◌, ◌++◌, map, length, get_or, set, replicate, Option, Some, None, slice_get, is_some, count_by, refl, sym, ap, ◌∙◌, arith, append_assoc, append-nil, add-zero, length-append, length-set}
+use Rattle.std.proofs.Common.{◌≡◌, ℕ, zero, suc, ◌+◌, ◌-◌, ◌<◌, ◌≤◌, List, [], ◌∷◌, ◌++◌, map, length, get_or, set, replicate, Option, Some, None, slice_get, is_some, count_by, refl, sym, ap, ◌∙◌, arith, append_assoc, append-nil, add-zero, length-append, length-set}
 use Rattle.std.specs.List.{FoldsTo}
 use Rattle.std.specs.Option.{option_map}
 use Rattle.std.proofs.lemmas.Fn.{FoldsTo-push}
 use Rattle.std.proofs.lemmas.List.{map_push, length-map, length_push}
-use Rattle.std.proofs.lemmas.List.Sums.{sum_by-cons}
 use Rattle.triple_arena_ptr.specs.declared.invalidation.InvalidationOption.{InvalidationOption}
 use Rattle.triple_arena_ptr.specs.Generation.{next_generation}
 use Rattle.triple_arena_ptr.specs.InvalidationOption.{value_of as value_in, overflowed}
@@ -13,7 +12,7 @@ use Rattle.triple_arena.specs.LiveEntries.{listed_from, listed-length}
 use Rattle.triple_arena.specs.Compression.{index_of, entry_of_listed, generation_of, value_of, IsCompact}
 use Rattle.triple_arena.specs.Transfer.{after_steps, steps_wrap, Transfer, entry_before, entry_after, wrapped, IsTransferred}
 use Rattle.triple_arena.specs.SlotTransfer.{slot_with, given_of, MovesOut}
-use Rattle.triple_arena.proofs.CompressionLemmas.{set_here, get_here, Opened, opened, listed-push}
+use Rattle.triple_arena.proofs.CompressionLemmas.{set_here, get_here, opened, listed-push}
 
 -- one step more
 after_one_more : (last : Option ℕ) (n g : ℕ) → after_steps last (suc n) g ≡ next_generation last (after_steps last n g)

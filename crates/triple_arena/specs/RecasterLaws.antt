@@ -1,6 +1,6 @@
 -- What the map of a compression says of the pointers: each that was valid is renamed to one that finds the same value, and
 -- each that is valid afterwards is the new name of one, and of no other. The laws take the clause `recaster` first.
-use Rattle.std.proofs.Common.{◌≡◌, ◌==◌, ℕ, zero, suc, ◌+◌, ◌<◌, ◌≤◌, Bool, true, false, List, [], ◌∷◌, map, length, get_or, Option, Some, None, IsSome, slice_get, slice_index, is_some, true≢false, inl, inr, refl, sym, ap, ◌∙◌, arith, add-zero}
+use Rattle.std.proofs.Common.{◌≡◌, ℕ, zero, suc, ◌+◌, List, [], ◌∷◌, map, get_or, Option, Some, None, IsSome, slice_get, is_some, true≢false, inl, inr, refl, sym, ap, ◌∙◌, arith, add-zero}
 use Rattle.std.specs.Option.{option_map}
 use Rattle.std.proofs.lemmas.Bool.{eq-eqb}
 use Rattle.std.proofs.lemmas.Bool.Decides.{eqb_tells}
@@ -165,9 +165,9 @@ module _ {P T : Type 0} {index generation : P → ℕ} (c c' : Content T) (d : D
   recaster-is_renaming kept compact =
       record {
         renames = λ i g. (
-            (λ some. let f = some_of (get c i g) some in ap is_some (recaster-renames i g f.0 f.1).1),
-            (λ some. let f = some_of (get_of d i g) some in recaster-names_valid i g f.0 f.1),
-          );
+          (λ some. let f = some_of (get c i g) some in ap is_some (recaster-renames i g f.0 f.1).1),
+          (λ some. let f = some_of (get_of d i g) some in recaster-names_valid i g f.0 f.1),
+        );
         follows = recaster-follows kept;
         apart = recaster-apart compact;
         onto = λ j h some. let f = some_of (get c' j h) some in recaster-onto j h f.0 f.1;

@@ -2,11 +2,13 @@
 //! pointers, of values that change by a compression, and of sums and searches by iterators.
 #![tactic(auto)]
 
+mod documents;
 mod nodes;
 mod searches;
 mod sums;
 mod values;
 
+pub use documents::tidy;
 pub use nodes::{Node, Nodes};
 pub use searches::{find_equal, find_first};
 pub use sums::{direct_sum_of, sum_of};

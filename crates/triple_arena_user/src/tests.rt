@@ -2,6 +2,7 @@
 //! it is not used; and the callers at concrete arenas.
 mod drains;
 mod entries;
+mod recasters;
 mod refusals;
 mod texts;
 mod transfers;

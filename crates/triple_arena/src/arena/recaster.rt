@@ -40,6 +40,7 @@ pub fn compress_recaster<
 ) -> Result<DirectArena<P, P, R>, ReallocationError>
     ensures recaster { IfOk result (λ map. IsRecaster P.index P.generation (live_entries arena.old)
         (live_entries arena.new) (entries_of map)) }
+    ensures values { OnOk result (live_values arena.new ≡ live_values arena.old) }
     ensures compressed { OnOk result (IsCompressed entry_at live_count some_counter (λ c. c.room)
         P.Gen.last live_entries reset arena.old arena.new) }
     ensures exact { OnOk result (arena.new ≡ compacted
@@ -74,6 +75,7 @@ impl<P: Ptr, T: Drop, S: NonZeroInxGenericStack<ArenaSlot<P, T>>> Arena<P, T, S>
         requires fits { last_index self.old ≤ arena_capacity map.old }
         ensures recaster { IsRecaster P.index P.generation (live_entries self.old)
             (live_entries self.new) (entries_of map.new) }
+        ensures values { live_values self.new ≡ live_values self.old }
         ensures compressed { IsCompressed entry_at live_count some_counter (λ c. c.room) P.Gen.last
             live_entries reset self.old self.new }
         ensures exact { self.new ≡ compacted (renewed P.Gen.last reset self.old.counter)

@@ -1,4 +1,4 @@
-use Rattle.std.proofs.Common.{map, slice_get, ap, sym, ◌∙◌, arith}
+use Rattle.std.proofs.Common.{slice_get, ap, sym, ◌∙◌, arith}
 use Rattle.triple_arena.specs.ArenaRoom.{room_of}
 use Rattle.triple_arena.specs.Compression.{compacted, renewed}
 use Rattle.triple_arena.specs.LiveEntries.{listed_from}
@@ -24,11 +24,15 @@ returns-clause-compressed g c =
     (compressed_arena c.compact_noting.ensures.moved.moved c.self.invariant c.self.view_is
     (ap (room_of g.P.Inx.PtrInx.greatest) c.compact_noting.ensures.room) c.renewal-generation.ensures.next).compressed
 
+pub returns-clause-values : goal.returns-clause-values
+returns-clause-values g c =
+    let room = ap (room_of g.P.Inx.PtrInx.greatest) c.compact_noting.ensures.room in
+    let d = compacted_arena _ _ _ _ _ _ _ _ _ _ _ _ _ c.compact_noting.ensures.moved.moved c.self.invariant c.self.view_is room in
+    values_kept _ _ _ (λ h k from to t u s. s.0) d.mapped
+
 pub returns-clause-exact : goal.returns-clause-exact
 returns-clause-exact g c =
-    let room = ap (room_of g.P.Inx.PtrInx.greatest) c.compact_noting.ensures.room in
-    let moved = c.compact_noting.ensures.moved.moved in
-    let d = compacted_arena _ _ _ _ _ _ _ _ _ _ _ _ _ moved c.self.invariant c.self.view_is room in
-    (compressed_arena moved c.self.invariant c.self.view_is room c.renewal-generation.ensures.next).exact
+    (compressed_arena c.compact_noting.ensures.moved.moved c.self.invariant c.self.view_is
+    (ap (room_of g.P.Inx.PtrInx.greatest) c.compact_noting.ensures.room) c.renewal-generation.ensures.next).exact
     ∙ ap (λ values. compacted (renewed g.P.Gen.PtrGen.last c.args.reset c.args.self.now.counter) values c.args.self.now)
-    (values_kept _ _ _ (λ h k from to t u s. s.0) d.mapped)
+    (returns-clause-values g c)
