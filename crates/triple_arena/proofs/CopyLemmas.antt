@@ -1,6 +1,6 @@
 -- How a copy comes to be, slot by slot.
 use Rattle.std.proofs.Common.{◌≡◌, ℕ, zero, suc, ◌+◌, ◌-◌, ◌<◌, ◌≤◌, List, [], ◌∷◌, ◌++◌, map, length, replicate, Option, Some, None, is_some, count_by, refl, sym, ap, subst, ◌∙◌, arith, append_assoc, append-nil, length-append, true, false, true≢false, inl, inr, le-leb, Bool, eqb}
-use Rattle.std.specs.Prelude.{Result, Ok, Err, unwrap_or, ◌⊎◌}
+use Rattle.std.specs.Prelude.{Result, Ok, Err, OnOk, unwrap_or, ◌⊎◌}
 use Rattle.std.specs.Borrow.{Bor}
 use Rattle.std.specs.List.{FoldsTo, last_or}
 use Rattle.std.specs.Option.{option_map}
@@ -435,3 +435,8 @@ module _ {P U T A F : Type 0} (index generation : P → ℕ) (step : F → P →
   pub refused_same : {f : F} {old entries : List (ℕ × (ℕ × U))} → old ≡ entries → IsRefusedCopy index generation step f old
       → IsRefusedCopy index generation step f entries
   refused_same {f} same r = subst (IsRefusedCopy index generation step f) same r
+
+-- what follows of two facts where a call succeeded
+pub on_ok : {X E A B C : Type 0} (r : Result X E) → (A → B → C) → OnOk r A → OnOk r B → OnOk r C
+on_ok (Ok x) gives a b = gives a b
+on_ok (Err e) gives a b = tt

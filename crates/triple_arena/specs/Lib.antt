@@ -30,3 +30,4 @@ pub mod DirectLaws
 pub mod DirectEntry
 pub mod Iterators
 pub mod Copy
+pub mod CopyLaws
