@@ -1,11 +1,13 @@
 //! What a crate above the arena can prove by the arena's public contracts alone: of a stack of nodes that are linked by
-//! pointers, of values that change by a compression, and of sums by iterators.
+//! pointers, of values that change by a compression, of sums by iterators, and of a mirror of an arena.
 #![tactic(auto)]
 
+mod mirrors;
 mod nodes;
 mod sums;
 mod values;
 
+pub use mirrors::reflect;
 pub use nodes::{Node, Nodes};
 pub use sums::{direct_sum_of, sum_of};
 pub use values::{map_values, raise, sum_up};
