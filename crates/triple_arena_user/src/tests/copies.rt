@@ -48,10 +48,10 @@ fn holds<P: Ptr, A: ArenaTrait<P, u64>>(rt: &impl Abort, arena: &A, second: u64,
     assert_eq!(rt; arena.get(at(index(3))), Some(&fourth));
 }
 
-fn copies<P: Ptr>(rt: &(impl Abort + Alloc)) -> Result<(), ReallocationError> {
+fn copies<P: Ptr>(rt: &impl Abort, alloc: Global) -> Result<(), ReallocationError> {
     let mut source = ArrayArena::<P, u64, 5>::new(());
     fills(rt, &mut source);
-    let mut copy = HeapArena::<P, u64, Global>::new(rt.alloc());
+    let mut copy = HeapArena::<P, u64, Global>::new(alloc);
     copy.clone_from_with(&source, |_, value| Ok(value.wrapping_mul(2)))?;
     holds(rt, &copy, 40, 80);
     assert_eq!(rt; copy.capacity(), 4);
@@ -70,7 +70,7 @@ fn copies<P: Ptr>(rt: &(impl Abort + Alloc)) -> Result<(), ReallocationError> {
     back.clone_from_with(&mirror, |_, value| Ok(*value))?;
     holds(rt, &back, 20, 40);
     assert_eq!(rt; back.generation(), PtrGen::two());
-    let mut other = HeapDirectArena::<P, u64, Global>::new(rt.alloc());
+    let mut other = HeapDirectArena::<P, u64, Global>::new(alloc);
     other.clone_from_with(&mirror, |_, value| Ok(*value))?;
     holds(rt, &other, 20, 40);
     assert_eq!(rt; other.capacity(), 4);
@@ -78,9 +78,10 @@ fn copies<P: Ptr>(rt: &(impl Abort + Alloc)) -> Result<(), ReallocationError> {
     let clone = source.clone(())?;
     holds(rt, &clone, 20, 40);
     assert_eq!(rt; clone.generation(), source.generation());
-    back.clone_from(&clone)?;
-    holds(rt, &back, 20, 40);
-    let twin = other.clone(rt.alloc())?;
+    let mut second = ArrayArena::<P, u64, 5>::new(());
+    second.clone_from(&clone)?;
+    holds(rt, &second, 20, 40);
+    let twin = other.clone(alloc)?;
     holds(rt, &twin, 20, 40);
     other.clone_from(&twin)?;
     holds(rt, &other, 20, 40);
@@ -93,17 +94,17 @@ fn copies<P: Ptr>(rt: &(impl Abort + Alloc)) -> Result<(), ReallocationError> {
 
 #[test]
 fn copies_have_the_pointers(rt: HostRuntime) -> Result<(), Fail> {
-    copies::<P0>(&rt)?;
-    copies::<P1>(&rt)?;
-    copies::<P5>(&rt)?;
+    copies::<P0>(&rt, rt.alloc())?;
+    copies::<P1>(&rt, rt.alloc())?;
+    copies::<P5>(&rt, rt.alloc())?;
     Ok(())
 }
 
 // The map refuses its last call but `calls`: nothing is left then, but the room and the stepped counter.
-fn refuses<P: Ptr>(rt: &(impl Abort + Alloc), calls: u8) {
+fn refuses<P: Ptr>(rt: &impl Abort, alloc: Global, calls: u8) {
     let mut source = ArrayArena::<P, u64, 5>::new(());
     fills(rt, &mut source);
-    let mut copy = HeapArena::<P, u64, Global>::new(rt.alloc());
+    let mut copy = HeapArena::<P, u64, Global>::new(alloc);
     insert(rt, &mut copy, 1);
     let stepped = copy.generation().generational_inc().0;
     let mut left = calls;
@@ -119,7 +120,10 @@ fn refuses<P: Ptr>(rt: &(impl Abort + Alloc), calls: u8) {
         assert_eq!(rt; copy.len(), 0);
         assert_eq!(rt; copy.capacity(), 4);
         assert_eq!(rt; copy.generation(), stepped);
-        assert_eq!(rt; insert(rt, &mut copy, 0).inx().try_into_usize(), Some(index(0)));
+        assert_eq!(rt;
+            insert(rt, &mut copy, 0).inx().try_into_usize(),
+            Some(index(0))
+        );
     } else {
         assert_eq!(rt; answer, Ok(()));
         holds(rt, &copy, 20, 40);
@@ -129,15 +133,20 @@ fn refuses<P: Ptr>(rt: &(impl Abort + Alloc), calls: u8) {
 #[test]
 fn the_map_refuses_each_call(rt: HostRuntime) -> Result<(), Fail> {
     for calls in 0..3u8 {
-        refuses::<P0>(&rt, calls);
-        refuses::<P1>(&rt, calls);
-        refuses::<P5>(&rt, calls);
+        refuses::<P0>(&rt, rt.alloc(), calls);
+        refuses::<P1>(&rt, rt.alloc(), calls);
+        refuses::<P5>(&rt, rt.alloc(), calls);
     }
     Ok(())
 }
 
 // The call was refused exactly where the heap refused it the memory.
-fn is_refused(rt: &impl Abort, heap: &Heap, had_refused: bool, answer: &Result<(), ReallocationError>) {
+fn is_refused(
+    rt: &impl Abort,
+    heap: &Heap,
+    had_refused: bool,
+    answer: &Result<(), ReallocationError>,
+) {
     assert_eq!(rt; answer.is_err(), heap.has_refused() != had_refused);
 }
 
