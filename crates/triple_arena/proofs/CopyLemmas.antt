@@ -1,8 +1,8 @@
 -- How a copy comes to be, slot by slot.
-use Rattle.std.proofs.Common.{◌≡◌, ℕ, zero, suc, ◌+◌, ◌-◌, ◌<◌, ◌≤◌, List, [], ◌∷◌, ◌++◌, map, length, replicate, Option, Some, None, is_some, count_by, refl, sym, ap, subst, ◌∙◌, arith, append_assoc, append-nil, length-append, true, false, true≢false, inl, inr, le-leb, Bool, eqb}
-use Rattle.std.specs.Prelude.{Result, Ok, Err, unwrap_or, ◌⊎◌}
+use Rattle.std.proofs.Common.{◌≡◌, ℕ, zero, suc, ◌+◌, ◌-◌, ◌<◌, ◌≤◌, List, [], ◌∷◌, ◌++◌, map, length, replicate, Option, Some, None, is_some, count_by, refl, sym, ap, subst, ◌∙◌, arith, append_assoc, append-nil, true, false, true≢false, inl, inr, le-leb, Bool, eqb}
+use Rattle.std.specs.Prelude.{Result, Ok, Err, OnOk, unwrap_or, ◌⊎◌}
 use Rattle.std.specs.Borrow.{Bor}
-use Rattle.std.specs.List.{FoldsTo, last_or}
+use Rattle.std.specs.List.{last_or}
 use Rattle.std.specs.Option.{option_map}
 use Rattle.std.proofs.lemmas.Fn.{FoldsTo-push}
 use Rattle.std.proofs.lemmas.List.{map_push, length-map, length_push}
@@ -19,7 +19,7 @@ use Rattle.triple_arena.specs.Compression.{index_of}
 use Rattle.triple_arena.specs.LiveEntries.{listed_from, listed-length, live_entries, entry-listed, live_entries-length}
 use Rattle.triple_arena.specs.Copy.{last_listed, spread, copied, Call, Calls, entry_shown, entry_made, IsMappedCopy, IsRefusedCopy, IsCopy}
 use Rattle.triple_arena.proofs.CompressionLemmas.{listed-push}
-use Rattle.triple_arena.proofs.FreeListLemmas.{sound_of, Becomes}
+use Rattle.triple_arena.proofs.FreeListLemmas.{sound_of}
 
 last_of_push : {A : Type 0} (o : Option A) (xs : List A) (x : A) → last_or o (xs ++ x ∷ []) ≡ Some x
 last_of_push o [] x = refl
@@ -393,8 +393,7 @@ module _ {T : Type 0} where
       → IsNew entry_at live_count some_counter (λ d. d.room) (option_map (next_generation g) (some_counter c)) (room_with last c.room) new
       × (new ≡ cleared g (reallocated c last))
   emptied g {n} {last} c {grown} {new} is grew at =
-      let whole : new ≡ cleared g (reallocated c last) = is ∙ ap (cleared g) (grew ∙ ap (reallocated c) at) in
-      (
+      let whole : new ≡ cleared g (reallocated c last) = is ∙ ap (cleared g) (grew ∙ ap (reallocated c) at) in (
         record {
           entries = λ j. ap (λ x. entry_at x j) whole ∙ no_entry g (reallocated c last) j;
           live = ap live_count whole;
@@ -435,3 +434,8 @@ module _ {P U T A F : Type 0} (index generation : P → ℕ) (step : F → P →
   pub refused_same : {f : F} {old entries : List (ℕ × (ℕ × U))} → old ≡ entries → IsRefusedCopy index generation step f old
       → IsRefusedCopy index generation step f entries
   refused_same {f} same r = subst (IsRefusedCopy index generation step f) same r
+
+-- what follows of two facts where a call succeeded
+pub on_ok : {X E A B C : Type 0} (r : Result X E) → (A → B → C) → OnOk r A → OnOk r B → OnOk r C
+on_ok (Ok x) gives a b = gives a b
+on_ok (Err e) gives a b = tt

@@ -1,6 +1,6 @@
 -- What a direct arena is that became a copy.
 use Rattle.std.proofs.Common.{◌≡◌, ℕ, zero, suc, ◌≤◌, List, map, length, Option, None, refl, sym, ap, subst, ◌∙◌, arith}
-use Rattle.std.proofs.lemmas.List.{map-id, length-map}
+use Rattle.std.proofs.lemmas.List.{map-id}
 use Rattle.std.specs.Prelude.{Result}
 use Rattle.std.specs.Borrow.{Bor}
 use Rattle.std.specs.Option.{option_map}
@@ -66,8 +66,7 @@ module _ {T : Type 0} where
       → IsNew entry_at live_count no_counter (λ x. x.room) (option_map (next_generation g) (no_counter d)) (room_with last d.room) new
       × (new ≡ cleared (reallocated d last))
   emptied_direct g {n} {last} d {grown} {new} is grew at =
-      let whole : new ≡ cleared (reallocated d last) = is ∙ ap cleared (grew ∙ ap (reallocated d) at) in
-      (
+      let whole : new ≡ cleared (reallocated d last) = is ∙ ap cleared (grew ∙ ap (reallocated d) at) in (
         record {
           entries = λ j. ap (λ x. entry_at x j) whole ∙ no_entry (reallocated d last) j;
           live = ap live_count whole;

@@ -36,6 +36,7 @@ pub mod Recaster
 pub mod SlotRecaster
 pub mod RecasterLaws
 pub mod Copy
+pub mod CopyLaws
 pub mod Drains
 pub mod DirectDrains
 pub mod IteratorLaws

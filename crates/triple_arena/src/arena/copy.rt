@@ -1,9 +1,12 @@
 //! An arena as a copy of another one.
-ghost use Rattle.std.specs.Prelude.{◌≡◌, ◌≤◌, IsErr, OnOk, length, is_some, count_by, map as list_map};
+ghost use Rattle.std.specs.Prelude.{◌≡◌, ◌≤◌, ◌↔◌, ◌⊎◌, Some, IsTrue, IsOk, IsErr, IfOk, OnOk, IsErrOf, length, is_some, count_by, map as list_map};
 ghost use Rattle.std.specs.Int.NonZero.{non_zero_usize_get};
 ghost use Rattle.std.specs.Option.{option_map};
-ghost use Rattle.triple_arena.specs.Content.{arena_capacity, cleared, vacant_from, IsWellFormed};
-ghost use Rattle.triple_arena.specs.Copy.{last_listed, copied as copied_of, IsMappedCopy, IsRefusedCopy};
+ghost use Rattle.triple_arena_ptr.specs.Generation.{second_generation};
+ghost use Rattle.triple_arena_stack.specs.Room.{capacity, IsBeyond};
+ghost use Rattle.triple_arena.specs.ArenaRoom.{room_of};
+ghost use Rattle.triple_arena.specs.Content.{entry_at, live_count, some_counter, empty, arena_capacity, reallocated, cleared, vacant_from, IsWellFormed};
+ghost use Rattle.triple_arena.specs.Copy.{last_listed, copied as copied_of, IsMappedCopy, IsRefusedCopy, IsUnmadeCopy};
 ghost use Rattle.triple_arena.specs.Layout.{IsChain};
 ghost use Rattle.triple_arena.specs.LiveEntries.{listed_from, live_entries};
 ghost use Rattle.triple_arena.specs.Slot.{entry_of};
@@ -12,7 +15,7 @@ use crate::arena::Arena;
 use crate::arena::free_slots::link_rising;
 use crate::copy::{append_copies, up_to_last};
 use crate::iterators::LentEntry;
-use crate::{ArenaCloneFromWith, ArenaCloneSource, ArenaSlot};
+use crate::{ArenaCloneFromWith, ArenaCloneSource, ArenaSlot, ArenaTrait};
 use std::num::NonZeroUsize;
 use triple_arena_ptr::{AllocError, Ptr, ReallocationError};
 use triple_arena_stack::NonZeroInxGenericStack;
@@ -47,6 +50,60 @@ impl<P: Ptr, T: Drop, S: NonZeroInxGenericStack<ArenaSlot<P, T>> + Drop> ArenaCl
             Ok(()) => Ok(()),
             Err(_) => Err(ReallocationError::AllocError),
         }
+    }
+}
+
+impl<P: Ptr, T: Clone, S: NonZeroInxGenericStack<ArenaSlot<P, T>> + Drop> Arena<P, T, S> {
+    /// A new arena with the same pointers, clones of their values and the same counter, where the smallest free index is
+    /// the next one to be taken. It has room for the last live index. A clone of a value must equal it.
+    ///
+    /// It answers `BeyondMaxCapacity` where no new arena of this type has so much room, and `AllocError` where the
+    /// memory or the clone of a value was refused.
+    pub fn clone(&self, alloc: S::Alloc) -> Result<Self, ReallocationError>
+        requires { (x y : T) → T.is_clone x y → y ≡ x }
+        ensures exact { IfOk result (λ c. c ≡ copied_of (empty (second_generation P.Gen.last)
+            (room_of P.Inx.greatest (S.room_at (last_listed (live_entries self.now)))))
+            (Some self.now.counter) (live_entries self.now)) }
+        ensures succeeds { last_listed (live_entries self.now)
+            ≤ capacity (room_of P.Inx.greatest (S.room_at 0))
+            → ((x : T) → T.is_infallible x) → IsOk result }
+        ensures beyond { IsErrOf result ReallocationError.BeyondMaxCapacity
+            ↔ IsBeyond (room_of P.Inx.greatest
+            (S.room_at (last_listed (live_entries self.now)))).limit
+            (last_listed (live_entries self.now)) }
+        ensures unmade { IsErrOf result ReallocationError.AllocError
+            → IsTrue S.takes_memory ⊎ (((x : T) → T.is_infallible x) → ⊥) }
+        ensures formed { IfOk result (λ c. IsWellFormed c) }
+    {
+        let last = up_to_last::<P, T, ArenaSlot<P, T>>(self.slots.as_slice()).len();
+        let mut copy = Self::with_min_capacity(alloc, last)?;
+        copy.clone_from(self)?;
+        Ok(copy)
+    }
+
+    /// Makes this arena a clone of `source`, as `clone_from_with` does with clones of the values. A clone of a value
+    /// must equal it.
+    ///
+    /// It answers `BeyondMaxCapacity` where the last live index of `source` is past the greatest capacity, and
+    /// `AllocError` where the memory was refused; the arena is then as it was. It also answers `AllocError` where the
+    /// clone of a value was refused; the arena is then grown to that index and cleared.
+    pub fn clone_from(&mut self, source: &Self) -> Result<(), ReallocationError>
+        requires { (x y : T) → T.is_clone x y → y ≡ x }
+        ensures exact { OnOk result (self.new ≡ copied_of self.old (Some source.now.counter)
+            (live_entries source.now)) }
+        ensures succeeds { last_listed (live_entries source.now) ≤ arena_capacity self.old
+            → ((x : T) → T.is_infallible x) → IsOk result }
+        ensures beyond { IsErrOf result ReallocationError.BeyondMaxCapacity
+            ↔ IsBeyond self.old.room.limit (last_listed (live_entries source.now)) }
+        ensures kept { IsErrOf result ReallocationError.BeyondMaxCapacity → self.new ≡ self.old }
+        ensures unmade { IsErrOf result ReallocationError.AllocError
+            → IsUnmadeCopy entry_at live_count some_counter (λ c. c.room) S.takes_memory P.Gen.last
+            (last_listed (live_entries source.now))
+            (λ c. cleared P.Gen.last (reallocated c (last_listed (live_entries source.now))))
+            (((x : T) → T.is_infallible x) → ⊥) self.old self.new }
+        ensures formed { IsWellFormed self.new }
+    {
+        self.clone_from_with(source, |_, value| value.clone())
     }
 }
 

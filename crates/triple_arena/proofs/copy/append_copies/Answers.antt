@@ -1,16 +1,14 @@
-use Rattle.std.proofs.Common.{◌≡◌, ◌+◌, map, length, ap, sym, refl, ◌∙◌, subst, arith, of_calls}
+use Rattle.std.proofs.Common.{map, ap, refl, ◌∙◌, arith, of_calls}
 use Rattle.std.proofs.lemmas.List.{length-map}
-use Rattle.std.specs.Int.NonZero.{non_zero_usize_get}
 use Rattle.triple_arena.proofs.CopyLemmas.{copying_none, copying_free, copying_live, copying_refused, copying_all, first_shown, first_free, pushed_slot}
 use Rattle.triple_arena.proofs.copy.append_copies.Goals as goal
 
 pub loop-slot-init : goal.loop-slot-init
-loop-slot-init g c =
-    (
-      search of_calls,
-      copying_none _ _ _ _ _ (ap (map g.L.EntrySlot.entry) c.requires.empty),
-      refl,
-    )
+loop-slot-init g c = (
+  search of_calls,
+  copying_none _ _ _ _ _ (ap (map g.L.EntrySlot.entry) c.requires.empty),
+  refl,
+)
 
 pub returns-in_err-value-in-Some-lent_entry-clause-refused :
     goal.returns-in_err-value-in-Some-lent_entry-clause-refused
@@ -32,8 +30,7 @@ loop-slot-preserved-in_ok-value-in-Some-lent_entry g c =
     let all = length-map c.args.source.now g.E.LentEntry.shown in
     let whole = c.loop-slot.invariant.1.whole in
     let bound = c.requires.indexes in
-    let split = c.in-Some.ensures.cases.1 in
-    (
+    let split = c.in-Some.ensures.cases.1 in (
       search of_calls,
       copying_live _ _ _ c.loop-slot.invariant.1 (first_shown g.E.LentEntry.shown _ c.in-Some.ensures.cases.0 c.lent_entry.ensures c.in-Some-lent_entry.is)
           (omega (arith, c.saturating_add-index.ensures, c.len.ensures.value)) c.pointer_at.ensures.has_index c.pointer_at.ensures.has_generation
@@ -42,13 +39,12 @@ loop-slot-preserved-in_ok-value-in-Some-lent_entry g c =
     )
 
 pub loop-slot-preserved : goal.loop-slot-preserved
-loop-slot-preserved g c =
-    (
-      search of_calls,
-      copying_free _ _ _ c.loop-slot.invariant.1 (first_free g.E.LentEntry.shown _ c.in-Some.ensures.cases.0 c.lent_entry.ensures c.in-None.is)
-          (pushed_slot g.L.EntrySlot.entry _ c.append-in-None.ensures.items c.vacant.ensures),
-      c.append-in-None.ensures.room ∙ c.loop-slot.invariant.2,
-    )
+loop-slot-preserved g c = (
+  search of_calls,
+  copying_free _ _ _ c.loop-slot.invariant.1 (first_free g.E.LentEntry.shown _ c.in-Some.ensures.cases.0 c.lent_entry.ensures c.in-None.is)
+      (pushed_slot g.L.EntrySlot.entry _ c.append-in-None.ensures.items c.vacant.ensures),
+  c.append-in-None.ensures.room ∙ c.loop-slot.invariant.2,
+)
 
 pub returns-clause-live : goal.returns-clause-live
 returns-clause-live g c = (copying_all _ _ _ _ (length-map c.loop-slot.left.now g.E.LentEntry.shown ∙ c.in_default.ensures.cases) c.loop-slot.invariant.1).lives
