@@ -8,6 +8,7 @@ ghost use Rattle.triple_arena.specs.Slot.{entry_of};
 ghost use Rattle.triple_arena.specs.Content.{live_count, empty, IsWellFormed};
 
 mod calls;
+mod capacity_drain;
 mod compression;
 mod drain;
 mod entry;
@@ -26,6 +27,7 @@ mod text;
 
 use crate::ArenaSlot;
 pub(crate) use compression::{compact, keep_first, take_entry};
+pub use capacity_drain::CapacityDrain;
 pub use drain::Drain;
 pub use entry::{ArenaInsertEntries, ArenaInsertEntry, ArenaInsertEntryTrait};
 pub(crate) use reading::ValueAtMut;

@@ -4,6 +4,7 @@ ghost use Rattle.triple_arena.specs.ArenaRoom.{room_of};
 ghost use Rattle.triple_arena.specs.DirectContent.{live_count, empty, IsWellFormed};
 
 mod calls;
+mod capacity_drain;
 mod drain;
 mod entry;
 mod indexing;
@@ -15,6 +16,7 @@ mod removal;
 mod room;
 
 use crate::DirectSlot;
+pub use capacity_drain::CapacityDrain;
 pub use drain::Drain;
 pub use entry::ArenaDirectInsertEntry;
 use std::marker::{Model, PhantomData};

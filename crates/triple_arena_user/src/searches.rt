@@ -45,3 +45,20 @@ pub fn find_equal<
     }
     None
 }
+
+use triple_arena::{ArrayArena, NonZeroInxArray, P0};
+use triple_arena::arena_iterators::CapacityDrain;
+
+fn probe_e(left: CapacityDrain<P0, u64, NonZeroInxArray<ArenaSlot<P0, u64>, 3>>) -> Option<(P0, u64)> {
+    let mut left = left;
+    left.next()
+}
+
+fn probe_f(arena: ArrayArena<P0, u64, 3>) -> CapacityDrain<P0, u64, NonZeroInxArray<ArenaSlot<P0, u64>, 3>> {
+    arena.into_iter()
+}
+
+fn probe_g(arena: ArrayArena<P0, u64, 3>) {
+    for item in arena {
+    }
+}
