@@ -26,8 +26,8 @@ mod room;
 mod text;
 
 use crate::ArenaSlot;
-pub(crate) use compression::{compact, keep_first, take_entry};
 pub use capacity_drain::CapacityDrain;
+pub(crate) use compression::{compact, keep_first, take_entry};
 pub use drain::Drain;
 pub use entry::{ArenaInsertEntries, ArenaInsertEntry, ArenaInsertEntryTrait};
 pub(crate) use reading::ValueAtMut;

@@ -1,12 +1,14 @@
 //! What a crate above the arena can prove by the arena's public contracts alone: of a stack of nodes that are linked by
-//! pointers, of values that change by a compression, and of sums and searches by iterators.
+//! pointers, of values that change by a compression or one by one, and of sums and searches by iterators.
 #![tactic(auto)]
 
+mod each;
 mod nodes;
 mod searches;
 mod sums;
 mod values;
 
+pub use each::raise_each;
 pub use nodes::{Node, Nodes};
 pub use searches::{find_equal, find_first};
 pub use sums::{direct_sum_of, sum_of};

@@ -27,11 +27,7 @@ pub fn find_first<P: Ptr, T: Drop, S: NonZeroInxGenericStack<ArenaSlot<P, T>>, F
 
 /// The pointer to the first value of a direct arena that is equal to this one, in the order of the indexes, or `None`
 /// where there is none.
-pub fn find_equal<
-    P: Ptr,
-    T: PartialEq + Drop,
-    S: NonZeroInxGenericStack<DirectSlot<P, T>>,
->(
+pub fn find_equal<P: Ptr, T: PartialEq + Drop, S: NonZeroInxGenericStack<DirectSlot<P, T>>>(
     arena: &DirectArena<P, T, S>,
     wanted: &T,
 ) -> Option<P>
@@ -44,21 +40,4 @@ pub fn find_equal<
         }
     }
     None
-}
-
-use triple_arena::{ArrayArena, NonZeroInxArray, P0};
-use triple_arena::arena_iterators::CapacityDrain;
-
-fn probe_e(left: CapacityDrain<P0, u64, NonZeroInxArray<ArenaSlot<P0, u64>, 3>>) -> Option<(P0, u64)> {
-    let mut left = left;
-    left.next()
-}
-
-fn probe_f(arena: ArrayArena<P0, u64, 3>) -> CapacityDrain<P0, u64, NonZeroInxArray<ArenaSlot<P0, u64>, 3>> {
-    arena.into_iter()
-}
-
-fn probe_g(arena: ArrayArena<P0, u64, 3>) {
-    for item in arena {
-    }
 }

@@ -23,8 +23,7 @@ pub struct CapacityDrain<P: Ptr, T: Drop, S: NonZeroInxGenericStack<ArenaSlot<P,
     entries: PhantomData<(P, T)>,
 }
 
-impl<P: Ptr, T: Drop, S: NonZeroInxGenericStack<ArenaSlot<P, T>>> Model
-    for CapacityDrain<P, T, S> {
+impl<P: Ptr, T: Drop, S: NonZeroInxGenericStack<ArenaSlot<P, T>>> Model for CapacityDrain<P, T, S> {
     ghost use Rattle.std.specs.Prelude.{ℕ, ◌≤◌, List, length, map};
     ghost use Rattle.triple_arena_ptr.specs.Index.{max_index_of};
     ghost use Rattle.triple_arena.specs.Iterators.{AreVacant};

@@ -4,8 +4,8 @@ ghost use Rattle.triple_arena.specs.Compression.{value_of};
 ghost use Rattle.triple_arena.specs.Iterators.{pointer_of};
 ghost use Rattle.triple_arena.specs.LiveEntries.{live_entries};
 
-use crate::arena_iterators::{Iter, Ptrs, Vals};
 use crate::arena::CapacityDrain;
+use crate::arena_iterators::{Iter, Ptrs, Vals};
 use crate::{Arena, ArenaSlot, iterators};
 use triple_arena_ptr::Ptr;
 use triple_arena_stack::NonZeroInxGenericStack;

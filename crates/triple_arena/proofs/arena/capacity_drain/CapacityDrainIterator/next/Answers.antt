@@ -1,9 +1,9 @@
-use Rattle.std.proofs.Common.{◌≡◌, ◌+◌, map, length, ap, sym, ◌∙◌, refl, arith}
+use Rattle.std.proofs.Common.{◌≡◌, ◌+◌, map, length, ap, sym, ◌∙◌, arith}
 use Rattle.std.specs.Int.NonZero.{non_zero_usize_get}
 use Rattle.std.proofs.lemmas.List.{length-map}
 use Rattle.triple_arena.specs.LiveEntries.{listed_from}
 use Rattle.triple_arena.specs.Slot.{entry_of}
-use Rattle.triple_arena.proofs.IteratorLemmas.{Taken, free_passed, entry_taken, all_vacant, as_long}
+use Rattle.triple_arena.proofs.IteratorLemmas.{free_passed, entry_taken, all_vacant, as_long}
 use Rattle.triple_arena.proofs.arena.capacity_drain.CapacityDrainIterator.next.Goals as goal
 
 pub returns-in-Some-clause-steps : goal.returns-in-Some-clause-steps

@@ -1,7 +1,7 @@
 use Rattle.std.proofs.Common.{◌≡◌, ◌+◌, ◌-◌, length, length-set, map-id, slice_get, slice_set, None, ap, sym, ◌∙◌, arith}
 use Rattle.std.specs.Int.NonZero.{non_zero_usize_get}
 use Rattle.triple_arena.specs.LiveEntries.{listed_from}
-use Rattle.triple_arena.proofs.IteratorLemmas.{Taken, free_passed, entry_taken, all_vacant}
+use Rattle.triple_arena.proofs.IteratorLemmas.{free_passed, entry_taken, all_vacant}
 use Rattle.triple_arena.proofs.direct.capacity_drain.CapacityDrainIterator.next.Goals as goal
 
 pub returns-in-Some-clause-steps : goal.returns-in-Some-clause-steps
