@@ -1,7 +1,6 @@
 -- What a removal at the first live index of a direct arena does to the entries that are left.
-use Rattle.std.proofs.Common.{◌≡◌, ℕ, ◌<◌, ◌≤◌, List, [], ◌∷◌, length, map, Option, Some, None, IfSome, Bool, false, refl, sym, ap, subst, ◌∙◌}
+use Rattle.std.proofs.Common.{◌≡◌, ℕ, ◌<◌, ◌≤◌, [], ◌∷◌, length, Option, Some, None, IfSome, false, refl, sym, subst, ◌∙◌}
 use Rattle.std.proofs.lemmas.List.{length-map}
-use Rattle.triple_arena_ptr.specs.declared.invalidation.InvalidationOption.{InvalidationOption}
 use Rattle.triple_arena.specs.Changes.{IsRemoved}
 use Rattle.triple_arena.specs.DirectContent.{DirectContent, as_content, entry_at, live_count, live_entries, no_counter, cleared}
 use Rattle.triple_arena.specs.LiveEntries.{live_entries-length}

@@ -29,6 +29,7 @@ module _ {T : Type 0} where
       beyond [] k past = refl
       beyond (y ∷ ys) zero past = absurd (omega arith)
       beyond (y ∷ ys) (suc k) past = beyond ys k (omega arith)
+
       each : (k : ℕ) → get_or xs k None ≡ None
       each k = elim (cases_lt k n) [ inl under ↦ vacant k under | inr above ↦ beyond xs k (omega (arith, past, above)) ]
 
@@ -70,7 +71,7 @@ module _ {T : Type 0} where
       let now : ys ≡ set xs n None = written ∙ ap (λ k. set xs k None) back in
       let gone : get_or ys n None ≡ None = ap (λ l. get_or l n None) now ∙ get_or-set_same xs n None None within in
       let others : (j : ℕ) → j ≢ n → get_or ys j None ≡ get_or xs j None =
-          λ j other. ap (λ l. get_or l j None) now ∙ get_or-set_other xs n j None None (λ e. other e) in
+      λ j other. ap (λ l. get_or l j None) now ∙ get_or-set_other xs n j None None (λ e. other e) in
       let first : listed_from 1 xs ≡ (1 + n, (number g, t)) ∷ listed_from 1 ys = listed_first 1 n (number g, t) xs ys vacant here gone others in
       let index : 1 + n ≡ i = omega (arith, place) in
       let kept : AreVacant n ys = λ j below. others j (λ e. omega (arith, below, e)) ∙ vacant j below in

@@ -8,6 +8,7 @@ ghost use Rattle.triple_arena.specs.Slot.{entry_of};
 ghost use Rattle.triple_arena.specs.Content.{live_count, empty, IsWellFormed};
 
 mod calls;
+mod capacity_drain;
 mod compression;
 mod copy;
 mod drain;
@@ -28,6 +29,7 @@ mod text;
 mod transfer;
 
 use crate::ArenaSlot;
+pub use capacity_drain::CapacityDrain;
 pub(crate) use compression::{compact, keep_first, take_entry};
 pub use drain::Drain;
 pub use entry::{ArenaInsertEntries, ArenaInsertEntry, ArenaInsertEntryTrait};

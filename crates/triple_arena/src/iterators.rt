@@ -8,11 +8,8 @@ ghost use Rattle.triple_arena.specs.Iterators.{pointer_of};
 ghost use Rattle.triple_arena.specs.LiveEntries.{listed_from};
 ghost use Rattle.triple_arena.specs.Slot.{entry_of};
 
-mod owned;
-
 use crate::arena::pointer_at;
 use crate::{ArenaSlot, DirectSlot};
-pub use owned::CapacityDrain;
 use std::iter::FusedIterator;
 use std::marker::{Model, PhantomData};
 use std::num::NonZeroUsize;

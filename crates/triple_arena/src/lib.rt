@@ -35,11 +35,8 @@ mod transfer;
 /// The advancers of the arenas, and the iterators of `Arena`.
 pub mod arena_iterators {
     pub use crate::advancer::PtrAdvancer;
-    pub use crate::arena::Drain;
+    pub use crate::arena::{CapacityDrain, Drain};
     use crate::{ArenaSlot, iterators};
-
-    /// The pointers and the values of an arena that is given away.
-    pub type CapacityDrain<P, T, S> = iterators::CapacityDrain<P, T, ArenaSlot<P, T>, S>;
 
     /// The pointers and the values of an arena.
     pub type Iter<'a, P, T> = iterators::Iter<'a, P, T, ArenaSlot<P, T>>;
@@ -53,11 +50,8 @@ pub mod arena_iterators {
 
 /// The iterators of `DirectArena`.
 pub mod direct_iterators {
-    pub use crate::direct::Drain;
+    pub use crate::direct::{CapacityDrain, Drain};
     use crate::{DirectSlot, iterators};
-
-    /// The pointers and the values of a direct arena that is given away.
-    pub type CapacityDrain<P, T, S> = iterators::CapacityDrain<P, T, DirectSlot<P, T>, S>;
 
     /// The pointers and the values of a direct arena.
     pub type Iter<'a, P, T> = iterators::Iter<'a, P, T, DirectSlot<P, T>>;

@@ -52,20 +52,17 @@ impl<G, T> ValueMut<T> for SlotState<G, T> {
     }
 }
 
-/// A slot, which is emptied and filled as one.
-pub trait EntrySlot<P: Ptr, T> {
+// What a compression does with a slot.
+pub(crate) trait EntrySlot<P: Ptr, T> {
     // The generation and the value, if it is allocated.
     ghost entry: { Self → Option (ℕ × T) };
 
-    /// A free slot.
     fn vacant() -> Self
         ensures { entry result ≡ None };
 
-    /// An allocated slot.
     fn holding(generation: P::Gen, value: T) -> Self
         ensures { entry result ≡ Some (P.Gen.number generation, value) };
 
-    /// The generation and the value, if it is allocated.
     fn into_live(self) -> Option<(P::Gen, T)>
         ensures { option_map (λ e. (P.Gen.number e.0, e.1)) result ≡ entry self };
 }

@@ -27,11 +27,7 @@ pub fn find_first<P: Ptr, T: Drop, S: NonZeroInxGenericStack<ArenaSlot<P, T>>, F
 
 /// The pointer to the first value of a direct arena that is equal to this one, in the order of the indexes, or `None`
 /// where there is none.
-pub fn find_equal<
-    P: Ptr,
-    T: PartialEq + Drop,
-    S: NonZeroInxGenericStack<DirectSlot<P, T>>,
->(
+pub fn find_equal<P: Ptr, T: PartialEq + Drop, S: NonZeroInxGenericStack<DirectSlot<P, T>>>(
     arena: &DirectArena<P, T, S>,
     wanted: &T,
 ) -> Option<P>

@@ -4,7 +4,8 @@ ghost use Rattle.triple_arena.specs.Compression.{value_of};
 ghost use Rattle.triple_arena.specs.Iterators.{pointer_of};
 ghost use Rattle.triple_arena.specs.LiveEntries.{live_entries};
 
-use crate::arena_iterators::{CapacityDrain, Iter, Ptrs, Vals};
+use crate::arena::CapacityDrain;
+use crate::arena_iterators::{Iter, Ptrs, Vals};
 use crate::{Arena, ArenaSlot, iterators};
 use triple_arena_ptr::Ptr;
 use triple_arena_stack::NonZeroInxGenericStack;
@@ -65,6 +66,6 @@ impl<P: Ptr, T: Drop, S: NonZeroInxGenericStack<ArenaSlot<P, T>> + Drop> IntoIte
             len: _,
             values: _,
         } = self;
-        iterators::CapacityDrain::over(slots)
+        CapacityDrain::over(slots)
     }
 }

@@ -4,7 +4,8 @@ ghost use Rattle.triple_arena.specs.Compression.{value_of};
 ghost use Rattle.triple_arena.specs.Iterators.{pointer_of};
 ghost use Rattle.triple_arena.specs.DirectContent.{live_entries};
 
-use crate::direct_iterators::{CapacityDrain, Iter, Ptrs, Vals};
+use crate::direct::CapacityDrain;
+use crate::direct_iterators::{Iter, Ptrs, Vals};
 use crate::{DirectArena, DirectSlot, iterators};
 use triple_arena_ptr::Ptr;
 use triple_arena_stack::NonZeroInxGenericStack;
@@ -63,6 +64,6 @@ impl<P: Ptr, T: Drop, S: NonZeroInxGenericStack<DirectSlot<P, T>> + Drop> IntoIt
             len: _,
             values: _,
         } = self;
-        iterators::CapacityDrain::over(slots)
+        CapacityDrain::over(slots)
     }
 }

@@ -1,14 +1,13 @@
-//! Drains, taken whole and dropped early, and arenas that are gone over by value.
-use crate::{find_equal, find_first};
+//! Drains, taken whole and dropped early, and searches, at concrete arenas.
+use crate::{find_equal, find_first, raise_each};
 use std::alloc::Global;
 use std::num::{NonZeroU8, NonZeroU64, NonZeroUsize};
 use std::process::Abort;
 use std::test::Fail;
 use triple_arena::{
-    Arena, ArenaDirectInsertEntryTrait, ArenaDirectInsertTrait, ArenaInsertTrait,
-    ArenaSlot, ArenaTrait, ArrayArena, ArrayDirectArena, DirectArena, DirectInsertionError, DirectSlot, HeapArena,
-    HeapDirectArena, InvalidationOption, NonZeroInxGenericStack, P0, P1, P5, Ptr, PtrGen, PtrInx,
-    ReallocationError,
+    Arena, ArenaDirectInsertEntryTrait, ArenaDirectInsertTrait, ArenaInsertTrait, ArenaSlot,
+    ArenaTrait, ArrayArena, DirectInsertionError, HeapArena, HeapDirectArena, InvalidationOption,
+    NonZeroInxGenericStack, P0, P1, P5, Ptr, PtrGen, PtrInx, ReallocationError,
 };
 
 // Four entries, with a free slot between them.
@@ -107,7 +106,10 @@ fn tells_the_item_at_which_the_generations_start_again(rt: HostRuntime) -> Resul
     let mut drain = arena.drain();
     assert_eq!(rt; drain.len(), 4);
     assert_eq!(rt; drain.next(), Some(InvalidationOption::Success(items[0])));
-    assert_eq!(rt; drain.next(), Some(InvalidationOption::GenerationOverflow(items[1])));
+    assert_eq!(rt;
+        drain.next(),
+        Some(InvalidationOption::GenerationOverflow(items[1]))
+    );
     assert_eq!(rt; drain.next(), Some(InvalidationOption::Success(items[2])));
     assert_eq!(rt; drain.len(), 1);
     drop(drain);
@@ -115,17 +117,27 @@ fn tells_the_item_at_which_the_generations_start_again(rt: HostRuntime) -> Resul
     Ok(())
 }
 
+type InVec = HeapDirectArena<P0, u64, Global>;
+
 // Entries at the indexes 1, 3 and 6.
-fn fill_direct<S: NonZeroInxGenericStack<DirectSlot<P0, u64>> + Drop>(
-    arena: &mut DirectArena<P0, u64, S>,
-) -> Result<[(P0, u64); 3], DirectInsertionError> {
+fn fill_direct(arena: &mut InVec) -> Result<[(P0, u64); 3], DirectInsertionError> {
     let first = P0::_from_raw(at(1), generation(9));
     let second = P0::_from_raw(at(3), generation(8));
     let third = P0::_from_raw(at(6), generation(9));
-    arena.direct_insert_within_capacity(third)?.insert(60);
-    arena.direct_insert_within_capacity(first)?.insert(10);
-    arena.direct_insert_within_capacity(second)?.insert(30);
+    put(arena, third, 60)?;
+    put(arena, first, 10)?;
+    put(arena, second, 30)?;
     Ok([(first, 10), (second, 30), (third, 60)])
+}
+
+fn put(arena: &mut InVec, p: P0, value: u64) -> Result<(), DirectInsertionError> {
+    match arena.direct_insert_within_capacity(p) {
+        Ok(place) => {
+            place.insert(value);
+            Ok(())
+        }
+        Err(e) => Err(e),
+    }
 }
 
 fn at(index: usize) -> NonZeroUsize {
@@ -137,11 +149,7 @@ fn generation(number: u64) -> NonZeroU64 {
 }
 
 // Takes so many of the items of a direct arena.
-fn take_direct<S: NonZeroInxGenericStack<DirectSlot<P0, u64>>>(
-    rt: &impl Abort,
-    arena: &mut DirectArena<P0, u64, S>,
-    items: &[(P0, u64)],
-) {
+fn take_direct(rt: &impl Abort, arena: &mut InVec, items: &[(P0, u64)]) {
     let mut drain = arena.drain();
     for item in items {
         assert_eq!(rt; drain.next(), Some(InvalidationOption::Success(*item)));
@@ -149,9 +157,9 @@ fn take_direct<S: NonZeroInxGenericStack<DirectSlot<P0, u64>>>(
 }
 
 // A drain of a direct arena that is dropped after so many items takes the others too.
-fn drains_direct<S: NonZeroInxGenericStack<DirectSlot<P0, u64>> + Drop>(
+fn drains_direct(
     rt: &impl Abort,
-    arena: &mut DirectArena<P0, u64, S>,
+    arena: &mut InVec,
     count: usize,
 ) -> Result<(), DirectInsertionError> {
     let items = fill_direct(arena)?;
@@ -167,7 +175,7 @@ fn drains_direct<S: NonZeroInxGenericStack<DirectSlot<P0, u64>> + Drop>(
 
 #[test]
 fn drains_a_direct_vector(rt: HostRuntime) -> Result<(), Fail> {
-    let mut arena = HeapDirectArena::<P0, u64, Global>::with_min_capacity(rt.alloc(), 6)?;
+    let mut arena = InVec::with_min_capacity(rt.alloc(), 6)?;
     for count in 0..4 {
         drains_direct(&rt, &mut arena, count)?;
     }
@@ -175,39 +183,12 @@ fn drains_a_direct_vector(rt: HostRuntime) -> Result<(), Fail> {
 }
 
 #[test]
-fn drains_a_direct_array(rt: HostRuntime) -> Result<(), Fail> {
-    let mut arena = ArrayDirectArena::<P0, u64, 6>::new(());
-    for count in 0..4 {
-        drains_direct(&rt, &mut arena, count)?;
-    }
-    Ok(())
-}
-
-#[test]
-fn goes_over_an_arena_by_value(rt: HostRuntime) -> Result<(), Fail> {
+fn finds_the_first_value(rt: HostRuntime) -> Result<(), Fail> {
     let mut arena = HeapArena::<P0, u64, Global>::new(rt.alloc());
     let items = fill(&rt, &mut arena)?;
     assert_eq!(rt; find_first(&arena, |value| *value > 10), Some(items[1].0));
     assert_eq!(rt; find_first(&arena, |value| *value > 50), None);
-    let mut left = arena.into_iter();
-    assert_eq!(rt; left.next(), Some(items[0]));
-    assert_eq!(rt; left.size_hint(), (0, Some(4)));
-    assert_eq!(rt; left.next(), Some(items[1]));
-    assert_eq!(rt; left.next(), Some(items[2]));
-    assert_eq!(rt; left.next(), Some(items[3]));
-    assert_eq!(rt; left.next(), None);
-    Ok(())
-}
-
-#[test]
-fn goes_over_a_direct_arena_by_value(rt: HostRuntime) -> Result<(), Fail> {
-    let mut arena = ArrayDirectArena::<P0, u64, 6>::new(());
-    let items = fill_direct(&mut arena)?;
-    let mut seen = 0;
-    for (place, item) in arena.into_iter().enumerate() {
-        assert_eq!(rt; items.get(place), Some(&item));
-        seen = place;
-    }
-    assert_eq!(rt; seen, 2);
+    raise_each(&mut arena, 1);
+    assert_eq!(rt; find_first(&arena, |value| *value == 51), Some(items[3].0));
     Ok(())
 }

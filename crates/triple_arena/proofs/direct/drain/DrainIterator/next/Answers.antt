@@ -43,9 +43,9 @@ returns-clause-steps g c =
     let over = c.loop-self-test.false in
     let sized = c.slot_count.ensures in
     let none : (j : ℕ) → entry_at c.loop-self.self.arena.now j ≡ None =
-        λ j. elim (leb_tells j c.loop-self.self.passed) [
-          | inl within ↦ kept.0 j within.1
-          | inr beyond ↦ none_past (as_content c.loop-self.self.arena.now) j (omega (arith, beyond.1, over, sized))
-        ] in
+    λ j. elim (leb_tells j c.loop-self.self.passed) [
+      | inl within ↦ kept.0 j within.1
+      | inr beyond ↦ none_past (as_content c.loop-self.self.arena.now) j (omega (arith, beyond.1, over, sized))
+    ] in
     let over = removals_none c.loop-self.self.arena.now none in
     (rw (← kept.1) (over, over), rw (← kept.1) (refl, refl), kept.0)

@@ -3,9 +3,10 @@ ghost use Rattle.std.specs.Prelude.{◌≡◌, ◌≤◌, length, map as list_ma
 ghost use Rattle.std.specs.Iterator.{YieldsFirstBy, item_count};
 ghost use Rattle.triple_arena_ptr.specs.Index.{max_index_of};
 ghost use Rattle.triple_arena.specs.LiveEntries.{listed_from};
+ghost use Rattle.triple_arena.specs.Slot.{entry_of};
 
+use crate::ArenaSlot;
 use crate::arena::{pointer_at, take_entry};
-use crate::slot::EntrySlot;
 use std::iter::FusedIterator;
 use std::marker::{Model, PhantomData};
 use std::num::NonZeroUsize;
@@ -15,38 +16,33 @@ use triple_arena_stack::NonZeroInxGenericStack;
 /// The pointers and the values of an arena, by value, in the order of the indexes, seen as the list of the entries that
 /// are left. Dropped, it drops those.
 #[derive(Drop)]
-pub struct CapacityDrain<P: Ptr, T: Drop, E: EntrySlot<P, T> + Drop, S: NonZeroInxGenericStack<E>> {
+pub struct CapacityDrain<P: Ptr, T: Drop, S: NonZeroInxGenericStack<ArenaSlot<P, T>>> {
     slots: S,
     // The first slots, which have no entry.
     passed: usize,
-    entries: PhantomData<(P, T, E)>,
+    entries: PhantomData<(P, T)>,
 }
 
-impl<P: Ptr, T: Drop, E: EntrySlot<P, T> + Drop, S: NonZeroInxGenericStack<E>> Model
-    for CapacityDrain<P, T, E, S> {
+impl<P: Ptr, T: Drop, S: NonZeroInxGenericStack<ArenaSlot<P, T>>> Model for CapacityDrain<P, T, S> {
     ghost use Rattle.std.specs.Prelude.{ℕ, ◌≤◌, List, length, map};
     ghost use Rattle.triple_arena_ptr.specs.Index.{max_index_of};
     ghost use Rattle.triple_arena.specs.Iterators.{AreVacant};
     ghost use Rattle.triple_arena.specs.LiveEntries.{listed_from};
+    ghost use Rattle.triple_arena.specs.Slot.{entry_of};
 
     ghost Value = { List (ℕ × (ℕ × T)) };
 
-    ghost view = { λ it. listed_from 1 (map E.entry (S.items it.slots)) };
+    ghost view = { λ it. listed_from 1 (map entry_of (S.items it.slots)) };
 
-    ghost invariant = { λ it. AreVacant it.passed (map E.entry (S.items it.slots))
+    ghost invariant = { λ it. AreVacant it.passed (map entry_of (S.items it.slots))
         × (length (S.items it.slots) ≤ max_index_of P.Inx.greatest) };
 }
 
-impl<P: Ptr, T: Drop, E: EntrySlot<P, T> + Drop, S: NonZeroInxGenericStack<E>> CapacityDrain<
-    P,
-    T,
-    E,
-    S,
-> {
+impl<P: Ptr, T: Drop, S: NonZeroInxGenericStack<ArenaSlot<P, T>>> CapacityDrain<P, T, S> {
     // Over the slots from index 1 on.
     pub(crate) fn over(slots: S) -> Self
         requires { length (S.items slots) ≤ max_index_of P.Inx.greatest }
-        ensures { result ≡ listed_from 1 (list_map E.entry (S.items slots)) }
+        ensures { result ≡ listed_from 1 (list_map entry_of (S.items slots)) }
     {
         CapacityDrain {
             slots,
@@ -56,8 +52,8 @@ impl<P: Ptr, T: Drop, E: EntrySlot<P, T> + Drop, S: NonZeroInxGenericStack<E>> C
     }
 }
 
-impl<P: Ptr, T: Drop, E: EntrySlot<P, T> + Drop, S: NonZeroInxGenericStack<E> + Drop> Iterator
-    for CapacityDrain<P, T, E, S> {
+impl<P: Ptr, T: Drop, S: NonZeroInxGenericStack<ArenaSlot<P, T>> + Drop> Iterator
+    for CapacityDrain<P, T, S> {
     type Item = (P, T);
 
     ghost next_gives = { YieldsFirstBy (λ e. (P.index e.0, (P.generation e.0, e.1))) (λ left. left) };
@@ -68,7 +64,7 @@ impl<P: Ptr, T: Drop, E: EntrySlot<P, T> + Drop, S: NonZeroInxGenericStack<E> + 
         while self.passed < self.slots.len() {
             let i = NonZeroUsize::MIN.saturating_add(self.passed);
             self.passed = i.get();
-            if let Some(entry) = take_entry::<P, T, E, S>(&mut self.slots, i) {
+            if let Some(entry) = take_entry::<P, T, ArenaSlot<P, T>, S>(&mut self.slots, i) {
                 return Some((pointer_at(i, entry.0), entry.1));
             }
         }
@@ -81,5 +77,5 @@ impl<P: Ptr, T: Drop, E: EntrySlot<P, T> + Drop, S: NonZeroInxGenericStack<E> + 
     }
 }
 
-impl<P: Ptr, T: Drop, E: EntrySlot<P, T> + Drop, S: NonZeroInxGenericStack<E> + Drop> FusedIterator
-    for CapacityDrain<P, T, E, S> {}
+impl<P: Ptr, T: Drop, S: NonZeroInxGenericStack<ArenaSlot<P, T>> + Drop> FusedIterator
+    for CapacityDrain<P, T, S> {}
