@@ -1,7 +1,7 @@
 //! Copies of arenas at concrete arenas: which pointers they have, which index comes next, and what a refusal leaves.
 use crate::reflect;
 use refusing_allocator::RefusingAllocator;
-use std::alloc::{AllocError, Global};
+use std::alloc::{AllocError, Allocator, Global};
 use std::num::NonZeroUsize;
 use std::process::Abort;
 use std::test::Fail;
@@ -150,10 +150,11 @@ fn is_refused(
     assert_eq!(rt; answer.is_err(), heap.has_refused() != had_refused);
 }
 
-fn grows(rt: &impl Abort, heap: &Heap) {
+// `alloc`, `other` and `third` are the heap, as an arena takes it.
+fn grows<H: Allocator>(rt: &impl Abort, heap: &Heap, alloc: H, other: H, third: H) {
     let mut source = ArrayArena::<P0, u64, 5>::new(());
     fills(rt, &mut source);
-    let mut copy = HeapArena::<P0, u64, &Heap>::new(heap);
+    let mut copy = HeapArena::<P0, u64, H>::new(alloc);
     let had = heap.has_refused();
     let answer = copy.clone_from_with(&source, |_, value| Ok(*value));
     is_refused(rt, heap, had, &answer);
@@ -162,7 +163,7 @@ fn grows(rt: &impl Abort, heap: &Heap) {
         assert_eq!(rt; copy.capacity(), 0);
         assert_eq!(rt; copy.generation(), PtrGen::two());
     }
-    let mut mirror = HeapDirectArena::<P0, u64, &Heap>::new(heap);
+    let mut mirror = HeapDirectArena::<P0, u64, H>::new(other);
     let had = heap.has_refused();
     let answer = mirror.clone_from_with(&source, |_, value| Ok(*value));
     is_refused(rt, heap, had, &answer);
@@ -171,7 +172,7 @@ fn grows(rt: &impl Abort, heap: &Heap) {
     let again = mirror.clone_from_with(&copy, |_, value| Ok(*value));
     assert_eq!(rt; again.is_err(), heap.has_refused() != had);
     let had = heap.has_refused();
-    let clone = copy.clone(heap);
+    let clone = copy.clone(third);
     assert_eq!(rt; clone.is_err(), heap.has_refused() != had);
     if let Ok(clone) = clone {
         assert_eq!(rt; clone.len(), copy.len());
@@ -183,7 +184,7 @@ fn each_request_in_turn(rt: HostRuntime) -> Result<(), Fail> {
     let mut refusals = 0;
     for nth in 1..100u64 {
         let heap = RefusingAllocator::new(rt.alloc(), nth);
-        grows(&rt, &heap);
+        grows(&rt, &heap, &heap, &heap, &heap);
         if !heap.has_refused() {
             break;
         }
