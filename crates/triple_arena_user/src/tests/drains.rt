@@ -6,8 +6,9 @@ use std::process::Abort;
 use std::test::Fail;
 use triple_arena::{
     Arena, ArenaDirectInsertEntryTrait, ArenaDirectInsertTrait, ArenaInsertTrait, ArenaSlot,
-    ArenaTrait, ArrayArena, DirectInsertionError, HeapArena, HeapDirectArena, InvalidationOption,
-    NonZeroInxGenericStack, P0, P1, P5, Ptr, PtrGen, PtrInx, ReallocationError,
+    ArenaTrait, ArrayArena, DirectArena, DirectInsertionError, DirectSlot, HeapArena,
+    HeapDirectArena, InvalidationOption, NonZeroInxGenericStack, P0, P1, P5, Ptr, PtrGen, PtrInx,
+    ReallocationError,
 };
 
 // Four entries, with a free slot between them.
@@ -130,7 +131,11 @@ fn fill_direct(arena: &mut InVec) -> Result<[(P0, u64); 3], DirectInsertionError
     Ok([(first, 10), (second, 30), (third, 60)])
 }
 
-fn put(arena: &mut InVec, p: P0, value: u64) -> Result<(), DirectInsertionError> {
+fn put<P: Ptr, S: NonZeroInxGenericStack<DirectSlot<P, u64>>>(
+    arena: &mut DirectArena<P, u64, S>,
+    p: P,
+    value: u64,
+) -> Result<(), DirectInsertionError> {
     match arena.direct_insert_within_capacity(p) {
         Ok(place) => {
             place.insert(value);
