@@ -6,11 +6,10 @@ use std::num::NonZeroUsize;
 use std::process::Abort;
 use std::test::Fail;
 use triple_arena::{
-    Arena, ArenaDirectInsertEntryTrait, ArenaDirectInsertTrait, ArenaInsertTrait, ArenaSlot, ArenaTrait,
-    ArrayArena, ArrayDirectArena, DirectArena, DirectInsertionError, DirectSlot, HeapArena,
-    HeapDirectArena, InvalidationOption, InvalidationResult, 
-    NonZeroInxGenericStack, P0, P1, P5, Ptr,
-    PtrGen, PtrInx, ReallocationError, Recast, compress_recaster,
+    Arena, ArenaDirectInsertEntryTrait, ArenaDirectInsertTrait, ArenaInsertTrait, ArenaSlot,
+    ArenaTrait, ArrayArena, ArrayDirectArena, DirectArena, DirectInsertionError, DirectSlot,
+    HeapArena, HeapDirectArena, InvalidationOption, InvalidationResult, NonZeroInxGenericStack, P0,
+    P1, P5, Ptr, PtrGen, PtrInx, ReallocationError, Recast, compress_recaster,
 };
 
 // What stands in a text, by `{:?}`.
@@ -66,7 +65,10 @@ fn takes_whole_pointers<P: Ptr, S: NonZeroInxGenericStack<DirectSlot<P, u64>> + 
         put(arena, pointer(rt, 4, 0), 11),
         Err(DirectInsertionError::NotWithinCapacity)
     );
-    assert_eq!(rt; arena.invalidate(p), InvalidationResult::Success(pointer(rt, 2, 6)));
+    assert_eq!(rt;
+        arena.invalidate(p),
+        InvalidationResult::Success(pointer(rt, 2, 6))
+    );
     assert_eq!(rt; arena.compress(false), InvalidationOption::Success(()));
     reads(rt, arena, text);
 }
@@ -82,8 +84,16 @@ fn takes_whole_pointers_in_a_vector(rt: HostRuntime) -> Result<(), Fail> {
 
 #[test]
 fn takes_whole_pointers_in_an_array(rt: HostRuntime) {
-    takes_whole_pointers(&rt, &mut ArrayDirectArena::<P0, u64, 4>::new(()), "{P0[1](9): 10}");
-    takes_whole_pointers(&rt, &mut ArrayDirectArena::<P5, u64, 4>::new(()), "{P5[1]: 10}");
+    takes_whole_pointers(
+        &rt,
+        &mut ArrayDirectArena::<P0, u64, 4>::new(()),
+        "{P0[1](9): 10}",
+    );
+    takes_whole_pointers(
+        &rt,
+        &mut ArrayDirectArena::<P5, u64, 4>::new(()),
+        "{P5[1]: 10}",
+    );
 }
 
 // Two values are shown, and the first is removed.
@@ -103,10 +113,18 @@ fn shows_two<P: Ptr, A: ArenaInsertTrait<P, &'static str> + Debug>(
 #[test]
 fn shows_two_of_each_pointer(rt: HostRuntime) -> Result<(), Fail> {
     let shown = "{P0[1](2): \"test\", P0[2](2): \"hello\"}";
-    shows_two(&rt, &mut HeapArena::<P0, &str, Global>::new(rt.alloc()), shown)?;
+    shows_two(
+        &rt,
+        &mut HeapArena::<P0, &str, Global>::new(rt.alloc()),
+        shown,
+    )?;
     shows_two(&rt, &mut ArrayArena::<P0, &str, 2>::new(()), shown)?;
     let narrow = "{P1[1](2): \"test\", P1[2](2): \"hello\"}";
-    shows_two(&rt, &mut HeapArena::<P1, &str, Global>::new(rt.alloc()), narrow)?;
+    shows_two(
+        &rt,
+        &mut HeapArena::<P1, &str, Global>::new(rt.alloc()),
+        narrow,
+    )?;
     let uncounted = "{P5[1]: \"test\", P5[2]: \"hello\"}";
     shows_two(&rt, &mut ArrayArena::<P5, &str, 2>::new(()), uncounted)?;
     Ok(())

@@ -131,7 +131,7 @@ fn fill_direct(arena: &mut InVec) -> Result<[(P0, u64); 3], DirectInsertionError
     Ok([(first, 10), (second, 30), (third, 60)])
 }
 
-fn put<P: Ptr, S: NonZeroInxGenericStack<DirectSlot<P, u64>>>(
+fn put<P: Ptr, S: NonZeroInxGenericStack<DirectSlot<P, u64>> + Drop>(
     arena: &mut DirectArena<P, u64, S>,
     p: P,
     value: u64,
