@@ -8,11 +8,13 @@ pub struct Pointer {
     generation: NonZeroU64,
 }
 
+#[derive(Clone)]
 enum Slot<T> {
     Free(Option<NonZeroUsize>),
     Used(NonZeroU64, T),
 }
 
+#[derive(Clone)]
 pub struct Arena<T> {
     slots: Vec<Slot<T>>,
     generation: NonZeroU64,
@@ -124,5 +126,22 @@ impl<T> Arena<T> {
             Slot::Used(_, value) => Some(value),
             Slot::Free(_) => None,
         }
+    }
+
+    /// Removes all entries, and gives their values in the order of the indexes.
+    pub fn drain(&mut self) -> impl Iterator<Item = T> {
+        self.free = None;
+        self.len = 0;
+        let generation = &mut self.generation;
+        self.slots.drain(..).filter_map(move |slot| match slot {
+            Slot::Used(_, value) => {
+                *generation = match generation.checked_add(1) {
+                    Some(next) => next,
+                    None => NonZeroU64::MIN.saturating_add(1),
+                };
+                Some(value)
+            }
+            Slot::Free(_) => None,
+        })
     }
 }

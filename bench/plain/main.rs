@@ -1,4 +1,4 @@
-//! usage: plain insert|remove|remove_inx|get|write|iterate|churn|loop STEPS, with the operations of the Rattle program
+//! usage: plain insert|remove|remove_inx|get|write|advance|iterate|clone|drain|churn|loop STEPS, with the operations of the Rattle program
 //! `arena_bench`, over the plain arena, or over that of `slotmap` where it is built with `--cfg slotmap`.
 #[cfg_attr(slotmap, path = "slotmap.rs")]
 mod arena;
@@ -9,6 +9,9 @@ use std::process::ExitCode;
 
 /// How many pointers a table has.
 const TABLE: usize = 4096;
+
+/// How many of them find an entry where each fourth one is removed.
+const THINNED: usize = 3072;
 
 /// A linear congruential generator; its upper bits are the sequence.
 struct Sequence {
@@ -124,7 +127,7 @@ fn write(steps: usize) -> u64 {
     sum
 }
 
-fn iterate(steps: usize) -> u64 {
+fn advance(steps: usize) -> u64 {
     let (arena, _table) = thinned_table();
     let mut entries = arena.iter();
     let mut sum = 0u64;
@@ -133,6 +136,40 @@ fn iterate(steps: usize) -> u64 {
             Some((_, value)) => sum = sum.wrapping_mul(31).wrapping_add(*value),
             None => entries = arena.iter(),
         }
+    }
+    sum
+}
+
+fn iterate(steps: usize) -> u64 {
+    let (arena, _table) = thinned_table();
+    let mut left = steps;
+    let mut sum = 0u64;
+    for _ in 0..steps / THINNED + 1 {
+        for (_, value) in arena.iter() {
+            if left == 0 {
+                break;
+            }
+            left -= 1;
+            sum = sum.wrapping_mul(31).wrapping_add(*value);
+        }
+    }
+    sum
+}
+
+fn clone(steps: usize) -> u64 {
+    let (arena, pointers) = filled(steps);
+    let copy = arena.clone();
+    match pointers.last() {
+        Some(last) => copy.get(*last).copied().unwrap_or(0),
+        None => 0,
+    }
+}
+
+fn drain(steps: usize) -> u64 {
+    let (mut arena, _pointers) = filled(steps);
+    let mut sum = 0u64;
+    for value in arena.drain() {
+        sum = sum.wrapping_mul(31).wrapping_add(value);
     }
     sum
 }
@@ -171,7 +208,11 @@ fn run(operation: &str, steps: usize) -> Option<u64> {
         "remove_inx" => Some(remove_inx(steps)),
         "get" => Some(get(steps)),
         "write" => Some(write(steps)),
+        // The plain arenas have no advancer, and go by their iterator.
+        "advance" => Some(advance(steps)),
         "iterate" => Some(iterate(steps)),
+        "clone" => Some(clone(steps)),
+        "drain" => Some(drain(steps)),
         "churn" => Some(churn(steps)),
         "loop" => Some(read_table(steps)),
         _ => None,
@@ -190,7 +231,7 @@ fn main() -> ExitCode {
             ExitCode::SUCCESS
         }
         None => {
-            eprintln!("usage: plain insert|remove|remove_inx|get|write|iterate|churn|loop STEPS");
+            eprintln!("usage: plain insert|remove|remove_inx|get|write|advance|iterate|clone|drain|churn|loop STEPS");
             ExitCode::from(2)
         }
     }

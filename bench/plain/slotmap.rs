@@ -14,6 +14,7 @@ impl Pointer {
     }
 }
 
+#[derive(Clone)]
 pub struct Arena<T>(SlotMap<DefaultKey, T>);
 
 impl<T> Arena<T> {
@@ -44,5 +45,10 @@ impl<T> Arena<T> {
 
     pub fn remove(&mut self, pointer: Pointer) -> Option<T> {
         self.0.remove(pointer.0)
+    }
+
+    /// Removes all entries, and gives their values in the order of the indexes.
+    pub fn drain(&mut self) -> impl Iterator<Item = T> {
+        self.0.drain().map(|(_, value)| value)
     }
 }

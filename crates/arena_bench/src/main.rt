@@ -15,7 +15,7 @@ fn main(rt: HostRuntime) -> io::Result<ExitCode> {
     let steps = args.next().and_then(|word| word.parse::<usize>().ok());
     let (Some(operation), Some(steps)) = (operation, steps) else {
         eprintln!(rt;
-            "usage: arena_bench insert|remove|remove_inx|get|write|iterate|churn|loop STEPS"
+            "usage: arena_bench insert|remove|remove_inx|get|write|advance|iterate|clone|drain|churn|loop STEPS"
         )?;
         return Ok(ExitCode::from(2));
     };

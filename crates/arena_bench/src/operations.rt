@@ -24,8 +24,14 @@ pub enum Operation {
     Get,
     /// Writes in place of those reads.
     Write,
-    /// A walk over the arena of those reads, again and again, with a read of each entry.
+    /// A walk over the arena of those reads, again and again, by an advancer and a read of each entry.
+    Advance,
+    /// The same walk by an iterator.
     Iterate,
+    /// A clone of an arena with so many entries.
+    Clone,
+    /// The removal of that many entries by a drain.
+    Drain,
     /// Each step reads one entry, and removes another or inserts one where it is gone.
     Churn,
     /// The loop of `Get` without its reads.
@@ -41,7 +47,10 @@ impl Operation {
             "remove_inx" => Some(Operation::RemoveInx),
             "get" => Some(Operation::Get),
             "write" => Some(Operation::Write),
+            "advance" => Some(Operation::Advance),
             "iterate" => Some(Operation::Iterate),
+            "clone" => Some(Operation::Clone),
+            "drain" => Some(Operation::Drain),
             "churn" => Some(Operation::Churn),
             "loop" => Some(Operation::Loop),
             _ => None,
@@ -56,7 +65,10 @@ impl Operation {
             Operation::RemoveInx => remove_inx(alloc, steps),
             Operation::Get => get(alloc, steps),
             Operation::Write => write(alloc, steps),
+            Operation::Advance => advance(alloc, steps),
             Operation::Iterate => iterate(alloc, steps),
+            Operation::Clone => clone(alloc, steps),
+            Operation::Drain => drain(alloc, steps),
             Operation::Churn => churn(alloc, steps),
             Operation::Loop => read_table(alloc, steps),
         }
@@ -65,6 +77,9 @@ impl Operation {
 
 // How many pointers a table has.
 const TABLE: usize = 4096;
+
+// How many of them find an entry where each fourth one is removed.
+const THINNED: usize = 3072;
 
 // A linear congruential generator; its upper bits are the sequence.
 #[derive(Drop)]
@@ -187,7 +202,7 @@ fn write(alloc: Global, steps: usize) -> Result<u64, ReallocationError> {
     Ok(sum)
 }
 
-fn iterate(alloc: Global, steps: usize) -> Result<u64, ReallocationError> {
+fn advance(alloc: Global, steps: usize) -> Result<u64, ReallocationError> {
     let (arena, _table) = thinned_table(alloc)?;
     let mut advancer = arena.advancer();
     let mut sum = 0u64;
@@ -200,6 +215,40 @@ fn iterate(alloc: Global, steps: usize) -> Result<u64, ReallocationError> {
             }
             None => advancer = arena.advancer(),
         }
+    }
+    Ok(sum)
+}
+
+fn iterate(alloc: Global, steps: usize) -> Result<u64, ReallocationError> {
+    let (arena, _table) = thinned_table(alloc)?;
+    let mut left = steps;
+    let mut sum = 0u64;
+    for _ in 0..steps / THINNED + 1 {
+        for (_, value) in &arena {
+            if left == 0 {
+                break;
+            }
+            left -= 1;
+            sum = sum.wrapping_mul(31).wrapping_add(*value);
+        }
+    }
+    Ok(sum)
+}
+
+fn clone(alloc: Global, steps: usize) -> Result<u64, ReallocationError> {
+    let (arena, pointers) = filled(alloc, steps)?;
+    let copy = arena.clone(alloc)?;
+    match pointers.last() {
+        Some(last) => Ok(copy.get(*last).copied().unwrap_or(0)),
+        None => Ok(0),
+    }
+}
+
+fn drain(alloc: Global, steps: usize) -> Result<u64, ReallocationError> {
+    let (mut arena, _pointers) = filled(alloc, steps)?;
+    let mut sum = 0u64;
+    for item in arena.drain() {
+        sum = sum.wrapping_mul(31).wrapping_add(item.allow().1);
     }
     Ok(sum)
 }

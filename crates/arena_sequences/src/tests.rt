@@ -1,4 +1,5 @@
 //! Whole pointers at concrete types, and what each call answers where it is refused.
 mod advancers;
 mod compress;
+mod rows;
 mod sequences;

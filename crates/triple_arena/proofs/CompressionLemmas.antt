@@ -18,31 +18,31 @@ use Rattle.triple_arena.specs.SlotCompression.{Compacts}
 use Rattle.triple_arena.proofs.FreeListLemmas.{sound_of}
 
 module _ {X : Type 0} where
-  set_here : (xs ys : List X) (x y : X) (k : ℕ) → k ≡ length xs → set (xs ++ x ∷ ys) k y ≡ xs ++ y ∷ ys
+  pub set_here : (xs ys : List X) (x y : X) (k : ℕ) → k ≡ length xs → set (xs ++ x ∷ ys) k y ≡ xs ++ y ∷ ys
   set_here [] ys x y zero at = refl
   set_here [] ys x y (suc k) at = absurd (omega arith)
   set_here (z ∷ xs) ys x y zero at = absurd (omega arith)
   set_here (z ∷ xs) ys x y (suc k) at = ap (λ l. z ∷ l) (set_here xs ys x y k (omega arith))
 
-  get_here : (xs ys : List X) (x : X) (k : ℕ) → k ≡ length xs → slice_get (xs ++ x ∷ ys) k ≡ Some x
+  pub get_here : (xs ys : List X) (x : X) (k : ℕ) → k ≡ length xs → slice_get (xs ++ x ∷ ys) k ≡ Some x
   get_here [] ys x zero at = refl
   get_here [] ys x (suc k) at = absurd (omega arith)
   get_here (z ∷ xs) ys x zero at = absurd (omega arith)
   get_here (z ∷ xs) ys x (suc k) at = get_here xs ys x k (omega arith)
 
   -- a list that is not empty, by its first item and the others
-  record Opened (xs : List X) : Type 0 where
+  pub record Opened (xs : List X) : Type 0 where
     pub first : X
     pub others : List X
     pub is : xs ≡ first ∷ others
 
-  opened : (xs : List X) → 0 < length xs → Opened xs
+  pub opened : (xs : List X) → 0 < length xs → Opened xs
   opened [] some = absurd (omega arith)
   opened (x ∷ xs) some = record { first = x; others = xs; is = refl }
 
 module _ {T : Type 0} where
   -- one more live slot at the end
-  listed-push : (n : ℕ) (xs : List (Option (ℕ × T))) (e : ℕ × T) → listed_from n (xs ++ Some e ∷ []) ≡ listed_from n xs ++ (n + length xs, e) ∷ []
+  pub listed-push : (n : ℕ) (xs : List (Option (ℕ × T))) (e : ℕ × T) → listed_from n (xs ++ Some e ∷ []) ≡ listed_from n xs ++ (n + length xs, e) ∷ []
   listed-push n [] e = ap (λ k. (k, e) ∷ []) (omega arith)
   listed-push n (None ∷ xs) e =
       let next : (n + 1) + length xs ≡ n + length (None ∷ xs) = omega arith in
@@ -109,14 +109,14 @@ module _ {P T F : Type 0} (index generation : P → ℕ) (step : F → P → T �
   partly_same state slots count told p = rw (state, slots, count, told) p
 
   -- the next slot, and what comes behind it
-  record Next (f : F) (renew : ℕ → ℕ) (wraps : ℕ → Bool) (old : List (Option (ℕ × T))) (f' : F) (now : List (Option (ℕ × T))) (at live : ℕ)
+  pub record Next (f : F) (renew : ℕ → ℕ) (wraps : ℕ → Bool) (old : List (Option (ℕ × T))) (f' : F) (now : List (Option (ℕ × T))) (at live : ℕ)
       (wrapped : Bool) (o : Option (ℕ × T)) : Type 0 where
     pub p : Partly f renew wraps old f' now at live wrapped
     pub rest : List (Option (ℕ × T))
     pub rest_is : p.rest ≡ o ∷ rest
     pub emptied : set now at None ≡ map (stored renew) p.moves ++ ((p.gap ++ None ∷ []) ++ rest)
 
-  next_of : {f : F} {renew : ℕ → ℕ} {wraps : ℕ → Bool} {old : List (Option (ℕ × T))} {f' : F} {now : List (Option (ℕ × T))} {at live : ℕ}
+  pub next_of : {f : F} {renew : ℕ → ℕ} {wraps : ℕ → Bool} {old : List (Option (ℕ × T))} {f' : F} {now : List (Option (ℕ × T))} {at live : ℕ}
       {wrapped : Bool} {o : Option (ℕ × T)} → Partly f renew wraps old f' now at live wrapped → slice_get now at ≡ Some o → at < length now
       → Next f renew wraps old f' now at live wrapped o
   next_of {renew} {now} {at} {o} p found below =
@@ -268,6 +268,13 @@ module _ {P T F : Type 0} (index generation : P → ℕ) (step : F → P → T �
         after = p.after ∙ ap (listed_from 1) (sym front);
         slots = front;
       }
+
+  -- and the last call left the map so
+  pub partly_last : {f : F} {renew : ℕ → ℕ} {wraps : ℕ → Bool} {old : List (Option (ℕ × T))} {f' : F} {now new : List (Option (ℕ × T))} {at live : ℕ}
+      {wrapped : Bool} (p : Partly f renew wraps old f' now at live wrapped) (past : length now ≤ at) (kept : new ≡ take live now)
+      → (partly_all p past kept).last ≡ f'
+  unfolding partly_all
+  partly_last p past kept = refl
 
   -- and the test holds of one of their generations, or of none
   pub partly_told : {f : F} {renew : ℕ → ℕ} {wraps : ℕ → Bool} {old : List (Option (ℕ × T))} {f' : F} {now : List (Option (ℕ × T))} {at live : ℕ}

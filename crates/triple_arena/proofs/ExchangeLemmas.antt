@@ -1,5 +1,5 @@
 -- The slots after two values changed places.
-use Rattle.std.proofs.Common.{◌≡◌, ◌≢◌, ℕ, ◌-◌, List, set, Option, Some, IsSome, inl, inr, refl, sym, ap, ◌∙◌}
+use Rattle.std.proofs.Common.{◌≡◌, ◌≢◌, ℕ, List, Option, Some, IsSome, refl, sym, ◌∙◌}
 use Rattle.std.proofs.lemmas.Bool.{ne_eqb}
 use Rattle.triple_arena.specs.Content.{Content, entry_at, with_value, with_exchange}
 use Rattle.triple_arena.specs.ContentLaws.{entry-with_value}
@@ -7,7 +7,7 @@ use Rattle.triple_arena.specs.ExchangeLaws.{exchange-is}
 use Rattle.triple_arena_stack.specs.Room.{Room}
 use Rattle.triple_arena_stack.specs.Stack.{item_at, with_item}
 use Rattle.triple_arena.specs.Layout.{content_of, IsSound}
-use Rattle.triple_arena.specs.Slot.{Slot, used, value_of, with_value_of}
+use Rattle.triple_arena.specs.Slot.{Slot, used, value_of, with_slot_value}
 use Rattle.triple_arena.proofs.FreeListLemmas.{the_some, Becomes, finds, rewritten}
 
 module _ {T : Type 0} where
@@ -25,7 +25,8 @@ module _ {T : Type 0} where
   -- slots whose values changed places
   pub exchanged : {es es' : List (Slot T)} {len i j : ℕ} {head : Option ℕ} {room room' : Room} {g : ℕ} {c : Content T} → IsSound es len head room
       → content_of es room g head ≡ c → IsSome (entry_at c i) → IsSome (entry_at c j) → i ≢ j
-      → ((x y : Slot T) → Some x ≡ item_at es i → Some y ≡ item_at es j → es' ≡ with_item (with_item es i (with_value_of x y)) j (with_value_of y x))
+      → ((x y : Slot T) (t u : T) → Some x ≡ item_at es i → Some y ≡ item_at es j → value_of x ≡ Some t → value_of y ≡ Some u
+      → es' ≡ with_item (with_item es i (with_slot_value x u)) j (with_slot_value y t))
       → room' ≡ room → Becomes es' len head room' g (with_exchange c i j)
   exchanged {es'} {len} {i} {j} {head} {room'} {g} {c} sound seen first second two written kept =
       let e = the_some _ first in
@@ -36,7 +37,7 @@ module _ {T : Type 0} where
       both e f at_i at_j =
           let old = finds head seen at_i in
           let other = finds head seen at_j in
-          let whole = written (used e.0 e.1) (used f.0 f.1) (sym old.found) (sym other.found) in
+          let whole = written (used e.0 e.1) (used f.0 f.1) e.1 f.1 (sym old.found) (sym other.found) refl refl in
           let one = rewritten i f.1 sound seen at_i old.found refl refl in
           let stays : entry_at (with_value c i f.1) j ≡ Some f = entry-with_value c i f.1 j ∙ rw (ne_eqb j i (λ same. two (sym same))) at_j in
           let there = finds head one.content stays in

@@ -3,7 +3,16 @@ pub mod FreeSlotsLemmas
 pub mod ExchangeLemmas
 pub mod WalkLemmas
 mod CompressionLemmas
+mod TransferLemmas
+mod TakeOverLemmas
+mod RecasterLemmas
 pub mod DirectLemmas
+mod DirectExchangeLemmas
 mod DirectCompressionLemmas
+mod CopyLemmas
+mod DirectCopyLemmas
 pub mod RecastingLemmas
 pub mod StepsLemmas
+pub mod DrainLemmas
+pub mod DirectDrainLemmas
+pub mod IteratorLemmas

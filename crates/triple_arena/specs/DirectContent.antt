@@ -6,7 +6,7 @@ use Rattle.triple_arena_ptr.specs.Generation.{next_generation}
 use Rattle.triple_arena_stack.specs.Room.{Room, capacity}
 use Rattle.triple_arena.specs.ArenaRoom.{room_with}
 use Rattle.triple_arena.specs.Entries.{value_if}
-use Rattle.triple_arena.specs.Content.{Content, entry_at as entry_of, live_count as live_count_of, with_value as with_value_of, with_generation as with_generation_of, last_index as last_index_of, without_free_end as without_free_end_of, with_limit as with_limit_of}
+use Rattle.triple_arena.specs.Content.{Content, entry_at as entry_of, live_count as live_count_of, with_value as with_value_of, with_exchange as with_exchange_of, with_generation as with_generation_of, last_index as last_index_of, without_free_end as without_free_end_of, with_limit as with_limit_of}
 use Rattle.triple_arena.specs.LiveEntries.{live_entries as live_entries_of}
 use Rattle.triple_arena.specs.Compression.{renewed, generation_of}
 
@@ -85,6 +85,10 @@ module _ {T : Type 0} where
   abbrev pub with_value : DirectContent T → ℕ → T → DirectContent T
   with_value d index t = of_content (with_value_of (as_content d) index t)
 
+  -- the content with the values at two indexes exchanged, if both are live
+  abbrev pub with_exchange : DirectContent T → ℕ → ℕ → DirectContent T
+  with_exchange d i j = of_content (with_exchange_of (as_content d) i j)
+
   -- the content with another generation at this index, if it is live
   abbrev pub with_generation : DirectContent T → ℕ → ℕ → DirectContent T
   with_generation d index g = of_content (with_generation_of (as_content d) index g)
@@ -107,6 +111,10 @@ module _ {T : Type 0} where
   compressed last d reset values =
       record d { slots = map Some (zip (map (renewed last reset) (map generation_of (live_entries d))) values) }
 
+  -- the content with these values alone, at the indexes from 1 on, each with this generation
+  abbrev pub rowed : DirectContent T → ℕ → List T → DirectContent T
+  rowed d g values = record d { slots = map (λ t. Some (g, t)) values }
+
   -- the greatest live index, or 0 where no index is live
   abbrev pub last_index : DirectContent T → ℕ
   last_index d = last_index_of (as_content d)
@@ -127,6 +135,10 @@ module _ {T : Type 0} where
   -- the content with at least this capacity
   abbrev pub reallocated : DirectContent T → ℕ → DirectContent T
   reallocated d least = in_room d (room_with least d.room)
+
+  -- the content with these values alone, so many, at the indexes from 1 on, each with this generation, in a room for them
+  abbrev pub filled : DirectContent T → ℕ → ℕ → List T → DirectContent T
+  filled d n g values = rowed (reallocated d n) g values
 
   -- the slots are within the capacity
   abbrev pub IsWellFormed : DirectContent T → Type 0

@@ -10,7 +10,7 @@ use Rattle.std.specs.Prelude.{nat_lt}
 use Rattle.triple_arena_ptr.specs.Index.{max_index_of}
 use Rattle.triple_arena_stack.specs.Room.{Room, capacity, limited}
 use Rattle.triple_arena.specs.Entries.{with_entry, without, with_value_at, with_generation_at}
-use Rattle.triple_arena.specs.Content.{Content}
+use Rattle.triple_arena.specs.Content.{Content, with_value as with_value_of}
 use Rattle.triple_arena.specs.ContentLaws.{entry_at_slot, live_entry, entry-set, entry-same_slots, live-within, entry-with_value as entry-with_value_of, live-with_value as live-with_value_of, slots-with_value as slots-with_value_of, room-with_value as room-with_value_of}
 use Rattle.triple_arena.specs.GenerationLaws.{entry-with_generation as entry-with_generation_of, live-with_generation as live-with_generation_of, slots-with_generation as slots-with_generation_of, room-with_generation as room-with_generation_of}
 use Rattle.triple_arena.specs.FreeListLaws.{last_index-is, entry-without_free_end as entry-without_free_end_of, live-without_free_end as live-without_free_end_of, slots-without_free_end as slots-without_free_end_of}
@@ -113,6 +113,14 @@ module _ {T : Type 0} where
   pub entry-with_value : (d : DirectContent T) (i : ℕ) (t : T) (j : ℕ) → entry_at (with_value d i t) j ≡ with_value_at (entry_at d) i t j
   entry-with_value d i t zero = entry-with_value_of (as_content d) i t zero
   entry-with_value d i t (suc k) = entry-with_value_of (as_content d) i t (suc k)
+
+  -- and is the write of a content
+  pub content-with_value : (d : DirectContent T) (i : ℕ) (t : T) → as_content (with_value d i t) ≡ with_value_of (as_content d) i t
+  content-with_value d i t = by_entry (entry_at d i) refl
+    where
+      by_entry : (o : Option (ℕ × T)) → entry_at d i ≡ o → as_content (with_value d i t) ≡ with_value_of (as_content d) i t
+      by_entry None e = rw e refl
+      by_entry (Some x) e = rw e refl
 
   pub live-with_value : (d : DirectContent T) (i : ℕ) (t : T) → live_count (with_value d i t) ≡ live_count d
   live-with_value d i t = live-with_value_of (as_content d) i t

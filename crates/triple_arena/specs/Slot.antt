@@ -36,8 +36,3 @@ module _ {T : Type 0} where
   abbrev pub with_slot_generation : Slot T → ℕ → Slot T
   with_slot_generation (free next) _ = free next
   with_slot_generation (used _ t) g = used g t
-
-  -- the first of two allocated slots with the value of the second
-  abbrev pub with_value_of : Slot T → Slot T → Slot T
-  with_value_of slot (free _) = slot
-  with_value_of slot (used _ t) = with_slot_value slot t

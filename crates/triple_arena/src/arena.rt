@@ -8,7 +8,10 @@ ghost use Rattle.triple_arena.specs.Slot.{entry_of};
 ghost use Rattle.triple_arena.specs.Content.{live_count, empty, IsWellFormed};
 
 mod calls;
+mod capacity_drain;
 mod compression;
+mod copy;
+mod drain;
 mod entry;
 mod exchange;
 mod free_slots;
@@ -19,17 +22,24 @@ mod iterators;
 mod max_capacity;
 mod reading;
 mod recast;
+mod recaster;
 mod removal;
 mod room;
 mod text;
+mod transfer;
 
 use crate::ArenaSlot;
-pub(crate) use compression::{compact, keep_first};
+pub use capacity_drain::CapacityDrain;
+pub(crate) use compression::{compact, keep_first, take_entry};
+pub use drain::Drain;
 pub use entry::{ArenaInsertEntries, ArenaInsertEntry, ArenaInsertEntryTrait};
 pub(crate) use reading::ValueAtMut;
+pub(crate) use recast::{RecastByIndex, recast_values};
+pub use recaster::compress_recaster;
 pub(crate) use removal::equal_uncounted;
 use std::marker::{Model, PhantomData};
 use std::num::NonZeroUsize;
+pub(crate) use text::write_entries;
 use triple_arena_ptr::{Ptr, PtrGen, PtrInx};
 use triple_arena_stack::{
     NonZeroInxArray, NonZeroInxBoxedSlice, NonZeroInxGenericStack, NonZeroInxLimitedVec,

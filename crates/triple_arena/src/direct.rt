@@ -4,16 +4,25 @@ ghost use Rattle.triple_arena.specs.ArenaRoom.{room_of};
 ghost use Rattle.triple_arena.specs.DirectContent.{live_count, empty, IsWellFormed};
 
 mod calls;
+mod capacity_drain;
+mod copy;
+mod drain;
 mod entry;
+mod exchange;
 mod indexing;
 mod insertion;
 mod iterators;
 mod max_capacity;
 mod reading;
+mod recast;
 mod removal;
 mod room;
+mod text;
+mod transfer;
 
 use crate::DirectSlot;
+pub use capacity_drain::CapacityDrain;
+pub use drain::Drain;
 pub use entry::ArenaDirectInsertEntry;
 use std::marker::{Model, PhantomData};
 use triple_arena_ptr::Ptr;

@@ -96,6 +96,11 @@ impl<'a, P: Ptr, T, E: LentEntry<P, T>> Iterator for Iter<'a, P, T, E> {
         }
         None
     }
+
+    // No more entries come than slots are left.
+    fn size_hint(&self) -> (usize, Option<usize>) {
+        (0, Some(self.slots.len()))
+    }
 }
 
 impl<'a, P: Ptr, T, E: LentEntry<P, T>> FusedIterator for Iter<'a, P, T, E> {}
@@ -136,6 +141,10 @@ impl<'a, P: Ptr, T, E: LentEntry<P, T>> Iterator for Ptrs<'a, P, T, E> {
             Some((p, _)) => Some(p),
             None => None,
         }
+    }
+
+    fn size_hint(&self) -> (usize, Option<usize>) {
+        self.entries.size_hint()
     }
 }
 
@@ -179,7 +188,6 @@ impl<'a, P: Ptr, T, E: LentEntry<P, T>> Iterator for Vals<'a, P, T, E> {
         }
     }
 
-    // Written out: the one that a trait gives has no proof where the items are lent and `E` may have lifetimes.
     fn size_hint(&self) -> (usize, Option<usize>) {
         self.entries.size_hint()
     }

@@ -6,6 +6,11 @@
 ghost use Rattle.std.specs.Prelude.{◌≡◌, ◌⊎◌, ℕ, List, Some, true};
 ghost use Rattle.triple_arena.specs.Changes.{IsNew};
 ghost use Rattle.triple_arena.specs.Steps.{Step, AreNew, Finds, Happens, IsOneOf, all_given, reached};
+ghost use Rattle.triple_arena.specs.Compression.{live_values, IsCompact};
+ghost use Rattle.triple_arena.specs.Content.{Content};
+ghost use Rattle.triple_arena.specs.DirectContent.{DirectContent, live_entries as live_entries_of};
+ghost use Rattle.triple_arena.specs.LiveEntries.{live_entries};
+ghost use Rattle.triple_arena.specs.Recaster.{IsRecaster, IsRenaming};
 
 use crate::ArenaTrait;
 use triple_arena_ptr::Ptr;
@@ -34,4 +39,13 @@ pub fn invalid_pointers_find_nothing<P: Ptr, T: Drop, A: ArenaTrait<P, T>>()
         → IsNew A.entry_at A.live_count A.counter A.room (Some 2) (A.room made) made
         → Happens A.entry_at A.live_count A.counter A.room A.live_entries P.Gen.last made history
         → Finds A.entry_at (reached made history) (index, 1) → ⊥ }
+{}
+
+/// The map that `compress_recaster` answers is one-to-one and onto: each pointer that was valid, and no other, has a new
+/// name, two have two, and the new names are the pointers that are valid afterwards. Each finds what its pointer found.
+pub fn recasters_rename_one_to_one<P: Ptr, T: Drop>()
+    ensures { (before after : Content T) (map : DirectContent P)
+        → IsRecaster P.index P.generation (live_entries before) (live_entries after) (live_entries_of map)
+        → live_values after ≡ live_values before → IsCompact (live_entries after)
+        → IsRenaming P.index P.generation before after map }
 {}

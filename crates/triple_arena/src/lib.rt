@@ -20,6 +20,7 @@
 mod advancer;
 mod arena;
 mod arena_trait;
+mod copy;
 mod direct;
 mod direct_insert_trait;
 mod direct_slot;
@@ -29,10 +30,12 @@ mod iterators;
 pub mod laws;
 mod slot;
 mod stack_room;
+mod transfer;
 
 /// The advancers of the arenas, and the iterators of `Arena`.
 pub mod arena_iterators {
     pub use crate::advancer::PtrAdvancer;
+    pub use crate::arena::{CapacityDrain, Drain};
     use crate::{ArenaSlot, iterators};
 
     /// The pointers and the values of an arena.
@@ -47,6 +50,7 @@ pub mod arena_iterators {
 
 /// The iterators of `DirectArena`.
 pub mod direct_iterators {
+    pub use crate::direct::{CapacityDrain, Drain};
     use crate::{DirectSlot, iterators};
 
     /// The pointers and the values of a direct arena.
@@ -61,9 +65,10 @@ pub mod direct_iterators {
 
 pub use arena::{
     Arena, ArenaInsertEntries, ArenaInsertEntry, ArenaInsertEntryTrait, ArrayArena, BoxedArena,
-    HeapArena, LimitedArena,
+    HeapArena, LimitedArena, compress_recaster,
 };
 pub use arena_trait::{ArenaTrait, CompactArenaTrait};
+pub use copy::{ArenaCloneFromWith, ArenaCloneSource};
 pub use direct::{
     ArenaDirectInsertEntry, ArrayDirectArena, BoxedDirectArena, DirectArena, HeapDirectArena,
     LimitedDirectArena,
@@ -73,6 +78,7 @@ pub use direct_slot::DirectSlot;
 pub use disjointable_trait::DisjointableArenaTrait;
 pub use insert_trait::ArenaInsertTrait;
 pub use slot::ArenaSlot;
+pub use transfer::{ArenaTransferSource, ArenaTransferTrait};
 pub use triple_arena_ptr::{
     Advancer, AllocError, DirectInsertionError, GetDisjointMutError, InvalidationOption,
     InvalidationResult, MaxCapacityReductionError, NotWithinCapacityError, P0, P1, P2, P3, P4, P5,

@@ -3,7 +3,7 @@ ghost use Rattle.std.specs.Prelude.{◌≡◌, ◌≢◌, ◌≤◌, ℕ, length
 ghost use Rattle.std.specs.Borrow.{Lends, LendsIf, sem};
 ghost use Rattle.std.specs.Int.NonZero.{non_zero_usize_get};
 ghost use Rattle.std.specs.Option.{option_map, option_copied_mut};
-ghost use Rattle.triple_arena.specs.Slot.{Slot, entry_of, free, used, value_of, link_of, with_link, with_slot_value, with_value_of, with_slot_generation};
+ghost use Rattle.triple_arena.specs.Slot.{Slot, entry_of, free, used, value_of, link_of, with_link, with_slot_value, with_slot_generation};
 ghost use Rattle.triple_arena_stack.specs.Stack.{item_at, with_item};
 ghost use Rattle.triple_arena.specs.Entries.{value_if};
 
@@ -151,16 +151,6 @@ impl<P: Ptr, T> ArenaSlot<P, T> {
         }
     }
 
-    // Exchanges the values of two allocated slots. Each keeps its generation.
-    fn exchange_value(&mut self, other: &mut Self)
-        requires first { IsSome (value_of self.old) }
-        requires second { IsSome (value_of other.old) }
-        ensures first { self.new ≡ with_value_of self.old other.old }
-        ensures second { other.new ≡ with_value_of other.old self.old }
-    {
-        mem::swap(self.value_mut(), other.value_mut());
-    }
-
     // The link, if the slot is free.
     pub(crate) fn next(&self) -> Option<NonZeroUsize>
         ensures { option_map non_zero_usize_get result ≡ link_of self.now }
@@ -255,8 +245,18 @@ impl<P: Ptr, T> ValueIfMut<P::Gen, T> for ArenaSlot<P, T> {
     }
 }
 
+// Exchanges what two slots keep. Each keeps its generation.
+fn exchange_value<T, L: ValueMut<T>>(first: &mut L, second: &mut L)
+    requires first { IsSome (L.held first.old) }
+    requires second { IsSome (L.held second.old) }
+    ensures first { (t : T) → L.held second.old ≡ Some t → first.new ≡ L.with_held first.old t }
+    ensures second { (t : T) → L.held first.old ≡ Some t → second.new ≡ L.with_held second.old t }
+{
+    mem::swap(first.value_mut(), second.value_mut());
+}
+
 // Exchanges the values of the allocated slots at two indexes.
-pub(crate) fn exchange_values<P: Ptr, T: Drop, S: NonZeroInxGenericStack<ArenaSlot<P, T>>>(
+pub(crate) fn exchange_values<T, L: ValueMut<T> + Drop, S: NonZeroInxGenericStack<L>>(
     slots: &mut S,
     i: NonZeroUsize,
     j: NonZeroUsize,
@@ -264,20 +264,21 @@ pub(crate) fn exchange_values<P: Ptr, T: Drop, S: NonZeroInxGenericStack<ArenaSl
     requires i_in_bounds { non_zero_usize_get i ≤ length (S.items slots.old) }
     requires j_in_bounds { non_zero_usize_get j ≤ length (S.items slots.old) }
     requires two { non_zero_usize_get i ≢ non_zero_usize_get j }
-    requires i_is_used { (x : Slot T) → Some x ≡ item_at (S.items slots.old) (non_zero_usize_get i)
-        → IsSome (value_of x) }
-    requires j_is_used { (y : Slot T) → Some y ≡ item_at (S.items slots.old) (non_zero_usize_get j)
-        → IsSome (value_of y) }
-    ensures items { (x y : Slot T)
+    requires i_is_used { (x : L) → Some x ≡ item_at (S.items slots.old) (non_zero_usize_get i)
+        → IsSome (L.held x) }
+    requires j_is_used { (y : L) → Some y ≡ item_at (S.items slots.old) (non_zero_usize_get j)
+        → IsSome (L.held y) }
+    ensures items { (x y : L) (t u : T)
         → Some x ≡ item_at (S.items slots.old) (non_zero_usize_get i)
         → Some y ≡ item_at (S.items slots.old) (non_zero_usize_get j)
+        → L.held x ≡ Some t → L.held y ≡ Some u
         → S.items slots.new ≡ with_item
-        (with_item (S.items slots.old) (non_zero_usize_get i) (with_value_of x y))
-        (non_zero_usize_get j) (with_value_of y x) }
+        (with_item (S.items slots.old) (non_zero_usize_get i) (L.with_held x u))
+        (non_zero_usize_get j) (L.with_held y t) }
     ensures room { S.room slots.new ≡ S.room slots.old }
 {
     let (first, second) = get_disjoint_mut(slots.as_mut_slice(), i, j);
-    first.exchange_value(second);
+    exchange_value(first, second);
 }
 
 impl<P: Ptr, T> Default for ArenaSlot<P, T> {

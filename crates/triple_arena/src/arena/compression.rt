@@ -40,7 +40,7 @@ fn renewal_of_entry<G: PtrGen>(given: Option<G>, reset: bool, own: G) -> (G, boo
 }
 
 // Takes what stands at `i`, if it is live, and leaves a free slot.
-fn take_entry<P: Ptr, T: Drop, L: EntrySlot<P, T> + Drop, S: NonZeroInxGenericStack<L>>(
+pub(crate) fn take_entry<P: Ptr, T: Drop, L: EntrySlot<P, T> + Drop, S: NonZeroInxGenericStack<L>>(
     slots: &mut S,
     i: NonZeroUsize,
 ) -> Option<(P::Gen, T)>
@@ -55,7 +55,7 @@ fn take_entry<P: Ptr, T: Drop, L: EntrySlot<P, T> + Drop, S: NonZeroInxGenericSt
 }
 
 // Stores an entry at `i`.
-fn put_entry<P: Ptr, T: Drop, L: EntrySlot<P, T> + Drop, S: NonZeroInxGenericStack<L>>(
+pub(crate) fn put_entry<P: Ptr, T: Drop, L: EntrySlot<P, T> + Drop, S: NonZeroInxGenericStack<L>>(
     slots: &mut S,
     i: NonZeroUsize,
     generation: P::Gen,

@@ -59,7 +59,7 @@ impl<P: Ptr, T: Drop, S: NonZeroInxGenericStack<ArenaSlot<P, T>>> Arena<P, T, S>
 }
 
 // Links the free slots by rising index, and answers the first one.
-fn link_rising<P: Ptr, T: Drop, S: NonZeroInxGenericStack<ArenaSlot<P, T>>>(
+pub(crate) fn link_rising<P: Ptr, T: Drop, S: NonZeroInxGenericStack<ArenaSlot<P, T>>>(
     slots: &mut S,
 ) -> Option<NonZeroUsize>
     ensures entries { list_map entry_of (S.items slots.new)

@@ -1,7 +1,9 @@
 //! Renaming what the values of an arena hold, and renaming by an arena of pointers.
-ghost use Rattle.std.specs.Prelude.{◌↔◌, IsTrue, IsSome};
+ghost use Rattle.std.specs.Prelude.{◌≡◌, ◌↔◌, ℕ, IsTrue, IsSome, Some, length, refl};
 ghost use Rattle.std.specs.Int.NonZero.{non_zero_usize_get};
-ghost use Rattle.triple_arena.specs.Content.{entry_at, get as get_of};
+ghost use Rattle.std.specs.Option.{option_map};
+ghost use Rattle.triple_arena_ptr.specs.Recast.{recast_answer};
+ghost use Rattle.triple_arena.specs.Content.{Content, entry_at, with_value, get as get_of};
 ghost use Rattle.triple_arena.specs.Recasting.{content_items, content_recasted};
 ghost use Rattle.triple_arena.specs.RecastingLaws.{items-recasted};
 
@@ -11,6 +13,47 @@ use crate::{ArenaSlot, ArenaTrait};
 use std::num::NonZeroUsize;
 use triple_arena_ptr::{Ptr, Recast, Recaster};
 use triple_arena_stack::NonZeroInxGenericStack;
+
+// An arena whose values are recast one index after another.
+pub(crate) trait RecastByIndex<T>: ValueAtMut<T> {
+    // The arena as the words on a content ask for it.
+    ghost content: { Self → Content T };
+
+    // The number of slots.
+    fn indexes(&self) -> usize
+        ensures { result ≡ length (content self.now).slots };
+
+    // Whether the index is live.
+    fn is_live_at(&self, i: NonZeroUsize) -> bool
+        ensures { IsTrue result ↔ IsSome (entry_at (content self.now) (non_zero_usize_get i)) };
+
+    ghost has_its_value: { (s : Self) (i : ℕ) → IsSome (entry_at (content s) i) → Self.has_value s i };
+
+    ghost value_of_entry: { (s : Self) (i : ℕ) → Self.value_at s i
+        ≡ option_map (λ e. e.1) (entry_at (content s) i) };
+
+    ghost content_written: { (s : Self) (i : ℕ) (t : T)
+        → content (Self.with_value_at s i t) ≡ with_value (content s) i t };
+}
+
+// Recasts each value in the order of the indexes, up to the first that holds an item without an image.
+pub(crate) fn recast_values<I, T: Recast<I> + Drop, A: RecastByIndex<T>, R: Recaster<Item = I>>(
+    arena: &mut A,
+    recaster: &R,
+) -> Result<(), I>
+    ensures value { A.content arena.new ≡ content_recasted T.items (R.image recaster.now)
+        (T.recasted (R.image recaster.now)) (A.content arena.old) }
+    ensures answer { result ≡ recast_answer (R.image recaster.now)
+        (content_items T.items (A.content arena.old)) }
+{
+    for before in 0..arena.indexes() {
+        let i = NonZeroUsize::MIN.saturating_add(before);
+        if arena.is_live_at(i) {
+            arena.value_at_mut(i).recast(recaster)?;
+        }
+    }
+    Ok(())
+}
 
 /// The items are those of the values, in the order of the indexes.
 impl<I, P: Ptr, T: Recast<I> + Drop, S: NonZeroInxGenericStack<ArenaSlot<P, T>>> Recast<I>
@@ -22,21 +65,25 @@ impl<I, P: Ptr, T: Recast<I> + Drop, S: NonZeroInxGenericStack<ArenaSlot<P, T>>>
     ghost items_recasted = { λ f c. items-recasted T.items f (T.recasted f) (T.items_recasted f) c };
 
     fn recast<R: Recaster<Item = I>>(&mut self, recaster: &R) -> Result<(), I> {
-        for before in 0..self.slot_count() {
-            let i = NonZeroUsize::MIN.saturating_add(before);
-            if self.is_live_at(i) {
-                self.value_at_mut(i).recast(recaster)?;
-            }
-        }
-        Ok(())
+        recast_values(self, recaster)
     }
 }
 
-impl<P: Ptr, T: Drop, S: NonZeroInxGenericStack<ArenaSlot<P, T>>> Arena<P, T, S> {
-    // Whether the index is live.
-    fn is_live_at(&self, i: NonZeroUsize) -> bool
-        ensures { IsTrue result ↔ IsSome (entry_at self.now (non_zero_usize_get i)) }
-    {
+impl<P: Ptr, T: Drop, S: NonZeroInxGenericStack<ArenaSlot<P, T>>> RecastByIndex<T>
+    for Arena<P, T, S> {
+    ghost content = { λ c. c };
+
+    ghost has_its_value = { λ c i some. some };
+
+    ghost value_of_entry = { λ c i. refl };
+
+    ghost content_written = { λ c i t. refl };
+
+    fn indexes(&self) -> usize {
+        self.slot_count()
+    }
+
+    fn is_live_at(&self, i: NonZeroUsize) -> bool {
         self.pointer(i).is_some()
     }
 }

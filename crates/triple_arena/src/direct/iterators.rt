@@ -4,6 +4,7 @@ ghost use Rattle.triple_arena.specs.Compression.{value_of};
 ghost use Rattle.triple_arena.specs.Iterators.{pointer_of};
 ghost use Rattle.triple_arena.specs.DirectContent.{live_entries};
 
+use crate::direct::CapacityDrain;
 use crate::direct_iterators::{Iter, Ptrs, Vals};
 use crate::{DirectArena, DirectSlot, iterators};
 use triple_arena_ptr::Ptr;
@@ -44,5 +45,25 @@ impl<'a, P: Ptr, T: Drop, S: NonZeroInxGenericStack<DirectSlot<P, T>>> IntoItera
 
     fn into_iter(self) -> Iter<'a, P, T> {
         self.iter()
+    }
+}
+
+impl<P: Ptr, T: Drop, S: NonZeroInxGenericStack<DirectSlot<P, T>> + Drop> IntoIterator
+    for DirectArena<P, T, S> {
+    type Item = (P, T);
+
+    type IntoIter = CapacityDrain<P, T, S>;
+
+    ghost into_iter_gives = { λ arena it. it ≡ live_entries arena };
+
+    fn into_iter(self) -> CapacityDrain<P, T, S> {
+        // Each slot has an index of the pointer type.
+        let _ = self.own_capacity();
+        let DirectArena {
+            slots,
+            len: _,
+            values: _,
+        } = self;
+        CapacityDrain::over(slots)
     }
 }

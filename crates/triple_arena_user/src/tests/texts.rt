@@ -12,7 +12,7 @@ use triple_arena::{
 type Limited = LimitedArena<P0, u64, Global>;
 
 // The arena's text, by `{:?}`.
-fn reads<A: Debug>(rt: &(impl Abort + Alloc), arena: &A, text: &str) {
+pub(crate) fn reads<A: Debug>(rt: &(impl Abort + Alloc), arena: &A, text: &str) {
     match format!(in rt.alloc(); "{arena:?}") {
         Ok(shown) => assert_eq!(rt; shown.as_str(), text),
         Err(_) => panic!(rt; "no memory for a text"),

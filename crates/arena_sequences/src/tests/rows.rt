@@ -1,0 +1,254 @@
+//! Calls in a row whose answers and texts are known beforehand, at several pointers and stacks.
+use super::sequences::{InArray, InVec, insert, shows};
+use std::alloc::Global;
+use std::fmt::Debug;
+use std::num::NonZeroUsize;
+use std::process::Abort;
+use std::test::Fail;
+use triple_arena::{
+    Arena, ArenaDirectInsertEntryTrait, ArenaDirectInsertTrait, ArenaInsertTrait, ArenaSlot,
+    ArenaTrait, ArrayArena, ArrayDirectArena, DirectArena, DirectInsertionError, DirectSlot,
+    HeapArena, HeapDirectArena, InvalidationOption, InvalidationResult, NonZeroInxGenericStack, P0,
+    P1, P5, Ptr, PtrGen, PtrInx, ReallocationError, Recast, compress_recaster,
+};
+
+// What stands in a text, by `{:?}`.
+fn reads<A: Debug>(rt: &(impl Abort + Alloc), shown: &A, text: &str) {
+    match format!(in rt.alloc(); "{shown:?}") {
+        Ok(shown) => assert_eq!(rt; shown.as_str(), text),
+        Err(_) => panic!(rt; "no memory for a text"),
+    }
+}
+
+// The pointer whose index has so many before it, with the generation that is so many after the second.
+fn pointer<P: Ptr>(rt: &impl Abort, before: usize, steps: usize) -> P {
+    let index = NonZeroUsize::MIN.saturating_add(before);
+    let mut generation = P::Gen::two();
+    for _ in 0..steps {
+        generation = generation.generational_inc().0;
+    }
+    match P::Inx::try_from_usize(index) {
+        Some(inx) => P::_from_raw(inx, generation),
+        None => panic!(rt; "no such index"),
+    }
+}
+
+// Stores `t` under `p`.
+fn put<P: Ptr, T: Drop, S: NonZeroInxGenericStack<DirectSlot<P, T>> + Drop>(
+    arena: &mut DirectArena<P, T, S>,
+    p: P,
+    t: T,
+) -> Result<(), DirectInsertionError> {
+    match arena.direct_insert_within_capacity(p) {
+        Ok(place) => {
+            place.insert(t);
+            Ok(())
+        }
+        Err(error) => Err(error),
+    }
+}
+
+// One entry is accepted, one refused since it is there, one since it is past the capacity of 4; its pointer ends, and it
+// moves to the first index.
+fn takes_whole_pointers<P: Ptr, S: NonZeroInxGenericStack<DirectSlot<P, u64>> + Drop>(
+    rt: &(impl Abort + Alloc),
+    arena: &mut DirectArena<P, u64, S>,
+    text: &str,
+) {
+    let p = pointer(rt, 2, 5);
+    assert_eq!(rt; put(arena, p, 10), Ok(()));
+    assert_eq!(rt;
+        put(arena, pointer(rt, 2, 7), 11),
+        Err(DirectInsertionError::ExistingElementAtIndex)
+    );
+    assert_eq!(rt;
+        put(arena, pointer(rt, 4, 0), 11),
+        Err(DirectInsertionError::NotWithinCapacity)
+    );
+    assert_eq!(rt;
+        arena.invalidate(p),
+        InvalidationResult::Success(pointer(rt, 2, 6))
+    );
+    assert_eq!(rt; arena.compress(false), InvalidationOption::Success(()));
+    reads(rt, arena, text);
+}
+
+#[test]
+fn takes_whole_pointers_in_a_vector(rt: HostRuntime) -> Result<(), Fail> {
+    let mut wide = HeapDirectArena::<P0, u64, Global>::with_min_capacity(rt.alloc(), 4)?;
+    takes_whole_pointers(&rt, &mut wide, "{P0[1](9): 10}");
+    let mut narrow = HeapDirectArena::<P1, u64, Global>::with_min_capacity(rt.alloc(), 4)?;
+    takes_whole_pointers(&rt, &mut narrow, "{P1[1](9): 10}");
+    Ok(())
+}
+
+#[test]
+fn takes_whole_pointers_in_an_array(rt: HostRuntime) {
+    takes_whole_pointers(
+        &rt,
+        &mut ArrayDirectArena::<P0, u64, 4>::new(()),
+        "{P0[1](9): 10}",
+    );
+    takes_whole_pointers(
+        &rt,
+        &mut ArrayDirectArena::<P5, u64, 4>::new(()),
+        "{P5[1]: 10}",
+    );
+}
+
+// Two values are shown, and the first is removed.
+fn shows_two<P: Ptr, A: ArenaInsertTrait<P, &'static str> + Debug>(
+    rt: &(impl Abort + Alloc),
+    arena: &mut A,
+    text: &str,
+) -> Result<(), ReallocationError> {
+    let first = arena.insert("test")?;
+    arena.insert("hello")?;
+    reads(rt, arena, text);
+    assert_eq!(rt; arena.remove(first), InvalidationResult::Success("test"));
+    assert_eq!(rt; arena.get(first), None);
+    Ok(())
+}
+
+#[test]
+fn shows_two_of_each_pointer(rt: HostRuntime) -> Result<(), Fail> {
+    let shown = "{P0[1](2): \"test\", P0[2](2): \"hello\"}";
+    shows_two(
+        &rt,
+        &mut HeapArena::<P0, &str, Global>::new(rt.alloc()),
+        shown,
+    )?;
+    shows_two(&rt, &mut ArrayArena::<P0, &str, 2>::new(()), shown)?;
+    let narrow = "{P1[1](2): \"test\", P1[2](2): \"hello\"}";
+    shows_two(
+        &rt,
+        &mut HeapArena::<P1, &str, Global>::new(rt.alloc()),
+        narrow,
+    )?;
+    let uncounted = "{P5[1]: \"test\", P5[2]: \"hello\"}";
+    shows_two(&rt, &mut ArrayArena::<P5, &str, 2>::new(()), uncounted)?;
+    Ok(())
+}
+
+// Of five entries four go. The free slot after the last entry goes as well; then the two that are left are taken, the
+// one that was left last at first, and then a new slot.
+fn drops_the_free_end<P: Ptr, S: NonZeroInxGenericStack<ArenaSlot<P, u64>> + Drop>(
+    rt: &(impl Abort + Alloc),
+    arena: &mut Arena<P, u64, S>,
+    texts: &[&str; 3],
+) {
+    let a = insert(rt, arena, 10);
+    let b = insert(rt, arena, 11);
+    insert(rt, arena, 12);
+    let d = insert(rt, arena, 13);
+    let e = insert(rt, arena, 14);
+    for p in [b, d, a, e] {
+        assert!(rt; arena.remove(p).is_success());
+    }
+    arena.remove_free_end_slots();
+    for text in texts {
+        shows(rt, insert(rt, arena, 15), *text);
+    }
+}
+
+#[test]
+fn drops_the_free_end_of_each_stack(rt: HostRuntime) {
+    let steps = ["P0[1](6)", "P0[2](6)", "P0[4](6)"];
+    drops_the_free_end(&rt, &mut InVec::<P0>::new(rt.alloc()), &steps);
+    drops_the_free_end(&rt, &mut InArray::<P0, 5>::new(()), &steps);
+    let narrow = ["P1[1](6)", "P1[2](6)", "P1[4](6)"];
+    drops_the_free_end(&rt, &mut InVec::<P1>::new(rt.alloc()), &narrow);
+    let uncounted = ["P5[1]", "P5[2]", "P5[4]"];
+    drops_the_free_end(&rt, &mut InArray::<P5, 5>::new(()), &uncounted);
+}
+
+// A value, and the pointer that it holds.
+type Named<P> = (u64, Option<P>);
+
+// Four entries, of which the fourth names the second. These two stay.
+fn names<P: Ptr, S: NonZeroInxGenericStack<ArenaSlot<P, Named<P>>> + Drop>(
+    rt: &impl Abort,
+    arena: &mut Arena<P, Named<P>, S>,
+) -> Result<(), ReallocationError> {
+    let first = arena.insert((0, None))?;
+    let second = arena.insert((42, None))?;
+    let third = arena.insert((1, None))?;
+    arena.insert((1337, Some(second)))?;
+    assert!(rt; arena.remove(first).is_success());
+    assert!(rt; arena.remove(third).is_success());
+    Ok(())
+}
+
+// The map of a compression has this text, and the arena the other one once it is recast by the map.
+fn recasts<
+    P: Ptr + Recast<P>,
+    S: NonZeroInxGenericStack<ArenaSlot<P, Named<P>>> + Drop,
+    R: NonZeroInxGenericStack<DirectSlot<P, P>> + Drop,
+>(
+    rt: &(impl Abort + Alloc),
+    arena: &mut Arena<P, Named<P>, S>,
+    map: &DirectArena<P, P, R>,
+    texts: &[&str; 2],
+) {
+    reads(rt, map, texts[0]);
+    assert_eq!(rt; arena.recast(map), Ok(()));
+    reads(rt, arena, texts[1]);
+}
+
+#[test]
+fn recasts_by_a_compression_in_a_vector(rt: HostRuntime) -> Result<(), Fail> {
+    let mut wide = HeapArena::<P0, Named<P0>, Global>::new(rt.alloc());
+    names(&rt, &mut wide)?;
+    let map: HeapDirectArena<P0, P0, Global> = compress_recaster(&mut wide, false, rt.alloc())?;
+    recasts(
+        &rt,
+        &mut wide,
+        &map,
+        &[
+            "{P0[2](2): P0[1](5), P0[4](2): P0[2](5)}",
+            "{P0[1](5): (42, None), P0[2](5): (1337, Some(P0[1](5)))}",
+        ],
+    );
+    let mut narrow = HeapArena::<P1, Named<P1>, Global>::new(rt.alloc());
+    names(&rt, &mut narrow)?;
+    let map: HeapDirectArena<P1, P1, Global> = compress_recaster(&mut narrow, false, rt.alloc())?;
+    recasts(
+        &rt,
+        &mut narrow,
+        &map,
+        &[
+            "{P1[2](2): P1[1](5), P1[4](2): P1[2](5)}",
+            "{P1[1](5): (42, None), P1[2](5): (1337, Some(P1[1](5)))}",
+        ],
+    );
+    Ok(())
+}
+
+#[test]
+fn recasts_by_a_compression_in_an_array(rt: HostRuntime) -> Result<(), Fail> {
+    let mut wide = ArrayArena::<P0, Named<P0>, 4>::new(());
+    names(&rt, &mut wide)?;
+    let map: ArrayDirectArena<P0, P0, 4> = compress_recaster(&mut wide, false, ())?;
+    recasts(
+        &rt,
+        &mut wide,
+        &map,
+        &[
+            "{P0[2](2): P0[1](5), P0[4](2): P0[2](5)}",
+            "{P0[1](5): (42, None), P0[2](5): (1337, Some(P0[1](5)))}",
+        ],
+    );
+    let mut uncounted = ArrayArena::<P5, Named<P5>, 4>::new(());
+    names(&rt, &mut uncounted)?;
+    let map: ArrayDirectArena<P5, P5, 4> = compress_recaster(&mut uncounted, false, ())?;
+    recasts(
+        &rt,
+        &mut uncounted,
+        &map,
+        &[
+            "{P5[2]: P5[1], P5[4]: P5[2]}",
+            "{P5[1]: (42, None), P5[2]: (1337, Some(P5[1]))}",
+        ],
+    );
+    Ok(())
+}

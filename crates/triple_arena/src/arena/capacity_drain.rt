@@ -1,0 +1,81 @@
+//! Going over the entries of an arena that is given away, in the order of the indexes.
+ghost use Rattle.std.specs.Prelude.{◌≡◌, ◌≤◌, length, map as list_map};
+ghost use Rattle.std.specs.Iterator.{YieldsFirstBy, item_count};
+ghost use Rattle.triple_arena_ptr.specs.Index.{max_index_of};
+ghost use Rattle.triple_arena.specs.LiveEntries.{listed_from};
+ghost use Rattle.triple_arena.specs.Slot.{entry_of};
+
+use crate::ArenaSlot;
+use crate::arena::{pointer_at, take_entry};
+use std::iter::FusedIterator;
+use std::marker::{Model, PhantomData};
+use std::num::NonZeroUsize;
+use triple_arena_ptr::Ptr;
+use triple_arena_stack::NonZeroInxGenericStack;
+
+/// The pointers and the values of an arena, by value, in the order of the indexes, seen as the list of the entries that
+/// are left. Dropped, it drops those.
+#[derive(Drop)]
+pub struct CapacityDrain<P: Ptr, T: Drop, S: NonZeroInxGenericStack<ArenaSlot<P, T>>> {
+    slots: S,
+    // The first slots, which have no entry.
+    passed: usize,
+    entries: PhantomData<(P, T)>,
+}
+
+impl<P: Ptr, T: Drop, S: NonZeroInxGenericStack<ArenaSlot<P, T>>> Model for CapacityDrain<P, T, S> {
+    ghost use Rattle.std.specs.Prelude.{ℕ, ◌≤◌, List, length, map};
+    ghost use Rattle.triple_arena_ptr.specs.Index.{max_index_of};
+    ghost use Rattle.triple_arena.specs.Iterators.{AreVacant};
+    ghost use Rattle.triple_arena.specs.LiveEntries.{listed_from};
+    ghost use Rattle.triple_arena.specs.Slot.{entry_of};
+
+    ghost Value = { List (ℕ × (ℕ × T)) };
+
+    ghost view = { λ it. listed_from 1 (map entry_of (S.items it.slots)) };
+
+    ghost invariant = { λ it. AreVacant it.passed (map entry_of (S.items it.slots))
+        × (length (S.items it.slots) ≤ max_index_of P.Inx.greatest) };
+}
+
+impl<P: Ptr, T: Drop, S: NonZeroInxGenericStack<ArenaSlot<P, T>>> CapacityDrain<P, T, S> {
+    // Over the slots from index 1 on.
+    pub(crate) fn over(slots: S) -> Self
+        requires { length (S.items slots) ≤ max_index_of P.Inx.greatest }
+        ensures { result ≡ listed_from 1 (list_map entry_of (S.items slots)) }
+    {
+        CapacityDrain {
+            slots,
+            passed: 0,
+            entries: PhantomData,
+        }
+    }
+}
+
+impl<P: Ptr, T: Drop, S: NonZeroInxGenericStack<ArenaSlot<P, T>> + Drop> Iterator
+    for CapacityDrain<P, T, S> {
+    type Item = (P, T);
+
+    ghost next_gives = { YieldsFirstBy (λ e. (P.index e.0, (P.generation e.0, e.1))) (λ left. left) };
+
+    ghost remaining = { item_count (λ left. left) };
+
+    fn next(&mut self) -> Option<(P, T)> {
+        while self.passed < self.slots.len() {
+            let i = NonZeroUsize::MIN.saturating_add(self.passed);
+            self.passed = i.get();
+            if let Some(entry) = take_entry::<P, T, ArenaSlot<P, T>, S>(&mut self.slots, i) {
+                return Some((pointer_at(i, entry.0), entry.1));
+            }
+        }
+        None
+    }
+
+    // No more entries come than slots are left.
+    fn size_hint(&self) -> (usize, Option<usize>) {
+        (0, Some(self.slots.len().saturating_sub(self.passed)))
+    }
+}
+
+impl<P: Ptr, T: Drop, S: NonZeroInxGenericStack<ArenaSlot<P, T>> + Drop> FusedIterator
+    for CapacityDrain<P, T, S> {}

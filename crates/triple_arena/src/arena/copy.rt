@@ -1,0 +1,174 @@
+//! An arena as a copy of another one.
+ghost use Rattle.std.specs.Prelude.{◌≡◌, ◌≤◌, ◌↔◌, ◌⊎◌, Some, IsTrue, IsOk, IsErr, IfOk, OnOk, IsErrOf, length, is_some, count_by, map as list_map};
+ghost use Rattle.std.specs.Int.NonZero.{non_zero_usize_get};
+ghost use Rattle.std.specs.Option.{option_map};
+ghost use Rattle.triple_arena_ptr.specs.Generation.{second_generation};
+ghost use Rattle.triple_arena_stack.specs.Room.{capacity, IsBeyond};
+ghost use Rattle.triple_arena.specs.ArenaRoom.{room_of};
+ghost use Rattle.triple_arena.specs.Content.{entry_at, live_count, some_counter, empty, arena_capacity, reallocated, cleared, vacant_from, IsWellFormed};
+ghost use Rattle.triple_arena.specs.Copy.{last_listed, copied as copied_of, IsMappedCopy, IsRefusedCopy, IsUnmadeCopy};
+ghost use Rattle.triple_arena.specs.Layout.{IsChain};
+ghost use Rattle.triple_arena.specs.LiveEntries.{listed_from, live_entries};
+ghost use Rattle.triple_arena.specs.Slot.{entry_of};
+
+use crate::arena::Arena;
+use crate::arena::free_slots::link_rising;
+use crate::copy::{append_copies, up_to_last};
+use crate::iterators::LentEntry;
+use crate::{ArenaCloneFromWith, ArenaCloneSource, ArenaSlot, ArenaTrait};
+use std::num::NonZeroUsize;
+use triple_arena_ptr::{AllocError, Ptr, ReallocationError};
+use triple_arena_stack::NonZeroInxGenericStack;
+
+impl<P: Ptr, T: Drop, S: NonZeroInxGenericStack<ArenaSlot<P, T>> + Drop> ArenaCloneSource<P, T>
+    for Arena<P, T, S> {
+    type Slot = ArenaSlot<P, T>;
+
+    fn lent_slots(&self) -> &[ArenaSlot<P, T>] {
+        // Each slot has an index of the pointer type.
+        let _ = self.own_capacity();
+        self.slots.as_slice()
+    }
+}
+
+impl<P: Ptr, T: Drop, S: NonZeroInxGenericStack<ArenaSlot<P, T>> + Drop> ArenaCloneFromWith<P, T>
+    for Arena<P, T, S> {
+    ghost copied = { copied_of };
+
+    fn clone_from_with<U, A, F>(&mut self, source: &A, map: F) -> Result<(), ReallocationError>
+    where
+        U: Drop,
+        A: ArenaCloneSource<P, U>,
+        F: FnMut(P, &U) -> Result<T, AllocError>,
+    {
+        // The arena is well-formed before.
+        let _ = self.live();
+        let slots = up_to_last::<P, U, A::Slot>(source.lent_slots());
+        let counter = source.singular_generation();
+        self.reallocate(slots.len())?;
+        match self.become_copy::<U, A::Slot, F>(slots, counter, map) {
+            Ok(()) => Ok(()),
+            Err(_) => Err(ReallocationError::AllocError),
+        }
+    }
+}
+
+impl<P: Ptr, T: Clone, S: NonZeroInxGenericStack<ArenaSlot<P, T>> + Drop> Arena<P, T, S> {
+    /// A new arena with the same pointers, clones of their values and the same counter, where the smallest free index is
+    /// the next one to be taken. It has room for the last live index. A clone of a value must equal it.
+    ///
+    /// It answers `BeyondMaxCapacity` where no new arena of this type has so much room, and `AllocError` where the
+    /// memory or the clone of a value was refused.
+    pub fn clone(&self, alloc: S::Alloc) -> Result<Self, ReallocationError>
+        requires { (x y : T) → T.is_clone x y → y ≡ x }
+        ensures exact { IfOk result (λ c. c ≡ copied_of (empty (second_generation P.Gen.last)
+            (room_of P.Inx.greatest (S.room_at (last_listed (live_entries self.now)))))
+            (Some self.now.counter) (live_entries self.now)) }
+        ensures succeeds { last_listed (live_entries self.now)
+            ≤ capacity (room_of P.Inx.greatest (S.room_at 0))
+            → ((x : T) → T.is_infallible x) → IsOk result }
+        ensures beyond { IsErrOf result ReallocationError.BeyondMaxCapacity
+            ↔ IsBeyond (room_of P.Inx.greatest
+            (S.room_at (last_listed (live_entries self.now)))).limit
+            (last_listed (live_entries self.now)) }
+        ensures unmade { IsErrOf result ReallocationError.AllocError
+            → IsTrue S.takes_memory ⊎ (((x : T) → T.is_infallible x) → ⊥) }
+        ensures formed { IfOk result (λ c. IsWellFormed c) }
+    {
+        let last = up_to_last::<P, T, ArenaSlot<P, T>>(self.slots.as_slice()).len();
+        let mut copy = Self::with_min_capacity(alloc, last)?;
+        copy.clone_from(self)?;
+        Ok(copy)
+    }
+
+    /// Makes this arena a clone of `source`, as `clone_from_with` does with clones of the values. A clone of a value
+    /// must equal it.
+    ///
+    /// It answers `BeyondMaxCapacity` where the last live index of `source` is past the greatest capacity, and
+    /// `AllocError` where the memory was refused; the arena is then as it was. It also answers `AllocError` where the
+    /// clone of a value was refused; the arena is then grown to that index and cleared.
+    pub fn clone_from(&mut self, source: &Self) -> Result<(), ReallocationError>
+        requires { (x y : T) → T.is_clone x y → y ≡ x }
+        ensures exact { OnOk result (self.new ≡ copied_of self.old (Some source.now.counter)
+            (live_entries source.now)) }
+        ensures succeeds { last_listed (live_entries source.now) ≤ arena_capacity self.old
+            → ((x : T) → T.is_infallible x) → IsOk result }
+        ensures beyond { IsErrOf result ReallocationError.BeyondMaxCapacity
+            ↔ IsBeyond self.old.room.limit (last_listed (live_entries source.now)) }
+        ensures kept { IsErrOf result ReallocationError.BeyondMaxCapacity → self.new ≡ self.old }
+        ensures unmade { IsErrOf result ReallocationError.AllocError
+            → IsUnmadeCopy entry_at live_count some_counter (λ c. c.room) S.takes_memory P.Gen.last
+            (last_listed (live_entries source.now))
+            (λ c. cleared P.Gen.last (reallocated c (last_listed (live_entries source.now))))
+            (((x : T) → T.is_infallible x) → ⊥) self.old self.new }
+        ensures formed { IsWellFormed self.new }
+    {
+        self.clone_from_with(source, |_, value| value.clone())
+    }
+}
+
+impl<P: Ptr, T: Drop, S: NonZeroInxGenericStack<ArenaSlot<P, T>>> Arena<P, T, S> {
+    // Becomes a copy of these slots, of which the last one is allocated, with this counter if there is one.
+    fn become_copy<U, E, F>(
+        &mut self,
+        source: &[E],
+        counter: Option<P::Gen>,
+        map: F,
+    ) -> Result<(), AllocError>
+    where
+        E: LentEntry<P, U>,
+        F: FnMut(P, &U) -> Result<T, AllocError>,
+        requires fits { length source.now ≤ arena_capacity self.old }
+        requires last { length source.now
+            ≡ last_listed (listed_from 1 (list_map E.shown source.now)) }
+        requires callable { F.IsAlwaysCallable map }
+        ensures mapped { OnOk result (IsMappedCopy P.index P.generation F.step map
+            (listed_from 1 (list_map E.shown source.now)) (live_entries self.new)) }
+        ensures exact { OnOk result (self.new ≡ copied_of self.old (option_map P.Gen.number counter)
+            (live_entries self.new)) }
+        ensures refused { IsErr result → IsRefusedCopy P.index P.generation F.step map
+            (listed_from 1 (list_map E.shown source.now)) }
+        ensures cleared { IsErr result → self.new ≡ cleared P.Gen.last self.old }
+        ensures formed { IsWellFormed self.new }
+    {
+        // Each slot has an index of the pointer type.
+        let _ = self.own_capacity();
+        let counter = counter.unwrap_or(self.counter);
+        self.empty();
+        match append_copies::<P, T, U, ArenaSlot<P, T>, E, S, F>(&mut self.slots, source, map) {
+            Ok(live) => {
+                self.head = link_free(&mut self.slots, live);
+                self.len = live;
+                self.counter = counter;
+                // The arena is well-formed after.
+                let _ = self.live();
+                Ok(())
+            }
+            Err(refused) => {
+                self.slots.clear();
+                let _ = self.step();
+                // The arena is well-formed after.
+                let _ = self.live();
+                Err(refused)
+            }
+        }
+    }
+}
+
+// Links the free slots by rising index, and answers the first one. Of the slots, `live` are allocated.
+fn link_free<P: Ptr, T: Drop, S: NonZeroInxGenericStack<ArenaSlot<P, T>>>(
+    slots: &mut S,
+    live: usize,
+) -> Option<NonZeroUsize>
+    requires { live ≡ count_by is_some (list_map entry_of (S.items slots.old)) }
+    ensures entries { list_map entry_of (S.items slots.new)
+        ≡ list_map entry_of (S.items slots.old) }
+    ensures chain { IsChain (S.items slots.new) (option_map non_zero_usize_get result)
+        (vacant_from 1 (list_map entry_of (S.items slots.old))) }
+    ensures room { S.room slots.new ≡ S.room slots.old }
+{
+    if live == slots.len() {
+        return None;
+    }
+    link_rising(slots)
+}

@@ -1,0 +1,137 @@
+//! A direct arena as a copy of another one.
+ghost use Rattle.std.specs.Prelude.{◌≡◌, ◌≤◌, ◌↔◌, ◌⊎◌, IsTrue, IsOk, IsErr, IfOk, OnOk, IsErrOf, length, map as list_map};
+ghost use Rattle.triple_arena_stack.specs.Room.{capacity, IsBeyond};
+ghost use Rattle.triple_arena.specs.ArenaRoom.{room_of};
+ghost use Rattle.triple_arena.specs.Copy.{last_listed, directly_copied, IsMappedCopy, IsRefusedCopy, IsUnmadeCopy};
+ghost use Rattle.triple_arena.specs.DirectContent.{entry_at, live_count, live_entries, no_counter, empty, arena_capacity, reallocated, cleared, IsWellFormed};
+ghost use Rattle.triple_arena.specs.LiveEntries.{listed_from};
+
+use crate::copy::{append_copies, up_to_last};
+use crate::direct::DirectArena;
+use crate::iterators::LentEntry;
+use crate::{ArenaCloneFromWith, ArenaCloneSource, ArenaTrait, DirectSlot};
+use triple_arena_ptr::{AllocError, Ptr, ReallocationError};
+use triple_arena_stack::NonZeroInxGenericStack;
+
+impl<P: Ptr, T: Drop, S: NonZeroInxGenericStack<DirectSlot<P, T>> + Drop> ArenaCloneSource<P, T>
+    for DirectArena<P, T, S> {
+    type Slot = DirectSlot<P, T>;
+
+    fn lent_slots(&self) -> &[DirectSlot<P, T>] {
+        // Each slot has an index of the pointer type.
+        let _ = self.own_capacity();
+        self.slots.as_slice()
+    }
+}
+
+impl<P: Ptr, T: Drop, S: NonZeroInxGenericStack<DirectSlot<P, T>> + Drop> ArenaCloneFromWith<P, T>
+    for DirectArena<P, T, S> {
+    ghost copied = { λ d counter entries. directly_copied d entries };
+
+    fn clone_from_with<U, A, F>(&mut self, source: &A, map: F) -> Result<(), ReallocationError>
+    where
+        U: Drop,
+        A: ArenaCloneSource<P, U>,
+        F: FnMut(P, &U) -> Result<T, AllocError>,
+    {
+        // The arena is well-formed before.
+        let _ = self.live();
+        let slots = up_to_last::<P, U, A::Slot>(source.lent_slots());
+        self.reallocate(slots.len())?;
+        match self.become_copy::<U, A::Slot, F>(slots, map) {
+            Ok(()) => Ok(()),
+            Err(_) => Err(ReallocationError::AllocError),
+        }
+    }
+}
+
+impl<P: Ptr, T: Clone, S: NonZeroInxGenericStack<DirectSlot<P, T>> + Drop> DirectArena<P, T, S> {
+    /// A new arena with the same pointers, and clones of their values, and with room for the last live index. A
+    /// clone of a value must equal it.
+    ///
+    /// It answers `BeyondMaxCapacity` where no new arena of this type has so much room, and `AllocError` where the
+    /// memory or the clone of a value was refused.
+    pub fn clone(&self, alloc: S::Alloc) -> Result<Self, ReallocationError>
+        requires { (x y : T) → T.is_clone x y → y ≡ x }
+        ensures exact { IfOk result (λ d. d ≡ directly_copied (empty
+            (room_of P.Inx.greatest (S.room_at (last_listed (live_entries self.now)))))
+            (live_entries self.now)) }
+        ensures succeeds { last_listed (live_entries self.now)
+            ≤ capacity (room_of P.Inx.greatest (S.room_at 0))
+            → ((x : T) → T.is_infallible x) → IsOk result }
+        ensures beyond { IsErrOf result ReallocationError.BeyondMaxCapacity
+            ↔ IsBeyond (room_of P.Inx.greatest
+            (S.room_at (last_listed (live_entries self.now)))).limit
+            (last_listed (live_entries self.now)) }
+        ensures unmade { IsErrOf result ReallocationError.AllocError
+            → IsTrue S.takes_memory ⊎ (((x : T) → T.is_infallible x) → ⊥) }
+        ensures formed { IfOk result (λ d. IsWellFormed d) }
+    {
+        let last = up_to_last::<P, T, DirectSlot<P, T>>(self.lent_slots()).len();
+        let mut copy = Self::with_min_capacity(alloc, last)?;
+        copy.clone_from(self)?;
+        Ok(copy)
+    }
+
+    /// Makes this arena a clone of `source`, as `clone_from_with` does with clones of the values. A clone of a value
+    /// must equal it.
+    ///
+    /// It answers `BeyondMaxCapacity` where the last live index of `source` is past the greatest capacity, and
+    /// `AllocError` where the memory was refused; the arena is then as it was. It also answers `AllocError` where the
+    /// clone of a value was refused; the arena is then grown to that index and cleared.
+    pub fn clone_from(&mut self, source: &Self) -> Result<(), ReallocationError>
+        requires { (x y : T) → T.is_clone x y → y ≡ x }
+        ensures exact { OnOk result (self.new ≡ directly_copied self.old (live_entries source.now)) }
+        ensures succeeds { last_listed (live_entries source.now) ≤ arena_capacity self.old
+            → ((x : T) → T.is_infallible x) → IsOk result }
+        ensures beyond { IsErrOf result ReallocationError.BeyondMaxCapacity
+            ↔ IsBeyond self.old.room.limit (last_listed (live_entries source.now)) }
+        ensures kept { IsErrOf result ReallocationError.BeyondMaxCapacity → self.new ≡ self.old }
+        ensures unmade { IsErrOf result ReallocationError.AllocError
+            → IsUnmadeCopy entry_at live_count no_counter (λ d. d.room) S.takes_memory P.Gen.last
+            (last_listed (live_entries source.now))
+            (λ d. cleared (reallocated d (last_listed (live_entries source.now))))
+            (((x : T) → T.is_infallible x) → ⊥) self.old self.new }
+        ensures formed { IsWellFormed self.new }
+    {
+        self.clone_from_with(source, |_, value| value.clone())
+    }
+}
+
+impl<P: Ptr, T: Drop, S: NonZeroInxGenericStack<DirectSlot<P, T>>> DirectArena<P, T, S> {
+    // Becomes a copy of these slots, of which the last one is allocated.
+    fn become_copy<U, E, F>(&mut self, source: &[E], map: F) -> Result<(), AllocError>
+    where
+        E: LentEntry<P, U>,
+        F: FnMut(P, &U) -> Result<T, AllocError>,
+        requires fits { length source.now ≤ arena_capacity self.old }
+        requires last { length source.now
+            ≡ last_listed (listed_from 1 (list_map E.shown source.now)) }
+        requires callable { F.IsAlwaysCallable map }
+        ensures mapped { OnOk result (IsMappedCopy P.index P.generation F.step map
+            (listed_from 1 (list_map E.shown source.now)) (live_entries self.new)) }
+        ensures exact { OnOk result (self.new ≡ directly_copied self.old (live_entries self.new)) }
+        ensures refused { IsErr result → IsRefusedCopy P.index P.generation F.step map
+            (listed_from 1 (list_map E.shown source.now)) }
+        ensures cleared { IsErr result → self.new ≡ cleared self.old }
+        ensures formed { IsWellFormed self.new }
+    {
+        // Each slot has an index of the pointer type.
+        let _ = self.own_capacity();
+        self.empty();
+        match append_copies::<P, T, U, DirectSlot<P, T>, E, S, F>(&mut self.slots, source, map) {
+            Ok(live) => {
+                self.len = live;
+                // The arena is well-formed after.
+                let _ = self.live();
+                Ok(())
+            }
+            Err(refused) => {
+                self.slots.clear();
+                // The arena is well-formed after.
+                let _ = self.live();
+                Err(refused)
+            }
+        }
+    }
+}

@@ -1,0 +1,64 @@
+//! Two values of a direct arena that change places.
+ghost use Rattle.std.specs.Prelude.{◌≡◌, ◌≢◌, IsSome};
+ghost use Rattle.std.specs.Int.NonZero.{non_zero_usize_get};
+ghost use Rattle.triple_arena.specs.Changes.{IsExchanged};
+ghost use Rattle.triple_arena.specs.DirectContent.{entry_at, no_counter, live_count, with_exchange, IsWellFormed};
+
+use crate::direct::DirectArena;
+use crate::slot::exchange_values;
+use crate::{DirectSlot, DisjointableArenaTrait};
+use std::num::NonZeroUsize;
+use triple_arena_ptr::{GetDisjointMutError, Ptr};
+use triple_arena_stack::NonZeroInxGenericStack;
+
+impl<P: Ptr, T: Drop, S: NonZeroInxGenericStack<DirectSlot<P, T>> + Drop> DisjointableArenaTrait<
+    P,
+    T,
+> for DirectArena<P, T, S> {
+    ghost exchanged = { with_exchange };
+
+    #[tactic(auto, using(crate::specs::DirectExchangeLaws::one_exchanged))]
+    fn swap_inx(&mut self, i: P::Inx, j: P::Inx) {
+        // The arena is well-formed before.
+        let _ = self.live();
+        match (self.live_inx(i), self.live_inx(j)) {
+            (Some(i), Some(j)) => {
+                if i != j {
+                    self.exchange_at(i, j);
+                }
+            }
+            _ => unreachable!(),
+        }
+    }
+
+    fn swap(&mut self, p: P, q: P) -> Result<(), GetDisjointMutError> {
+        // The arena is well-formed before.
+        let _ = self.live();
+        let (Some(i), Some(j)) = (self.live_index(p), self.live_index(q)) else {
+            return Err(GetDisjointMutError::IndexOutOfBounds);
+        };
+        if i == j {
+            return Err(GetDisjointMutError::OverlappingIndices);
+        }
+        self.exchange_at(i, j);
+        Ok(())
+    }
+}
+
+impl<P: Ptr, T: Drop, S: NonZeroInxGenericStack<DirectSlot<P, T>>> DirectArena<P, T, S> {
+    // Exchanges the values at `i` and `j`, which are two and both live.
+    pub(crate) fn exchange_at(&mut self, i: NonZeroUsize, j: NonZeroUsize)
+        requires i_is_live { IsSome (entry_at self.old (non_zero_usize_get i)) }
+        requires j_is_live { IsSome (entry_at self.old (non_zero_usize_get j)) }
+        requires two { non_zero_usize_get i ≢ non_zero_usize_get j }
+        ensures value { self.new ≡ with_exchange self.old (non_zero_usize_get i)
+            (non_zero_usize_get j) }
+        ensures exchanged { IsExchanged entry_at live_count no_counter (λ d. d.room)
+            (non_zero_usize_get i) (non_zero_usize_get j) self.old self.new }
+        ensures formed { IsWellFormed self.new }
+    {
+        exchange_values(&mut self.slots, i, j);
+        // The arena is well-formed after.
+        let _ = self.live();
+    }
+}

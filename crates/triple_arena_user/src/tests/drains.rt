@@ -1,0 +1,199 @@
+//! Drains, taken whole and dropped early, and searches, at concrete arenas.
+use crate::{find_equal, find_first, raise_each};
+use std::alloc::Global;
+use std::num::{NonZeroU8, NonZeroU64, NonZeroUsize};
+use std::process::Abort;
+use std::test::Fail;
+use triple_arena::{
+    Arena, ArenaDirectInsertEntryTrait, ArenaDirectInsertTrait, ArenaInsertTrait, ArenaSlot,
+    ArenaTrait, ArrayArena, DirectArena, DirectInsertionError, DirectSlot, HeapArena,
+    HeapDirectArena, InvalidationOption, NonZeroInxGenericStack, P0, P1, P5, Ptr, PtrGen, PtrInx,
+    ReallocationError,
+};
+
+// Four entries, with a free slot between them.
+fn fill<P: Ptr, S: NonZeroInxGenericStack<ArenaSlot<P, u64>> + Drop>(
+    rt: &impl Abort,
+    arena: &mut Arena<P, u64, S>,
+) -> Result<[(P, u64); 4], ReallocationError> {
+    let first = arena.insert(10)?;
+    let second = arena.insert(20)?;
+    let third = arena.insert(30)?;
+    let fourth = arena.insert(40)?;
+    let fifth = arena.insert(50)?;
+    assert!(rt; !arena.remove(second).is_invalid());
+    Ok([(first, 10), (third, 30), (fourth, 40), (fifth, 50)])
+}
+
+// Takes so many of the items, and answers the counter after them.
+fn take<P: Ptr, S: NonZeroInxGenericStack<ArenaSlot<P, u64>>>(
+    rt: &impl Abort,
+    arena: &mut Arena<P, u64, S>,
+    items: &[(P, u64)],
+) -> P::Gen {
+    let mut counter = arena.generation();
+    let mut drain = arena.drain();
+    for item in items {
+        let (next, wraps) = counter.generational_inc();
+        counter = next;
+        let wanted = if wraps {
+            InvalidationOption::GenerationOverflow(*item)
+        } else {
+            InvalidationOption::Success(*item)
+        };
+        assert_eq!(rt; drain.next(), Some(wanted));
+    }
+    counter
+}
+
+// A drain that is dropped after so many items takes the others too, each by a step of the counter.
+fn drains<P: Ptr, S: NonZeroInxGenericStack<ArenaSlot<P, u64>> + Drop>(
+    rt: &impl Abort,
+    arena: &mut Arena<P, u64, S>,
+    count: usize,
+) -> Result<(), ReallocationError> {
+    let items = fill(rt, arena)?;
+    let capacity = arena.capacity();
+    let mut counter = take(rt, arena, &items[..count]);
+    for _ in count..4 {
+        counter = counter.generational_inc().0;
+    }
+    assert!(rt; arena.is_empty());
+    assert!(rt; arena.backing().is_empty());
+    assert!(rt; arena.freelist_root().is_none());
+    assert_eq!(rt; arena.capacity(), capacity);
+    assert_eq!(rt; arena.generation(), counter);
+    let next = arena.insert(60)?;
+    assert_eq!(rt; next.inx().try_into_usize(), Some(NonZeroUsize::MIN));
+    assert_eq!(rt; next.generation(), counter);
+    drop(arena.drain());
+    Ok(())
+}
+
+#[test]
+fn drains_a_vector(rt: HostRuntime) -> Result<(), Fail> {
+    let mut arena = HeapArena::<P0, u64, Global>::new(rt.alloc());
+    for count in 0..5 {
+        drains(&rt, &mut arena, count)?;
+    }
+    Ok(())
+}
+
+#[test]
+fn drains_an_array(rt: HostRuntime) -> Result<(), Fail> {
+    let mut arena = ArrayArena::<P5, u64, 5>::new(());
+    for count in 0..5 {
+        drains(&rt, &mut arena, count)?;
+    }
+    Ok(())
+}
+
+// Sixty rounds of six steps and more go past the greatest generation.
+#[test]
+fn drains_past_the_greatest_generation(rt: HostRuntime) -> Result<(), Fail> {
+    let mut arena = ArrayArena::<P1, u64, 5>::new(());
+    for round in 0..60 {
+        drains(&rt, &mut arena, round % 5)?;
+    }
+    Ok(())
+}
+
+// The steps go from 254 to 255, then to 2, 3 and 4.
+#[test]
+fn tells_the_item_at_which_the_generations_start_again(rt: HostRuntime) -> Result<(), Fail> {
+    let mut arena = HeapArena::<P1, u64, Global>::new(rt.alloc());
+    let items = fill(&rt, &mut arena)?;
+    arena.set_generation(NonZeroU8::MIN.saturating_add(253));
+    let mut drain = arena.drain();
+    assert_eq!(rt; drain.len(), 4);
+    assert_eq!(rt; drain.next(), Some(InvalidationOption::Success(items[0])));
+    assert_eq!(rt;
+        drain.next(),
+        Some(InvalidationOption::GenerationOverflow(items[1]))
+    );
+    assert_eq!(rt; drain.next(), Some(InvalidationOption::Success(items[2])));
+    assert_eq!(rt; drain.len(), 1);
+    drop(drain);
+    assert_eq!(rt; arena.generation().get(), 4);
+    Ok(())
+}
+
+type InVec = HeapDirectArena<P0, u64, Global>;
+
+// Entries at the indexes 1, 3 and 6.
+fn fill_direct(arena: &mut InVec) -> Result<[(P0, u64); 3], DirectInsertionError> {
+    let first = P0::_from_raw(at(1), generation(9));
+    let second = P0::_from_raw(at(3), generation(8));
+    let third = P0::_from_raw(at(6), generation(9));
+    put(arena, third, 60)?;
+    put(arena, first, 10)?;
+    put(arena, second, 30)?;
+    Ok([(first, 10), (second, 30), (third, 60)])
+}
+
+fn put<P: Ptr, S: NonZeroInxGenericStack<DirectSlot<P, u64>> + Drop>(
+    arena: &mut DirectArena<P, u64, S>,
+    p: P,
+    value: u64,
+) -> Result<(), DirectInsertionError> {
+    match arena.direct_insert_within_capacity(p) {
+        Ok(place) => {
+            place.insert(value);
+            Ok(())
+        }
+        Err(e) => Err(e),
+    }
+}
+
+fn at(index: usize) -> NonZeroUsize {
+    NonZeroUsize::MIN.saturating_add(index.saturating_sub(1))
+}
+
+fn generation(number: u64) -> NonZeroU64 {
+    NonZeroU64::MIN.saturating_add(number.saturating_sub(1))
+}
+
+// Takes so many of the items of a direct arena.
+fn take_direct(rt: &impl Abort, arena: &mut InVec, items: &[(P0, u64)]) {
+    let mut drain = arena.drain();
+    for item in items {
+        assert_eq!(rt; drain.next(), Some(InvalidationOption::Success(*item)));
+    }
+}
+
+// A drain of a direct arena that is dropped after so many items takes the others too.
+fn drains_direct(
+    rt: &impl Abort,
+    arena: &mut InVec,
+    count: usize,
+) -> Result<(), DirectInsertionError> {
+    let items = fill_direct(arena)?;
+    let capacity = arena.capacity();
+    assert_eq!(rt; find_equal(arena, &30), Some(items[1].0));
+    assert_eq!(rt; find_equal(arena, &31), None);
+    take_direct(rt, arena, &items[..count]);
+    assert!(rt; arena.is_empty());
+    assert!(rt; arena.backing().is_empty());
+    assert_eq!(rt; arena.capacity(), capacity);
+    Ok(())
+}
+
+#[test]
+fn drains_a_direct_vector(rt: HostRuntime) -> Result<(), Fail> {
+    let mut arena = InVec::with_min_capacity(rt.alloc(), 6)?;
+    for count in 0..4 {
+        drains_direct(&rt, &mut arena, count)?;
+    }
+    Ok(())
+}
+
+#[test]
+fn finds_the_first_value(rt: HostRuntime) -> Result<(), Fail> {
+    let mut arena = HeapArena::<P0, u64, Global>::new(rt.alloc());
+    let items = fill(&rt, &mut arena)?;
+    assert_eq!(rt; find_first(&arena, |value| *value > 10), Some(items[1].0));
+    assert_eq!(rt; find_first(&arena, |value| *value > 50), None);
+    raise_each(&mut arena, 1);
+    assert_eq!(rt; find_first(&arena, |value| *value == 51), Some(items[3].0));
+    Ok(())
+}

@@ -1,0 +1,162 @@
+//! Direct arenas and the map of a compression at concrete arenas.
+use crate::documents::tidy;
+use crate::tests::texts::reads;
+use refusing_allocator::RefusingAllocator;
+use std::alloc::{Allocator, Global};
+use std::num::{NonZeroU8, NonZeroU64, NonZeroUsize};
+use std::process::Abort;
+use std::test::Fail;
+use triple_arena::{
+    ArenaDirectInsertEntryTrait, ArenaDirectInsertTrait, ArenaInsertTrait, ArenaTrait, ArrayArena,
+    ArrayDirectArena, DirectSlot, DisjointableArenaTrait, NonZeroInxArray, NonZeroInxVec, P0, P1,
+    P5, Ptr, ReallocationError, Recast, compress_recaster,
+};
+
+type Heap = RefusingAllocator<Global>;
+
+fn at(index: usize, generation: u64) -> P0 {
+    P0::_from_raw(
+        NonZeroUsize::MIN.saturating_add(index.saturating_sub(1)),
+        NonZeroU64::MIN.saturating_add(generation.saturating_sub(1)),
+    )
+}
+
+fn put<T: Drop, A: ArenaDirectInsertTrait<P0, T>>(rt: &impl Abort, arena: &mut A, p: P0, value: T) {
+    match arena.direct_insert_within_capacity(p) {
+        Ok(entry) => entry.insert(value),
+        Err(_) => panic!(rt; "there is no place for an entry"),
+    }
+}
+
+#[test]
+fn texts_of_direct_arenas(rt: HostRuntime) -> Result<(), Fail> {
+    let mut arena = ArrayDirectArena::<P0, &str, 4>::new(());
+    reads(&rt, &arena, "{}");
+    put(&rt, &mut arena, at(3, 16), "y");
+    put(&rt, &mut arena, at(1, 9), "x");
+    reads(&rt, &arena, "{P0[1](9): \"x\", P0[3](10): \"y\"}");
+    assert_eq!(rt; arena.swap(at(1, 9), at(3, 16)), Ok(()));
+    reads(&rt, &arena, "{P0[1](9): \"y\", P0[3](10): \"x\"}");
+    assert!(rt; arena.swap(at(1, 9), at(1, 9)).is_err());
+    assert!(rt; arena.swap(at(1, 9), at(3, 9)).is_err());
+    reads(&rt, &arena, "{P0[1](9): \"y\", P0[3](10): \"x\"}");
+    Ok(())
+}
+
+#[test]
+fn pointers_in_a_direct_arena_are_recast(rt: HostRuntime) -> Result<(), Fail> {
+    let mut renaming = ArrayDirectArena::<P0, P0, 4>::new(());
+    put(&rt, &mut renaming, at(4, 7), at(1, 2));
+    put(&rt, &mut renaming, at(2, 5), at(2, 2));
+    let mut arena = ArrayDirectArena::<P0, Option<P0>, 4>::new(());
+    put(&rt, &mut arena, at(1, 3), Some(at(4, 7)));
+    put(&rt, &mut arena, at(2, 3), None);
+    put(&rt, &mut arena, at(4, 3), Some(at(2, 5)));
+    assert_eq!(rt; arena.recast(&renaming), Ok(()));
+    reads(
+        &rt,
+        &arena,
+        "{P0[1](3): Some(P0[1](2)), P0[2](3): None, P0[4](3): Some(P0[2](2))}",
+    );
+    // The new names have no names: the recast stops at the first.
+    assert_eq!(rt; arena.recast(&renaming), Err(at(1, 2)));
+    Ok(())
+}
+
+#[test]
+fn a_compression_answers_its_map(rt: HostRuntime) -> Result<(), Fail> {
+    let mut arena = ArrayArena::<P1, u64, 5>::new(());
+    let a = arena.insert(10)?;
+    let b = arena.insert(20)?;
+    let c = arena.insert(30)?;
+    let d = arena.insert(40)?;
+    assert!(rt; arena.remove(a).is_success());
+    assert!(rt; arena.remove(c).is_success());
+    // The step of the compression starts the generations again.
+    arena.set_generation(NonZeroU8::MAX);
+    let map = compress_recaster::<P1, u64, _, NonZeroInxArray<DirectSlot<P1, P1>, 4>>(
+        &mut arena,
+        false,
+        (),
+    )?;
+    reads(&rt, &map, "{P1[2](2): P1[1](2), P1[4](2): P1[2](2)}");
+    reads(&rt, &arena, "{P1[1](2): 20, P1[2](2): 40}");
+    assert_eq!(rt; arena.generation(), NonZeroU8::MIN.saturating_add(1));
+    let mut names = ((b, d), Some(a));
+    assert_eq!(rt; names.0.recast(&map), Ok(()));
+    assert_eq!(rt; names.1.recast(&map), Err(a));
+    assert_eq!(rt; arena.get(names.0.0), Some(&20));
+    assert_eq!(rt; arena.get(names.0.1), Some(&40));
+
+    // An array of one slot is no map to the second index.
+    let refused = compress_recaster::<P1, u64, _, NonZeroInxArray<DirectSlot<P1, P1>, 1>>(
+        &mut arena,
+        true,
+        (),
+    );
+    match refused {
+        Ok(_) => panic!(rt; "a map without room is accepted"),
+        Err(error) => assert_eq!(rt; error, ReallocationError::BeyondMaxCapacity),
+    }
+    reads(&rt, &arena, "{P1[1](2): 20, P1[2](2): 40}");
+    assert!(rt; arena.remove(names.0.0).is_success());
+    assert!(rt; arena.remove(names.0.1).is_success());
+    let none = compress_recaster::<P1, u64, _, NonZeroInxArray<DirectSlot<P1, P1>, 0>>(
+        &mut arena,
+        false,
+        (),
+    )?;
+    reads(&rt, &none, "{}");
+    Ok(())
+}
+
+#[test]
+fn a_document_is_tidied(rt: HostRuntime) -> Result<(), Fail> {
+    let mut nodes = ArrayArena::<P5, Option<P5>, 4>::new(());
+    let a = nodes.insert(None)?;
+    let b = nodes.insert(None)?;
+    let c = nodes.insert(Some(b))?;
+    nodes.insert(Some(c))?;
+    assert!(rt; nodes.remove(a).is_success());
+    tidy::<P5, Option<P5>, _, NonZeroInxArray<DirectSlot<P5, P5>, 4>>(&mut nodes, ())?;
+    reads(
+        &rt,
+        &nodes,
+        "{P5[1]: None, P5[2]: Some(P5[1]), P5[3]: Some(P5[2])}",
+    );
+    Ok(())
+}
+
+// A map on the heap, whose one request the heap may refuse.
+fn maps<H: Allocator>(rt: &(impl Abort + Alloc), heap: &Heap, alloc: H) {
+    let mut arena = ArrayArena::<P0, u64, 3>::new(());
+    for value in 0..3u64 {
+        assert!(rt; arena.insert(value).is_ok());
+    }
+    assert!(rt; arena.remove(at(1, 2)).is_success());
+    let made = compress_recaster::<P0, u64, _, NonZeroInxVec<DirectSlot<P0, P0>, H>>(
+        &mut arena, false, alloc,
+    );
+    assert_eq!(rt; made.is_err(), heap.has_refused());
+    match made {
+        Ok(map) => {
+            reads(rt, &map, "{P0[2](2): P0[1](4), P0[3](2): P0[2](4)}");
+            assert_eq!(rt; map.capacity(), 3);
+            reads(rt, &arena, "{P0[1](4): 1, P0[2](4): 2}");
+        }
+        Err(error) => {
+            assert_eq!(rt; error, ReallocationError::AllocError);
+            reads(rt, &arena, "{P0[2](2): 1, P0[3](2): 2}");
+        }
+    }
+}
+
+#[test]
+fn each_request_of_a_map(rt: HostRuntime) -> Result<(), Fail> {
+    for nth in 1..3u64 {
+        let heap = RefusingAllocator::new(rt.alloc(), nth);
+        maps(&rt, &heap, &heap);
+        assert_eq!(rt; heap.has_refused(), nth == 1);
+    }
+    Ok(())
+}
