@@ -1,19 +1,15 @@
 -- Links that are connected, parted, exchanged and taken out.
-use Rattle.std.proofs.Common.{◌≡◌, ◌≢◌, ◌==◌, if◌then◌else◌, ℕ, ◌+◌, ◌-◌, ◌∷◌, length, Option, Some, None, IsSome, is_some, option_map, refl, sym, ap, subst, ◌∙◌, inl, inr, arith}
+use Rattle.std.proofs.Common.{◌≡◌, ℕ, Option, Some, None, IsSome, option_map, refl, sym, ap, subst, ◌∙◌, inl, inr}
 use Rattle.std.proofs.lemmas.Bool.Decides.{eqb_tells}
-use Rattle.triple_arena_ptr.specs.Generation.{next_generation}
-use Rattle.triple_arena.specs.Entries.{value_if, without}
-use Rattle.triple_arena.specs.Content.{Content, entry_at, get, live_count, removed, IsWellFormed}
-use Rattle.triple_arena.specs.RemovalLaws.{formed-removed, entry-removed, live-removed, slots-removed, counter-removed, free-removed, room-removed}
+use Rattle.triple_arena.specs.Content.{Content, entry_at, IsWellFormed}
 use Rattle.triple_arena_chain.specs.declared.link.IndexLink.{IndexLink}
-use Rattle.triple_arena_chain.specs.Chains.{Ends, with_next, with_prev, with_next_if, with_prev_if, linked, unlinked, exchanged, dropped, bridged, taken_from, taken_out, IsAgreed, next_at, prev_at, next_in, prev_in}
+use Rattle.triple_arena_chain.specs.Chains.{Ends, with_next, with_prev, with_next_if, with_prev_if, linked, unlinked, exchanged, IsAgreed, next_at, prev_at, next_in, prev_in}
 use Rattle.triple_arena_chain.specs.declared.place.Place.{Place}
 use Rattle.triple_arena_chain.specs.Kinds.{at_bridge}
 use Rattle.triple_arena_chain.proofs.KindLemmas.{found}
-use Rattle.triple_arena_chain.specs.Links.{prev_next_of, valued, values_in, entry_ends, ends_in, ends_found, link_ends, with_link, with_next_of, with_prev_of, IsKept, IsChained, IsRelinked, IsTakenOut}
-use Rattle.triple_arena_chain.specs.LinkLaws.{entry-with_link, live-with_link, live-with_next_of, ends-with_next_of, ends-with_prev_of, values-with_next_of, values-with_prev_of, kept-with_next_of, kept-with_prev_of, formed-with_next_of, formed-with_prev_of}
+use Rattle.triple_arena_chain.specs.Links.{entry_ends, ends_in, ends_found, with_next_of, with_prev_of, IsChained, IsRelinked}
+use Rattle.triple_arena_chain.specs.LinkLaws.{live-with_next_of, ends-with_next_of, ends-with_prev_of, values-with_next_of, values-with_prev_of, kept-with_next_of, kept-with_prev_of, formed-with_next_of, formed-with_prev_of}
 use Rattle.triple_arena_chain.proofs.AgreedLemmas.{IsAgreed-linked, IsAgreed-unlinked, valid_next, valid_prev}
-use Rattle.triple_arena_chain.proofs.TakeOutLemmas.{IsAgreed-taken}
 use Rattle.triple_arena_chain.proofs.ExchangeLemmas.{exchanged_is, exchanged_self, IsAgreed-exchanged}
 use Rattle.triple_arena_chain.proofs.InsertionLemmas.{IsAgreed-same, with_next_if-same, with_prev_if-same, kept-after}
 
@@ -232,11 +228,6 @@ module _ {I T : Type 0} (number : I → ℕ) where
   next_live_after_two c d1 d2 at1 next1 at2 next2 p gp n b chained is first second =
       subst (λ x. IsSome (entry_at x n)) (sym second)
       (live-with_next_of number d1 at2 next2 n (next_live_after c d1 at1 next1 p gp n b chained is first))
-
-  pub live-with_prev_of : (c : Content (IndexLink I T)) (at prev : Option I) (k : ℕ) → IsSome (entry_at c k)
-      → IsSome (entry_at (with_prev_of number c at prev) k)
-  live-with_prev_of c None prev k some = some
-  live-with_prev_of c (Some i) prev k some = live-with_link c (number i) (λ link. record link { prev = prev }) k some
 
   pub exchanged_at : (c d1 d2 d3 d4 : Content (IndexLink I T)) (i j s t : I) (p gp q gq : ℕ) (b b' : Option ℕ) → IsChained number c → number i ≡ p
       → number j ≡ q → ends_found number c p gp ≡ Some (b, Some (number s)) → ends_found number c q gq ≡ Some (b', Some (number t))

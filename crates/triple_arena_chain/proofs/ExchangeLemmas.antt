@@ -1,6 +1,5 @@
 -- An exchange of two nexts is two cuts and two joins.
-use Rattle.std.proofs.Common.{◌≡◌, ◌≢◌, ℕ, Bool, Option, Some, None, refl, sym, ap, subst, ◌∙◌, inl, inr, ◌⊎◌, cond, eqb, true, false}
-use Rattle.std.proofs.lemmas.Bool.{eq-eqb, ne_eqb}
+use Rattle.std.proofs.Common.{◌≡◌, ◌≢◌, ℕ, Bool, Option, Some, None, refl, sym, ap, ◌∙◌, inl, inr, cond, eqb, true, false}
 use Rattle.std.proofs.lemmas.Bool.Decides.{eqb_tells}
 use Rattle.triple_arena_chain.specs.Chains.{Ends, with_next, with_prev, renext, reprev, linked, unlinked, exchanged, IsAgreed, next_at, prev_at, next_in, prev_in}
 use Rattle.triple_arena_chain.proofs.AgreedLemmas.{next_at_p, next_at_other, prev_at_q, prev_at_other, found_after, IsAgreed-linked, IsAgreed-unlinked, valid_next, valid_prev}

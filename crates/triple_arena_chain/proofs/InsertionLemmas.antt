@@ -1,6 +1,6 @@
 -- One more link at the place that a kind asks for.
-use Rattle.std.proofs.Common.{◌≡◌, ◌≢◌, ◌==◌, if◌then◌else◌, ℕ, ◌<◌, length, max, Option, Some, None, IsSome, is_some, option_map, refl, sym, ap, subst, ◌∙◌, inl, inr, ◌⊎◌}
-use Rattle.std.proofs.lemmas.Bool.{eq-eqb, ne_eqb, true≢false}
+use Rattle.std.proofs.Common.{◌≡◌, ◌≢◌, ℕ, ◌<◌, Option, Some, None, option_map, refl, sym, ap, ◌∙◌, inl, inr}
+use Rattle.std.proofs.lemmas.Bool.{eq-eqb, ne_eqb}
 use Rattle.std.proofs.lemmas.Bool.Decides.{eqb_tells}
 use Rattle.triple_arena.specs.Entries.{with_entry}
 use Rattle.triple_arena.specs.Content.{Content, entry_at, live_count, next_index, arena_capacity, inserted, IsWellFormed}
@@ -8,9 +8,9 @@ use Rattle.triple_arena.specs.InsertionLaws.{next-vacant, entry-inserted, live-i
 use Rattle.triple_arena_chain.specs.declared.link.IndexLink.{IndexLink}
 use Rattle.triple_arena_chain.specs.declared.place.Place.{Place}
 use Rattle.triple_arena_chain.specs.declared.place.Place.TheVariants.{Between, OwnRing}
-use Rattle.triple_arena_chain.specs.Chains.{Ends, with_next_if, with_prev_if, added, placed, put_in, IsGap, IsPlace, IsAgreed, next_at, prev_at, next_in, prev_in}
+use Rattle.triple_arena_chain.specs.Chains.{Ends, with_next_if, with_prev_if, added, put_in, IsPlace, IsAgreed, next_at, prev_at, next_in, prev_in}
 use Rattle.triple_arena_chain.specs.Kinds.{place_by}
-use Rattle.triple_arena_chain.specs.Links.{valued, values_in, entry_ends, ends_in, link_ends, link_for, joined_to, with_next_of, with_prev_of, IsKept, IsChained, IsPlaced}
+use Rattle.triple_arena_chain.specs.Links.{valued, values_in, entry_ends, ends_in, link_ends, link_for, joined_to, with_next_of, IsKept, IsChained, IsPlaced}
 use Rattle.triple_arena_chain.specs.LinkLaws.{ends-with_next_of, ends-with_prev_of, values-with_next_of, values-with_prev_of, kept-with_next_of, kept-with_prev_of, formed-with_next_of, formed-with_prev_of}
 use Rattle.triple_arena_chain.proofs.PlaceLemmas.{IsAgreed-placed}
 

@@ -1,8 +1,8 @@
 -- Taking an index out of its list keeps the two ways agreed.
-use Rattle.std.proofs.Common.{◌≡◌, ◌≢◌, ℕ, Option, Some, None, refl, sym, ap, subst, ◌∙◌, inl, inr, ◌⊎◌, eqb}
-use Rattle.std.proofs.lemmas.Bool.{eq-eqb, ne_eqb}
+use Rattle.std.proofs.Common.{◌≡◌, ◌≢◌, ℕ, Option, Some, None, refl, sym, ap, subst, ◌∙◌, inl, inr}
+use Rattle.std.proofs.lemmas.Bool.{ne_eqb}
 use Rattle.std.proofs.lemmas.Bool.Decides.{eqb_tells}
-use Rattle.triple_arena_chain.specs.Chains.{Ends, with_next, with_prev, renext, reprev, with_next_if, with_prev_if, dropped, bridged, IsAgreed, next_at, prev_at, next_in, prev_in}
+use Rattle.triple_arena_chain.specs.Chains.{Ends, with_next_if, with_prev_if, dropped, bridged, IsAgreed, next_at, prev_at, next_in, prev_in}
 use Rattle.triple_arena_chain.proofs.AgreedLemmas.{valid_next, valid_prev}
 use Rattle.triple_arena_chain.proofs.PlaceLemmas.{is_it, next-with_prev_if, prev-with_next_if, next-hit, next-miss, prev-hit, prev-miss, valid-with_next_if}
 

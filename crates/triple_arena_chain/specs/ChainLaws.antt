@@ -1,7 +1,7 @@
 -- Each live index stands in exactly one chain.
 use Rattle.std.proofs.Common.{◌≡◌, ◌≢◌, ℕ, zero, suc, ◌+◌, ◌-◌, ◌<◌, ◌≤◌, List, [], ◌∷◌, ◌++◌, length, Option, Some, None, IsSome, is_some, refl, sym, ap, subst, ◌∙◌, arith, true, false, inl, inr, ◌⊎◌, append_assoc, length-append}
 use Rattle.std.proofs.lemmas.Bool.Decides.{eqb_tells}
-use Rattle.triple_arena_chain.specs.Chains.{Ends, next_in, prev_in, next_at, prev_at, IsAgreed, first_or, last_or, Stands, Off, Apart, IsLinear, IsRing, Standing, linear, ring}
+use Rattle.triple_arena_chain.specs.Chains.{Ends, next_in, prev_in, next_at, prev_at, IsAgreed, first_or, last_or, Stands, Off, Apart, Standing, linear, ring}
 
 pub first_or-append : (xs ys : List ℕ) (a : Option ℕ) → first_or (xs ++ ys) a ≡ first_or xs (first_or ys a)
 first_or-append [] ys a = refl
@@ -241,6 +241,7 @@ module _ (e : ℕ → Option Ends) where
         of_live : (o : Option Ends) → IsSome o → o ≡ Some (prev_in o, next_in o)
         of_live None h = absurd (let no : false ≡ true = h in cc)
         of_live (Some v) h = refl
+
         by_onward : Onward (prev_at e i) i → Standing e i
         by_onward (to_end ys s apart all) =
             let less = few n (i ∷ ys) apart all in

@@ -12,11 +12,7 @@ pub(crate) fn set_next<
     P: Ptr,
     T: Drop,
     S: NonZeroInxGenericStack<ArenaSlot<P, LinkNoGen<P, T>>> + Drop,
->(
-    arena: &mut Arena<P, LinkNoGen<P, T>, S>,
-    at: Option<P::Inx>,
-    next: Option<P::Inx>,
-)
+>(arena: &mut Arena<P, LinkNoGen<P, T>, S>, at: Option<P::Inx>, next: Option<P::Inx>)
     requires { IfSome at (λ i. IsSome (entry_at arena.old (P.Inx.number i))) }
     ensures { arena.new ≡ with_next_of P.Inx.number arena.old at next }
 {
@@ -30,11 +26,7 @@ pub(crate) fn set_prev<
     P: Ptr,
     T: Drop,
     S: NonZeroInxGenericStack<ArenaSlot<P, LinkNoGen<P, T>>> + Drop,
->(
-    arena: &mut Arena<P, LinkNoGen<P, T>, S>,
-    at: Option<P::Inx>,
-    prev: Option<P::Inx>,
-)
+>(arena: &mut Arena<P, LinkNoGen<P, T>, S>, at: Option<P::Inx>, prev: Option<P::Inx>)
     requires { IfSome at (λ i. IsSome (entry_at arena.old (P.Inx.number i))) }
     ensures { arena.new ≡ with_prev_of P.Inx.number arena.old at prev }
 {
@@ -49,11 +41,7 @@ pub(crate) fn join<
     P: Ptr,
     T: Drop,
     S: NonZeroInxGenericStack<ArenaSlot<P, LinkNoGen<P, T>>> + Drop,
->(
-    arena: &mut Arena<P, LinkNoGen<P, T>, S>,
-    place: Place<P::Inx>,
-    i: P::Inx,
-)
+>(arena: &mut Arena<P, LinkNoGen<P, T>, S>, place: Place<P::Inx>, i: P::Inx)
     requires { AreNeighborsLive P.Inx.number arena.old place }
     ensures { arena.new ≡ joined_to P.Inx.number arena.old place i }
 {

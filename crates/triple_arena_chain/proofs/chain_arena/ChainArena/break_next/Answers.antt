@@ -1,5 +1,5 @@
 use Rattle.std.proofs.Common.{rules, ◌≡◌, ℕ, Some, None, option_map, sym, ap, ◌∙◌}
-use Rattle.triple_arena_chain.specs.Chains.{Ends, next_at, unlinked}
+use Rattle.triple_arena_chain.specs.Chains.{next_at, unlinked}
 use Rattle.triple_arena_chain.specs.Links.{ends_in, ends_found, with_next_of}
 use Rattle.triple_arena_chain.proofs.ConnectionLemmas.{next_live_after, parted_next, next_found, Relinked}
 use Rattle.triple_arena_chain.proofs.chain_arena.ChainArena.break_next.Given.{Over}

@@ -1,7 +1,7 @@
 use Rattle.std.proofs.Common.{rules, ◌≡◌, ℕ, Some, None, IsSome, option_map, sym, ap, ◌∙◌}
 use Rattle.triple_arena.specs.Content.{entry_at}
-use Rattle.triple_arena_chain.specs.Chains.{Ends, prev_at, unlinked}
-use Rattle.triple_arena_chain.specs.Links.{ends_in, ends_found, with_next_of}
+use Rattle.triple_arena_chain.specs.Chains.{prev_at, unlinked}
+use Rattle.triple_arena_chain.specs.Links.{ends_in, with_next_of}
 use Rattle.triple_arena_chain.proofs.ConnectionLemmas.{prev_live, found_live_after, parted_prev, prev_found, Relinked}
 use Rattle.triple_arena_chain.proofs.chain_arena.ChainArena.break_prev.Given.{Over}
 use Rattle.triple_arena_chain.proofs.chain_arena.ChainArena.break_prev.Goals as goal
