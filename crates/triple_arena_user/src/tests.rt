@@ -3,6 +3,7 @@
 mod copies;
 mod drains;
 mod entries;
+mod places;
 mod recasters;
 mod refusals;
 mod texts;

@@ -142,9 +142,10 @@ fn drops_the_free_end<P: Ptr, S: NonZeroInxGenericStack<ArenaSlot<P, u64>> + Dro
     insert(rt, arena, 12);
     let d = insert(rt, arena, 13);
     let e = insert(rt, arena, 14);
-    for p in [b, d, a, e] {
-        assert!(rt; arena.remove(p).is_success());
-    }
+    assert!(rt; arena.remove(b).is_success());
+    assert!(rt; arena.remove(d).is_success());
+    assert!(rt; arena.remove(a).is_success());
+    assert!(rt; arena.remove(e).is_success());
     arena.remove_free_end_slots();
     for text in texts {
         shows(rt, insert(rt, arena, 15), *text);

@@ -1,12 +1,12 @@
 //! Drains, taken whole and dropped early, and searches, at concrete arenas.
+use crate::tests::places::put;
 use crate::{find_equal, find_first, raise_each};
 use std::alloc::Global;
 use std::num::{NonZeroU8, NonZeroU64, NonZeroUsize};
 use std::process::Abort;
 use std::test::Fail;
 use triple_arena::{
-    Arena, ArenaDirectInsertEntryTrait, ArenaDirectInsertTrait, ArenaInsertTrait, ArenaSlot,
-    ArenaTrait, ArrayArena, DirectArena, DirectInsertionError, DirectSlot, HeapArena,
+    Arena, ArenaInsertTrait, ArenaSlot, ArenaTrait, ArrayArena, DirectInsertionError, HeapArena,
     HeapDirectArena, InvalidationOption, NonZeroInxGenericStack, P0, P1, P5, Ptr, PtrGen, PtrInx,
     ReallocationError,
 };
@@ -129,20 +129,6 @@ fn fill_direct(arena: &mut InVec) -> Result<[(P0, u64); 3], DirectInsertionError
     put(arena, first, 10)?;
     put(arena, second, 30)?;
     Ok([(first, 10), (second, 30), (third, 60)])
-}
-
-fn put<P: Ptr, S: NonZeroInxGenericStack<DirectSlot<P, u64>> + Drop>(
-    arena: &mut DirectArena<P, u64, S>,
-    p: P,
-    value: u64,
-) -> Result<(), DirectInsertionError> {
-    match arena.direct_insert_within_capacity(p) {
-        Ok(place) => {
-            place.insert(value);
-            Ok(())
-        }
-        Err(e) => Err(e),
-    }
 }
 
 fn at(index: usize) -> NonZeroUsize {

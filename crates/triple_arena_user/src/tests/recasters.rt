@@ -1,5 +1,6 @@
 //! Direct arenas and the map of a compression at concrete arenas.
 use crate::documents::tidy;
+use crate::tests::places::put;
 use crate::tests::texts::reads;
 use refusing_allocator::RefusingAllocator;
 use std::alloc::{Allocator, Global};
@@ -7,9 +8,8 @@ use std::num::{NonZeroU8, NonZeroU64, NonZeroUsize};
 use std::process::Abort;
 use std::test::Fail;
 use triple_arena::{
-    ArenaDirectInsertEntryTrait, ArenaDirectInsertTrait, ArenaInsertTrait, ArenaTrait, ArrayArena,
-    ArrayDirectArena, DirectSlot, DisjointableArenaTrait, NonZeroInxArray, NonZeroInxVec, P0, P1,
-    P5, Ptr, ReallocationError, Recast, compress_recaster,
+    ArenaInsertTrait, ArenaTrait, ArrayArena, ArrayDirectArena, DirectSlot, DisjointableArenaTrait,
+    NonZeroInxArray, NonZeroInxVec, P0, P1, P5, Ptr, ReallocationError, Recast, compress_recaster,
 };
 
 type Heap = RefusingAllocator<Global>;
@@ -21,19 +21,12 @@ fn at(index: usize, generation: u64) -> P0 {
     )
 }
 
-fn put<T: Drop, A: ArenaDirectInsertTrait<P0, T>>(rt: &impl Abort, arena: &mut A, p: P0, value: T) {
-    match arena.direct_insert_within_capacity(p) {
-        Ok(entry) => entry.insert(value),
-        Err(_) => panic!(rt; "there is no place for an entry"),
-    }
-}
-
 #[test]
 fn texts_of_direct_arenas(rt: HostRuntime) -> Result<(), Fail> {
     let mut arena = ArrayDirectArena::<P0, &str, 4>::new(());
     reads(&rt, &arena, "{}");
-    put(&rt, &mut arena, at(3, 16), "y");
-    put(&rt, &mut arena, at(1, 9), "x");
+    assert_eq!(rt; put(&mut arena, at(3, 16), "y"), Ok(()));
+    assert_eq!(rt; put(&mut arena, at(1, 9), "x"), Ok(()));
     reads(&rt, &arena, "{P0[1](9): \"x\", P0[3](10): \"y\"}");
     assert_eq!(rt; arena.swap(at(1, 9), at(3, 16)), Ok(()));
     reads(&rt, &arena, "{P0[1](9): \"y\", P0[3](10): \"x\"}");
@@ -46,12 +39,12 @@ fn texts_of_direct_arenas(rt: HostRuntime) -> Result<(), Fail> {
 #[test]
 fn pointers_in_a_direct_arena_are_recast(rt: HostRuntime) -> Result<(), Fail> {
     let mut renaming = ArrayDirectArena::<P0, P0, 4>::new(());
-    put(&rt, &mut renaming, at(4, 7), at(1, 2));
-    put(&rt, &mut renaming, at(2, 5), at(2, 2));
+    assert_eq!(rt; put(&mut renaming, at(4, 7), at(1, 2)), Ok(()));
+    assert_eq!(rt; put(&mut renaming, at(2, 5), at(2, 2)), Ok(()));
     let mut arena = ArrayDirectArena::<P0, Option<P0>, 4>::new(());
-    put(&rt, &mut arena, at(1, 3), Some(at(4, 7)));
-    put(&rt, &mut arena, at(2, 3), None);
-    put(&rt, &mut arena, at(4, 3), Some(at(2, 5)));
+    assert_eq!(rt; put(&mut arena, at(1, 3), Some(at(4, 7))), Ok(()));
+    assert_eq!(rt; put(&mut arena, at(2, 3), None), Ok(()));
+    assert_eq!(rt; put(&mut arena, at(4, 3), Some(at(2, 5))), Ok(()));
     assert_eq!(rt; arena.recast(&renaming), Ok(()));
     reads(
         &rt,

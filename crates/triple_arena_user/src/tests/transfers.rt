@@ -1,4 +1,5 @@
 //! Transfers at concrete arenas, and with each request for memory refused in turn.
+use crate::tests::places::put;
 use crate::tests::texts::reads;
 use refusing_allocator::RefusingAllocator;
 use std::alloc::{Allocator, Global};
@@ -6,9 +7,8 @@ use std::num::{NonZeroU8, NonZeroU64, NonZeroUsize};
 use std::process::Abort;
 use std::test::Fail;
 use triple_arena::{
-    ArenaDirectInsertEntryTrait, ArenaDirectInsertTrait, ArenaInsertTrait, ArenaTrait,
-    ArenaTransferTrait, ArrayArena, ArrayDirectArena, HeapArena, HeapDirectArena, P0, P1, P5, Ptr,
-    ReallocationError,
+    ArenaInsertTrait, ArenaTrait, ArenaTransferTrait, ArrayArena, ArrayDirectArena, HeapArena,
+    HeapDirectArena, P0, P1, P5, Ptr, ReallocationError,
 };
 
 type Heap = RefusingAllocator<Global>;
@@ -27,19 +27,12 @@ fn five(rt: &impl Abort) -> ArrayArena<P1, u64, 5> {
     source
 }
 
-// Stores a value in a direct arena.
-fn put<T: Drop, A: ArenaDirectInsertTrait<P0, T>>(
-    rt: &impl Abort,
-    arena: &mut A,
-    index: usize,
-    generation: NonZeroU64,
-    value: T,
-) {
-    let i = NonZeroUsize::MIN.saturating_add(index.saturating_sub(1));
-    match arena.direct_insert_within_capacity(P0::_from_raw(i, generation)) {
-        Ok(entry) => entry.insert(value),
-        Err(_) => panic!(rt; "there is no place for an entry"),
-    }
+// The pointer of this index and generation.
+fn at(index: usize, generation: NonZeroU64) -> P0 {
+    P0::_from_raw(
+        NonZeroUsize::MIN.saturating_add(index.saturating_sub(1)),
+        generation,
+    )
 }
 
 #[test]
@@ -83,8 +76,8 @@ fn an_arena_gives_its_entries_to_another(rt: HostRuntime) -> Result<(), Fail> {
 #[test]
 fn a_direct_arena_gives_its_entries_to_others(rt: HostRuntime) -> Result<(), Fail> {
     let mut source = ArrayDirectArena::<P0, u64, 4>::new(());
-    put(&rt, &mut source, 4, NonZeroU64::MAX, 20);
-    put(&rt, &mut source, 1, seventh(), 10);
+    assert_eq!(rt; put(&mut source, at(4, NonZeroU64::MAX), 20), Ok(()));
+    assert_eq!(rt; put(&mut source, at(1, seventh()), 10), Ok(()));
     let mut direct = ArrayDirectArena::<P5, (u64, bool), 2>::new(());
     let moved = direct.transfer_reallocating((), &mut source, |_, item, _| item.overflowing());
     assert_eq!(rt; moved, Ok(()));
@@ -112,7 +105,7 @@ fn more_entries_than_the_target_can_have(rt: HostRuntime) -> Result<(), Fail> {
     assert_eq!(rt; moved, Err(ReallocationError::BeyondMaxCapacity));
     reads(&rt, &target, "{P0[1](2): 77}");
     let mut direct = ArrayDirectArena::<P0, u64, 4>::new(());
-    put(&rt, &mut direct, 3, seventh(), 77);
+    assert_eq!(rt; put(&mut direct, at(3, seventh()), 77), Ok(()));
     let moved = direct.transfer_reallocating(seventh(), &mut source, |_, item, _| item.allow());
     assert_eq!(rt; moved, Err(ReallocationError::BeyondMaxCapacity));
     reads(&rt, &direct, "{P0[3](7): 77}");
@@ -176,7 +169,7 @@ fn into_a_direct_arena<H: Allocator>(rt: &(impl Abort + Alloc), heap: &Heap, all
         assert!(rt; heap.has_refused());
         return;
     };
-    put(rt, &mut target, 2, seventh(), 77);
+    assert_eq!(rt; put(&mut target, at(2, seventh()), 77), Ok(()));
     let had_refused = heap.has_refused();
     let mut source = five(rt);
     let moved = target.transfer_reallocating(seventh(), &mut source, |_, item, _| item.allow());
