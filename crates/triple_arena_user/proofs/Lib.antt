@@ -1,1 +1,2 @@
 mod DocumentLemmas
+pub mod MirrorLemmas

@@ -16,7 +16,7 @@ pub use each::raise_each;
 pub use mirrors::reflect;
 pub use nodes::{Node, Nodes};
 pub use searches::{find_equal, find_first};
-pub use sums::{direct_sum_of, sum_of};
+pub use sums::{direct_sum_of, sum_of, sum_of_entries};
 pub use values::{map_values, raise, sum_up};
 
 #[cfg(test)]

@@ -30,3 +30,16 @@ pub fn direct_sum_of<P: Ptr, S: NonZeroInxGenericStack<DirectSlot<P, u64>>>(
     }
     total
 }
+
+/// The sum of the values, each beside its pointer. Past the greatest number it goes on from 0.
+pub fn sum_of_entries<P: Ptr, S: NonZeroInxGenericStack<ArenaSlot<P, u64>>>(
+    arena: &Arena<P, u64, S>,
+) -> u64
+    ensures { result ≡ sum (list_map value_of (live_entries arena.now)) % 2 ^ 64 }
+{
+    let mut total = 0u64;
+    for (_, value) in arena.iter() {
+        total = total.wrapping_add(*value);
+    }
+    total
+}
