@@ -26,6 +26,12 @@ last_of_push o [] x = refl
 last_of_push o (y ∷ xs) x = last_of_push (Some y) xs x
 
 module _ {T : Type 0} where
+  -- the last of a list that has one entry more
+  pub last_pushed : (entries : List (ℕ × (ℕ × T))) (e : ℕ × (ℕ × T)) → last_listed (entries ++ e ∷ []) ≡ index_of e
+  last_pushed entries e =
+      ap (λ l. unwrap_or (last_or None l) 0) (map_push index_of entries e)
+      ∙ ap (λ o. unwrap_or o 0) (last_of_push None (map index_of entries) (index_of e))
+
   -- one more free slot at the end
   pub listed-push_free : (n : ℕ) (xs : List (Option (ℕ × T))) → listed_from n (xs ++ None ∷ []) ≡ listed_from n xs
   listed-push_free n [] = refl
@@ -36,10 +42,7 @@ module _ {T : Type 0} where
   pub last_listed-push : (xs : List (Option (ℕ × T))) (e : ℕ × T) → last_listed (listed_from 1 (xs ++ Some e ∷ [])) ≡ length xs + 1
   last_listed-push xs e =
       let at : 1 + length xs ≡ length xs + 1 = omega arith in
-      ap last_listed (listed-push 1 xs e)
-      ∙ ap (λ l. unwrap_or (last_or None l) 0) (map_push index_of (listed_from 1 xs) (1 + length xs, e))
-      ∙ ap (λ o. unwrap_or o 0) (last_of_push None (map index_of (listed_from 1 xs)) (1 + length xs))
-      ∙ at
+      ap last_listed (listed-push 1 xs e) ∙ last_pushed (listed_from 1 xs) (1 + length xs, e) ∙ at
 
 module _ {E U : Type 0} (shown : E → Option (ℕ × U)) where
   unread : {X : Type 0} (read : X → ℕ × U) (r : Option X) → is_some r ≡ false → option_map read r ≡ None

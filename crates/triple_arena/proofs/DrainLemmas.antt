@@ -11,6 +11,7 @@ use Rattle.triple_arena.specs.Changes.{IsRemoved}
 use Rattle.triple_arena.specs.Entries.{without}
 use Rattle.triple_arena.specs.Content.{Content, entry_at, live_count, some_counter}
 use Rattle.triple_arena.specs.LiveEntries.{listed_from, live_entries, live_entries-length}
+use Rattle.triple_arena.specs.CopyLaws.{listed-none}
 use Rattle.triple_arena.specs.Drains.{removals, removal_of, drained, DrainKeeps, DrainKeepsAlong}
 use Rattle.triple_arena.specs.declared.arena.drain.Drain.{Drain}
 
@@ -28,10 +29,6 @@ module _ {T : Type 0} where
   listed_same n (Some e ∷ xs) [] same = absurd (let none = same 0 in cc)
   listed_same n (None ∷ xs) (y ∷ ys) same = rw (same 0) (listed_same (n + 1) xs ys (λ k. same (suc k)))
   listed_same n (Some e ∷ xs) (y ∷ ys) same = rw (same 0) (ap (λ l. (n, e) ∷ l) (listed_same (n + 1) xs ys (λ k. same (suc k))))
-
-  -- nothing at any place is listed as nothing
-  pub listed_none : (n : ℕ) (xs : List (Option (ℕ × T))) → ((k : ℕ) → get_or xs k None ≡ None) → listed_from n xs ≡ []
-  listed_none n xs none = listed_same n [] xs none
 
   -- the first entry, and the others once it is gone
   pub listed_first : (n k : ℕ) (e : ℕ × T) (xs ys : List (Option (ℕ × T))) → ((j : ℕ) → j < k → get_or xs j None ≡ None) → get_or xs k None ≡ Some e
@@ -58,7 +55,7 @@ module _ {T : Type 0} where
 
   -- where no index is live, no entry is listed
   pub none_left : (c : Content T) → ((j : ℕ) → entry_at c j ≡ None) → live_entries c ≡ []
-  none_left c none = listed_none 1 c.slots (λ k. none (suc k))
+  none_left c none = listed-none 1 c.slots (λ k. none (suc k))
 
   -- the entry at the first live index comes first, and then those that are left without it
   pub first_taken : (old new : Content T) (i : ℕ) (e : ℕ × T) → ((j : ℕ) → j < i → entry_at old j ≡ None) → entry_at old i ≡ Some e

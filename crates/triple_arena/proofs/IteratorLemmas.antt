@@ -6,7 +6,8 @@ use Rattle.std.proofs.lemmas.Option.{get_or_from_slice_get}
 use Rattle.std.specs.Option.{option_map}
 use Rattle.triple_arena.specs.Iterators.{AreVacant}
 use Rattle.triple_arena.specs.LiveEntries.{listed_from}
-use Rattle.triple_arena.proofs.DrainLemmas.{listed_first, listed_none}
+use Rattle.triple_arena.specs.CopyLaws.{listed-none}
+use Rattle.triple_arena.proofs.DrainLemmas.{listed_first}
 
 -- a write of one place leaves the number of items
 pub as_long : {A B : Type 0} (f : A → B) (items items' : List A) (k : ℕ) (y : B) → map f items' ≡ set (map f items) k y → length items' ≡ length items
@@ -23,7 +24,7 @@ module _ {T : Type 0} where
 
   -- where the slots are passed, nothing is left
   pub all_vacant : (n : ℕ) (xs : List (Option (ℕ × T))) → AreVacant n xs → length xs ≤ n → listed_from 1 xs ≡ []
-  all_vacant n xs vacant past = listed_none 1 xs each
+  all_vacant n xs vacant past = listed-none 1 xs each
     where
       beyond : (ys : List (Option (ℕ × T))) (k : ℕ) → length ys ≤ k → get_or ys k None ≡ None
       beyond [] k past = refl

@@ -1,8 +1,13 @@
 -- What a compression that notes the new pointers has done, and what it leaves.
 use Rattle.std.proofs.Common.{◌≡◌, ℕ, Bool, inl, inr, zero, suc, ◌+◌, ◌-◌, ◌<◌, ◌≤◌, List, [], ◌∷◌, ◌++◌, map, length, get_or, set, replicate, Option, Some, None, slice_get, refl, sym, ap, ◌∙◌, arith, append_assoc, append-nil}
-use Rattle.std.specs.List.{FoldsTo}
+use Rattle.std.specs.Prelude.{unwrap_or}
+use Rattle.std.specs.List.{FoldsTo, last_or}
+use Rattle.triple_arena_stack.specs.Room.{Room}
+use Rattle.triple_arena.specs.Copy.{last_listed, spread, directly_copied}
+use Rattle.triple_arena.specs.CopyLaws.{last_listed-is}
+use Rattle.triple_arena.proofs.CopyLemmas.{last_pushed, spread_listed, room_enough}
 use Rattle.triple_arena.specs.Iterators.{pointer_of}
-use Rattle.triple_arena.specs.LiveEntries.{listed_from}
+use Rattle.triple_arena.specs.LiveEntries.{listed_from, live_entries as live_entries_of}
 use Rattle.std.proofs.lemmas.Bool.Decides.{leb_tells}
 use Rattle.triple_arena.specs.Content.{Content, last_index}
 use Rattle.triple_arena.specs.FreeListLaws.{last_index-is}
@@ -61,6 +66,34 @@ module _ {X : Type 0} where
       vacant : (j : ℕ) → j ≡ at + 1 → entry_at d j ≡ None
       vacant zero same = absurd (omega arith)
       vacant (suc k) same = nothing_past d.slots k (omega arith)
+
+  -- the slots end at the last entry where there is none
+  pub ends_none : {xs : List (Option (ℕ × X))} → xs ≡ [] → length xs ≡ last_listed (listed_from 1 xs)
+  ends_none none = rw none refl
+
+  -- and after an insertion past the others
+  pub ends_more : (entries : List (ℕ × (ℕ × X))) (e : ℕ × (ℕ × X)) (slots : List (Option (ℕ × X))) → listed_from 1 slots ≡ entries ++ e ∷ []
+      → length slots ≡ e.0 → length slots ≡ last_listed (listed_from 1 slots)
+  ends_more entries e slots more long = long ∙ sym (ap last_listed more ∙ last_pushed entries e)
+
+  indexes_of : (entries : List (ℕ × (ℕ × X))) → map (λ (p : ℕ × ℕ). p.0) (map pointer_of entries) ≡ map index_of entries
+  indexes_of [] = refl
+  indexes_of (e ∷ entries) = ap (λ l. e.0 ∷ l) (indexes_of entries)
+
+-- entries with the same pointers end at the same index
+last_same : {X Y : Type 0} (xs : List (ℕ × (ℕ × X))) (ys : List (ℕ × (ℕ × Y))) → map pointer_of xs ≡ map pointer_of ys → last_listed xs ≡ last_listed ys
+last_same xs ys same =
+    ap (λ l. unwrap_or (last_or None l) 0) (sym (indexes_of xs) ∙ ap (map (λ (p : ℕ × ℕ). p.0)) same ∙ indexes_of ys)
+
+-- slots that end at their last entry are a copy of it, in a room that it fits in
+pub exact_map : {P T : Type 0} (c : Content T) (d d' : DirectContent P) → map pointer_of (live_entries d') ≡ map pointer_of (live_entries_of c)
+    → length d'.slots ≡ last_listed (live_entries d') → d'.room ≡ d.room → last_index c ≤ arena_capacity d
+    → d' ≡ directly_copied d (live_entries d')
+exact_map {P} c d d' from ends kept fits =
+    let last = last_same (live_entries d') (live_entries_of c) from ∙ last_listed-is c in
+    let stays = room_enough (last_listed (live_entries d')) d.room (omega (arith, last, fits)) in
+    let shape : List (Option (ℕ × P)) → Room → DirectContent P = λ slots room. record { slots = slots; room = room } in
+    ap (λ slots. shape slots d'.room) (sym (spread_listed d'.slots ends)) ∙ ap (shape (spread 1 (live_entries d'))) (kept ∙ sym stays)
 
 -- a new pointer is noted under an old one
 pub noted_one : {P T : Type 0} (index generation : P → ℕ) (l : List (ℕ × (ℕ × P))) {l' : List (ℕ × (ℕ × P))} (from to : P) {t : T} {i g : ℕ} → l' ≡ l ++ (i, (g, to)) ∷ []

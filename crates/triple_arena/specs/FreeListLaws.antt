@@ -325,7 +325,7 @@ module _ {T : Type 0} where
   vacant-lacks n i (None ∷ xs) below = (λ same. omega (arith, below, same), vacant-lacks (n + 1) i xs (omega (arith, below)))
   vacant-lacks n i (Some e ∷ xs) below = vacant-lacks (n + 1) i xs (omega (arith, below))
 
-  all_vacant_from : (c : Content T) (n : ℕ) (xs : List (Option (ℕ × T))) → 0 < n → n + length xs ≡ 1 + length c.slots
+  pub all_vacant_from : (c : Content T) (n : ℕ) (xs : List (Option (ℕ × T))) → 0 < n → n + length xs ≡ 1 + length c.slots
       → ((k : ℕ) → get_or xs k None ≡ entry_at c (n + k)) → AllVacant c (vacant_from n xs)
   all_vacant_from c n [] positive sizes same = tt
   all_vacant_from c n (None ∷ xs) positive sizes same =

@@ -5,7 +5,8 @@ ghost use Rattle.triple_arena.specs.ArenaRoom.{room_of};
 ghost use Rattle.triple_arena.specs.Changes.{IsCompressed};
 ghost use Rattle.triple_arena.specs.Compression.{renewed, compacted, index_of, live_values};
 ghost use Rattle.triple_arena.specs.Content.{entry_at, live_count, some_counter, last_index, IsWellFormed};
-ghost use Rattle.triple_arena.specs.DirectContent.{live_entries as entries_of, arena_capacity, IsWellFormed as IsFormed};
+ghost use Rattle.triple_arena.specs.Copy.{last_listed, directly_copied};
+ghost use Rattle.triple_arena.specs.DirectContent.{live_entries as entries_of, empty, arena_capacity, IsWellFormed as IsFormed};
 ghost use Rattle.triple_arena.specs.LiveEntries.{listed_from, live_entries};
 ghost use Rattle.triple_arena.specs.Recaster.{IsRecaster};
 ghost use Rattle.triple_arena.specs.Slot.{entry_of};
@@ -47,8 +48,8 @@ pub fn compress_recaster<
         (renewed P.Gen.last reset arena.old.counter) (live_values arena.old) arena.old) }
     ensures formed { IfOk result (λ map. IsFormed map) }
     ensures arena_formed { OnOk result (IsWellFormed arena.new) }
-    ensures room { IfOk result
-        (λ map. map.room ≡ room_of P.Inx.greatest (R.room_at (last_index arena.old))) }
+    ensures map_exact { IfOk result (λ map. map ≡ directly_copied
+        (empty (room_of P.Inx.greatest (R.room_at (last_index arena.old)))) (entries_of map)) }
 
     // No memory is asked for where a new map has the room already.
     ensures succeeds { last_index arena.old ≤ capacity (room_of P.Inx.greatest (R.room_at 0))
@@ -81,8 +82,8 @@ impl<P: Ptr, T: Drop, S: NonZeroInxGenericStack<ArenaSlot<P, T>>> Arena<P, T, S>
         ensures exact { self.new ≡ compacted (renewed P.Gen.last reset self.old.counter)
             (live_values self.old) self.old }
         ensures formed { IsWellFormed self.new }
+        ensures map_exact { map.new ≡ directly_copied map.old (entries_of map.new) }
         ensures map_formed { IsFormed map.new }
-        ensures map_room { map.new.room ≡ map.old.room }
     {
         // The slots are within the capacity, and so are their indexes.
         let _ = self.own_capacity();
@@ -114,6 +115,7 @@ where
         (list_map entry_of (S.items slots.old)) (list_map entry_of (S.items slots.new))
         (entries_of map.new) }
     ensures room { S.room slots.new ≡ S.room slots.old }
+    ensures map_ends { length map.new.slots ≡ last_listed (entries_of map.new) }
     ensures map_formed { IsFormed map.new }
     ensures map_room { map.new.room ≡ map.old.room }
 {

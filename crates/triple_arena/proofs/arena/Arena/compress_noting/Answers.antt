@@ -3,7 +3,7 @@ use Rattle.triple_arena.specs.ArenaRoom.{room_of}
 use Rattle.triple_arena.specs.Compression.{compacted, renewed}
 use Rattle.triple_arena.specs.LiveEntries.{listed_from}
 use Rattle.triple_arena.proofs.CompressionLemmas.{compressed_arena, compacted_arena, values_kept}
-use Rattle.triple_arena.proofs.RecasterLemmas.{is_recaster, listed-within}
+use Rattle.triple_arena.proofs.RecasterLemmas.{is_recaster, listed-within, exact_map}
 use Rattle.triple_arena.proofs.arena.Arena.compress_noting.Goals as goal
 
 pub compact_noting-requires-clause-reaches : goal.compact_noting-requires-clause-reaches
@@ -36,3 +36,8 @@ returns-clause-exact g c =
     (ap (room_of g.P.Inx.PtrInx.greatest) c.compact_noting.ensures.room) c.renewal-generation.ensures.next).exact
     ∙ ap (λ values. compacted (renewed g.P.Gen.PtrGen.last c.args.reset c.args.self.now.counter) values c.args.self.now)
     (returns-clause-values g c)
+
+pub returns-clause-map_exact : goal.returns-clause-map_exact
+returns-clause-map_exact g c =
+    let n = c.compact_noting.ensures in
+    exact_map c.args.self.now c.args.map.now _ (returns-clause-recaster g c).from n.map_ends n.map_room c.requires.fits

@@ -2,12 +2,13 @@ use Rattle.std.proofs.Common.{◌≡◌, ◌+◌, ◌<◌, ◌≤◌, map, lengt
 use Rattle.std.proofs.lemmas.List.{length-map, take-map}
 use Rattle.std.specs.Int.NonZero.{non_zero_usize_get}
 use Rattle.triple_arena_stack.specs.Room.{capacity}
+use Rattle.triple_arena.specs.Copy.{last_listed}
 use Rattle.triple_arena.specs.DirectContent.{live_entries}
 use Rattle.triple_arena.specs.DirectLaws.{slots-inserted}
 use Rattle.triple_arena.specs.LiveEntries.{listed_from}
 use Rattle.triple_arena.specs.Slot.{entry_of}
 use Rattle.triple_arena.proofs.CompressionLemmas.{partly_none, partly_free, partly_live, partly_all, partly_last, partly_same, stood_some, stood_none}
-use Rattle.triple_arena.proofs.RecasterLemmas.{listed_more, place_past, noted_one, reached}
+use Rattle.triple_arena.proofs.RecasterLemmas.{listed_more, place_past, ends_none, ends_more, noted_one, reached}
 use Rattle.triple_arena.proofs.arena.recaster.compact_noting.Goals.{in-Some, in_default}
 use Rattle.triple_arena.proofs.arena.recaster.compact_noting.Goals as goal
 
@@ -18,6 +19,7 @@ loop-at-init g c =
       omega arith,
       refl,
       refl,
+      ends_none c.requires.empty,
     )
 
 pub insert_at-requires : goal.insert_at-requires
@@ -61,6 +63,7 @@ loop-at-preserved g c =
             omega (arith, long, longer, at.invariant.1, old_is),
             ap (λ d. d.room) stored ∙ at.invariant.2,
             ap g.S.NonZeroInxGenericStack.room w.slots-is ∙ w.put_entry.ensures.room ∙ c.take_entry.ensures.room ∙ at.invariant.3,
+            ends_more (live_entries at.map) (i, (g.P.Gen.PtrGen.number w.generation.result, w.pointer_at-to.result)) _ noted (omega (arith, long, longer, at.invariant.1, old_is)),
           )
       | in_default w ↦
           let stood = stood_none _ _ _ c.take_entry.ensures.entry old_is w.in_default.is in
@@ -70,6 +73,7 @@ loop-at-preserved g c =
             omega (arith, long, at.invariant.1),
             ap (λ d. d.room) w.map-is ∙ at.invariant.2,
             ap g.S.NonZeroInxGenericStack.room w.slots-is ∙ c.take_entry.ensures.room ∙ at.invariant.3,
+            long ∙ at.invariant.4 ∙ sym (ap (λ d. last_listed (live_entries d)) w.map-is),
           )
     ]
 

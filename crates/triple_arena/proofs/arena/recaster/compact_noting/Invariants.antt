@@ -1,4 +1,5 @@
 use Rattle.std.proofs.Common.{◌≡◌, ◌≤◌, [], length, map, false}
+use Rattle.triple_arena.specs.Copy.{last_listed}
 use Rattle.triple_arena.specs.DirectContent.{live_entries}
 use Rattle.triple_arena.specs.Slot.{entry_of}
 use Rattle.triple_arena.specs.SlotRecaster.{notes}
@@ -13,3 +14,4 @@ invariant-loop-at g l =
     × (length l.map.slots ≤ l.at)
     × (l.map.room ≡ l.fn.map.room)
     × (g.S.NonZeroInxGenericStack.room l.slots ≡ g.S.NonZeroInxGenericStack.room l.fn.slots)
+    × (length l.map.slots ≡ last_listed (live_entries l.map))
