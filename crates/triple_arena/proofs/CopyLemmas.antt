@@ -1,5 +1,5 @@
 -- How a copy comes to be, slot by slot.
-use Rattle.std.proofs.Common.{◌≡◌, ℕ, zero, suc, ◌+◌, ◌-◌, ◌<◌, ◌≤◌, List, [], ◌∷◌, ◌++◌, map, length, replicate, Option, Some, None, is_some, count_by, refl, sym, ap, subst, ◌∙◌, arith, append_assoc, append-nil, true, false, true≢false, inl, inr, le-leb, Bool, eqb}
+use Rattle.std.proofs.Common.{◌≡◌, ℕ, zero, suc, ◌+◌, ◌-◌, ◌<◌, ◌≤◌, List, [], ◌∷◌, ◌++◌, map, length, replicate, slice_get, Option, Some, None, is_some, count_by, refl, sym, ap, subst, ◌∙◌, arith, append_assoc, append-nil, true, false, true≢false, inl, inr, le-leb, Bool, eqb}
 use Rattle.std.specs.Prelude.{Result, Ok, Err, OnOk, unwrap_or, ◌⊎◌}
 use Rattle.std.specs.Borrow.{Bor}
 use Rattle.std.specs.List.{last_or}
@@ -15,10 +15,10 @@ use Rattle.triple_arena.specs.Layout.{content_of, IsChain, IsSound}
 use Rattle.triple_arena.specs.Content.{Content, entry_at, live_count, some_counter, vacant_from, reallocated, cleared}
 use Rattle.triple_arena.specs.FreeListLaws.{vacant-counted}
 use Rattle.triple_arena.specs.Changes.{IsNew}
-use Rattle.triple_arena.specs.Compression.{index_of}
+use Rattle.triple_arena.specs.Compression.{index_of, listed_under}
 use Rattle.triple_arena.specs.LiveEntries.{listed_from, listed-length, live_entries, entry-listed, live_entries-length}
-use Rattle.triple_arena.specs.Copy.{last_listed, spread, copied, Call, Calls, entry_shown, entry_made, IsMappedCopy, IsRefusedCopy, IsCopy}
-use Rattle.triple_arena.proofs.CompressionLemmas.{listed-push}
+use Rattle.triple_arena.specs.Copy.{last_listed, spread, copied, Call, Calls, IsMappedCopy, IsRefusedCopy, IsCopy}
+use Rattle.triple_arena.proofs.CompressionLemmas.{listed-push, get_here}
 use Rattle.triple_arena.proofs.FreeListLemmas.{sound_of}
 
 last_of_push : {A : Type 0} (o : Option A) (xs : List A) (x : A) → last_or o (xs ++ x ∷ []) ≡ Some x
@@ -91,10 +91,10 @@ module _ {E U : Type 0} (shown : E → Option (ℕ × U)) where
 
 module _ {P U T A F : Type 0} (index generation : P → ℕ) (step : F → P → Bor U → Result T A → F → Type 0) where
   abbrev shown_at : Call P U T → ℕ × (ℕ × U)
-  shown_at call = entry_shown index generation step call.pointer call.lent
+  shown_at call = listed_under index generation call.pointer call.lent.now
 
   abbrev made_at : Call P U T → ℕ × (ℕ × T)
-  made_at call = entry_made index generation step call.pointer call.given
+  made_at call = listed_under index generation call.pointer call.given
 
   -- the slots before `left` are copied, to `new`, and `live` of them are live
   pub record Copying (f : F) (old : List (Option (ℕ × U))) (f' : F) (left : List (Option (ℕ × U))) (new : List (Option (ℕ × T))) (live : ℕ) : Type 0 where
@@ -186,7 +186,7 @@ module _ {P U T A F : Type 0} (index generation : P → ℕ) (step : F → P →
       → step f' p u r f'' → r ≡ Err e → IsRefusedCopy index generation step f (listed_from 1 old)
   copying_refused {f} {old} {f'} {f''} {left} {rest} {new} {live} {g} {i} {p} {u} {e} {r} c is place has_index has_generation called refused =
       let ran : step f' p u (Err e) f'' = subst (λ x. step f' p u x f'') refused called in
-      let seen : entry_shown index generation step p u ≡ (length new + 1, (g, u.now)) =
+      let seen : listed_under index generation p u.now ≡ (length new + 1, (g, u.now)) =
       ap (λ k. (k, (generation p, u.now))) (has_index ∙ place) ∙ ap (λ k. (length new + 1, (k, u.now))) has_generation in
       record {
         calls = c.calls;
@@ -433,6 +433,14 @@ module _ {P U T A F : Type 0} (index generation : P → ℕ) (step : F → P →
           room = ap (λ x. x.room) exact ∙ ap (λ k. room_with k c.room) q.last;
         };
       }
+
+  -- a value that was refused is one of the entries
+  pub refused_at : {f : F} {old : List (ℕ × (ℕ × U))} → (r : IsRefusedCopy index generation step f old)
+      → slice_get old (length r.calls) ≡ Some (listed_under index generation r.pointer r.lent.now)
+  refused_at r =
+      ap (λ l. slice_get l (length r.calls)) (sym r.before)
+      ∙ get_here (map (shown_at index generation step) r.calls) r.rest (listed_under index generation r.pointer r.lent.now) (length r.calls)
+      (sym (length-map r.calls (shown_at index generation step)))
 
   pub refused_same : {f : F} {old entries : List (ℕ × (ℕ × U))} → old ≡ entries → IsRefusedCopy index generation step f old
       → IsRefusedCopy index generation step f entries

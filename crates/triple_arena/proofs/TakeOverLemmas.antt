@@ -9,7 +9,7 @@ use Rattle.triple_arena.specs.Layout.{content_of, IsSound}
 use Rattle.triple_arena.specs.LiveEntries.{live_entries}
 use Rattle.triple_arena.specs.Compression.{value_of, compacted}
 use Rattle.triple_arena.specs.Transfer.{IsFilled}
-use Rattle.triple_arena.specs.DirectContent.{DirectContent, as_content, entry_at as entry_of_direct, live_count as live_of_direct, live_entries as entries_of_direct, no_counter, rowed as rowed_direct}
+use Rattle.triple_arena.specs.DirectContent.{DirectContent, as_content, of_content, entry_at as entry_of_direct, live_count as live_of_direct, live_entries as entries_of_direct, no_counter}
 use Rattle.triple_arena.specs.DirectLayout.{direct_of, IsSound as IsSoundDirect}
 use Rattle.triple_arena.proofs.FreeListLemmas.{sound_of}
 use Rattle.triple_arena.proofs.TransferLemmas.{Rowed}
@@ -53,7 +53,7 @@ module _ {T : Type 0} where
   pub record TakesOverDirect (n g : ℕ) (d : DirectContent T) (xs : List (Option (ℕ × T))) (len : ℕ) (room : Room) (new : DirectContent T) : Type 0 where
     pub sound : IsSoundDirect xs len room
     pub filled : IsFilled entry_of_direct live_of_direct no_counter (λ x. x.room) entries_of_direct n g d.room d new
-    pub exact : new ≡ rowed_direct d g (map value_of (entries_of_direct new))
+    pub exact : new ≡ of_content (compacted g (map value_of (entries_of_direct new)) (as_content d))
 
   pub takes_over_direct : {n g len : ℕ} {xs : List (Option (ℕ × T))} {room : Room} (d : DirectContent T) → Rowed n g (map (λ slot. slot) xs)
       → room ≡ d.room → len ≡ n → len ≤ capacity d.room → TakesOverDirect n g d xs len room (direct_of xs room)

@@ -1,5 +1,6 @@
 -- What a transfer has done after so many slots of the source, and what it leaves.
 use Rattle.std.proofs.Common.{◌≡◌, ℕ, zero, suc, ◌+◌, ◌-◌, ◌<◌, ◌≤◌, List, [], ◌∷◌, ◌++◌, map, length, get_or, set, replicate, Option, Some, None, slice_get, is_some, count_by, refl, sym, ap, ◌∙◌, arith, append_assoc, append-nil, add-zero, length-append, length-set}
+use Rattle.std.specs.Fn.{iterate}
 use Rattle.std.specs.List.{FoldsTo}
 use Rattle.std.specs.Option.{option_map}
 use Rattle.std.proofs.lemmas.Fn.{FoldsTo-push}
@@ -10,31 +11,31 @@ use Rattle.triple_arena_ptr.specs.InvalidationOption.{value_of as value_in, over
 use Rattle.triple_arena.specs.Entries.{counter_wraps}
 use Rattle.triple_arena.specs.LiveEntries.{listed_from, listed-length}
 use Rattle.triple_arena.specs.Compression.{index_of, entry_of_listed, generation_of, value_of, IsCompact}
-use Rattle.triple_arena.specs.Transfer.{after_steps, steps_wrap, Transfer, entry_before, entry_after, wrapped, IsTransferred}
+use Rattle.triple_arena.specs.Transfer.{steps_wrap, Transfer, entry_before, entry_after, wrapped, IsTransferred}
 use Rattle.triple_arena.specs.SlotTransfer.{slot_with, given_of, MovesOut}
 use Rattle.triple_arena.proofs.CompressionLemmas.{set_here, get_here, opened, listed-push}
 
 -- one step more
-after_one_more : (last : Option ℕ) (n g : ℕ) → after_steps last (suc n) g ≡ next_generation last (after_steps last n g)
+after_one_more : (last : Option ℕ) (n g : ℕ) → iterate (next_generation last) (suc n) g ≡ next_generation last (iterate (next_generation last) n g)
 after_one_more last zero g = refl
 after_one_more last (suc n) g = after_one_more last n (next_generation last g)
 
 after_first : (last : Option ℕ) (n : ℕ) (counter : Option ℕ)
-    → option_map (after_steps last n) (option_map (next_generation last) counter) ≡ option_map (after_steps last (suc n)) counter
+    → option_map (iterate (next_generation last) n) (option_map (next_generation last) counter) ≡ option_map (iterate (next_generation last) (suc n)) counter
 after_first last n None = refl
 after_first last n (Some g) = refl
 
 then_next : (last : Option ℕ) (n : ℕ) (counter : Option ℕ)
-    → option_map (next_generation last) (option_map (after_steps last n) counter) ≡ option_map (after_steps last (suc n)) counter
+    → option_map (next_generation last) (option_map (iterate (next_generation last) n) counter) ≡ option_map (iterate (next_generation last) (suc n)) counter
 then_next last n None = refl
 then_next last n (Some g) = ap Some (sym (after_one_more last n g))
 
-no_steps : (last counter : Option ℕ) → counter ≡ option_map (after_steps last 0) counter
+no_steps : (last counter : Option ℕ) → counter ≡ option_map (iterate (next_generation last) 0) counter
 no_steps last None = refl
 no_steps last (Some g) = refl
 
 wraps_one_more : (last : Option ℕ) (n : ℕ) (counter : Option ℕ)
-    → steps_wrap last (suc n) counter ≡ steps_wrap last n counter ++ counter_wraps last (option_map (after_steps last n) counter) ∷ []
+    → steps_wrap last (suc n) counter ≡ steps_wrap last n counter ++ counter_wraps last (option_map (iterate (next_generation last) n) counter) ∷ []
 wraps_one_more last zero counter = ap (λ o. counter_wraps last o ∷ []) (no_steps last counter)
 wraps_one_more last (suc n) counter =
     ap (λ l. counter_wraps last counter ∷ l)
@@ -57,7 +58,7 @@ module _ {Q U P T F : Type 0} (old_index old_generation : Q → ℕ) (index gene
     pub from_is : from ≡ front ++ rest
     pub passed : length front ≡ at
     pub whole : length from ≡ length old
-    pub stepped : counter' ≡ option_map (after_steps last (length moves)) counter
+    pub stepped : counter' ≡ option_map (iterate (next_generation last) (length moves)) counter
 
   pub partly_none : {f : F} {last counter : Option ℕ} {g : ℕ} {old : List (Option (ℕ × U))} {to : List (Option (ℕ × T))} → to ≡ []
       → Partly f last counter g old f old to counter 0
@@ -197,7 +198,7 @@ module _ {Q U P T F : Type 0} (old_index old_generation : Q → ℕ) (index gene
         passed = omega arith;
         whole = sizes ∙ n.p.whole;
         stepped = counts ∙ ap (option_map (next_generation last)) n.p.stepped ∙ then_next last (length n.p.moves) counter
-            ∙ ap (λ k. option_map (after_steps last k) counter) (sym many);
+            ∙ ap (λ k. option_map (iterate (next_generation last) k) counter) (sym many);
       }
 
   -- a live slot that is not passed has a free place in the target
@@ -251,12 +252,12 @@ module _ {Q U P T F : Type 0} (old_index old_generation : Q → ℕ) (index gene
   -- and the counter was stepped once for each of their entries
   pub partly_stepped : {f : F} {last counter : Option ℕ} {g : ℕ} {old : List (Option (ℕ × U))} {f' : F} {from : List (Option (ℕ × U))}
       {to : List (Option (ℕ × T))} {counter' : Option ℕ} {at : ℕ} → Partly f last counter g old f' from to counter' at → length from ≤ at
-      → counter' ≡ option_map (after_steps last (count_by is_some old)) counter
+      → counter' ≡ option_map (iterate (next_generation last) (count_by is_some old)) counter
   partly_stepped {last} {counter} {old} p past =
       let passed = nothing_left p past in
       let many : length p.moves ≡ count_by is_some old = sym (length-map p.moves (entry_before old_index old_generation index generation)) ∙ ap length passed
       ∙ listed-length 1 old in
-      p.stepped ∙ ap (λ k. option_map (after_steps last k) counter) many
+      p.stepped ∙ ap (λ k. option_map (iterate (next_generation last) k) counter) many
 
 module _ {T : Type 0} where
   -- live slots stand at every place

@@ -56,12 +56,16 @@ module _ {T : Type 0} where
   live_values c = map value_of (live_entries c)
 
 module _ {P T : Type 0} (index generation : P → ℕ) where
+  -- a value as it is listed under a pointer
+  abbrev pub listed_under : P → T → ℕ × (ℕ × T)
+  listed_under p t = (index p, (generation p, t))
+
   -- the entry that a call was made at, and the one that it left
   abbrev pub entry_before : Move P T → ℕ × (ℕ × T)
-  entry_before move = (index move.from, (generation move.from, move.value))
+  entry_before move = listed_under move.from move.value
 
   abbrev pub entry_after : Move P T → ℕ × (ℕ × T)
-  entry_after move = (index move.to, (generation move.to, move.given))
+  entry_after move = listed_under move.to move.given
 
   -- a map was called once at each of the entries `old`, in their order, with the pointers that belong to it and to
   -- its place in `new`, and gave the values of `new`

@@ -1,6 +1,6 @@
 -- What a copy of an arena is: the same pointers, with the values that a map gives. A source is seen as the list of its live
 -- entries, each an index, a generation and a value, in the order of the indexes.
-use Rattle.std.specs.Prelude.{◌≡◌, ℕ, ◌+◌, ◌-◌, ◌<◌, Bool, IsTrue, ◌⊎◌, List, [], ◌∷◌, ◌++◌, map, replicate, Option, Some, None, unwrap_or, Result, Ok, Err}
+use Rattle.std.specs.Prelude.{◌≡◌, ℕ, ◌+◌, ◌-◌, ◌<◌, Bool, IsTrue, ◌⊎◌, List, [], ◌∷◌, ◌++◌, map, replicate, slice_get, Option, Some, None, unwrap_or, Result, Ok, Err}
 use Rattle.std.specs.Borrow.{Bor}
 use Rattle.std.specs.List.{FoldsTo, last_or}
 use Rattle.std.specs.Option.{option_map}
@@ -9,7 +9,7 @@ use Rattle.triple_arena_stack.specs.Room.{Room, capacity}
 use Rattle.triple_arena.specs.ArenaRoom.{room_with}
 use Rattle.triple_arena.specs.Entries.{generation_at}
 use Rattle.triple_arena.specs.Changes.{IsNew}
-use Rattle.triple_arena.specs.Compression.{index_of}
+use Rattle.triple_arena.specs.Compression.{index_of, value_of, listed_under}
 use Rattle.triple_arena.specs.Content.{Content, vacant_from}
 use Rattle.triple_arena.specs.DirectContent.{DirectContent}
 
@@ -38,6 +38,10 @@ module _ {T : Type 0} where
   abbrev pub directly_copied : DirectContent T → List (ℕ × (ℕ × T)) → DirectContent T
   directly_copied d entries = record { slots = spread 1 entries; room = room_with (last_listed entries) d.room }
 
+  -- not each of these values is cloned without fail
+  abbrev pub MayRefuse : (T → Type 0) → List (ℕ × (ℕ × T)) → Type 0
+  MayRefuse infallible entries = ((k : ℕ) (entry : ℕ × (ℕ × T)) → slice_get entries k ≡ Some entry → infallible (value_of entry)) → ⊥
+
 -- a call of a map: the pointer, the value that was lent to it, and what it gave
 pub record Call (P U T : Type 0) : Type 0 where
   pub pointer : P
@@ -54,20 +58,13 @@ module _ {P U T E F : Type 0} (step : F → P → Bor U → Result T E → F →
   NeverRefuses = (f : F) (p : P) (u : Bor U) (e : E) (g : F) → step f p u (Err e) g → ⊥
 
 module _ {P U T E F : Type 0} (index generation : P → ℕ) (step : F → P → Bor U → Result T E → F → Type 0) where
-  -- the entry that a call was made at, and the entry that it made
-  abbrev pub entry_shown : P → Bor U → ℕ × (ℕ × U)
-  entry_shown p u = (index p, (generation p, u.now))
-
-  abbrev pub entry_made : P → T → ℕ × (ℕ × T)
-  entry_made p t = (index p, (generation p, t))
-
   -- a map was called once at each entry of `old`, in their order, and made the entries of `new`, with the same pointers
   pub record IsMappedCopy (f : F) (old : List (ℕ × (ℕ × U))) (new : List (ℕ × (ℕ × T))) : Type 0 where
     pub calls : List (Call P U T)
     pub last : F
     pub made : Calls step f calls last
-    pub before : map (λ call. entry_shown call.pointer call.lent) calls ≡ old
-    pub after : map (λ call. entry_made call.pointer call.given) calls ≡ new
+    pub before : map (λ call. listed_under index generation call.pointer call.lent.now) calls ≡ old
+    pub after : map (λ call. listed_under index generation call.pointer call.given) calls ≡ new
 
   -- a map was called once at each of the first entries of `old`, in their order, up to one that it refused
   pub record IsRefusedCopy (f : F) (old : List (ℕ × (ℕ × U))) : Type 0 where
@@ -80,7 +77,7 @@ module _ {P U T E F : Type 0} (index generation : P → ℕ) (step : F → P →
     pub rest : List (ℕ × (ℕ × U))
     pub made : Calls step f calls refusing
     pub refused : step refusing pointer lent (Err error) last
-    pub before : map (λ call. entry_shown call.pointer call.lent) calls ++ entry_shown pointer lent ∷ rest ≡ old
+    pub before : map (λ call. listed_under index generation call.pointer call.lent.now) calls ++ listed_under index generation pointer lent.now ∷ rest ≡ old
 
 module _ {S T U : Type 0} (entry_of : S → ℕ → Option (ℕ × T)) (live_of : S → ℕ) (counter_of : S → Option ℕ) (room_of : S → Room) where
   -- as many entries as the source has, with its pointers and its counter, where both have one, and with room for its last

@@ -7,12 +7,12 @@ use Rattle.std.proofs.lemmas.List.{length-append, length-replicate}
 use Rattle.triple_arena_stack.specs.Room.{Room}
 use Rattle.triple_arena.specs.ArenaRoom.{room_with}
 use Rattle.triple_arena.specs.Entries.{look_up}
-use Rattle.triple_arena.specs.Compression.{index_of}
+use Rattle.triple_arena.specs.Compression.{index_of, listed_under}
 use Rattle.triple_arena.specs.Content.{Content, entry_at, live_count, arena_capacity, last_index, vacant_from, IsWellFormed}
 use Rattle.triple_arena.specs.DirectContent.{DirectContent, as_content, entry_at as direct_entry_at, live_count as direct_live_count, live_entries as direct_live_entries, arena_capacity as direct_capacity, last_index as direct_last_index, IsWellFormed as IsDirectlyWellFormed}
 use Rattle.triple_arena.specs.FreeListLaws.{IsLastIndex, last_index-is, vacant-counted, all_vacant_from}
 use Rattle.triple_arena.specs.LiveEntries.{listed_from, live_entries, entry-listed, live_entries-length}
-use Rattle.triple_arena.specs.Copy.{last_listed, spread, copied, directly_copied, Call, Calls, entry_shown, entry_made, IsMappedCopy}
+use Rattle.triple_arena.specs.Copy.{last_listed, spread, copied, directly_copied, Call, Calls, IsMappedCopy}
 
 module _ {T : Type 0} where
   -- the indexes rise from this one on
@@ -198,15 +198,15 @@ module _ {P U T E F : Type 0} (index generation : P → ℕ) (step : F → P →
       sym m.after ∙ by_calls m.calls f m.made ∙ ap (map (λ (e : ℕ × (ℕ × U)). (e.0, (e.1.0, given e.0 e.1.0 e.1.1)))) m.before
     where
       by_calls : (calls : List (Call P U T)) (g : F) → Calls step g calls m.last
-          → map (λ (call : Call P U T). entry_made index generation step call.pointer call.given) calls
+          → map (λ (call : Call P U T). listed_under index generation call.pointer call.given) calls
           ≡ map (λ (e : ℕ × (ℕ × U)). (e.0, (e.1.0, given e.0 e.1.0 e.1.1)))
-          (map (λ (call : Call P U T). entry_shown index generation step call.pointer call.lent) calls)
+          (map (λ (call : Call P U T). listed_under index generation call.pointer call.lent.now) calls)
       by_calls [] g made = refl
       by_calls (x ∷ calls) g made =
           let same = one g x.pointer x.lent x.given made.0 made.1 in
           let rest = by_calls calls made.0 made.2 in
           ap (λ t. (index x.pointer, (generation x.pointer, t))
-          ∷ map (λ (call : Call P U T). entry_made index generation step call.pointer call.given) calls) same
+          ∷ map (λ (call : Call P U T). listed_under index generation call.pointer call.given) calls) same
           ∙ ap (λ l. (index x.pointer, (generation x.pointer, given (index x.pointer) (generation x.pointer) x.lent.now)) ∷ l) rest
 
 module _ {P T E F : Type 0} (index generation : P → ℕ) (step : F → P → Bor T → Result T E → F → Type 0) where
@@ -216,12 +216,12 @@ module _ {P T E F : Type 0} (index generation : P → ℕ) (step : F → P → B
   copied_same {f} one m = sym m.after ∙ by_calls m.calls f m.made ∙ m.before
     where
       by_calls : (calls : List (Call P T T)) (g : F) → Calls step g calls m.last
-          → map (λ (call : Call P T T). entry_made index generation step call.pointer call.given) calls
-          ≡ map (λ (call : Call P T T). entry_shown index generation step call.pointer call.lent) calls
+          → map (λ (call : Call P T T). listed_under index generation call.pointer call.given) calls
+          ≡ map (λ (call : Call P T T). listed_under index generation call.pointer call.lent.now) calls
       by_calls [] g made = refl
       by_calls (x ∷ calls) g made =
           let same = one g x.pointer x.lent x.given made.0 made.1 in
           let rest = by_calls calls made.0 made.2 in
           ap (λ t. (index x.pointer, (generation x.pointer, t))
-          ∷ map (λ (call : Call P T T). entry_made index generation step call.pointer call.given) calls) same
+          ∷ map (λ (call : Call P T T). listed_under index generation call.pointer call.given) calls) same
           ∙ ap (λ l. (index x.pointer, (generation x.pointer, x.lent.now)) ∷ l) rest

@@ -9,6 +9,7 @@ use Rattle.triple_arena.specs.Entries.{value_if}
 use Rattle.triple_arena.specs.Content.{Content, entry_at as entry_of, live_count as live_count_of, with_value as with_value_of, with_exchange as with_exchange_of, with_generation as with_generation_of, last_index as last_index_of, without_free_end as without_free_end_of, with_limit as with_limit_of}
 use Rattle.triple_arena.specs.LiveEntries.{live_entries as live_entries_of}
 use Rattle.triple_arena.specs.Compression.{renewed, generation_of}
+use Rattle.triple_arena.specs.Transfer.{filled as filled_of}
 
 -- the generation and the value at each index, from index 1 on, or nothing where it is free; and the room: the reserved
 -- slots, and the greatest capacity, if there is one
@@ -111,10 +112,6 @@ module _ {T : Type 0} where
   compressed last d reset values =
       record d { slots = map Some (zip (map (renewed last reset) (map generation_of (live_entries d))) values) }
 
-  -- the content with these values alone, at the indexes from 1 on, each with this generation
-  abbrev pub rowed : DirectContent T → ℕ → List T → DirectContent T
-  rowed d g values = record d { slots = map (λ t. Some (g, t)) values }
-
   -- the greatest live index, or 0 where no index is live
   abbrev pub last_index : DirectContent T → ℕ
   last_index d = last_index_of (as_content d)
@@ -138,7 +135,7 @@ module _ {T : Type 0} where
 
   -- the content with these values alone, so many, at the indexes from 1 on, each with this generation, in a room for them
   abbrev pub filled : DirectContent T → ℕ → ℕ → List T → DirectContent T
-  filled d n g values = rowed (reallocated d n) g values
+  filled d n g values = of_content (filled_of (as_content d) n g values)
 
   -- the slots are within the capacity
   abbrev pub IsWellFormed : DirectContent T → Type 0

@@ -1,20 +1,21 @@
 -- What a drain of an arena gives, and what it leaves.
-use Rattle.std.specs.Prelude.{◌≡◌, ℕ, ◌≤◌, Bool, List, [], ◌∷◌, Option, None}
+use Rattle.std.specs.Prelude.{◌≡◌, ℕ, ◌≤◌, Bool, List, length, Option, Some, None}
 use Rattle.std.specs.Borrow.{GName}
 use Rattle.std.specs.Fn.{iterate}
+use Rattle.std.specs.List.{zip}
 use Rattle.std.specs.Iterator.{YieldsFirstBy, Yields}
-use Rattle.triple_arena_ptr.specs.Generation.{next_generation, next_wraps}
+use Rattle.triple_arena_ptr.specs.Generation.{next_generation}
 use Rattle.triple_arena_ptr.specs.InvalidationOption.{value_of, overflowed}
 use Rattle.triple_arena_ptr.specs.declared.invalidation.InvalidationOption.{InvalidationOption}
 use Rattle.triple_arena.specs.Content.{Content, entry_at, live_count, emptied, with_counter}
 use Rattle.triple_arena.specs.LiveEntries.{live_entries}
+use Rattle.triple_arena.specs.Transfer.{steps_wrap}
 use Rattle.triple_arena.specs.declared.arena.drain.Drain.{Drain}
 
 module _ {T : Type 0} where
   -- each of these entries, removed in turn from this counter on, and whether that step starts the generations again
   abbrev pub removals : Option ℕ → ℕ → List (ℕ × (ℕ × T)) → List ((ℕ × (ℕ × T)) × Bool)
-  removals last counter [] = []
-  removals last counter (entry ∷ entries) = (entry, next_wraps last counter) ∷ removals last (next_generation last counter) entries
+  removals last counter entries = zip entries (steps_wrap last (length entries) (Some counter))
 
   -- the content after each entry was removed: no slot, and the counter stepped once an entry
   abbrev pub drained : Option ℕ → Content T → Content T

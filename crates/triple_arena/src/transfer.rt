@@ -1,5 +1,6 @@
 //! The entries of one arena moved to another.
 ghost use Rattle.std.specs.Prelude.{◌≡◌, ℕ, ◌+◌, ◌∷◌, ◌++◌, ◌<◌, ◌≤◌, ◌↔◌, List, [], Some, None, IsOk, OnOk, OnErr, IsErrOf, IsTrue, Option, length, map as list_map, is_some, count_by};
+ghost use Rattle.std.specs.Fn.{iterate};
 ghost use Rattle.std.specs.Option.{option_map};
 ghost use Rattle.triple_arena_ptr.specs.Generation.{next_generation};
 ghost use Rattle.triple_arena_ptr.specs.InvalidationOption.{value_of, overflowed};
@@ -9,7 +10,7 @@ ghost use Rattle.triple_arena.specs.Compression.{value_of as value_of_entry};
 ghost use Rattle.triple_arena.specs.Entries.{counter_wraps};
 ghost use Rattle.triple_arena.specs.LiveEntries.{listed_from};
 ghost use Rattle.triple_arena.specs.SlotTransfer.{MovesOut};
-ghost use Rattle.triple_arena.specs.Transfer.{after_steps, IsTransferred, IsGivenUp, IsFilled};
+ghost use Rattle.triple_arena.specs.Transfer.{IsTransferred, IsGivenUp, IsFilled};
 
 use crate::ArenaTrait;
 use crate::arena::{pointer_at, take_entry};
@@ -165,7 +166,7 @@ where
         (listed_from 1 (list_map K.entry (R.items from.old)))
         (list_map L.entry (S.items to.new)) }
     ensures counter { option_map Q.Gen.number result
-        ≡ option_map (after_steps Q.Gen.last
+        ≡ option_map (iterate (next_generation Q.Gen.last)
         (count_by is_some (list_map K.entry (R.items from.old)))) (option_map Q.Gen.number counter) }
     ensures emptied { R.items from.new ≡ [] }
     ensures from_room { R.room from.new ≡ R.room from.old }

@@ -1,12 +1,12 @@
 //! An arena as a copy of another one.
-ghost use Rattle.std.specs.Prelude.{◌≡◌, ◌≤◌, ◌↔◌, ◌⊎◌, Some, IsTrue, IsOk, IsErr, IfOk, OnOk, IsErrOf, length, is_some, count_by, map as list_map};
+ghost use Rattle.std.specs.Prelude.{◌≡◌, ◌<◌, ◌≤◌, ◌↔◌, ◌⊎◌, Some, IsTrue, IsOk, IsErr, IfOk, OnOk, IsErrOf, length, is_some, count_by, map as list_map};
 ghost use Rattle.std.specs.Int.NonZero.{non_zero_usize_get};
 ghost use Rattle.std.specs.Option.{option_map};
 ghost use Rattle.triple_arena_ptr.specs.Generation.{second_generation};
 ghost use Rattle.triple_arena_stack.specs.Room.{capacity, IsBeyond};
 ghost use Rattle.triple_arena.specs.ArenaRoom.{room_of};
 ghost use Rattle.triple_arena.specs.Content.{entry_at, live_count, some_counter, empty, arena_capacity, reallocated, cleared, vacant_from, IsWellFormed};
-ghost use Rattle.triple_arena.specs.Copy.{last_listed, copied as copied_of, IsMappedCopy, IsRefusedCopy, IsUnmadeCopy};
+ghost use Rattle.triple_arena.specs.Copy.{last_listed, copied as copied_of, MayRefuse, IsMappedCopy, IsRefusedCopy, IsUnmadeCopy};
 ghost use Rattle.triple_arena.specs.Layout.{IsChain};
 ghost use Rattle.triple_arena.specs.LiveEntries.{listed_from, live_entries};
 ghost use Rattle.triple_arena.specs.Slot.{entry_of};
@@ -72,7 +72,9 @@ impl<P: Ptr, T: Clone, S: NonZeroInxGenericStack<ArenaSlot<P, T>> + Drop> Arena<
             (S.room_at (last_listed (live_entries self.now)))).limit
             (last_listed (live_entries self.now)) }
         ensures unmade { IsErrOf result ReallocationError.AllocError
-            → IsTrue S.takes_memory ⊎ (((x : T) → T.is_infallible x) → ⊥) }
+            → (IsTrue S.takes_memory × (capacity (room_of P.Inx.greatest (S.room_at 0))
+            < last_listed (live_entries self.now)))
+            ⊎ MayRefuse T.is_infallible (live_entries self.now) }
         ensures formed { IfOk result (λ c. IsWellFormed c) }
     {
         let last = up_to_last::<P, T, ArenaSlot<P, T>>(self.slots.as_slice()).len();
@@ -100,7 +102,7 @@ impl<P: Ptr, T: Clone, S: NonZeroInxGenericStack<ArenaSlot<P, T>> + Drop> Arena<
             → IsUnmadeCopy entry_at live_count some_counter (λ c. c.room) S.takes_memory P.Gen.last
             (last_listed (live_entries source.now))
             (λ c. cleared P.Gen.last (reallocated c (last_listed (live_entries source.now))))
-            (((x : T) → T.is_infallible x) → ⊥) self.old self.new }
+            (MayRefuse T.is_infallible (live_entries source.now)) self.old self.new }
         ensures formed { IsWellFormed self.new }
     {
         self.clone_from_with(source, |_, value| value.clone())

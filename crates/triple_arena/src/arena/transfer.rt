@@ -2,8 +2,9 @@
 ghost use Rattle.std.specs.Prelude.{◌≡◌, ◌≤◌, map as list_map};
 ghost use Rattle.triple_arena.specs.Compression.{compacted, value_of};
 ghost use Rattle.triple_arena.specs.Content.{entry_at, live_count, some_counter, arena_capacity, IsWellFormed};
+ghost use Rattle.triple_arena.specs.Drains.{drained};
 ghost use Rattle.triple_arena.specs.LiveEntries.{live_entries};
-ghost use Rattle.triple_arena.specs.Transfer.{given_up as given_up_of, filled as filled_of, IsTransferred, IsFilled, IsGivenUp};
+ghost use Rattle.triple_arena.specs.Transfer.{filled as filled_of, IsTransferred, IsFilled, IsGivenUp};
 
 use crate::arena::Arena;
 use crate::slot::EntrySlot;
@@ -14,7 +15,7 @@ use triple_arena_stack::NonZeroInxGenericStack;
 
 impl<Q: Ptr, U: Drop, R: NonZeroInxGenericStack<ArenaSlot<Q, U>> + Drop> ArenaTransferSource<Q, U>
     for Arena<Q, U, R> {
-    ghost given_up = { given_up_of Q.Gen.last };
+    ghost given_up = { drained Q.Gen.last };
 
     fn give_up<P: Ptr, T: Drop, L: EntrySlot<P, T> + Drop, S: NonZeroInxGenericStack<L>, F>(
         &mut self,

@@ -1,8 +1,8 @@
 //! A direct arena as a copy of another one.
-ghost use Rattle.std.specs.Prelude.{◌≡◌, ◌≤◌, ◌↔◌, ◌⊎◌, IsTrue, IsOk, IsErr, IfOk, OnOk, IsErrOf, length, map as list_map};
+ghost use Rattle.std.specs.Prelude.{◌≡◌, ◌<◌, ◌≤◌, ◌↔◌, ◌⊎◌, IsTrue, IsOk, IsErr, IfOk, OnOk, IsErrOf, length, map as list_map};
 ghost use Rattle.triple_arena_stack.specs.Room.{capacity, IsBeyond};
 ghost use Rattle.triple_arena.specs.ArenaRoom.{room_of};
-ghost use Rattle.triple_arena.specs.Copy.{last_listed, directly_copied, IsMappedCopy, IsRefusedCopy, IsUnmadeCopy};
+ghost use Rattle.triple_arena.specs.Copy.{last_listed, directly_copied, MayRefuse, IsMappedCopy, IsRefusedCopy, IsUnmadeCopy};
 ghost use Rattle.triple_arena.specs.DirectContent.{entry_at, live_count, live_entries, no_counter, empty, arena_capacity, reallocated, cleared, IsWellFormed};
 ghost use Rattle.triple_arena.specs.LiveEntries.{listed_from};
 
@@ -64,7 +64,9 @@ impl<P: Ptr, T: Clone, S: NonZeroInxGenericStack<DirectSlot<P, T>> + Drop> Direc
             (S.room_at (last_listed (live_entries self.now)))).limit
             (last_listed (live_entries self.now)) }
         ensures unmade { IsErrOf result ReallocationError.AllocError
-            → IsTrue S.takes_memory ⊎ (((x : T) → T.is_infallible x) → ⊥) }
+            → (IsTrue S.takes_memory × (capacity (room_of P.Inx.greatest (S.room_at 0))
+            < last_listed (live_entries self.now)))
+            ⊎ MayRefuse T.is_infallible (live_entries self.now) }
         ensures formed { IfOk result (λ d. IsWellFormed d) }
     {
         let last = up_to_last::<P, T, DirectSlot<P, T>>(self.lent_slots()).len();
@@ -91,7 +93,7 @@ impl<P: Ptr, T: Clone, S: NonZeroInxGenericStack<DirectSlot<P, T>> + Drop> Direc
             → IsUnmadeCopy entry_at live_count no_counter (λ d. d.room) S.takes_memory P.Gen.last
             (last_listed (live_entries source.now))
             (λ d. cleared (reallocated d (last_listed (live_entries source.now))))
-            (((x : T) → T.is_infallible x) → ⊥) self.old self.new }
+            (MayRefuse T.is_infallible (live_entries source.now)) self.old self.new }
         ensures formed { IsWellFormed self.new }
     {
         self.clone_from_with(source, |_, value| value.clone())

@@ -1,7 +1,7 @@
 //! The entries of a direct arena moved to another arena, and those of another moved here.
 ghost use Rattle.std.specs.Prelude.{◌≡◌, ◌≤◌, map as list_map};
-ghost use Rattle.triple_arena.specs.Compression.{value_of};
-ghost use Rattle.triple_arena.specs.DirectContent.{entry_at, live_count, live_entries, no_counter, arena_capacity, cleared, filled as filled_of, rowed, IsWellFormed};
+ghost use Rattle.triple_arena.specs.Compression.{compacted, value_of};
+ghost use Rattle.triple_arena.specs.DirectContent.{entry_at, live_count, live_entries, no_counter, arena_capacity, as_content, of_content, cleared, filled as filled_of, IsWellFormed};
 ghost use Rattle.triple_arena.specs.Transfer.{IsTransferred, IsFilled, IsGivenUp};
 
 use crate::direct::DirectArena;
@@ -72,8 +72,8 @@ impl<P: Ptr, T: Drop, S: NonZeroInxGenericStack<DirectSlot<P, T>>> DirectArena<P
             (live_entries self.new) }
         ensures filled { IsFilled entry_at live_count no_counter (λ d. d.room) live_entries len
             (P.Gen.number generation) self.old.room self.old self.new }
-        ensures exact { self.new ≡ rowed self.old (P.Gen.number generation)
-            (list_map value_of (live_entries self.new)) }
+        ensures exact { self.new ≡ of_content (compacted (P.Gen.number generation)
+            (list_map value_of (live_entries self.new)) (as_content self.old)) }
         ensures formed { IsWellFormed self.new }
         ensures given_up { IsGivenUp Source.entry_at Source.live_count Source.counter Source.room
             Q.Gen.last source.old source.new }

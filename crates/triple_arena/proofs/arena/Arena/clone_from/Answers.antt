@@ -1,7 +1,7 @@
-use Rattle.std.proofs.Common.{rules, Some, ap, inl, inr, ◌∙◌}
+use Rattle.std.proofs.Common.{rules, Some, length, ap, inl, inr, ◌∙◌}
 use Rattle.triple_arena.specs.Copy.{copied}
 use Rattle.triple_arena.specs.CopyLaws.{copied_same}
-use Rattle.triple_arena.proofs.CopyLemmas.{on_ok}
+use Rattle.triple_arena.proofs.CopyLemmas.{on_ok, refused_at}
 use Rattle.triple_arena.proofs.arena.Arena.clone_from.Goals as goal
 
 pub returns-clause-exact : goal.returns-clause-exact
@@ -14,5 +14,6 @@ pub returns-clause-unmade : goal.returns-clause-unmade
 returns-clause-unmade g c failed =
     elim (c.clone_from_with.ensures.unmade failed) [
       | inl memory ↦ inl memory
-      | inr left ↦ inr ((λ always. let k = left.0.refused in let clones = always left.0.lent.now in search rules), left.1, left.2)
+      | inr left ↦
+          inr ((λ always. let k = left.0.refused in let clones = always (length left.0.calls) _ (refused_at _ _ _ left.0) in search rules), left.1, left.2)
     ]
