@@ -278,7 +278,8 @@ module _ {T : Type 0} where
   none_vacant es (i ∷ l) none = absurd (omega arith)
 
   -- where all slots are live, none is on the list of free slots
-  pub all_live : (es : List (Slot T)) (live : ℕ) → live ≡ count_by is_some (map entry_of es) → live ≡ length es → IsChain es None (vacant_from 1 (map entry_of es))
+  pub all_live : (es : List (Slot T)) (live : ℕ) → live ≡ count_by is_some (map entry_of es) → live ≡ length es
+      → IsChain es None (vacant_from 1 (map entry_of es))
   all_live es live counted all =
       let total = vacant-counted 1 (map entry_of es) in
       let sizes = length-map es entry_of in
@@ -294,7 +295,8 @@ pub room_enough : (n : ℕ) (room : Room) → n ≤ capacity room → room_with 
 room_enough n room enough = rw (le-leb n (capacity room) enough) refl
 
 module _ {P U T A F : Type 0} (index generation : P → ℕ) (step : F → P → Bor U → Result T A → F → Type 0) where
-  same_indexes : (calls : List (Call P U T)) → map index_of (map (shown_at index generation step) calls) ≡ map index_of (map (made_at index generation step) calls)
+  same_indexes : (calls : List (Call P U T))
+      → map index_of (map (shown_at index generation step) calls) ≡ map index_of (map (made_at index generation step) calls)
   same_indexes [] = refl
   same_indexes (call ∷ calls) = ap (λ l. index call.pointer ∷ l) (same_indexes calls)
 
@@ -383,7 +385,8 @@ module _ {T : Type 0} where
   copied_grown c n counter entries last fits =
       let in_this : Room → Content T =
       λ r. record { slots = spread 1 entries; counter = unwrap_or counter c.counter; free = vacant_from 1 (spread 1 entries); room = r } in
-      let stays : room_with (last_listed entries) (room_with n c.room) ≡ room_with (last_listed entries) c.room = rw last (room_enough n (room_with n c.room) fits) in
+      let stays : room_with (last_listed entries) (room_with n c.room) ≡ room_with (last_listed entries) c.room =
+      rw last (room_enough n (room_with n c.room) fits) in
       ap in_this stays
 
   -- what an arena is that was grown and then became a copy
@@ -411,7 +414,8 @@ module _ {T : Type 0} where
       no_entry g c (suc j) = refl
 
 module _ {P U T A F : Type 0} (index generation : P → ℕ) (step : F → P → Bor U → Result T A → F → Type 0) where
-  pub grown_copy : {f : F} {old : List (ℕ × (ℕ × U))} {source : ℕ → Option (ℕ × U)} {source_live n : ℕ} {entries : List (ℕ × (ℕ × U))} {counter given : Option ℕ}
+  pub grown_copy : {f : F} {old : List (ℕ × (ℕ × U))} {source : ℕ → Option (ℕ × U)} {source_live n : ℕ} {entries : List (ℕ × (ℕ × U))}
+      {counter given : Option ℕ}
       (c : Content T) {grown new : Content T} → IsMappedCopy index generation step f old (live_entries new) → old ≡ entries
       → ((j : ℕ) → source j ≡ look_up entries j) → length entries ≡ source_live
       → new ≡ copied grown given (live_entries new) → given ≡ counter → grown ≡ reallocated c n → n ≡ last_listed entries → n ≤ capacity grown.room

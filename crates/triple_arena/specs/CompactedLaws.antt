@@ -1,11 +1,10 @@
 -- What each exact state after a compression holds, of an `Arena` and of a `DirectArena`: the entry at each index, how many are
 -- live, how far the slots reach, the counter, the free indexes, the room, and that the slots are within it.
-use Rattle.std.proofs.Common.{◌≡◌, Bool, ℕ, zero, suc, ◌+◌, ◌-◌, ◌≤◌, List, [], ◌∷◌, length, map, get_or, slice_get, count_by, cond, Option, Some, None, is_some, refl, ap, ◌∙◌, arith}
+use Rattle.std.proofs.Common.{◌≡◌, Bool, ℕ, zero, suc, ◌+◌, ◌-◌, List, [], ◌∷◌, length, map, get_or, slice_get, count_by, cond, Option, Some, None, is_some, refl, ap, ◌∙◌, arith}
 use Rattle.std.specs.List.{zip}
 use Rattle.std.specs.Option.{option_map}
 use Rattle.std.proofs.lemmas.List.{length-map}
 use Rattle.std.proofs.lemmas.List.Sums.{sum_by-cons, count_by-le-length}
-use Rattle.triple_arena_stack.specs.Room.{Room}
 use Rattle.triple_arena.specs.Content.{Content, entry_at, live_count, IsWellFormed}
 use Rattle.triple_arena.specs.ContentLaws.{entry_at_slot}
 use Rattle.triple_arena.specs.LiveEntries.{live_entries, live_entries-length}

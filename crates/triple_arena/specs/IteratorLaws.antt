@@ -6,7 +6,8 @@ use Rattle.triple_arena.specs.Iterators.{IsFirstToPass, SearchFinds, EachFails, 
 use Rattle.triple_arena.specs.LiveEntries.{listed_from, live_entries}
 
 module _ {T : Type 0} (answers : T → Bool → Type 0) where
-  one_more_fails : (passed : List (ℕ × (ℕ × T))) (entry : ℕ × (ℕ × T)) → EachFails answers passed → answers entry.1.1 false → EachFails answers (passed ++ entry ∷ [])
+  one_more_fails : (passed : List (ℕ × (ℕ × T))) (entry : ℕ × (ℕ × T)) → EachFails answers passed → answers entry.1.1 false
+      → EachFails answers (passed ++ entry ∷ [])
   one_more_fails [] entry failed fails = (fails, tt)
   one_more_fails (first ∷ passed) entry failed fails = (failed.0, one_more_fails passed entry failed.1 fails)
 
@@ -94,7 +95,8 @@ module _ {T : Type 0} (answers : T → Bool → Type 0) where
       earlier s zero h u below read = absurd (cc)
       earlier s (suc k) h u below read = s.before k h u (omega (arith, below)) read
 
-  each_of_all : (n : ℕ) (xs : List (Option (ℕ × T))) → EachFails answers (listed_from n xs) → (k h : ℕ) (u : T) → get_or xs k None ≡ Some (h, u) → answers u false
+  each_of_all : (n : ℕ) (xs : List (Option (ℕ × T))) → EachFails answers (listed_from n xs) → (k h : ℕ) (u : T)
+      → get_or xs k None ≡ Some (h, u) → answers u false
   each_of_all n [] failed k h u read = absurd (cc)
   each_of_all n (None ∷ xs) failed zero h u read = absurd (cc)
   each_of_all n (None ∷ xs) failed (suc k) h u read = each_of_all (n + 1) xs failed k h u read

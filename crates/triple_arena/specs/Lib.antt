@@ -39,4 +39,5 @@ pub mod Copy
 pub mod CopyLaws
 pub mod Drains
 pub mod DirectDrains
+pub mod TransferLaws
 pub mod IteratorLaws

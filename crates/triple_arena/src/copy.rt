@@ -35,8 +35,8 @@ pub trait ArenaCloneFromWith<P: Ptr, T: Drop>: ArenaTrait<P, T> {
     /// pointer and the value. What the arena held is dropped, and the smallest free index is the next one to be taken.
     ///
     /// No memory is taken where the last live index of `source` is within the capacity, which then stays. Else the
-    /// arena first grows to exactly that index. It answers `BeyondMaxCapacity` where that is past the greatest capacity,
-    /// and `AllocError` where the memory was refused; the arena is then as it was, and `map` was not called.
+    /// arena first grows to exactly that index. It answers `BeyondMaxCapacity` where that is past the greatest
+    /// capacity, and `AllocError` where the memory was refused; the arena is then as it was, and `map` was not called.
     ///
     /// It also answers `AllocError` where `map` refused, and calls it no more. The arena then has room for the copy, no
     /// entry, and the counter that `clear` leaves.

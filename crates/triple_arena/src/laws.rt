@@ -1,9 +1,9 @@
-//! What follows from the calls of an arena for those who keep pointers. `specs/Steps.antt` has the words: a history is a list
-//! of steps, each with the arena that it left, and what a step changes is what the calls' contracts say.
+//! What follows from the calls of an arena for those who keep pointers. `specs/Steps.antt` has the words: a history is a
+//! list of steps, each with the arena that it left, and what a step changes is what the calls' contracts say.
 //!
-//! Where generations are counted (`P::Gen` is no `()`), and as long as no step of the counter starts them again and nobody
-//! sets, resets or copies it, a pointer never comes to mean another entry.
-ghost use Rattle.std.specs.Prelude.{◌≡◌, ◌⊎◌, ℕ, List, Some, true};
+//! Where generations are counted (`P::Gen` is no `()`), and as long as no step of the counter starts them again and
+//! nobody sets, resets or copies it, a pointer never comes to mean another entry.
+ghost use Rattle.std.specs.Prelude.{◌≡◌, ℕ, List, Some};
 ghost use Rattle.triple_arena.specs.Changes.{IsNew};
 ghost use Rattle.triple_arena.specs.Steps.{Step, AreNew, Finds, Happens, IsOneOf, all_given, reached};
 ghost use Rattle.triple_arena.specs.Compression.{live_values, IsCompact};
@@ -15,7 +15,8 @@ ghost use Rattle.triple_arena.specs.Recaster.{IsRecaster, IsRenaming};
 use crate::ArenaTrait;
 use triple_arena_ptr::Ptr;
 
-/// From a new arena on, each pointer that an insertion, an `invalidate` or a compression gives is one that no earlier step gave.
+/// From a new arena on, each pointer that an insertion, an `invalidate` or a compression gives is one that no earlier
+/// step gave.
 pub fn pointers_are_given_once<P: Ptr, T: Drop, A: ArenaTrait<P, T>>()
     ensures { (greatest : ℕ) (made : A) (history : List (Step T × A)) → P.Gen.last ≡ Some greatest
         → IsNew A.entry_at A.live_count A.counter A.room (Some 2) (A.room made) made
@@ -41,8 +42,9 @@ pub fn invalid_pointers_find_nothing<P: Ptr, T: Drop, A: ArenaTrait<P, T>>()
         → Finds A.entry_at (reached made history) (index, 1) → ⊥ }
 {}
 
-/// The map that `compress_recaster` answers is one-to-one and onto: each pointer that was valid, and no other, has a new
-/// name, two have two, and the new names are the pointers that are valid afterwards. Each finds what its pointer found.
+/// The map that `compress_recaster` answers is one-to-one and onto: each pointer that was valid, and no other, has a
+/// new name, two have two, and the new names are the pointers that are valid afterwards. Each finds what its pointer
+/// found.
 pub fn recasters_rename_one_to_one<P: Ptr, T: Drop>()
     ensures { (before after : Content T) (map : DirectContent P)
         → IsRecaster P.index P.generation (live_entries before) (live_entries after) (live_entries_of map)

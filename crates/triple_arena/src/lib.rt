@@ -1,16 +1,19 @@
 //! A generational arena: values in slots, found by pointers of an index and a generation. A port of the arena of the
 //! Rust crate `triple_arena`.
 //!
-//! `Arena<P, T, S>` is over a pointer type `P` and keeps its slots in a stack `S`. What arenas do stands in traits, which
-//! generic code asks for: `ArenaTrait`, `ArenaInsertTrait`, `DisjointableArenaTrait`.
+//! `Arena<P, T, S>` is over a pointer type `P` and keeps its slots in a stack `S`; it gives the pointers. To a
+//! `DirectArena<P, T, S>` the caller gives them. What arenas do stands in traits, which generic code asks for:
+//! `ArenaTrait`, `ArenaInsertTrait`, `ArenaDirectInsertTrait`, `DisjointableArenaTrait`, `ArenaCloneFromWith` of copies
+//! (from an `ArenaCloneSource`), and `ArenaTransferTrait` of entries moved from another arena (an `ArenaTransferSource`).
 //!
 //! Contracts speak of an arena's `Content` (`specs/Content.antt`): the generation and the value at each index, the
-//! counter, the free indexes in the order in which they are taken, and the room. What a call leaves is said once, in the
-//! trait: by a record of `specs/Changes.antt` for any arena (`IsInserted`, `IsRemoved`, ..), whose fields callers use as
-//! they are, and by the exact state (`inserted`, `removed`, ..), which an `Arena` gives as a function of its content.
+//! counter, the free indexes in the order in which they are taken, and the room; and of a direct arena's
+//! `DirectContent`. What a call leaves is said once, in the trait: by a record of `specs/Changes.antt` for any arena
+//! (`IsInserted`, `IsRemoved`, ..), whose fields callers use as they are, and by the exact state (`inserted`,
+//! `removed`, ..), which an arena gives as a function of its content.
 //!
-//! A struct over an arena takes `IsWellFormed` into its invariant: each call that changes an arena ensures it of what it
-//! leaves, and `len` of the arena as it is. What is lent for writing ends as `with_value`, and the rules `writes`
+//! A struct over an arena takes `IsWellFormed` into its invariant: each call that changes an arena ensures it of what
+//! it leaves, and `len` of the arena as it is. What is lent for writing ends as `with_value`, and the rules `writes`
 //! (`specs/ContentLaws.antt`), named on a function as
 //! `#[tactic(auto, using(triple_arena::specs::ContentLaws::writes))]`, say what that changes and keeps.
 //! `specs/CompressionLaws.antt` says what follows from the calls of a compression's map. Where the pointer type is a

@@ -52,7 +52,7 @@ impl<G, T> ValueMut<T> for SlotState<G, T> {
     }
 }
 
-// What a compression does with a slot.
+// A slot as compressions, copies and transfers use it: made, read, filled and emptied.
 pub(crate) trait EntrySlot<P: Ptr, T> {
     // The generation and the value, if it is allocated.
     ghost entry: { Self → Option (ℕ × T) };

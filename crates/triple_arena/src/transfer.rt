@@ -136,8 +136,8 @@ fn append_entry<P: Ptr, T: Drop, L: EntrySlot<P, T> + Drop, S: NonZeroInxGeneric
     }
 }
 
-// Takes each entry out of `from` in turn, steps the counter, where there is one, and appends to `to`, which is empty and
-// has room for all, what `map` makes of the value, with the given generation. It answers the counter.
+// Takes each entry out of `from` in turn, steps the counter, where there is one, and appends to `to`, which is empty
+// and has room for all, what `map` makes of the value, with the given generation. It answers the counter.
 pub(crate) fn move_entries<Q, U, K, R, P, T, L, S, F>(
     from: &mut R,
     mut counter: Option<Q::Gen>,

@@ -54,8 +54,8 @@ impl<P: Ptr, T: Drop, S: NonZeroInxGenericStack<ArenaSlot<P, T>> + Drop> ArenaCl
 }
 
 impl<P: Ptr, T: Clone, S: NonZeroInxGenericStack<ArenaSlot<P, T>> + Drop> Arena<P, T, S> {
-    /// A new arena with the same pointers, clones of their values and the same counter, where the smallest free index is
-    /// the next one to be taken. It has room for the last live index. A clone of a value must equal it.
+    /// A new arena with the same pointers, clones of their values and the same counter, where the smallest free index
+    /// is the next one to be taken. It has room for the last live index. A clone of a value must equal it.
     ///
     /// It answers `BeyondMaxCapacity` where no new arena of this type has so much room, and `AllocError` where the
     /// memory or the clone of a value was refused.

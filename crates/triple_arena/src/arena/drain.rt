@@ -1,13 +1,12 @@
 //! Taking every entry out of an arena.
 ghost use Rattle.std.specs.Prelude.{◌≡◌, None, Some, IsSome, IfSome, ◌↔◌};
 ghost use Rattle.std.specs.Int.NonZero.{non_zero_usize_get};
-ghost use Rattle.std.specs.Option.{option_map};
 ghost use Rattle.std.specs.Iterator.{item_count};
 ghost use Rattle.triple_arena_ptr.specs.Generation.{next_wraps};
 ghost use Rattle.triple_arena_ptr.specs.InvalidationOption.{value_of, overflowed};
 ghost use Rattle.triple_arena.specs.Changes.{IsRemoved};
 ghost use Rattle.triple_arena.specs.Content.{entry_at, live_count, some_counter, IsWellFormed};
-ghost use Rattle.triple_arena.specs.Drains.{drained, removal_of, drain_arena, drain_lender, drain_rest, drain_leaves, DrainCanStep, DrainSteps, DrainKeepsAlong};
+ghost use Rattle.triple_arena.specs.Drains.{drained, drain_arena, drain_lender, drain_rest, drain_leaves, DrainCanStep, DrainSteps, DrainKeepsAlong};
 
 use crate::ArenaSlot;
 use crate::arena::Arena;

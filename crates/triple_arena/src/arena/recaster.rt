@@ -20,13 +20,13 @@ use std::num::NonZeroUsize;
 use triple_arena_ptr::{Ptr, ReallocationError};
 use triple_arena_stack::NonZeroInxGenericStack;
 
-/// Moves the live entries to the first indexes, as `compress` does, and answers the map from each old pointer to the new
-/// one, by which the values and other arenas can be recast. The map has an entry under each pointer that was valid, and
+/// Moves the live entries to the first indexes, as `compress` does, and answers the map from each old pointer to the
+/// new one, by which the values and other arenas can be recast. The map has an entry under each pointer that was valid, and
 /// no other.
 ///
 /// Its memory is taken from `alloc` before, for as many slots as the last live index says. It answers
-/// `BeyondMaxCapacity` where the map cannot have so many, and `AllocError` where the memory was refused. An error leaves
-/// the arena as it was.
+/// `BeyondMaxCapacity` where the map cannot have so many, and `AllocError` where the memory was refused. An error
+/// leaves the arena as it was.
 ///
 /// Whether the step of the counter started the generations again is not answered: the counter before the call tells it.
 pub fn compress_recaster<
@@ -96,8 +96,8 @@ impl<P: Ptr, T: Drop, S: NonZeroInxGenericStack<ArenaSlot<P, T>>> Arena<P, T, S>
     }
 }
 
-// Moves the live entries to the first indexes, each with the given generation, drops the other slots, and stores each new
-// pointer under the old one in `map`, which is empty and reaches as far as the live slots.
+// Moves the live entries to the first indexes, each with the given generation, drops the other slots, and stores each
+// new pointer under the old one in `map`, which is empty and reaches as far as the live slots.
 fn compact_noting<P: Ptr, T: Drop, S, R>(
     slots: &mut S,
     generation: P::Gen,
