@@ -1,5 +1,5 @@
 -- What a compression has done after so many slots, and what it leaves.
-use Rattle.std.proofs.Common.{◌≡◌, ℕ, Bool, false, ◌||◌, is_some, count_by, zero, suc, ◌+◌, ◌-◌, ◌<◌, ◌≤◌, List, [], ◌∷◌, ◌++◌, map, length, get_or, set, take, Option, Some, None, slice_get, refl, sym, ap, subst, ◌∙◌, arith, append_assoc, append-nil, add-zero, length-append, length-set}
+use Rattle.std.proofs.Common.{◌≡◌, ℕ, Bool, false, ◌||◌, is_some, count_by, zero, suc, ◌+◌, ◌-◌, ◌<◌, ◌≤◌, List, [], ◌∷◌, ◌++◌, map, length, get_or, set, take, Option, Some, None, slice_get, refl, sym, ap, ◌∙◌, arith, append_assoc, append-nil, add-zero, length-append, length-set}
 use Rattle.std.specs.List.{FoldsTo, list_any}
 use Rattle.std.specs.Option.{option_map}
 use Rattle.std.proofs.lemmas.Fn.{FoldsTo-push}

@@ -1,5 +1,5 @@
 -- What a direct arena is after a compression.
-use Rattle.std.proofs.Common.{◌≡◌, ℕ, Bool, ◌+◌, ◌-◌, List, [], ◌∷◌, map, get_or, Option, Some, None, is_some, refl, sym, ap, ◌∙◌, arith}
+use Rattle.std.proofs.Common.{◌≡◌, ℕ, Bool, ◌+◌, ◌-◌, List, [], ◌∷◌, map, get_or, Option, Some, None, is_some, refl, ap, ◌∙◌, arith}
 use Rattle.std.specs.List.{list_any, zip}
 use Rattle.std.proofs.lemmas.List.{map-id}
 use Rattle.std.proofs.lemmas.List.Sums.{count_by-le-length}
@@ -7,7 +7,7 @@ use Rattle.triple_arena_stack.specs.Room.{Room}
 use Rattle.triple_arena.specs.Changes.{IsCompressed}
 use Rattle.triple_arena.specs.ContentLaws.{entry_at_slot}
 use Rattle.triple_arena.specs.LiveEntries.{listed_from}
-use Rattle.triple_arena.specs.Compression.{renewed, renewal_wraps, Move, generation_of, value_of, entry_before, entry_after, IsMapped}
+use Rattle.triple_arena.specs.Compression.{renewed, Move, generation_of, value_of, entry_before, entry_after, IsMapped}
 use Rattle.triple_arena.specs.SlotCompression.{Compacts}
 use Rattle.triple_arena.specs.DirectContent.{DirectContent, as_content, entry_at, live_count, live_entries, no_counter, compressed as compressed_of}
 use Rattle.triple_arena.specs.DirectLayout.{direct_of, IsSound}

@@ -1,14 +1,16 @@
 -- What each step does to the pointers, and what follows for those that were given.
-use Rattle.std.proofs.Common.{◌≡◌, ◌≢◌, ◌==◌, ◌⊎◌, inl, inr, ℕ, zero, suc, ◌+◌, ◌<◌, ◌≤◌, true, false, IsTrue, List, [], ◌∷◌, ◌++◌, map, Option, Some, None, IsSome, slice_get, refl, sym, ap, subst, ◌∙◌, arith, true≢false}
+use Rattle.std.proofs.Common.{◌≡◌, ◌==◌, ◌⊎◌, inl, inr, ℕ, zero, suc, ◌+◌, ◌<◌, ◌≤◌, true, false, List, [], ◌∷◌, ◌++◌, map, length, replicate, Option, Some, None, IsSome, slice_get, refl, sym, ap, subst, ◌∙◌, arith, true≢false}
 use Rattle.std.proofs.lemmas.Bool.{eq-eqb}
 use Rattle.std.proofs.lemmas.Bool.Decides.{eqb_tells}
+use Rattle.std.specs.Fn.{iterate}
 use Rattle.std.specs.Option.{option_map}
-use Rattle.triple_arena_ptr.specs.Generation.{next_generation, next_wraps}
+use Rattle.triple_arena_ptr.specs.Generation.{next_generation}
 use Rattle.triple_arena_stack.specs.Room.{Room}
 use Rattle.triple_arena.specs.Changes.{IsNew}
-use Rattle.triple_arena.specs.Entries.{counter_wraps, generation_at, without, with_generation_at, with_value_at, with_values_exchanged, revalued}
-use Rattle.triple_arena.specs.Compression.{entry_of_listed, generation_of, generation_given, index_of, IsCompact}
-use Rattle.triple_arena.specs.Steps.{Step, insert, remove, invalidate, clear, compress, exchange, write, reallocate, keep, counts, IsOneOf, AreNew, Finds, given, all_given, reached, Takes, Happens}
+use Rattle.triple_arena.specs.Entries.{counter_wraps, generation_at, look_up, revalued}
+use Rattle.triple_arena.specs.Compression.{entry_of_listed, generation_of, generation_given, index_of}
+use Rattle.triple_arena.specs.Transfer.{steps_wrap}
+use Rattle.triple_arena.specs.Steps.{Step, insert, remove, invalidate, clear, drain, compress, exchange, write, reallocate, keep, counts, IsOneOf, AreNew, Finds, given, all_given, reached, Takes, Happens}
 
 -- the generation of an entry, if there is one
 abbrev generation : {T : Type 0} → Option (ℕ × T) → Option ℕ
@@ -129,7 +131,8 @@ module _ {S T : Type 0} (entry_of : S → ℕ → Option (ℕ × T)) where
   finds_by e f = ap generation (sym e) ∙ f
 
 module _ {S T : Type 0} (entry_of : S → ℕ → Option (ℕ × T)) (live_of : S → ℕ) (counter_of : S → Option ℕ) (room_of : S → Room)
-    (listed : S → List (ℕ × (ℕ × T))) (none_at_zero : (s : S) → entry_of s 0 ≡ None) (greatest : ℕ) where
+    (listed : S → List (ℕ × (ℕ × T))) (none_at_zero : (s : S) → entry_of s 0 ≡ None)
+    (entry_listed : (s : S) (j : ℕ) → entry_of s j ≡ look_up (listed s) j) (listed_counted : (s : S) → length (listed s) ≡ live_of s) (greatest : ℕ) where
   -- what is not there is not found
   absent : {s : S} {p : ℕ × ℕ} → entry_of s p.0 ≡ None → Finds entry_of s p → ⊥
   absent {p} none f = let o : None ≡ Some p.1 = ap generation (sym none) ∙ f in absurd (cc)
@@ -212,6 +215,49 @@ module _ {S T : Type 0} (entry_of : S → ℕ → Option (ℕ × T)) (live_of : 
     is = stepped_to is wraps took.counter;
     effect = steps entry_of (λ p f. absurd (absent (took.entries p.0) f)) (λ p one. absurd one) tt;
   }
+
+  -- so many steps of the counter, none of which wraps
+  stepped_often : (n c : ℕ) → steps_wrap (Some greatest) n (Some c) ≡ replicate n false → iterate (next_generation (Some greatest)) n c ≡ c + n
+  stepped_often zero c wraps = omega arith
+  stepped_often (suc n) c wraps =
+      let first : counter_wraps (Some greatest) (Some c) ≡ false = cc in
+      let rest : steps_wrap (Some greatest) n (Some (next_generation (Some greatest) c)) ≡ replicate n false = cc in
+      let next = next_is refl first in
+      let often = stepped_often n (next_generation (Some greatest) c) rest in
+      omega (arith, often, next)
+
+  nothing : {X : Type 0} (xs : List X) → length xs ≡ 0 → xs ≡ []
+  nothing [] none = refl
+  nothing (x ∷ xs) none = absurd (omega (arith, none))
+
+  -- where nothing is live nothing is found
+  none_live : (s : S) (p : ℕ × ℕ) → live_of s ≡ 0 → Finds entry_of s p → ⊥
+  none_live s p none f =
+      let empty = nothing (listed s) (listed_counted s ∙ none) in
+      absent {s = s} {p = p} (entry_listed s p.0 ∙ ap (λ l. look_up l p.0) empty) f
+
+  drained_step : {c : ℕ} {old new : S} → counter_of old ≡ Some c
+      → steps_wrap (Some greatest) (live_of old) (counter_of old) ≡ replicate (live_of old) false
+      → Takes entry_of live_of counter_of room_of listed (Some greatest) drain old new → Stepped c [] old new
+  drained_step {c} {old} {new} is wraps took = record {
+    c' = c + live_of old;
+    is =
+        took.counter
+        ∙ ap (option_map (iterate (next_generation (Some greatest)) (live_of old))) is
+        ∙ ap Some (stepped_often (live_of old) c (ap (steps_wrap (Some greatest) (live_of old)) (sym is) ∙ wraps));
+    effect = record {
+      rises = omega arith;
+      found = λ p f. absurd (absent (took.entries p.0) f);
+      kept = λ stays p f. absurd (none_live old p (omega (arith, stays)) f);
+      finds = λ p one. absurd one;
+      fresh = λ p one at f. one;
+      once = tt;
+    };
+  }
+
+  -- the only step of a counter
+  one_step : (o : Option ℕ) → steps_wrap (Some greatest) 1 o ≡ replicate 1 false → counter_wraps (Some greatest) o ≡ false
+  one_step o wraps = cc
 
   -- a pointer ends, and another one is given
   invalidated_step : {c : ℕ} {old new : S} (i g : ℕ) → counter_of old ≡ Some c → counter_wraps (Some greatest) (counter_of old) ≡ false
@@ -327,12 +373,14 @@ module _ {S T : Type 0} (entry_of : S → ℕ → Option (ℕ × T)) (live_of : 
       ]
 
   step_of : {c : ℕ} (step : Step T) (old new : S) → counter_of old ≡ Some c → Takes entry_of live_of counter_of room_of listed (Some greatest) step old new
-      → (IsTrue (counts step) → counter_wraps (Some greatest) (counter_of old) ≡ false) → Stepped c (given listed step new) old new
+      → steps_wrap (Some greatest) (counts step (live_of old)) (counter_of old) ≡ replicate (counts step (live_of old)) false
+      → Stepped c (given listed step new) old new
   step_of (insert i g t) old new is took wraps = inserted_step i g t is took
-  step_of (remove i) old new is took wraps = removed_step i is (wraps refl) took
-  step_of (invalidate i g) old new is took wraps = invalidated_step i g is (wraps refl) took
-  step_of clear old new is took wraps = cleared_step is (wraps refl) took
-  step_of compress old new is took wraps = compressed_step is (wraps refl) took
+  step_of (remove i) old new is took wraps = removed_step i is (one_step (counter_of old) wraps) took
+  step_of (invalidate i g) old new is took wraps = invalidated_step i g is (one_step (counter_of old) wraps) took
+  step_of clear old new is took wraps = cleared_step is (one_step (counter_of old) wraps) took
+  step_of drain old new is took wraps = drained_step is wraps took
+  step_of compress old new is took wraps = compressed_step is (one_step (counter_of old) wraps) took
   step_of (exchange i j) old new is took wraps = exchanged_step i j is took
   step_of (write i t) old new is took wraps = written_step i t is took
   step_of (reallocate n) old new is took wraps = same_counter is took.counter (λ j. ap generation (took.entries j))

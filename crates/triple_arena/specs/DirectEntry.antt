@@ -2,7 +2,7 @@
 use Rattle.std.specs.Prelude.{ℕ}
 use Rattle.std.specs.Borrow.{GName}
 use Rattle.std.specs.Int.NonZero.{non_zero_usize_get}
-use Rattle.triple_arena.specs.DirectContent.{DirectContent, IsPlace}
+use Rattle.triple_arena.specs.DirectContent.{DirectContent}
 use Rattle.triple_arena.specs.declared.direct.entry.ArenaDirectInsertEntry.{ArenaDirectInsertEntry}
 
 module _ {P T S Inx Gen Alloc : Type 0} where

@@ -1,8 +1,6 @@
 -- What each exact state of a `DirectArena` holds: the entry at each index, how many are live, how far the slots reach, the
 -- room, and that the slots are within it.
-use Rattle.std.proofs.Common.{◌≡◌, ◌≢◌, ◌==◌, if◌then◌else◌, ℕ, zero, suc, ◌+◌, ◌-◌, ◌<◌, ◌≤◌, List, [], ◌∷◌, ◌++◌, length, replicate, min, max, get_or, set, cond, Option, Some, None, IsSome, is_some, count_by, inl, inr, refl, sym, ap, ◌∙◌, arith, length-append, length-set}
-use Rattle.std.specs.Option.{option_map}
-use Rattle.std.proofs.lemmas.Bool.Decides.{eqb_tells}
+use Rattle.std.proofs.Common.{◌≡◌, ◌==◌, if◌then◌else◌, ℕ, zero, suc, ◌+◌, ◌-◌, ◌<◌, ◌≤◌, List, [], ◌∷◌, ◌++◌, length, replicate, min, max, get_or, cond, Option, Some, None, IsSome, is_some, count_by, refl, sym, ap, ◌∙◌, arith, length-append, length-set}
 use Rattle.std.proofs.lemmas.List.{length-replicate}
 use Rattle.std.proofs.lemmas.List.Sums.{sum_by-set, sum_by-cons}
 use Rattle.triple_arena_ptr.specs.Generation.{next_generation}
@@ -10,8 +8,8 @@ use Rattle.std.specs.Prelude.{nat_lt}
 use Rattle.triple_arena_ptr.specs.Index.{max_index_of}
 use Rattle.triple_arena_stack.specs.Room.{Room, capacity, limited}
 use Rattle.triple_arena.specs.Entries.{with_entry, without, with_value_at, with_generation_at}
-use Rattle.triple_arena.specs.Content.{Content, with_value as with_value_of}
-use Rattle.triple_arena.specs.ContentLaws.{entry_at_slot, live_entry, entry-set, entry-same_slots, live-within, entry-with_value as entry-with_value_of, live-with_value as live-with_value_of, slots-with_value as slots-with_value_of, room-with_value as room-with_value_of}
+use Rattle.triple_arena.specs.Content.{with_value as with_value_of}
+use Rattle.triple_arena.specs.ContentLaws.{entry_at_slot, live_entry, entry-set, entry-with_value as entry-with_value_of, live-with_value as live-with_value_of, slots-with_value as slots-with_value_of, room-with_value as room-with_value_of}
 use Rattle.triple_arena.specs.GenerationLaws.{entry-with_generation as entry-with_generation_of, live-with_generation as live-with_generation_of, slots-with_generation as slots-with_generation_of, room-with_generation as room-with_generation_of}
 use Rattle.triple_arena.specs.FreeListLaws.{last_index-is, entry-without_free_end as entry-without_free_end_of, live-without_free_end as live-without_free_end_of, slots-without_free_end as slots-without_free_end_of}
 use Rattle.triple_arena.specs.LimitLaws.{capacity-reserved, fitted-within, fitted-less, entry-with_limit as entry-with_limit_of, live-with_limit as live-with_limit_of, slots-with_limit as slots-with_limit_of, room-with_limit as room-with_limit_of}

@@ -1,7 +1,6 @@
 -- What a contract sees of a slot of a `DirectArena`: the generation and the value of what it holds, or nothing.
 use Rattle.std.specs.Prelude.{ℕ, Option}
 use Rattle.std.specs.Option.{option_map}
-use Rattle.std.specs.Coded.{Coded, coded×, coded_ℕ, coded_option}
 
 module _ {T : Type 0} where
   -- the value, if there is one

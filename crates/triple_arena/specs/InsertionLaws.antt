@@ -3,12 +3,12 @@ use Rattle.std.specs.Prelude.{nat_lt}
 use Rattle.std.proofs.Common.{Bool, true, false, if◌then◌else◌, ◌≡◌, ◌≢◌, ℕ, zero, suc, ◌+◌, ◌-◌, ◌*◌, ◌<◌, ◌≤◌, List, [], ◌∷◌, ◌++◌, length, drop, max, get_or, set, cond, Option, Some, None, is_some, inl, inr, refl, sym, ap, ◌∙◌, arith}
 use Rattle.std.proofs.lemmas.Bool.{eq-eqb, ne_eqb}
 use Rattle.std.proofs.lemmas.Bool.Decides.{eqb_tells}
-use Rattle.std.proofs.lemmas.List.{length-set, length_push, get_or-set_other}
+use Rattle.std.proofs.lemmas.List.{length-set, length_push}
 use Rattle.std.proofs.lemmas.List.Sums.{sum_by-set, sum_by_push}
 use Rattle.std.proofs.Math.Seq.{get_or-append_seam}
 use Rattle.triple_arena_stack.specs.Room.{Room, within, capacity, grown, room_after}
 use Rattle.triple_arena.specs.Entries.{with_entry}
-use Rattle.triple_arena.specs.Content.{Content, entry_at, live_count, arena_capacity, next_index, inserted, in_room, grown_if_full, Lacks, AllVacant, IsWellFormed}
+use Rattle.triple_arena.specs.Content.{Content, entry_at, live_count, arena_capacity, next_index, inserted, in_room, grown_if_full, AllVacant, IsWellFormed}
 use Rattle.triple_arena.specs.ContentLaws.{entry_at_slot, entry-set, entry-same_slots, vacant-kept, vacant-others}
 
 -- the room that a growth leaves is no smaller

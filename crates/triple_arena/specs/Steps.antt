@@ -1,32 +1,36 @@
 -- What is done with an arena step by step, and the pointers that the steps give.
-use Rattle.std.specs.Prelude.{◌≡◌, ◌⊎◌, ℕ, Bool, true, false, IsTrue, List, [], ◌∷◌, ◌++◌, map, Option, Some, IsSome}
+use Rattle.std.specs.Prelude.{◌≡◌, ◌⊎◌, ℕ, false, List, [], ◌∷◌, ◌++◌, map, replicate, Option, Some, IsSome}
 use Rattle.std.specs.Option.{option_map}
 use Rattle.triple_arena_ptr.specs.Generation.{next_generation}
 use Rattle.triple_arena_stack.specs.Room.{Room}
-use Rattle.triple_arena.specs.Entries.{counter_wraps, generation_at, with_value_at}
+use Rattle.triple_arena.specs.Entries.{generation_at, with_value_at}
+use Rattle.triple_arena.specs.Transfer.{steps_wrap, IsGivenUp}
 use Rattle.triple_arena.specs.Changes.{IsInserted, IsRemoved, IsInvalidated, IsCleared, IsCompressed, IsExchanged, IsReallocated}
 
 -- an entry stored at an index under a generation; the entry at an index removed; its pointer ended, and one with this
--- generation given in its place; all entries removed; the entries moved to the first indexes; the values at two indexes
--- exchanged; a value written; room made; and whatever leaves the entry at each index, and the counter
+-- generation given in its place; all entries removed at once; each of them taken out, by a drain or by a transfer from here; the
+-- entries moved to the first indexes; the values at two indexes exchanged; a value written; room made; and whatever leaves the
+-- generation at each index, and the counter
 pub data Step (T : Type 0) : Type 0 where
   insert : ℕ → ℕ → T → Step T
   remove : ℕ → Step T
   invalidate : ℕ → ℕ → Step T
   clear : Step T
+  drain : Step T
   compress : Step T
   exchange : ℕ → ℕ → Step T
   write : ℕ → T → Step T
   reallocate : ℕ → Step T
   keep : Step T
 
--- it steps the counter
-abbrev pub counts : {T : Type 0} → Step T → Bool
-counts (remove i) = true
-counts (invalidate i g) = true
-counts clear = true
-counts compress = true
-counts _ = false
+-- how often it steps the counter, where so many are live
+abbrev pub counts : {T : Type 0} → Step T → ℕ → ℕ
+counts (remove i) live = 1
+counts (invalidate i g) live = 1
+counts clear live = 1
+counts drain live = live
+counts compress live = 1
+counts _ live = 0
 
 -- p is one of these
 abbrev pub IsOneOf : List (ℕ × ℕ) → ℕ × ℕ → Type 0
@@ -71,6 +75,7 @@ module _ {S T : Type 0} (entry_of : S → ℕ → Option (ℕ × T)) (live_of : 
       IsSome (entry_of old i) × (option_map (next_generation last) (counter_of old) ≡ Some g)
       × IsInvalidated entry_of live_of counter_of room_of last i g old new
   Takes clear old new = IsCleared entry_of live_of counter_of room_of last old new
+  Takes drain old new = IsGivenUp entry_of live_of counter_of room_of last old new
   Takes compress old new = IsCompressed entry_of live_of counter_of room_of last listed false old new
   Takes (exchange i j) old new =
       IsSome (entry_of old i) × IsSome (entry_of old j) × IsExchanged entry_of live_of counter_of room_of i j old new
@@ -82,4 +87,6 @@ module _ {S T : Type 0} (entry_of : S → ℕ → Option (ℕ × T)) (live_of : 
   abbrev pub Happens : S → List (Step T × S) → Type 0
   Happens s [] = Unit {0}
   Happens s (moment ∷ later) =
-      Takes moment.0 s moment.1 × (IsTrue (counts moment.0) → counter_wraps last (counter_of s) ≡ false) × Happens moment.1 later
+      Takes moment.0 s moment.1
+      × (steps_wrap last (counts moment.0 (live_of s)) (counter_of s) ≡ replicate (counts moment.0 (live_of s)) false)
+      × Happens moment.1 later

@@ -1,4 +1,4 @@
-use Rattle.std.proofs.Common.{rules, ◌≡◌, ◌<◌, ◌≤◌, length, IsTrue, inl, inr, true≢false, arith}
+use Rattle.std.proofs.Common.{rules, ◌≡◌, length, IsTrue, inl, inr, arith}
 use Rattle.std.proofs.lemmas.Bool.Decides.{leb_tells}
 use Rattle.triple_arena_stack.specs.Room.{capacity}
 use Rattle.triple_arena.specs.ArenaRoom.{room_of}

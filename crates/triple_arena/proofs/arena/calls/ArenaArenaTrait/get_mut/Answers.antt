@@ -1,5 +1,5 @@
 use borrow.Follows.Closed.{read_of}
-use Rattle.std.proofs.Common.{ℕ, sym, ap, refl, ◌∙◌}
+use Rattle.std.proofs.Common.{sym, ap, refl, ◌∙◌}
 use Rattle.std.specs.Int.NonZero.{non_zero_usize_get}
 use Rattle.std.specs.Option.{option_copied_mut, ghost_name_of}
 use Rattle.triple_arena_stack.specs.Stack.{with_item}

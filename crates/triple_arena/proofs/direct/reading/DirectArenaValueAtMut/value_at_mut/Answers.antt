@@ -1,4 +1,4 @@
-use Rattle.std.proofs.Common.{sym, ap, refl, ◌∙◌}
+use Rattle.std.proofs.Common.{ap, refl, ◌∙◌}
 use Rattle.std.specs.Int.NonZero.{non_zero_usize_get}
 use Rattle.std.specs.Option.{option_map}
 use Rattle.triple_arena_stack.specs.Stack.{with_item}
