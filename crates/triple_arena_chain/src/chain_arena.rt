@@ -1,19 +1,24 @@
 //! Links in chains.
-ghost use Rattle.std.specs.Prelude.{◌≡◌, ◌<◌, ◌↔◌, Some, None, IsTrue, option_copied};
+ghost use Rattle.std.specs.Prelude.{◌≡◌, ◌<◌, ◌↔◌, IsTrue, option_copied};
 ghost use Rattle.std.specs.Option.{option_map};
 ghost use Rattle.triple_arena.specs.Content.{get, entry_at, live_count, arena_capacity};
 ghost use Rattle.triple_arena_chain.specs.Links.{IsChained};
 
+mod advancer;
+mod calls;
 mod connections;
+pub(crate) mod entry;
+mod growth;
 mod insertion;
 mod interlinks;
+mod neighbors;
 mod requirement;
 
 use crate::LinkNoGen;
 use std::marker::Model;
 use triple_arena::{Arena, ArenaSlot, ArenaTrait, NonZeroInxGenericStack, Ptr};
 
-/// Links in chains, which are lists and rings: each link is in one chain, once.
+/// Links in chains, which are lists and rings: each link is in a chain.
 #[derive(Drop)]
 pub struct ChainArena<P: Ptr, T: Drop, S: NonZeroInxGenericStack<ArenaSlot<P, LinkNoGen<P, T>>>> {
     arena: Arena<P, LinkNoGen<P, T>, S>,

@@ -1,14 +1,17 @@
 //! Lists and rings in an arena: links that name the links before and after them. A port of the chain arena of the Rust
 //! crate `triple_arena`.
 //!
-//! A chain is a list of indexes, linear or a ring, and each live index stands in exactly one, once.
+//! A chain is a list of indexes, linear or a ring, and each live index stands in one.
 #![tactic(auto)]
 
 mod chain_arena;
 mod kind;
 mod link;
 mod place;
+mod ptr_link;
 
 pub use chain_arena::ChainArena;
+pub use chain_arena::entry::ChainArenaInsertEntry;
 pub use kind::{InsertKind, LinkInsertKind};
 pub use link::{IndexLink, LinkNoGen};
+pub use ptr_link::Link;
