@@ -7,3 +7,4 @@ pub mod KindLemmas
 pub mod ConnectionLemmas
 pub mod NeighborLemmas
 pub mod GrowthLemmas
+pub mod LendLemmas

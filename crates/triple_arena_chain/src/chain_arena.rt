@@ -13,6 +13,7 @@ mod insertion;
 mod interlinks;
 mod neighbors;
 mod requirement;
+mod writing;
 
 use crate::LinkNoGen;
 use std::marker::Model;
