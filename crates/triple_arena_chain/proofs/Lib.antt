@@ -8,3 +8,4 @@ pub mod ConnectionLemmas
 pub mod NeighborLemmas
 pub mod GrowthLemmas
 pub mod LendLemmas
+pub mod WalkLemmas

@@ -5,3 +5,4 @@ pub mod Links
 pub mod LinkLaws
 pub mod Values
 pub mod InsertEntry
+pub mod Walks

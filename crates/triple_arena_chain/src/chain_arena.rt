@@ -13,6 +13,7 @@ mod insertion;
 mod interlinks;
 mod neighbors;
 mod requirement;
+pub(crate) mod walk;
 mod writing;
 
 use crate::LinkNoGen;
