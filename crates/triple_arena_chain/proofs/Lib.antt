@@ -5,3 +5,5 @@ pub mod ExchangeLemmas
 pub mod InsertionLemmas
 pub mod KindLemmas
 pub mod ConnectionLemmas
+pub mod ReversalLemmas
+pub mod RemovalLemmas

@@ -3,3 +3,4 @@ pub mod ChainLaws
 pub mod Kinds
 pub mod Links
 pub mod LinkLaws
+pub mod UniquenessLaws

@@ -5,8 +5,10 @@ ghost use Rattle.triple_arena.specs.Content.{get, entry_at, live_count, arena_ca
 ghost use Rattle.triple_arena_chain.specs.Links.{IsChained};
 
 mod connections;
+mod exchange;
 mod insertion;
 mod interlinks;
+mod removal;
 mod requirement;
 
 use crate::LinkNoGen;
