@@ -7,3 +7,4 @@ pub mod KindLemmas
 pub mod ConnectionLemmas
 pub mod ReversalLemmas
 pub mod RemovalLemmas
+pub mod LawLemmas

@@ -1,7 +1,9 @@
 -- What takes an exchange of nexts, and a new interlink, back.
-use Rattle.std.proofs.Common.{◌≡◌, ℕ, Bool, true, false, Option, Some, None, refl, sym, ap, ◌∙◌, cond, eqb}
-use Rattle.std.proofs.lemmas.Bool.{eqb-true}
+use Rattle.std.proofs.Common.{◌≡◌, ℕ, Bool, true, false, Option, Some, None, refl, sym, ap, ◌∙◌, cond, eqb, inl, inr}
+use Rattle.std.proofs.lemmas.Bool.{eqb-true, eq-eqb}
+use Rattle.std.proofs.lemmas.Bool.Decides.{eqb_tells}
 use Rattle.triple_arena_chain.specs.Chains.{Ends, with_next, with_prev, renext, reprev, linked, unlinked, exchanged, IsAgreed, next_at, prev_at, next_in, prev_in}
+use Rattle.triple_arena_chain.proofs.AgreedLemmas.{valid_next, found_after, next_reprev}
 use Rattle.triple_arena_chain.proofs.ExchangeLemmas.{next_where, prev_where}
 
 next_some : (b : Bool) (n : Option ℕ) (v : Ends) → next_where b n (Some v) ≡ Some (v.0, cond b n v.1)
@@ -79,6 +81,14 @@ four_back_at is_p is_q is_s is_t np nq ms mt np' nq' ms' mt' (Some v) fp fq fs f
     both_inside false true n n' m m' x was was' = sym (was' refl)
     both_inside false false n n' m m' x was was' = refl
 
+-- a write of a previous one leaves the nexts
+next_with_prev : (e : ℕ → Option Ends) (q : ℕ) (m : Option ℕ) (k : ℕ) → next_at (with_prev e q m) k ≡ next_at e k
+next_with_prev e q m k =
+    elim (eqb_tells k q) [
+      | inl same ↦ rw same.0 (next_reprev (e k) m)
+      | inr differs ↦ rw differs.0 refl
+    ]
+
 module _ (e : ℕ → Option Ends) where
   -- a next and a previous one that are written as they were
   two_back : (p q : ℕ) (n m n' m' : Option ℕ) → next_at e p ≡ n → prev_at e q ≡ m
@@ -93,6 +103,26 @@ module _ (e : ℕ → Option Ends) where
   -- an interlink that is cut and made
   pub unlinked_back : (p q : ℕ) → next_at e p ≡ Some q → prev_at e q ≡ Some p → (k : ℕ) → linked (unlinked e p q) p q k ≡ e k
   unlinked_back p q next prev k = two_back p q (Some q) (Some p) None None next prev k
+
+  -- the nexts after an exchange
+  pub next_exchanged : (p q s t : ℕ) → next_at e p ≡ Some s → next_at e q ≡ Some t
+      → (next_at (exchanged e p q s t) p ≡ Some t) × (next_at (exchanged e p q s t) q ≡ Some s)
+  next_exchanged p q s t out_p out_q =
+      let vp = valid_next (e p) s out_p in
+      let vq = valid_next (e q) t out_q in
+      let e1 = with_next e p (Some t) in
+      let at_q = found_after e p q (Some t) None q vq.0 vq.1 in
+      let nexts : (k : ℕ) → next_at (exchanged e p q s t) k ≡ next_at (with_next e1 q (Some s)) k =
+      λ k. next_with_prev (with_prev (with_next e1 q (Some s)) t (Some p)) s (Some q) k ∙ next_with_prev (with_next e1 q (Some s)) t (Some p) k in (
+        nexts p
+            ∙ elim (eqb_tells p q) [
+              | inl same ↦
+                  let both : Some s ≡ Some t = sym out_p ∙ ap (next_at e) same.1 ∙ out_q in
+                  rw (same.0, eq-eqb p p refl, vp.1) both
+              | inr differs ↦ rw (differs.0, eq-eqb p p refl, vp.1) refl
+            ],
+        nexts q ∙ rw (eq-eqb q q refl, at_q.1) refl,
+      )
 
   -- an exchange of nexts that is done twice
   pub exchanged_back : (p q s t : ℕ) → IsAgreed e → next_at e p ≡ Some s → next_at e q ≡ Some t

@@ -146,3 +146,8 @@ module _ (e : ℕ → Option Ends) where
       (Stands-back e None None before' (i ∷ after') s')
   stands_once i (ring after r) (ring after' r') =
       (same_around i (last_or None (i ∷ after)) (last_or None (i ∷ after')) i after after' r.apart.0 r'.apart.0 r.stands r'.stands, r.apart)
+
+  -- an index stands in a chain, in that alone, and there once
+  pub record IsInOneChain (i : ℕ) : Type 0 where
+    pub stands : Standing e i
+    pub once : (other : Standing e i) → IsSameChain i stands other

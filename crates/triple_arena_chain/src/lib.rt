@@ -6,6 +6,7 @@
 
 mod chain_arena;
 mod kind;
+pub mod laws;
 mod link;
 mod place;
 
