@@ -5,10 +5,10 @@ use Rattle.triple_arena_chain.specs.Chains.{Ends, with_next, with_prev, renext, 
 use Rattle.triple_arena_chain.proofs.AgreedLemmas.{next_at_p, next_at_other, prev_at_q, prev_at_other, found_after, IsAgreed-linked, IsAgreed-unlinked, valid_next, valid_prev}
 
 -- a write where a test holds
-abbrev next_where : Bool → Option ℕ → Option Ends → Option Ends
+abbrev pub next_where : Bool → Option ℕ → Option Ends → Option Ends
 next_where b n o = cond b (renext n o) o
 
-abbrev prev_where : Bool → Option ℕ → Option Ends → Option Ends
+abbrev pub prev_where : Bool → Option ℕ → Option Ends → Option Ends
 prev_where b n o = cond b (reprev n o) o
 
 -- four writes at one index, and the writes of two cuts and two joins

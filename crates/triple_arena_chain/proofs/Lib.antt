@@ -9,3 +9,6 @@ pub mod NeighborLemmas
 pub mod GrowthLemmas
 pub mod LendLemmas
 pub mod WalkLemmas
+pub mod ReversalLemmas
+pub mod RemovalLemmas
+pub mod LawLemmas

@@ -1,35 +1,18 @@
 -- What is left to a walk that begins at an index: the chain of that index.
-use Rattle.std.proofs.Common.{◌≡◌, ℕ, ◌+◌, ◌<◌, List, [], ◌∷◌, ◌++◌, length, reverse, Option, Some, None, IsSome, is_some, option_map, true, false, refl, sym, ap, subst, ◌∙◌, arith, inl, inr, ◌⊎◌, true≢false, append_assoc, append-nil}
+use Rattle.std.proofs.Common.{◌≡◌, ℕ, ◌+◌, ◌<◌, List, [], ◌∷◌, ◌++◌, length, reverse, Option, Some, None, IsSome, is_some, option_map, true, false, refl, sym, ap, subst, ◌∙◌, arith, true≢false, append_assoc, append-nil}
 use Rattle.std.proofs.lemmas.Bool.{eq-eqb, ne_eqb}
 use Rattle.std.proofs.lemmas.List.{reverse-append}
 use Rattle.triple_arena.specs.Content.{Content, entry_at, get}
 use Rattle.triple_arena.specs.ContentLaws.{live_entry}
 use Rattle.triple_arena_chain.specs.declared.link.IndexLink.{IndexLink}
-use Rattle.triple_arena_chain.specs.Chains.{Ends, next_in, prev_in, prev_at, last_or, Stands, Off, Apart, Standing, linear, ring}
-use Rattle.triple_arena_chain.specs.ChainLaws.{On, off_or_on, Off-front, Off-back, Off-not_on, Apart-taken, last_is, last_on, Stands-front, Stands-back, stands}
+use Rattle.triple_arena_chain.specs.Chains.{Ends, next_in, prev_in, prev_at, last_or, Stands, Off, Standing, linear, ring}
+use Rattle.triple_arena_chain.specs.ChainLaws.{Off-back, Apart-taken, Stands-front, Stands-back, stands}
+use Rattle.triple_arena_chain.specs.UniquenessLaws.{linear_apart}
 use Rattle.triple_arena_chain.specs.Links.{entry_ends, link_ends, ends_in, ends_found, IsChained}
 use Rattle.triple_arena_chain.specs.Walks.{ChainWalk, walk_from, forwards, Leaves, along, IsWalkAlong}
 use Rattle.triple_arena_chain.proofs.KindLemmas.{found}
 
 module _ (e : ℕ → Option Ends) where
-  -- a list whose first index has no earlier one on the list before it comes back to no index
-  apart_from : (b a : Option ℕ) (xs : List ℕ) → Stands e b xs a → ((y : ℕ) → b ≡ Some y → Off xs y) → Apart xs
-  apart_from b a [] s off = tt
-  apart_from b a (x ∷ zs) s off =
-      let once : Off zs x = by (off_or_on zs x) in
-      (once, apart_from (Some x) a zs s.1 (λ y is. let same : x ≡ y = cc in subst (Off zs) same once))
-    where
-      by : Off zs x ⊎ On zs x → Off zs x
-      by (inl apart) = apart
-      by (inr on) =
-          let s' : Stands e (Some x) (on.front ++ x ∷ on.back) a = subst (λ l. Stands e (Some x) l a) on.is s.1 in
-          let at_x = (Stands-back e (Some x) a on.front (x ∷ on.back) s').0 in
-          let w = last_is x on.front in
-          let b_is : b ≡ Some w.0 = sym (ap prev_in s.0) ∙ ap prev_in at_x ∙ w.1 in
-          let off_w : Off ((x ∷ on.front) ++ x ∷ on.back) w.0 = subst (λ l. Off (x ∷ l) w.0) on.is (off w.0 b_is) in
-          let on_w = last_on x on.front w.0 w.1 in
-          absurd (Off-not_on on_w.front on_w.back w.0 (subst (λ l. Off l w.0) on_w.is (Off-front (x ∷ on.front) (x ∷ on.back) w.0 off_w)))
-
   backwards : (s : ℕ) (b a : Option ℕ) (zs ys : List ℕ) → Stands e b zs a → Leaves e (record { start = s; at = b; back = true }) ys
       → Leaves e (record { start = s; at = last_or b zs; back = true }) (reverse zs ++ ys)
   backwards s b a [] ys st left = left
@@ -67,7 +50,7 @@ module _ (e : ℕ → Option Ends) where
   pub walks : (i : ℕ) (s : Standing e i) → Leaves e (walk_from i) (along e i s)
   walks i (linear before after lin) =
       let here = Stands-back e None None before (i ∷ after) lin in
-      let apart = apart_from None None (before ++ i ∷ after) lin (λ y is. absurd (let no : None ≡ Some y = is in cc)) in
+      let apart = linear_apart e None (before ++ i ∷ after) lin in
       let off : Off after i = Off-back before after i (Apart-taken before after i apart).1 in
       let back = backwards i None (Some i) before [] (Stands-front e None None before (i ∷ after) lin) refl in
       let back' : Leaves e (record { start = i; at = last_or None before; back = true }) (reverse before) =

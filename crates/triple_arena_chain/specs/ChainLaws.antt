@@ -107,14 +107,14 @@ Apart-both xs ys z apart first second =
     Off-not_on second.front second.back z (subst (λ l. Off l z) second.is behind)
 
 -- a list that begins with an index has a last one, which is on it
-pub last_is : (x : ℕ) (xs : List ℕ) → (z : ℕ) × (last_or (Some x) xs ≡ Some z)
+last_is : (x : ℕ) (xs : List ℕ) → (z : ℕ) × (last_or (Some x) xs ≡ Some z)
 last_is x [] = (x, refl)
 last_is x (y ∷ ys) = last_is y ys
 
 On-cons : (x z : ℕ) (xs : List ℕ) → On xs z → On (x ∷ xs) z
 On-cons x z xs on = record { front = x ∷ on.front; back = on.back; is = ap (λ l. x ∷ l) on.is }
 
-pub last_on : (x : ℕ) (xs : List ℕ) (z : ℕ) → last_or (Some x) xs ≡ Some z → On (x ∷ xs) z
+last_on : (x : ℕ) (xs : List ℕ) (z : ℕ) → last_or (Some x) xs ≡ Some z → On (x ∷ xs) z
 last_on x [] z is = let same : x ≡ z = cc in record { front = []; back = []; is = ap (λ y. y ∷ []) same }
 last_on x (y ∷ ys) z is = On-cons x z (y ∷ ys) (last_on y ys z is)
 

@@ -6,3 +6,4 @@ pub mod LinkLaws
 pub mod Values
 pub mod InsertEntry
 pub mod Walks
+pub mod UniquenessLaws

@@ -8,10 +8,12 @@ mod advancer;
 mod calls;
 mod connections;
 pub(crate) mod entry;
+mod exchange;
 mod growth;
 mod insertion;
 mod interlinks;
 mod neighbors;
+mod removal;
 mod requirement;
 pub(crate) mod walk;
 mod writing;
@@ -20,7 +22,7 @@ use crate::LinkNoGen;
 use std::marker::Model;
 use triple_arena::{Arena, ArenaSlot, ArenaTrait, NonZeroInxGenericStack, Ptr};
 
-/// Links in chains, which are lists and rings: each link is in a chain.
+/// Links in chains, which are lists and rings: each link is in one chain, once.
 #[derive(Drop)]
 pub struct ChainArena<P: Ptr, T: Drop, S: NonZeroInxGenericStack<ArenaSlot<P, LinkNoGen<P, T>>>> {
     arena: Arena<P, LinkNoGen<P, T>, S>,
