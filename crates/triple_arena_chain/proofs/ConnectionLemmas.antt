@@ -8,7 +8,7 @@ use Rattle.triple_arena_chain.specs.declared.place.Place.{Place}
 use Rattle.triple_arena_chain.specs.Kinds.{at_bridge}
 use Rattle.triple_arena_chain.proofs.KindLemmas.{found}
 use Rattle.triple_arena_chain.specs.Links.{entry_ends, ends_in, ends_found, with_next_of, with_prev_of, IsChained, IsRelinked}
-use Rattle.triple_arena_chain.specs.LinkLaws.{live-with_next_of, ends-with_next_of, ends-with_prev_of, values-with_next_of, values-with_prev_of, kept-with_next_of, kept-with_prev_of, formed-with_next_of, formed-with_prev_of}
+use Rattle.triple_arena_chain.specs.LinkLaws.{live-with_link, live-with_next_of, ends-with_next_of, ends-with_prev_of, values-with_next_of, values-with_prev_of, kept-with_next_of, kept-with_prev_of, formed-with_next_of, formed-with_prev_of}
 use Rattle.triple_arena_chain.proofs.AgreedLemmas.{IsAgreed-linked, IsAgreed-unlinked, valid_next, valid_prev}
 use Rattle.triple_arena_chain.proofs.ExchangeLemmas.{exchanged_is, exchanged_self, IsAgreed-exchanged}
 use Rattle.triple_arena_chain.proofs.InsertionLemmas.{IsAgreed-same, with_next_if-same, with_prev_if-same, kept-after}
@@ -26,6 +26,11 @@ agreed-exchanged e p q s t out_p out_q agreed =
           IsAgreed-same (linked (linked (unlinked (unlinked e p s) q t) p t) q s) (exchanged e p q s t) (exchanged_is e p q s t)
           (IsAgreed-exchanged e p q s t differs.1 out_p out_q agreed)
     ]
+
+-- the ends that were read, where there is a next
+pub next_read : {I : Type 0} (number : I → ℕ) (o : Option Ends) (b n : Option I) (m : I) → Some (option_map number b, option_map number n) ≡ o
+    → n ≡ Some m → o ≡ Some (option_map number b, Some (number m))
+next_read number o b n m read is = sym read ∙ ap (λ x. Some (option_map number b, option_map number x)) is
 
 module _ {I T : Type 0} (number : I → ℕ) where
   live_ends : (c : Content (IndexLink I T)) (k : ℕ) (v : Ends) → ends_in number c k ≡ Some v → IsSome (entry_at c k)
@@ -228,6 +233,15 @@ module _ {I T : Type 0} (number : I → ℕ) where
   next_live_after_two c d1 d2 at1 next1 at2 next2 p gp n b chained is first second =
       subst (λ x. IsSome (entry_at x n)) (sym second)
       (live-with_next_of number d1 at2 next2 n (next_live_after c d1 at1 next1 p gp n b chained is first))
+
+  -- and once a previous one was written after them
+  pub next_live_after_three : (c d1 d2 d3 : Content (IndexLink I T)) (at1 next1 at2 next2 prev3 : Option I) (at3 : I) (p gp n : ℕ) (b : Option ℕ)
+      → IsChained number c → ends_found number c p gp ≡ Some (b, Some n) → d1 ≡ with_next_of number c at1 next1
+      → d2 ≡ with_next_of number d1 at2 next2 → d3 ≡ with_prev_of number d2 (Some at3) prev3 → IsSome (entry_at d3 n)
+  next_live_after_three c d1 d2 d3 at1 next1 at2 next2 prev3 at3 p gp n b chained is first second third =
+      subst (λ x. IsSome (entry_at x n)) (sym third)
+      (live-with_link number d2 (number at3) (λ link. record link { prev = prev3 }) n
+      (next_live_after_two c d1 d2 at1 next1 at2 next2 p gp n b chained is first second))
 
   pub exchanged_at : (c d1 d2 d3 d4 : Content (IndexLink I T)) (i j s t : I) (p gp q gq : ℕ) (b b' : Option ℕ) → IsChained number c → number i ≡ p
       → number j ≡ q → ends_found number c p gp ≡ Some (b, Some (number s)) → ends_found number c q gq ≡ Some (b', Some (number t))

@@ -1,13 +1,22 @@
 //! Links in chains.
-ghost use Rattle.std.specs.Prelude.{◌≡◌, ◌<◌, ◌↔◌, Some, None, IsTrue, option_copied};
+ghost use Rattle.std.specs.Prelude.{◌≡◌, ◌<◌, ◌↔◌, IsTrue, option_copied};
 ghost use Rattle.std.specs.Option.{option_map};
 ghost use Rattle.triple_arena.specs.Content.{get, entry_at, live_count, arena_capacity};
 ghost use Rattle.triple_arena_chain.specs.Links.{IsChained};
 
+mod advancer;
+mod calls;
 mod connections;
+pub(crate) mod entry;
+mod exchange;
+mod growth;
 mod insertion;
 mod interlinks;
+mod neighbors;
+mod removal;
 mod requirement;
+pub(crate) mod walk;
+mod writing;
 
 use crate::LinkNoGen;
 use std::marker::Model;

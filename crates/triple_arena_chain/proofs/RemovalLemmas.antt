@@ -1,0 +1,189 @@
+-- A link that is taken out of its chain.
+use Rattle.std.proofs.Common.{◌≡◌, ◌==◌, if◌then◌else◌, ℕ, ◌+◌, ◌-◌, ◌∷◌, length, Option, Some, None, IsSome, IfSome, IfNone, OnSome, is_some, true, option_map, refl, sym, ap, subst, ◌∙◌, inl, inr}
+use Rattle.std.proofs.lemmas.Bool.{eq-eqb}
+use Rattle.std.proofs.lemmas.Bool.Decides.{eqb_tells}
+use Rattle.triple_arena_ptr.specs.Generation.{next_generation}
+use Rattle.triple_arena.specs.Entries.{without, value_if}
+use Rattle.triple_arena.specs.Content.{Content, entry_at, removed, IsWellFormed}
+use Rattle.triple_arena.specs.RemovalLaws.{entry-removed, live-removed, counter-removed, free-removed, slots-removed, room-removed, formed-removed}
+use Rattle.triple_arena_chain.specs.declared.link.IndexLink.{IndexLink}
+use Rattle.triple_arena_chain.specs.Chains.{Ends, with_next_if, dropped, bridged, taken_from, next_in, prev_in}
+use Rattle.triple_arena_chain.specs.declared.place.Place.TheVariants.{Between}
+use Rattle.triple_arena_chain.specs.Links.{valued, values_in, link_ends, entry_ends, ends_in, with_next_of, with_prev_of, AreNeighborsLive, IsKept, IsChained, IsTakenOut}
+use Rattle.triple_arena_chain.specs.LinkLaws.{neighbor-with_next_of, entry-with_link, ends-with_next_of, ends-with_prev_of, values-with_next_of, values-with_prev_of, kept-with_next_of, kept-with_prev_of, formed-with_next_of, formed-with_prev_of}
+use Rattle.triple_arena_chain.proofs.InsertionLemmas.{IsAgreed-same, with_prev_if-same, kept-after}
+use Rattle.triple_arena_chain.proofs.ConnectionLemmas.{live_next, live_prev}
+use Rattle.triple_arena_chain.proofs.TakeOutLemmas.{IsAgreed-taken}
+
+dropped-same : (e f : ℕ → Option Ends) (p k : ℕ) → f k ≡ e k → dropped f p k ≡ dropped e p k
+dropped-same e f p k same =
+    elim (eqb_tells k p) [
+      | inl is ↦ rw is.0 refl
+      | inr differs ↦ rw differs.0 same
+    ]
+
+module _ {I T : Type 0} (number : I → ℕ) where
+  -- the neighbours of a link over it, which name one another
+  abbrev pub bridged_over : Content (IndexLink I T) → IndexLink I T → Content (IndexLink I T)
+  bridged_over c l = with_prev_of number (with_next_of number c l.prev l.next) l.next l.prev
+
+  -- what a link names is live
+  pub neighbors_live : (c : Content (IndexLink I T)) (p g : ℕ) (l : IndexLink I T) → IsChained number c → entry_at c p ≡ Some (g, l)
+      → AreNeighborsLive number c (Between l.prev l.next)
+  neighbors_live c p g l chained at = (by_prev l.prev (ap (λ o. prev_in (option_map (entry_ends number) o)) at), by_next l.next (ap (λ o. next_in (option_map (entry_ends number) o)) at))
+    where
+      by_prev : (o : Option I) → prev_in (ends_in number c p) ≡ option_map number o → IfSome o (λ i. IsSome (entry_at c (number i)))
+      by_prev None is = tt
+      by_prev (Some i) is = live_prev number c p (number i) chained is
+
+      by_next : (o : Option I) → next_in (ends_in number c p) ≡ option_map number o → IfSome o (λ i. IsSome (entry_at c (number i)))
+      by_next None is = tt
+      by_next (Some i) is = live_next number c p (number i) chained is
+
+  -- a link stays as it is where its own next, or its own previous one, is written again
+  next_again : (c : Content (IndexLink I T)) (p g : ℕ) (l : IndexLink I T) (o : Option I) → entry_at c p ≡ Some (g, l)
+      → entry_at (with_next_of number c o l.next) p ≡ Some (g, l)
+  next_again c p g l None at = at
+  next_again c p g l (Some i) at =
+      entry-with_link c (number i) (λ link. record link { next = l.next }) p
+      ∙ elim (eqb_tells p (number i)) [
+        | inl same ↦
+            rw same.0
+            (ap (option_map (λ (e : ℕ × IndexLink I T). (let v : ℕ × IndexLink I T = (e.0, record e.1 { next = l.next }) in v))) (ap (entry_at c) (sym same.1) ∙ at))
+        | inr differs ↦ rw differs.0 at
+      ]
+
+  prev_again : (c : Content (IndexLink I T)) (p g : ℕ) (l : IndexLink I T) (o : Option I) → entry_at c p ≡ Some (g, l)
+      → entry_at (with_prev_of number c o l.prev) p ≡ Some (g, l)
+  prev_again c p g l None at = at
+  prev_again c p g l (Some i) at =
+      entry-with_link c (number i) (λ link. record link { prev = l.prev }) p
+      ∙ elim (eqb_tells p (number i)) [
+        | inl same ↦
+            rw same.0
+            (ap (option_map (λ (e : ℕ × IndexLink I T). (let v : ℕ × IndexLink I T = (e.0, record e.1 { prev = l.prev }) in v))) (ap (entry_at c) (sym same.1) ∙ at))
+        | inr differs ↦ rw differs.0 at
+      ]
+
+  -- a link is as it was once its neighbours are joined
+  pub entry-bridged : (c : Content (IndexLink I T)) (p g : ℕ) (l : IndexLink I T) → entry_at c p ≡ Some (g, l) → entry_at (bridged_over c l) p ≡ Some (g, l)
+  entry-bridged c p g l at = prev_again (with_next_of number c l.prev l.next) p g l l.next (next_again c p g l l.prev at)
+
+  ends-bridged : (c : Content (IndexLink I T)) (l : IndexLink I T) (k : ℕ)
+      → ends_in number (bridged_over c l) k ≡ bridged (ends_in number c) (option_map number l.prev) (option_map number l.next) k
+  ends-bridged c l k =
+      let one = with_next_of number c l.prev l.next in
+      ends-with_prev_of number one l.next l.prev k
+      ∙ with_prev_if-same (with_next_if (ends_in number c) (option_map number l.prev) (option_map number l.next)) (ends_in number one) (option_map number l.next)
+      (option_map number l.prev)
+      (ends-with_next_of number c l.prev l.next)
+      k
+
+  values-bridged : (c : Content (IndexLink I T)) (l : IndexLink I T) (k : ℕ) → values_in (bridged_over c l) k ≡ values_in c k
+  values-bridged c l k =
+      values-with_prev_of number (with_next_of number c l.prev l.next) l.next l.prev k ∙ values-with_next_of number c l.prev l.next k
+
+  kept-bridged : (c : Content (IndexLink I T)) (l : IndexLink I T) → IsKept c (bridged_over c l)
+  kept-bridged c l =
+      let one = with_next_of number c l.prev l.next in
+      kept-after number c one (bridged_over c l) (kept-with_next_of number c l.prev l.next) (kept-with_prev_of number one l.next l.prev)
+
+  formed-bridged : (c : Content (IndexLink I T)) (l : IndexLink I T) → IsWellFormed c → IsWellFormed (bridged_over c l)
+  formed-bridged c l formed =
+      formed-with_prev_of number (with_next_of number c l.prev l.next) l.next l.prev (formed-with_next_of number c l.prev l.next formed)
+
+  pub record TakenOut (last : Option ℕ) (p : ℕ) (c new : Content (IndexLink I T)) : Type 0 where
+    pub taken : IsTakenOut number last p c new
+    pub chained : IsChained number new
+
+  -- a link is removed once its neighbours are joined
+  pub taken_out_by : (last : Option ℕ) (c joined new : Content (IndexLink I T)) (p g : ℕ) (l : IndexLink I T) → IsChained number c
+      → entry_at c p ≡ Some (g, l) → joined ≡ bridged_over c l → new ≡ removed last joined p → TakenOut last p c new
+  taken_out_by last c joined new p g l chained at join remove =
+      let d = bridged_over c l in
+      let e = ends_in number c in
+      let b = option_map number l.prev in
+      let n = option_map number l.next in
+      let own : e p ≡ Some (b, n) = ap (option_map (entry_ends number)) at in
+      let live : IsSome (entry_at d p) = ap is_some (entry-bridged c p g l at) in
+      let kept = kept-bridged c l in
+      let is : new ≡ removed last d p = remove ∙ ap (λ x. removed last x p) join in
+      let dropped_ends : (k : ℕ) → ends_in number (removed last d p) k ≡ dropped (bridged e b n) p k =
+      λ k. ap (option_map (entry_ends number)) (entry-removed last d p live k)
+      ∙ elim (eqb_tells k p) [
+        | inl same ↦ rw same.0 refl
+        | inr differs ↦ rw differs.0 (ends-bridged c l k)
+      ] in
+      rw is
+      (record {
+        taken = record {
+          ends = λ k. dropped_ends k ∙ ap (λ o. taken_from e p o k) (sym own);
+          values = λ k.
+              ap (option_map valued) (entry-removed last d p live k)
+              ∙ elim (eqb_tells k p) [
+                | inl same ↦ rw same.0 refl
+                | inr differs ↦ rw differs.0 (values-bridged c l k)
+              ];
+          live = live-removed last d p live ∙ kept.live;
+          counter = counter-removed last d p ∙ ap (next_generation last) kept.counter;
+          free =
+              free-removed last d p
+              ∙ ap (λ m. if p == m then d.free else (p ∷ d.free)) kept.slots
+              ∙ ap (λ f. if p == length c.slots then f else (p ∷ f)) kept.free
+              ∙ sym (free-removed last c p);
+          slots = slots-removed last d p ∙ ap (λ m. if p == m then (p - 1) else m) kept.slots ∙ sym (slots-removed last c p);
+          room = room-removed last d p ∙ kept.room;
+        };
+        chained = record {
+          formed = formed-removed last d p live (formed-bridged c l chained.formed);
+          agreed = IsAgreed-same (dropped (bridged e b n) p) (ends_in number (removed last d p)) dropped_ends (IsAgreed-taken e p b n own chained.agreed);
+        };
+      })
+
+  -- the neighbours of a link are live, also once a next was written
+  pub neighbor_live_after : (c d : Content (IndexLink I T)) (p g : ℕ) (l : IndexLink I T) → IsChained number c → entry_at c p ≡ Some (g, l)
+      → d ≡ with_next_of number c l.prev l.next → IfSome l.next (λ i. IsSome (entry_at d (number i)))
+  neighbor_live_after c d p g l chained at written =
+      subst (λ x. IfSome l.next (λ i. IsSome (entry_at x (number i)))) (sym written)
+      (neighbor-with_next_of number c l.prev l.next l.next (neighbors_live c p g l chained at).1)
+
+  -- a removal, of which the answer tells what is seen of the entry
+  pub record Removed {A V : Type 0} (f : A → V) (r : Option A) (seen : Option (ℕ × IndexLink I T) → Option V) (last : Option ℕ) (p : ℕ) (c new : Content (IndexLink I T)) : Type 0 where
+    pub value : option_map f r ≡ seen (entry_at c p)
+    pub taken : OnSome r (IsTakenOut number last p c new)
+    pub none : IfNone r (new ≡ c)
+    pub chained : IsChained number new
+
+  pub removed_by : {A V : Type 0} (f : A → V) (r : Option A) (seen : Option (ℕ × IndexLink I T) → Option V) (last : Option ℕ)
+      (c d1 d2 new : Content (IndexLink I T)) (p g : ℕ) (l : IndexLink I T) (v : V) → IsChained number c → entry_at c p ≡ Some (g, l)
+      → seen (Some (g, l)) ≡ Some v → d1 ≡ with_next_of number c l.prev l.next → d2 ≡ with_prev_of number d1 l.next l.prev
+      → option_map f r ≡ seen (entry_at d2 p) → OnSome r (new ≡ removed last d2 p) → Removed f r seen last p c new
+  removed_by f r seen last c d1 d2 new p g l v chained at shown first second value remove = by r value remove
+    where
+      join : d2 ≡ bridged_over c l
+      join = second ∙ ap (λ d. with_prev_of number d l.next l.prev) first
+
+      same : entry_at d2 p ≡ entry_at c p
+      same = ap (λ d. entry_at d p) join ∙ entry-bridged c p g l at ∙ sym at
+
+      by : (o : Option _) → option_map f o ≡ seen (entry_at d2 p) → OnSome o (new ≡ removed last d2 p) → Removed f o seen last p c new
+      by None is gone = absurd (let no : None ≡ Some v = is ∙ ap seen (same ∙ at) ∙ shown in cc)
+      by (Some a) is gone =
+          let t = taken_out_by last c d2 new p g l chained at join gone in
+          record { value = is ∙ ap seen same; taken = t.taken; none = tt; chained = t.chained }
+
+module _ {T : Type 0} where
+  -- an entry that has this generation
+  pub entry_seen : (g : ℕ) (o : Option (ℕ × T)) (t : T) → value_if g o ≡ Some t → o ≡ Some (g, t)
+  entry_seen g None t is = absurd (let no : None ≡ Some t = is in cc)
+  entry_seen g (Some e) t is =
+      elim (eqb_tells e.0 g) [
+        | inl same ↦
+            let value : Some e.1 ≡ Some t = rw same.0 at is in
+            let t_is : e.1 ≡ t = cc in
+            ap (λ n. Some (n, e.1)) same.1 ∙ ap (λ u. Some (g, u)) t_is
+        | inr differs ↦ absurd (let no : None ≡ Some t = rw differs.0 at is in cc)
+      ]
+
+  pub entry_shows : (g : ℕ) (t : T) → value_if g (Some (g, t)) ≡ Some t
+  entry_shows g t = rw (eq-eqb g g refl) refl

@@ -1,0 +1,52 @@
+//! What follows from the calls of a chain arena.
+ghost use Rattle.std.specs.Prelude.{◌≡◌, ℕ, Some, IsSome};
+ghost use Rattle.triple_arena.specs.Content.{Content};
+ghost use Rattle.triple_arena_chain.specs.declared.kind.InsertKind.TheVariants.{Bridge};
+ghost use Rattle.triple_arena_chain.specs.declared.link.IndexLink.{IndexLink};
+ghost use Rattle.triple_arena_chain.specs.Chains.{next_at, prev_at, linked, unlinked, exchanged};
+ghost use Rattle.triple_arena_chain.specs.Links.{ends_in, place_among, IsChained, IsRelinked};
+ghost use Rattle.triple_arena_chain.specs.UniquenessLaws.{IsInOneChain};
+
+use triple_arena::Ptr;
+
+/// Each live index stands in exactly one chain, once.
+pub fn links_stand_in_one_chain<P: Ptr, T>()
+    ensures { (c : Content (IndexLink P.Inx T)) (i : ℕ) → IsChained P.Inx.number c
+        → IsSome (ends_in P.Inx.number c i) → IsInOneChain (ends_in P.Inx.number c) i }
+{}
+
+/// A `connect` that answers `Some`, and then `break_next` of its first, restores all interlinks, and leaves all else as it
+/// was.
+pub fn break_next_takes_connect_back<P: Ptr, T>()
+    ensures { (before between after : Content (IndexLink P.Inx T)) (p q : P)
+        → IsSome (place_among P.index P.generation P.Inx.number before (Bridge p q))
+        → IsRelinked P.Inx.number (linked (ends_in P.Inx.number before) (P.index p) (P.index q))
+        before between
+        → ((n : ℕ) → next_at (ends_in P.Inx.number between) (P.index p) ≡ Some n
+        → IsRelinked P.Inx.number
+        (unlinked (ends_in P.Inx.number between) (P.index p) n) between after)
+        → IsRelinked P.Inx.number (ends_in P.Inx.number before) before after }
+{}
+
+/// A `break_next` that answers `Some`, and then `connect` of the two links, restores all interlinks, and leaves all else as
+/// it was.
+pub fn connect_takes_break_next_back<P: Ptr, T>()
+    ensures { (before between after : Content (IndexLink P.Inx T)) (p q : ℕ)
+        → IsChained P.Inx.number before → next_at (ends_in P.Inx.number before) p ≡ Some q
+        → IsRelinked P.Inx.number (unlinked (ends_in P.Inx.number before) p q) before between
+        → IsRelinked P.Inx.number (linked (ends_in P.Inx.number between) p q) between after
+        → IsRelinked P.Inx.number (ends_in P.Inx.number before) before after }
+{}
+
+/// `exchange_next` twice with the same pointers, where the first answers `Some`, restores all interlinks, and leaves all
+/// else as it was.
+pub fn exchange_next_takes_itself_back<P: Ptr, T>()
+    ensures { (before between after : Content (IndexLink P.Inx T)) (p q s t : ℕ)
+        → IsChained P.Inx.number before → next_at (ends_in P.Inx.number before) p ≡ Some s
+        → next_at (ends_in P.Inx.number before) q ≡ Some t
+        → IsRelinked P.Inx.number (exchanged (ends_in P.Inx.number before) p q s t) before between
+        → ((m n : ℕ) → next_at (ends_in P.Inx.number between) p ≡ Some m
+        → next_at (ends_in P.Inx.number between) q ≡ Some n
+        → IsRelinked P.Inx.number (exchanged (ends_in P.Inx.number between) p q m n) between after)
+        → IsRelinked P.Inx.number (ends_in P.Inx.number before) before after }
+{}
