@@ -6,6 +6,7 @@
 mod concrete;
 mod direct;
 mod generic;
+mod moves;
 mod news;
 mod one_crate;
 mod rules;
