@@ -8,3 +8,5 @@ pub mod ConnectionLemmas
 pub mod ReversalLemmas
 pub mod RemovalLemmas
 pub mod LawLemmas
+pub mod TakenWalkLemmas
+pub mod DrainLemmas

@@ -54,7 +54,7 @@ Off-taken [] ys x i off = off.1
 Off-taken (y ∷ xs) ys x i off = (off.0, Off-taken xs ys x i off.1)
 
 -- an index of a list that is taken out of it leaves the others apart, and is off them
-Apart-taken : (xs ys : List ℕ) (x : ℕ) → Apart (xs ++ x ∷ ys) → Apart (xs ++ ys) × Off (xs ++ ys) x
+pub Apart-taken : (xs ys : List ℕ) (x : ℕ) → Apart (xs ++ x ∷ ys) → Apart (xs ++ ys) × Off (xs ++ ys) x
 Apart-taken [] ys x apart = (apart.1, apart.0)
 Apart-taken (y ∷ xs) ys x apart =
     let rest = Apart-taken xs ys x apart.1 in

@@ -4,3 +4,4 @@ pub mod Kinds
 pub mod Links
 pub mod LinkLaws
 pub mod UniquenessLaws
+pub mod Drains

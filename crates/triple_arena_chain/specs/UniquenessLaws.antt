@@ -4,11 +4,11 @@ use Rattle.triple_arena_chain.specs.Chains.{Ends, next_in, prev_in, next_at, pre
 use Rattle.triple_arena_chain.specs.ChainLaws.{first_or-append, last_or-append, Stands-back, Stands-front, On, off_or_on}
 
 -- a list is empty, or another one and its last index
-data Ended (xs : List ℕ) : Type 0 where
+pub data Ended (xs : List ℕ) : Type 0 where
   none : xs ≡ [] → Ended xs
   some_last : (ys : List ℕ) (y : ℕ) → xs ≡ ys ++ y ∷ [] → Ended xs
 
-ended : (xs : List ℕ) → Ended xs
+pub ended : (xs : List ℕ) → Ended xs
 ended [] = none refl
 ended (x ∷ xs) = by (ended xs)
   where

@@ -5,6 +5,7 @@ ghost use Rattle.triple_arena.specs.Content.{get, entry_at, live_count, arena_ca
 ghost use Rattle.triple_arena_chain.specs.Links.{IsChained};
 
 mod connections;
+mod drain;
 mod exchange;
 mod insertion;
 mod interlinks;
@@ -12,6 +13,7 @@ mod removal;
 mod requirement;
 
 use crate::LinkNoGen;
+pub use drain::ChainDrain;
 use std::marker::Model;
 use triple_arena::{Arena, ArenaSlot, ArenaTrait, NonZeroInxGenericStack, Ptr};
 

@@ -10,6 +10,11 @@ pub mod laws;
 mod link;
 mod place;
 
+/// The iterators over chains.
+pub mod chain_iterators {
+    pub use crate::chain_arena::ChainDrain;
+}
+
 pub use chain_arena::ChainArena;
 pub use kind::{InsertKind, LinkInsertKind};
 pub use link::{IndexLink, LinkNoGen};
