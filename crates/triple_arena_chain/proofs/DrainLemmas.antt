@@ -1,5 +1,5 @@
 -- What a removal at the start of a walk does to what is left of it, and to what a drain leaves.
-use Rattle.std.proofs.Common.{◌≡◌, ℕ, suc, ◌+◌, ◌-◌, ◌==◌, if◌then◌else◌, Bool, List, [], ◌∷◌, ◌++◌, length, reverse, Option, Some, None, IsSome, IfSome, OnSome, is_some, true, false, option_map, refl, sym, ap, subst, ◌∙◌, inl, inr, arith}
+use Rattle.std.proofs.Common.{◌≡◌, ℕ, ◌-◌, ◌==◌, if◌then◌else◌, Bool, List, [], ◌∷◌, ◌++◌, length, reverse, Option, Some, None, IsSome, IfSome, OnSome, is_some, true, false, option_map, refl, sym, ap, subst, ◌∙◌, inl, inr, arith}
 use Rattle.std.proofs.lemmas.Bool.Decides.{eqb_tells}
 use Rattle.std.specs.Fn.{iterate}
 use Rattle.triple_arena_ptr.specs.Generation.{next_generation, next_wraps}
@@ -9,7 +9,7 @@ use Rattle.triple_arena.specs.Entries.{without, value_if}
 use Rattle.triple_arena.specs.Content.{Content, entry_at, get, removed}
 use Rattle.triple_arena.specs.RemovalLaws.{free-removed, slots-removed}
 use Rattle.triple_arena_chain.specs.declared.link.IndexLink.{IndexLink}
-use Rattle.triple_arena_chain.specs.Chains.{Ends, Stands, IsLinear, IsRing, Standing, linear, ring, taken_out, first_or, last_or}
+use Rattle.triple_arena_chain.specs.Chains.{Ends, Stands, Standing, linear, ring, taken_out, first_or, last_or}
 use Rattle.triple_arena_chain.specs.ChainLaws.{Stands-back}
 use Rattle.triple_arena_chain.specs.Links.{values_in, link_ends, entry_ends, ends_in, IsChained, IsTakenOut}
 use Rattle.triple_arena_chain.specs.Drains.{IsWalkFrom, along, around, IsWalk, dropped_all, onward_from, without_all, removed_all, IsDrained, IsRestDrained, IsStep, DrainKeeps, DrainKeepsAlong}
@@ -82,10 +82,12 @@ module _ {I T : Type 0} (number : I → ℕ) (last : Option ℕ) where
       record {
         goes_on =
             λ walk is.
-            let on = walk_goes_on e chained.agreed i (option_map number l.prev) (option_map number l.next) own walk is in
-            (on.rest, on.is,
-            subst (λ o. IsWalk (ends_in number d) o on.rest) (sym onward)
-            (IsWalk-same (taken_out e i) (ends_in number d) taken.ends (onward_from i (link_ends number l)) on.rest on.goes_on));
+            let on = walk_goes_on e chained.agreed i (option_map number l.prev) (option_map number l.next) own walk is in (
+              on.rest,
+              on.is,
+              subst (λ o. IsWalk (ends_in number d) o on.rest) (sym onward)
+                  (IsWalk-same (taken_out e i) (ends_in number d) taken.ends (onward_from i (link_ends number l)) on.rest on.goes_on),
+            );
         leaves =
             λ left drained walk is.
             let on = walk_goes_on e chained.agreed i (option_map number l.prev) (option_map number l.next) own walk is in
@@ -152,19 +154,21 @@ module _ {I T : Type 0} (number : I → ℕ) (last : Option ℕ) where
           leaves = on.leaves;
         }
 
-  -- an index that is not live begins no walk
-  pub nothing_there : (c : Content (IndexLink I T)) (i : ℕ) → entry_at c i ≡ None → IsRestDrained number last (Some i) c c
-  nothing_there c i vacant walk from = absurd (by from)
+  -- a walk begins at an index that is live
+  pub walk_live : (c : Content (IndexLink I T)) (i : ℕ) (walk : List ℕ) → IsWalk (ends_in number c) (Some i) walk → IsSome (entry_at c i)
+  walk_live c i walk from = live (entry_at c i) (by from)
     where
-      gone : ends_in number c i ≡ None
-      gone = ap (option_map (entry_ends number)) vacant
+      live : (o : Option (ℕ × IndexLink I T)) → IsSome (option_map (entry_ends number) o) → IsSome o
+      live None missing = absurd (let never : false ≡ true = missing in cc)
+      live (Some e) found = refl
 
-      by : IsWalkFrom (ends_in number c) i walk → ⊥
-      by (along before after s is) =
-          let own = (Stands-back (ends_in number c) None None before (i ∷ after) s).0 in
-          absurd (let never : None ≡ Some (last_or None before, first_or after None) = sym gone ∙ own in cc)
-      by (around after r is) =
-          absurd (let never : None ≡ Some (last_or None (i ∷ after), first_or after (Some i)) = sym gone ∙ r.stands.0 in cc)
+      by : IsWalkFrom (ends_in number c) i walk → IsSome (ends_in number c i)
+      by (along before after s is) = ap is_some (Stands-back (ends_in number c) None None before (i ∷ after) s).0
+      by (around after r is) = ap is_some r.stands.0
+
+  -- an index that is not live begins none
+  pub nothing_there : (c : Content (IndexLink I T)) (i : ℕ) → entry_at c i ≡ None → IsRestDrained number last (Some i) c c
+  nothing_there c i vacant walk from = absurd (let never : false ≡ true = sym (ap is_some vacant) ∙ walk_live c i walk from in cc)
 
 module _ {P T S Inx Gen Alloc : Type 0} (number : Inx → ℕ) (last : Option ℕ) (index generation : P → ℕ) where
   -- what a drain keeps at a step it keeps at every later one

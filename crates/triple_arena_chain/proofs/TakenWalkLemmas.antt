@@ -3,10 +3,10 @@ use Rattle.std.proofs.Common.{◌≡◌, ◌≢◌, ℕ, ◌==◌, if◌then◌e
 use Rattle.std.proofs.lemmas.Bool.{eq-eqb, ne_eqb}
 use Rattle.std.proofs.lemmas.Bool.Decides.{eqb_tells}
 use Rattle.std.proofs.lemmas.List.{reverse-append, append-nil}
-use Rattle.triple_arena_chain.specs.Chains.{Ends, next_in, prev_in, next_at, prev_at, IsAgreed, first_or, last_or, Stands, Off, Apart, IsLinear, IsRing, with_next, with_prev, with_next_if, with_prev_if, bridged, taken_from, taken_out, dropped}
-use Rattle.triple_arena_chain.specs.ChainLaws.{On, off_or_on, Off-front, Off-back, Off-append, Off-not_on, Apart-taken, Stands-append, Stands-front, Stands-back, last_or-append}
+use Rattle.triple_arena_chain.specs.Chains.{Ends, next_in, prev_in, next_at, prev_at, IsAgreed, first_or, last_or, Stands, Off, Apart, IsLinear, IsRing, with_next_if, with_prev_if, bridged, taken_from, taken_out, dropped}
+use Rattle.triple_arena_chain.specs.ChainLaws.{off_or_on, Off-front, Off-back, Apart-taken, Stands-append, Stands-front, Stands-back, last_or-append}
 use Rattle.triple_arena_chain.specs.UniquenessLaws.{Ended, none, some_last, ended, linear_apart}
-use Rattle.triple_arena_chain.specs.Drains.{IsWalkFrom, along, around, IsWalk, dropped_all, onward_from, but_not}
+use Rattle.triple_arena_chain.specs.Drains.{IsWalkFrom, along, around, IsWalk, dropped_all, onward_from}
 
 -- this, or another in its place where it is this index
 abbrev over : ℕ → Option ℕ → Option ℕ → Option ℕ
@@ -95,9 +95,10 @@ module _ (e : ℕ → Option Ends) (agreed : IsAgreed e) (i : ℕ) (b n : Option
   Stands-over : (o a : Option ℕ) (xs : List ℕ) → Off xs i → Stands e o xs a → Stands (taken_out e i) (over i b o) xs (over i n a)
   Stands-over o a [] off s = tt
   Stands-over o a (x ∷ xs) off s =
-      let rest = Stands-over (Some x) a xs off.1 s.1 in
-      (taken_at x (o, first_or xs a) s.0 off.0 ∙ ap (λ w. Some (over i b o, w)) (over_first i n a xs off.1),
-      subst (λ w. Stands (taken_out e i) w xs (over i n a)) (over_other i x b off.0) rest)
+      let rest = Stands-over (Some x) a xs off.1 s.1 in (
+        taken_at x (o, first_or xs a) s.0 off.0 ∙ ap (λ w. Some (over i b o, w)) (over_first i n a xs off.1),
+        subst (λ w. Stands (taken_out e i) w xs (over i n a)) (over_other i x b off.0) rest,
+      )
 
   -- a linear chain without it
   linear_taken : (xs ys : List ℕ) → IsLinear e (xs ++ i ∷ ys) → IsLinear (taken_out e i) (xs ++ ys)

@@ -37,13 +37,7 @@ fn onward<I: PtrInx>(i: I, own: (Option<I>, Option<I>)) -> Option<I>
         None => own.0,
     };
     match next {
-        Some(j) => {
-            if j == i {
-                None
-            } else {
-                Some(j)
-            }
-        }
+        Some(j) => { if j == i { None } else { Some(j) } }
         None => None,
     }
 }

@@ -1,4 +1,4 @@
-use Rattle.std.proofs.Common.{rules, ◌≡◌, Some, IsSome, ap, refl}
+use Rattle.std.proofs.Common.{rules, Some, IsSome, ap, refl}
 use Rattle.triple_arena.specs.Content.{get}
 use Rattle.triple_arena_chain.proofs.DrainLemmas.{walk_from, keeps_along}
 use Rattle.triple_arena_chain.proofs.chain_arena.ChainArena.drain_chain.Goals as goal
