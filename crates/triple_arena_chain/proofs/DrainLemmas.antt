@@ -1,5 +1,5 @@
 -- What a removal at the start of a walk does to what is left of it, and to what a drain leaves.
-use Rattle.std.proofs.Common.{◌≡◌, ℕ, ◌-◌, ◌==◌, if◌then◌else◌, Bool, List, [], ◌∷◌, ◌++◌, length, reverse, Option, Some, None, IsSome, IfSome, OnSome, is_some, true, false, option_map, refl, sym, ap, subst, ◌∙◌, inl, inr, arith}
+use Rattle.std.proofs.Common.{◌≡◌, ℕ, ◌-◌, ◌==◌, if◌then◌else◌, Bool, List, [], ◌∷◌, ◌++◌, length, Option, Some, None, IsSome, IfSome, OnSome, is_some, true, false, option_map, refl, sym, ap, subst, ◌∙◌, inl, inr, arith}
 use Rattle.std.proofs.lemmas.Bool.Decides.{eqb_tells}
 use Rattle.std.specs.Fn.{iterate}
 use Rattle.triple_arena_ptr.specs.Generation.{next_generation, next_wraps}
@@ -9,11 +9,12 @@ use Rattle.triple_arena.specs.Entries.{without, value_if}
 use Rattle.triple_arena.specs.Content.{Content, entry_at, get, removed}
 use Rattle.triple_arena.specs.RemovalLaws.{free-removed, slots-removed}
 use Rattle.triple_arena_chain.specs.declared.link.IndexLink.{IndexLink}
-use Rattle.triple_arena_chain.specs.Chains.{Ends, Stands, Standing, linear, ring, taken_out, first_or, last_or}
+use Rattle.triple_arena_chain.specs.Chains.{Ends, Stands, taken_out, first_or, last_or}
 use Rattle.triple_arena_chain.specs.ChainLaws.{Stands-back}
 use Rattle.triple_arena_chain.specs.Links.{values_in, link_ends, entry_ends, ends_in, IsChained, IsTakenOut}
 use Rattle.triple_arena_chain.specs.Drains.{IsWalkFrom, along, around, IsWalk, dropped_all, onward_from, without_all, removed_all, IsDrained, IsRestDrained, IsStep, DrainKeeps, DrainKeepsAlong}
 use Rattle.triple_arena_chain.specs.declared.chain_arena.drain.ChainDrain.{ChainDrain}
+use Rattle.triple_arena_chain.specs.DrainLaws.{walk_of}
 use Rattle.triple_arena_chain.proofs.LawLemmas.{in_one_chain}
 use Rattle.triple_arena_chain.proofs.TakenWalkLemmas.{walk_goes_on, dropped_with}
 
@@ -119,15 +120,12 @@ module _ {I T : Type 0} (number : I → ℕ) (last : Option ℕ) where
   -- the walk from a link that is live
   pub walk_from : (c : Content (IndexLink I T)) (i : I) (p g : ℕ) → IsChained number c → number i ≡ p → IsSome (get c p g)
       → (walk : List ℕ) × IsWalk (ends_in number c) (Some (number i)) walk
-  walk_from c i p g chained is_p some = by (in_one_chain number c (number i) chained (ap is_some (ap (ends_in number c) is_p) ∙ live (entry_at c p) some)).stands
+  walk_from c i p g chained is_p some =
+      walk_of (ends_in number c) (number i) (in_one_chain number c (number i) chained (ap is_some (ap (ends_in number c) is_p) ∙ live (entry_at c p) some)).stands
     where
       live : (o : Option (ℕ × IndexLink I T)) → IsSome (value_if g o) → is_some (option_map (entry_ends number) o) ≡ true
       live None missing = absurd (let never : false ≡ true = missing in cc)
       live (Some e) found = refl
-
-      by : Standing (ends_in number c) (number i) → (walk : List ℕ) × IsWalk (ends_in number c) (Some (number i)) walk
-      by (linear before after s) = (number i ∷ (after ++ reverse before), along before after s refl)
-      by (ring after r) = (number i ∷ after, around after r refl)
 
   module _ {P G : Type 0} (generation_number : G → ℕ) (index generation : P → ℕ) where
     -- a removal that is given as an item

@@ -5,3 +5,4 @@ pub mod Links
 pub mod LinkLaws
 pub mod UniquenessLaws
 pub mod Drains
+pub mod DrainLaws
