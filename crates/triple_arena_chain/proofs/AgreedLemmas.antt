@@ -68,7 +68,8 @@ module _ (e : ℕ → Option Ends) (p q : ℕ) (n m : Option ℕ) where
   pub prev_at_other : (i : ℕ) → i ≢ q → prev_at both i ≡ prev_at e i
   prev_at_other i differs = rw (ne_eqb i q differs) (prev_with_next i)
 
-pub IsAgreed-linked : (e : ℕ → Option Ends) (p q : ℕ) (v w : Ends) → e p ≡ Some v → v.1 ≡ None → e q ≡ Some w → w.0 ≡ None → IsAgreed e → IsAgreed (linked e p q)
+pub IsAgreed-linked : (e : ℕ → Option Ends) (p q : ℕ) (v w : Ends) → e p ≡ Some v → v.1 ≡ None → e q ≡ Some w → w.0 ≡ None
+    → IsAgreed e → IsAgreed (linked e p q)
 IsAgreed-linked e p q v w at_p end at_q start agreed =
     record {
       forward =
@@ -82,7 +83,8 @@ IsAgreed-linked e p q v w at_p end at_q start agreed =
                 rw (t, x_is) (prev_at_q e p q (Some q) (Some p) w at_q)
             | inr differs ↦
                 let b = agreed.forward x y (sym (next_at_other e p q (Some q) (Some p) x differs.1) ∙ h) in
-                let not_q : y ≢ q = λ same. let s : prev_at e q ≡ Some x = subst (λ z. prev_at e z ≡ Some x) same b in let r : prev_at e q ≡ None = ap prev_in at_q ∙ start in cc in
+                let not_q : y ≢ q = λ same. let s : prev_at e q ≡ Some x = subst (λ z. prev_at e z ≡ Some x) same b in
+                let r : prev_at e q ≡ None = ap prev_in at_q ∙ start in cc in
                 prev_at_other e p q (Some q) (Some p) y not_q ∙ b
           ];
       backward =
@@ -96,7 +98,8 @@ IsAgreed-linked e p q v w at_p end at_q start agreed =
                 rw (t, y_is) (next_at_p e p q (Some q) (Some p) v at_p)
             | inr differs ↦
                 let b = agreed.backward x y (sym (prev_at_other e p q (Some q) (Some p) y differs.1) ∙ h) in
-                let not_p : x ≢ p = λ same. let s : next_at e p ≡ Some y = subst (λ z. next_at e z ≡ Some y) same b in let r : next_at e p ≡ None = ap next_in at_p ∙ end in cc in
+                let not_p : x ≢ p = λ same. let s : next_at e p ≡ Some y = subst (λ z. next_at e z ≡ Some y) same b in
+                let r : next_at e p ≡ None = ap next_in at_p ∙ end in cc in
                 next_at_other e p q (Some q) (Some p) x not_p ∙ b
           ];
     }

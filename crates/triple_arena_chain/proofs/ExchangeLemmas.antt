@@ -12,7 +12,10 @@ abbrev pub prev_where : Bool → Option ℕ → Option Ends → Option Ends
 prev_where b n o = cond b (reprev n o) o
 
 -- four writes at one index, and the writes of two cuts and two joins
-at_one : (p q s t : ℕ) (is_p is_q is_s is_t : Bool) (o : Option Ends) → prev_where is_s (Some q) (prev_where is_t (Some p) (next_where is_q (Some s) (next_where is_p (Some t) o))) ≡ prev_where is_s (Some q) (next_where is_q (Some s) (prev_where is_t (Some p) (next_where is_p (Some t) (prev_where is_t None (next_where is_q None (prev_where is_s None (next_where is_p None o)))))))
+at_one : (p q s t : ℕ) (is_p is_q is_s is_t : Bool) (o : Option Ends)
+    → prev_where is_s (Some q) (prev_where is_t (Some p) (next_where is_q (Some s) (next_where is_p (Some t) o)))
+    ≡ prev_where is_s (Some q) (next_where is_q (Some s) (prev_where is_t (Some p) (next_where is_p (Some t)
+    (prev_where is_t None (next_where is_q None (prev_where is_s None (next_where is_p None o)))))))
 at_one p q s t true true true true None = refl
 at_one p q s t true true true true (Some v) = refl
 at_one p q s t true true true false None = refl
@@ -60,7 +63,8 @@ valid_both e p q n m i v found =
     ]
 
 -- two cuts and two joins keep the two ways agreed
-pub IsAgreed-exchanged : (e : ℕ → Option Ends) (p q s t : ℕ) → p ≢ q → next_at e p ≡ Some s → next_at e q ≡ Some t → IsAgreed e → IsAgreed (linked (linked (unlinked (unlinked e p s) q t) p t) q s)
+pub IsAgreed-exchanged : (e : ℕ → Option Ends) (p q s t : ℕ) → p ≢ q → next_at e p ≡ Some s → next_at e q ≡ Some t → IsAgreed e
+    → IsAgreed (linked (linked (unlinked (unlinked e p s) q t) p t) q s)
 IsAgreed-exchanged e p q s t differs out_p out_q agreed =
     let e1 : ℕ → Option Ends = unlinked e p s in
     let e2 : ℕ → Option Ends = unlinked e1 q t in

@@ -44,7 +44,8 @@ IsAgreed-ring e n vacant agreed =
             | inr differs ↦
                 let out : next_at e x ≡ Some y = rw differs.0 at h in
                 let back = agreed.forward x y out in
-                let not_n : y ≢ n = λ same. let none : prev_at e y ≡ None = ap prev_in (ap e same ∙ vacant) in let no : None ≡ Some x = sym none ∙ back in absurd (cc) in
+                let not_n : y ≢ n = λ same.
+                let none : prev_at e y ≡ None = ap prev_in (ap e same ∙ vacant) in let no : None ≡ Some x = sym none ∙ back in absurd (cc) in
                 rw (ne_eqb y n not_n) back
           ];
       backward =
@@ -57,7 +58,8 @@ IsAgreed-ring e n vacant agreed =
             | inr differs ↦
                 let into : prev_at e y ≡ Some x = rw differs.0 at h in
                 let out = agreed.backward x y into in
-                let not_n : x ≢ n = λ same. let none : next_at e x ≡ None = ap next_in (ap e same ∙ vacant) in let no : None ≡ Some y = sym none ∙ out in absurd (cc) in
+                let not_n : x ≢ n = λ same.
+                let none : next_at e x ≡ None = ap next_in (ap e same ∙ vacant) in let no : None ≡ Some y = sym none ∙ out in absurd (cc) in
                 rw (ne_eqb x n not_n) out
           ];
     }

@@ -5,6 +5,10 @@ pub mod ExchangeLemmas
 pub mod InsertionLemmas
 pub mod KindLemmas
 pub mod ConnectionLemmas
+pub mod NeighborLemmas
+pub mod GrowthLemmas
+pub mod LendLemmas
+pub mod WalkLemmas
 pub mod ReversalLemmas
 pub mod RemovalLemmas
 pub mod LawLemmas

@@ -69,7 +69,8 @@ module _ (e : ℕ → Option Ends) where
                   let n_is : n ≡ Some y = sym (next_hit b n x v.0 hit v.1) ∙ s.1 in
                   let w = valid_prev (e y) p (prev_of_n y n_is) in
                   let w' = valid-with_next_if e b n y w.0 w.1 in
-                  let not_p : y ≢ p = λ same. let loops : n ≡ Some p = n_is ∙ ap Some same in let b_is : b ≡ Some p = sym prev_p ∙ prev_of_n p loops in let t : Some x ≡ Some p = sym hit ∙ b_is in s.0 (cc) in
+                  let not_p : y ≢ p = λ same. let loops : n ≡ Some p = n_is ∙ ap Some same in
+                  let b_is : b ≡ Some p = sym prev_p ∙ prev_of_n p loops in let t : Some x ≡ Some p = sym hit ∙ b_is in s.0 (cc) in
                   rw (ne_eqb y p not_p) (prev_hit b n y w'.0 n_is w'.1 ∙ hit)
               | inr miss ↦
                   let out : next_at e x ≡ Some y = sym (next_miss b n x miss) ∙ s.1 in
@@ -87,7 +88,8 @@ module _ (e : ℕ → Option Ends) where
                   let w' = valid-with_next_if e b n y w.0 w.1 in
                   let b_is : b ≡ Some x = sym (prev_hit b n y w'.0 hit w'.1) ∙ s.1 in
                   let v = valid_next (e x) p (next_of_b x b_is) in
-                  let not_p : x ≢ p = λ same. let loops : b ≡ Some p = b_is ∙ ap Some same in let n_is : n ≡ Some p = sym next_p ∙ next_of_b p loops in let t : Some y ≡ Some p = sym hit ∙ n_is in s.0 (cc) in
+                  let not_p : x ≢ p = λ same. let loops : b ≡ Some p = b_is ∙ ap Some same in
+                  let n_is : n ≡ Some p = sym next_p ∙ next_of_b p loops in let t : Some y ≡ Some p = sym hit ∙ n_is in s.0 (cc) in
                   rw (ne_eqb x p not_p) (next_hit b n x v.0 b_is v.1 ∙ hit)
               | inr miss ↦
                   let into : prev_at e y ≡ Some x = sym (prev_miss b n y miss) ∙ s.1 in

@@ -1,4 +1,4 @@
--- Each live index stands in exactly one chain.
+-- Each live index stands in a chain.
 use Rattle.std.proofs.Common.{◌≡◌, ◌≢◌, ℕ, zero, suc, ◌+◌, ◌-◌, ◌<◌, ◌≤◌, List, [], ◌∷◌, ◌++◌, length, Option, Some, None, IsSome, is_some, refl, sym, ap, subst, ◌∙◌, arith, true, false, inl, inr, ◌⊎◌, append_assoc, length-append}
 use Rattle.std.proofs.lemmas.Bool.Decides.{eqb_tells}
 use Rattle.triple_arena_chain.specs.Chains.{Ends, next_in, prev_in, next_at, prev_at, IsAgreed, first_or, last_or, Stands, Off, Apart, Standing, linear, ring}
@@ -206,7 +206,8 @@ module _ (e : ℕ → Option Ends) where
     backward fuel i ys xs None long s apart all = linear xs ys s
     backward zero i ys xs (Some y) long s apart all = let less = few n (xs ++ i ∷ ys) apart all in absurd (omega (arith, less, long))
     backward (suc fuel) i ys xs (Some y) long s apart all =
-        by_first (λ b here off. backward fuel i ys (y ∷ xs) b (omega (arith, long)) (here, s) (off, apart) (below y (b, first_or (xs ++ i ∷ ys) None) here, all))
+        by_first (λ b here off. backward fuel i ys (y ∷ xs) b (omega (arith, long)) (here, s) (off, apart)
+        (below y (b, first_or (xs ++ i ∷ ys) None) here, all))
         (xs ++ i ∷ ys) refl
       where
         by_first : ((b : Option ℕ) → e y ≡ Some (b, first_or (xs ++ i ∷ ys) None) → Off (xs ++ i ∷ ys) y → Standing e i)

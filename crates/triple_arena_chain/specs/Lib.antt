@@ -3,6 +3,9 @@ pub mod ChainLaws
 pub mod Kinds
 pub mod Links
 pub mod LinkLaws
+pub mod Values
+pub mod InsertEntry
+pub mod Walks
 pub mod UniquenessLaws
 pub mod Drains
 pub mod DrainLaws

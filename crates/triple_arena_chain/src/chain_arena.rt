@@ -1,19 +1,25 @@
 //! Links in chains.
-ghost use Rattle.std.specs.Prelude.{◌≡◌, ◌<◌, ◌↔◌, Some, None, IsTrue, option_copied};
+ghost use Rattle.std.specs.Prelude.{◌≡◌, ◌<◌, ◌↔◌, IsTrue, option_copied};
 ghost use Rattle.std.specs.Option.{option_map};
 ghost use Rattle.triple_arena.specs.Content.{get, entry_at, live_count, arena_capacity};
 ghost use Rattle.triple_arena_chain.specs.Links.{IsChained};
 
+mod advancer;
+mod calls;
 mod connections;
-mod drain;
+pub(crate) mod drain;
+pub(crate) mod entry;
 mod exchange;
+mod growth;
 mod insertion;
 mod interlinks;
+mod neighbors;
 mod removal;
 mod requirement;
+pub(crate) mod walk;
+mod writing;
 
 use crate::LinkNoGen;
-pub use drain::ChainDrain;
 use std::marker::Model;
 use triple_arena::{Arena, ArenaSlot, ArenaTrait, NonZeroInxGenericStack, Ptr};
 

@@ -9,12 +9,24 @@ mod kind;
 pub mod laws;
 mod link;
 mod place;
+mod ptr_link;
 
-/// The iterators over chains.
+/// The advancers, the iterators and the drains of `ChainArena`.
 pub mod chain_iterators {
-    pub use crate::chain_arena::ChainDrain;
+    pub use crate::chain_arena::drain::ChainDrain;
+    pub use crate::chain_arena::walk::ChainPtrAdvancer;
+    pub use triple_arena::arena_iterators::PtrAdvancer;
+
+    /// The pointers and the links, in the order of the indexes.
+    pub type IterLinkNoGen<'a, P, T> = triple_arena::arena_iterators::Iter<
+        'a,
+        P,
+        crate::LinkNoGen<P, T>,
+    >;
 }
 
 pub use chain_arena::ChainArena;
+pub use chain_arena::entry::ChainArenaInsertEntry;
 pub use kind::{InsertKind, LinkInsertKind};
 pub use link::{IndexLink, LinkNoGen};
+pub use ptr_link::Link;

@@ -1,5 +1,5 @@
 //! Links that are connected and parted.
-ghost use Rattle.std.specs.Prelude.{◌≡◌, ◌↔◌, ℕ, Some, None, IsSome, IfNone, OnSome};
+ghost use Rattle.std.specs.Prelude.{◌≡◌, ◌↔◌, ℕ, Some, IsSome, IfNone, OnSome};
 ghost use Rattle.triple_arena_chain.specs.declared.kind.InsertKind.TheVariants.{Bridge};
 ghost use Rattle.triple_arena_chain.specs.Chains.{next_in, prev_in, next_at, prev_at, linked, unlinked};
 ghost use Rattle.triple_arena_chain.specs.Links.{ends_in, ends_found, place_among, IsRelinked};
@@ -14,7 +14,8 @@ impl<P: Ptr, T: Drop, S: NonZeroInxGenericStack<ArenaSlot<P, LinkNoGen<P, T>>> +
     S,
 > {
     /// Makes `q` the next of `p`, where `p` is valid without a next and `q` is valid without a previous link. Else it
-    /// answers `None` and changes nothing. The end and the start of one linear chain make a ring, also where `p` is `q`.
+    /// answers `None` and changes nothing. The end and the start of one linear chain make a ring, also where `p` is
+    /// `q`.
     pub fn connect(&mut self, p: P, q: P) -> Option<()>
         ensures variant { IsSome result
             ↔ IsSome (place_among P.index P.generation P.Inx.number self.old (Bridge p q)) }

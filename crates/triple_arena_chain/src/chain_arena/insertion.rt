@@ -1,5 +1,5 @@
 //! Insertion of a link.
-ghost use Rattle.std.specs.Prelude.{◌≡◌, ◌<◌, ◌↔◌, Some, None, IsSome, IsOk, IfOk, IfSome, OnOk, OnErr, IsErrOf};
+ghost use Rattle.std.specs.Prelude.{◌≡◌, ◌<◌, ◌≤◌, ◌↔◌, None, IsSome, IsOk, IfOk, IfSome, OnErr, IsErrOf};
 ghost use Rattle.triple_arena.specs.Content.{live_count, arena_capacity};
 ghost use Rattle.triple_arena_chain.specs.Chains.{IsPlace};
 ghost use Rattle.triple_arena_chain.specs.Kinds.{place_by};
@@ -52,9 +52,9 @@ impl<P: Ptr, T: Drop, S: NonZeroInxGenericStack<ArenaSlot<P, LinkNoGen<P, T>>> +
         }
     }
 
-    /// Stores `t` in a link where the kind says, if there is room. It answers `FailedLinkRequirement` where the links are
-    /// not as the kind requires, and else `NotWithinCapacity` where there is no room. The links stay as they are then,
-    /// and `t` is dropped.
+    /// Stores `t` in a link where the kind says, if there is room. It answers `FailedLinkRequirement` where the links
+    /// are not as the kind requires, and else `NotWithinCapacity` where there is no room. The links stay as they are
+    /// then, and `t` is dropped.
     pub fn insert_within_capacity(
         &mut self,
         kind: LinkInsertKind<P>,
@@ -65,6 +65,9 @@ impl<P: Ptr, T: Drop, S: NonZeroInxGenericStack<ArenaSlot<P, LinkNoGen<P, T>>> +
         ensures variant { IsOk result
             ↔ (IsSome (place_among P.index P.generation P.Inx.number self.old kind)
             × (live_count self.old < arena_capacity self.old)) }
+        ensures full { IsErrOf result ChainInsertionError.NotWithinCapacity
+            ↔ (IsSome (place_among P.index P.generation P.Inx.number self.old kind)
+            × (arena_capacity self.old ≤ live_count self.old)) }
         ensures placed { IfOk result
             (λ p. IfSome (place_among P.index P.generation P.Inx.number self.old kind)
             (λ place. IsPlaced P.Inx.number place (P.index p) (P.generation p) t self.old self.new)) }

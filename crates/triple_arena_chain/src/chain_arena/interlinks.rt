@@ -1,6 +1,6 @@
 //! Interlinks, read and written where the links lie.
-ghost use Rattle.std.specs.Prelude.{◌≡◌, ◌↔◌, Some, None, IsSome, IfSome, IsTrue};
-ghost use Rattle.triple_arena.specs.Content.{entry_at, IsWellFormed};
+ghost use Rattle.std.specs.Prelude.{◌≡◌, IsSome, IfSome};
+ghost use Rattle.triple_arena.specs.Content.{entry_at};
 ghost use Rattle.triple_arena_chain.specs.Links.{with_next_of, with_prev_of, joined_to, AreNeighborsLive};
 
 use crate::LinkNoGen;

@@ -1,5 +1,5 @@
 //! What an insertion's kind requires of the links.
-ghost use Rattle.std.specs.Prelude.{◌≡◌, ◌↔◌, Some, None, IsSome, IsTrue};
+ghost use Rattle.std.specs.Prelude.{◌≡◌, ◌↔◌, IsSome, IsTrue};
 ghost use Rattle.std.specs.Option.{option_map};
 ghost use Rattle.triple_arena.specs.Content.{get};
 ghost use Rattle.triple_arena_chain.specs.Links.{prev_next_of, ends_in, ends_found, place_among};
@@ -28,7 +28,7 @@ impl<P: Ptr, T: Drop, S: NonZeroInxGenericStack<ArenaSlot<P, LinkNoGen<P, T>>> +
     }
 
     // Those of the link at an index.
-    fn ends_at(&self, i: P::Inx) -> Option<(Option<P::Inx>, Option<P::Inx>)>
+    pub(crate) fn ends_at(&self, i: P::Inx) -> Option<(Option<P::Inx>, Option<P::Inx>)>
         ensures { option_map (ends_by P.Inx.number) result
             ≡ ends_in P.Inx.number self.now (P.Inx.number i) }
     {

@@ -12,7 +12,8 @@ placed g c =
     let old = c.args.self.now in
     let chained : IsChained number old = search rules in
     let index : number c.inx-i.result ≡ next_index old = search rules in
-    let is : c.join.new.arena ≡ joined_to number (inserted old (link_for number c.args.place c.inx-i.result c.args.t)) c.args.place c.inx-i.result = search rules in
+    let is : c.join.new.arena ≡ joined_to number (inserted old (link_for number c.args.place c.inx-i.result c.args.t)) c.args.place c.inx-i.result =
+    search rules in
     placed_in number old c.join.new.arena c.args.place c.inx-i.result c.args.t chained c.requires.room c.requires.place index is
 
 pub invariant_of-self : goal.invariant_of-self

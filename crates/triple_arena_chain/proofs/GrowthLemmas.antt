@@ -1,0 +1,18 @@
+-- A greater room leaves the links.
+use Rattle.std.proofs.Common.{◌≡◌, ℕ, option_map, sym, ap, subst}
+use Rattle.triple_arena_stack.specs.Room.{room_after}
+use Rattle.triple_arena.specs.Content.{Content, live_count, grown_if_full}
+use Rattle.triple_arena.specs.InsertionLaws.{formed-grown, entry-in_room}
+use Rattle.triple_arena_chain.specs.declared.link.IndexLink.{IndexLink}
+use Rattle.triple_arena_chain.specs.Links.{entry_ends, ends_in, IsChained}
+use Rattle.triple_arena_chain.proofs.InsertionLemmas.{IsAgreed-same}
+
+module _ {I T : Type 0} (number : I → ℕ) where
+  pub chained-grown : (c d : Content (IndexLink I T)) → IsChained number c → d ≡ grown_if_full c → IsChained number d
+  chained-grown c d chained is =
+      subst (IsChained number) (sym is)
+      (record {
+        formed = formed-grown c chained.formed;
+        agreed = IsAgreed-same (ends_in number c) (ends_in number (grown_if_full c))
+            (λ k. ap (option_map (entry_ends number)) (entry-in_room c (room_after (live_count c) c.room) k)) chained.agreed;
+      })

@@ -1,0 +1,6 @@
+use Rattle.std.proofs.Common.{rules}
+use Rattle.triple_arena_chain.proofs.GrowthLemmas.{chained-grown}
+use Rattle.triple_arena_chain.proofs.chain_arena.ChainArena.make_room.Goals as goal
+
+pub invariant_of-self-2 : goal.invariant_of-self-2
+invariant_of-self-2 g c = chained-grown g.P.Inx.PtrInx.number c.args.self.now _ c.has_room.ensures.chained (search rules)

@@ -1,0 +1,149 @@
+//! A place for one link more, which tells its pointer before the value is there.
+ghost use Rattle.std.specs.Prelude.{◌≡◌, ◌<◌, ◌≤◌, ◌↔◌, None, Some, IsOk, IsSome, IfOk, IfSome, IsErrOf};
+ghost use Rattle.std.specs.Borrow.{sem, RestsIfErr};
+ghost use Rattle.triple_arena.specs.Content.{live_count, arena_capacity, next_index, grown_if_full};
+ghost use Rattle.triple_arena_chain.specs.InsertEntry.{entry_chains, entry_lender, entry_place, IsReady, IsLinkRefusal};
+ghost use Rattle.triple_arena_chain.specs.Links.{place_among, IsPlaced};
+
+use crate::place::Place;
+use crate::{ChainArena, LinkInsertKind, LinkNoGen};
+use triple_arena::{
+    ArenaInsertEntries, ArenaInsertEntryTrait, ArenaSlot, NonZeroInxGenericStack, Ptr,
+};
+use triple_arena_ptr::ChainInsertionError;
+
+/// A place for one link more. Dropped unused, it leaves the links as they are.
+#[derive(Drop)]
+pub struct ChainArenaInsertEntry<
+    'a,
+    P: Ptr,
+    T: Drop,
+    S: NonZeroInxGenericStack<ArenaSlot<P, LinkNoGen<P, T>>>,
+> {
+    chains: &'a mut ChainArena<P, T, S>,
+    place: Place<P::Inx>,
+    ptr: P,
+}
+
+impl<
+    'a,
+    P: Ptr,
+    T: Drop,
+    S: NonZeroInxGenericStack<ArenaSlot<P, LinkNoGen<P, T>>> + Drop,
+> ArenaInsertEntryTrait<P, T> for ChainArenaInsertEntry<'a, P, T, S> {
+    ghost index = { λ e. next_index (entry_chains e) };
+
+    ghost generation = { λ e. (entry_chains e).counter };
+
+    ghost has_room = { λ e. IsReady P.Inx.number P.index P.generation e };
+
+    fn ptr(&self) -> P {
+        self.ptr
+    }
+
+    fn insert(self, t: T) -> P
+        requires { IsReady P.Inx.number P.index P.generation self }
+
+        // `self.exit.0.now` are the links as they are left.
+        ensures placed { IsPlaced P.Inx.number (entry_place P.Inx.number self.entry) (P.index result)
+            (P.generation result) t (entry_chains self.entry) self.exit.0.now }
+        ensures room { self.exit.0.now.room ≡ (entry_chains self.entry).room }
+    {
+        let ChainArenaInsertEntry {
+            chains,
+            place,
+            ptr: _,
+        } = self;
+        chains.put(place, t)
+    }
+}
+
+impl<P: Ptr, T: Drop, S: NonZeroInxGenericStack<ArenaSlot<P, LinkNoGen<P, T>>> + Drop> ChainArena<
+    P,
+    T,
+    S,
+> {
+    ghost use Rattle.triple_arena_chain.specs.contracts.chain_arena.ChainArena.{the_row};
+
+    // The pointer of the next link, where there is room.
+    fn next_ptr(&mut self) -> Option<P>
+        ensures variant { IsSome result ↔ (live_count self.old < arena_capacity self.old) }
+        ensures has_index { IfSome result (λ p. P.index p ≡ next_index self.old) }
+        ensures has_generation { IfSome result (λ p. P.generation p ≡ self.old.counter) }
+        ensures kept { self.new ≡ self.old }
+    {
+        match self.arena.entry_insert_within_capacity() {
+            Ok(entry) => Some(entry.ptr()),
+            Err(_) => None,
+        }
+    }
+
+    /// A place for one link more, if there is room. It answers `FailedLinkRequirement` where the links are not as the
+    /// kind requires, and else `NotWithinCapacity` where there is no room. The links stay as they are then.
+    pub fn entry_insert_within_capacity(
+        &mut self,
+        kind: LinkInsertKind<P>,
+    ) -> Result<ChainArenaInsertEntry<'_, P, T, S>, ChainInsertionError>
+        ensures failed { IsErrOf result ChainInsertionError.FailedLinkRequirement
+            ↔ (place_among P.index P.generation P.Inx.number self.old kind ≡ None) }
+        ensures variant { IsOk result
+            ↔ (IsSome (place_among P.index P.generation P.Inx.number self.old kind)
+            × (live_count self.old < arena_capacity self.old)) }
+        ensures full { IsErrOf result ChainInsertionError.NotWithinCapacity
+            ↔ (IsSome (place_among P.index P.generation P.Inx.number self.old kind)
+            × (arena_capacity self.old ≤ live_count self.old)) }
+        ensures same_reference { IfOk result (λ e. entry_lender e ≡ self.entry.ghost_name) }
+        ensures chains { IfOk result (λ e. entry_chains e ≡ self.old) }
+        ensures ready { IfOk result (λ e. IsReady P.Inx.number P.index P.generation e) }
+        ensures place { IfOk result (λ e. place_among P.index P.generation P.Inx.number self.old kind
+            ≡ Some (entry_place P.Inx.number e)) }
+        ensures* err { sem 𝓛 (RestsIfErr
+            (the_row P.row T.row S.row P.Inx.row P.Gen.row S.Alloc.row P.Ptr.own P.Debug P.Hash.own
+            P.PartialEq P.Ord.own P.PartialOrd.own P.Inx.PtrInx.own P.Inx.Debug P.Inx.Hash.own
+            P.Inx.PartialEq P.Inx.Ord.own P.Inx.PartialOrd.own P.Gen.PtrGen.own P.Gen.Debug
+            P.Gen.Hash.own P.Gen.PartialEq P.Gen.Ord.own P.Gen.PartialOrd.own
+            S.NonZeroInxGenericStack) self.entry entry_lender result (λ a. a ≡ self.old)) }
+    {
+        // The interlinks agree.
+        let _ = self.has_room();
+        let Some(place) = self.place(kind) else {
+            return Err(ChainInsertionError::FailedLinkRequirement);
+        };
+        match self.next_ptr() {
+            Some(ptr) => Ok(ChainArenaInsertEntry {
+                chains: self,
+                place,
+                ptr,
+            }),
+            None => Err(ChainInsertionError::NotWithinCapacity),
+        }
+    }
+
+    /// A place for one link more. Where there is no room the arena grows, and answers the errors, as
+    /// `insert_reallocating` does. An error leaves the links as they were.
+    pub fn entry_insert_reallocating(
+        &mut self,
+        kind: LinkInsertKind<P>,
+    ) -> Result<ChainArenaInsertEntry<'_, P, T, S>, ChainInsertionError>
+        ensures refusal { IsLinkRefusal (place_among P.index P.generation P.Inx.number self.old kind)
+            S.takes_memory (live_count self.old) self.old.room result }
+        ensures same_reference { IfOk result (λ e. entry_lender e ≡ self.entry.ghost_name) }
+        ensures chains { IfOk result (λ e. entry_chains e ≡ grown_if_full self.old) }
+        ensures ready { IfOk result (λ e. IsReady P.Inx.number P.index P.generation e) }
+        ensures place { IfOk result (λ e. place_among P.index P.generation P.Inx.number self.old kind
+            ≡ Some (entry_place P.Inx.number e)) }
+        ensures* err { sem 𝓛 (RestsIfErr
+            (the_row P.row T.row S.row P.Inx.row P.Gen.row S.Alloc.row P.Ptr.own P.Debug P.Hash.own
+            P.PartialEq P.Ord.own P.PartialOrd.own P.Inx.PtrInx.own P.Inx.Debug P.Inx.Hash.own
+            P.Inx.PartialEq P.Inx.Ord.own P.Inx.PartialOrd.own P.Gen.PtrGen.own P.Gen.Debug
+            P.Gen.Hash.own P.Gen.PartialEq P.Gen.Ord.own P.Gen.PartialOrd.own
+            S.NonZeroInxGenericStack) self.entry entry_lender result (λ a. a ≡ self.old)) }
+    {
+        let (place, ptr) = self.place_reallocating(kind)?;
+        Ok(ChainArenaInsertEntry {
+            chains: self,
+            place,
+            ptr,
+        })
+    }
+}

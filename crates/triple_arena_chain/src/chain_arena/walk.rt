@@ -1,0 +1,156 @@
+//! Walks along a chain.
+ghost use Rattle.std.specs.Prelude.{◌≡◌, ◌↔◌, IsSome, IfSome};
+ghost use Rattle.std.specs.Option.{option_map};
+ghost use Rattle.triple_arena.specs.Content.{get};
+ghost use Rattle.triple_arena.specs.LiveEntries.{live_entries};
+ghost use Rattle.triple_arena_chain.specs.Chains.{next_at, prev_at};
+ghost use Rattle.triple_arena_chain.specs.Links.{ends_in, values_in};
+ghost use Rattle.triple_arena_chain.specs.Walks.{walk_from, left_to, gone_on, IsWalkAlong, ChainSteps};
+
+use crate::chain_iterators::IterLinkNoGen;
+use crate::{ChainArena, LinkNoGen};
+use std::marker::Model;
+use triple_arena::{Advancer, ArenaSlot, ArenaTrait, NonZeroInxGenericStack, Ptr};
+
+/// Gives the pointers to the links of a chain, one a call: from a link on to the end and then backwards from the link
+/// before it, or once round a ring. The links are free between the calls.
+///
+/// As it gives a link it notes the index that comes next, and later gives what is live there. Where nothing is, it ends.
+#[derive(Drop)]
+pub struct ChainPtrAdvancer<P: Ptr> {
+    // Where the walk began.
+    start: P,
+    // The index that comes next.
+    at: Option<P::Inx>,
+    back: bool,
+}
+
+impl<P: Ptr> Model for ChainPtrAdvancer<P> {
+    ghost use Rattle.std.specs.Option.{option_map};
+    ghost use Rattle.triple_arena_chain.specs.Walks.{ChainWalk};
+
+    ghost Value = { ChainWalk };
+
+    ghost view = { λ a. record {
+      start = P.index a.start;
+      at = option_map P.Inx.number a.at;
+      back = a.back;
+    } };
+}
+
+impl<P: Ptr> ChainPtrAdvancer<P> {
+    // Goes on from the link at an index, which it gave.
+    fn go_on<T: Drop, S: NonZeroInxGenericStack<ArenaSlot<P, LinkNoGen<P, T>>> + Drop>(
+        &mut self,
+        chains: &ChainArena<P, T, S>,
+        i: P::Inx,
+    )
+        ensures { self.new ≡ gone_on (ends_in P.Inx.number chains.now) self.old (P.Inx.number i) }
+    {
+        if self.back {
+            self.at = chains.prev_of(i);
+            return;
+        }
+        match chains.next_of(i) {
+            Some(next) => {
+                self.at = if next == self.start.inx() {
+                    None
+                } else {
+                    Some(next)
+                };
+            }
+            None => {
+                self.at = chains.prev_of(self.start.inx());
+                self.back = true;
+            }
+        }
+    }
+}
+
+impl<P: Ptr, T: Drop, S: NonZeroInxGenericStack<ArenaSlot<P, LinkNoGen<P, T>>> + Drop> Advancer<
+    ChainArena<P, T, S>,
+> for ChainPtrAdvancer<P> {
+    type Item = P;
+
+    ghost remaining = { λ a _. left_to a.at };
+
+    ghost advance_gives = { λ before c given after. ChainSteps (ends_in P.Inx.number c) (values_in c)
+        before (option_map (λ p. (P.index p, P.generation p)) given) after };
+
+    fn advance(&mut self, chains: &ChainArena<P, T, S>) -> Option<P> {
+        let i = self.at?;
+        match chains.get_inx_link_no_gen(i) {
+            Some((generation, _)) => {
+                self.go_on(chains, i);
+                Some(P::_from_raw(i, generation))
+            }
+            None => {
+                self.at = None;
+                None
+            }
+        }
+    }
+
+    fn empty() -> Self {
+        ChainPtrAdvancer {
+            start: P::invalid(),
+            at: None,
+            back: false,
+        }
+    }
+}
+
+impl<P: Ptr, T: Drop, S: NonZeroInxGenericStack<ArenaSlot<P, LinkNoGen<P, T>>> + Drop> ChainArena<
+    P,
+    T,
+    S,
+> {
+    // The previous index of the link at an index.
+    fn prev_of(&self, i: P::Inx) -> Option<P::Inx>
+        ensures { option_map P.Inx.number result
+            ≡ prev_at (ends_in P.Inx.number self.now) (P.Inx.number i) }
+    {
+        match self.ends_at(i) {
+            Some((prev, _)) => prev,
+            None => None,
+        }
+    }
+
+    // The next index of the link at an index.
+    fn next_of(&self, i: P::Inx) -> Option<P::Inx>
+        ensures { option_map P.Inx.number result
+            ≡ next_at (ends_in P.Inx.number self.now) (P.Inx.number i) }
+    {
+        match self.ends_at(i) {
+            Some((_, next)) => next,
+            None => None,
+        }
+    }
+
+    /// A walk along the chain of the link that `p` points to, from there on, or `None` where `p` is not valid.
+    pub fn advancer_chain(&self, p: P) -> Option<ChainPtrAdvancer<P>>
+        ensures variant { IsSome result ↔ IsSome (get self.now (P.index p) (P.generation p)) }
+        ensures from { IfSome result (λ a. a ≡ walk_from (P.index p)) }
+        ensures along { IfSome result (λ a.
+            IsWalkAlong (ends_in P.Inx.number self.now) a (P.index p)) }
+    {
+        // The interlinks agree.
+        let _ = self.has_room();
+        if self.arena.contains(p) {
+            Some(ChainPtrAdvancer {
+                start: p,
+                at: Some(p.inx()),
+                back: false,
+            })
+        } else {
+            None
+        }
+    }
+
+    /// The pointers and the links, in the order of the indexes.
+    pub fn iter_link_no_gen(&self) -> IterLinkNoGen<'_, P, T>
+        ensures { result ≡ live_entries self.now }
+    {
+        self.arena.iter()
+    }
+}
