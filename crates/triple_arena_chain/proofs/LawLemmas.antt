@@ -1,14 +1,14 @@
 -- What the laws on chains stand on.
-use Rattle.std.proofs.Common.{◌≡◌, ℕ, suc, ◌+◌, ◌<◌, length, Option, Some, None, IsSome, option_map, true, false, refl, sym, ap, ◌∙◌, arith}
+use Rattle.std.proofs.Common.{◌≡◌, ℕ, suc, length, Option, Some, None, IsSome, option_map, true, false, refl, ap, ◌∙◌, arith}
 use Rattle.triple_arena.specs.Content.{Content, entry_at}
 use Rattle.triple_arena.specs.ContentLaws.{live_entry}
 use Rattle.triple_arena_chain.specs.declared.link.IndexLink.{IndexLink}
-use Rattle.triple_arena_chain.specs.Chains.{Ends, with_next, with_prev, linked, unlinked, exchanged, next_in, prev_in, next_at, prev_at}
+use Rattle.triple_arena_chain.specs.Chains.{Ends, with_next, with_prev, linked, unlinked, exchanged, next_in, prev_in, next_at}
 use Rattle.triple_arena_chain.specs.ChainLaws.{stands}
 use Rattle.triple_arena_chain.specs.Kinds.{at_bridge}
 use Rattle.triple_arena_chain.specs.Links.{entry_ends, ends_in, ends_found, IsChained, IsRelinked}
 use Rattle.triple_arena_chain.specs.UniquenessLaws.{IsInOneChain, stands_once}
-use Rattle.triple_arena_chain.proofs.AgreedLemmas.{next_at_p, next_at_other}
+use Rattle.triple_arena_chain.proofs.AgreedLemmas.{next_at_p}
 use Rattle.triple_arena_chain.proofs.InsertionLemmas.{with_next_if-same, with_prev_if-same, kept-after}
 use Rattle.triple_arena_chain.proofs.KindLemmas.{found}
 use Rattle.triple_arena_chain.proofs.ReversalLemmas.{linked_back, unlinked_back, exchanged_back, next_exchanged}

@@ -12,3 +12,5 @@ pub mod WalkLemmas
 pub mod ReversalLemmas
 pub mod RemovalLemmas
 pub mod LawLemmas
+pub mod TakenWalkLemmas
+pub mod DrainLemmas

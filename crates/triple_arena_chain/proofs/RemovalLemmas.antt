@@ -1,15 +1,15 @@
 -- A link that is taken out of its chain.
-use Rattle.std.proofs.Common.{◌≡◌, ◌==◌, if◌then◌else◌, ℕ, ◌+◌, ◌-◌, ◌∷◌, length, Option, Some, None, IsSome, IfSome, IfNone, OnSome, is_some, true, option_map, refl, sym, ap, subst, ◌∙◌, inl, inr}
+use Rattle.std.proofs.Common.{◌≡◌, ◌==◌, if◌then◌else◌, ℕ, ◌-◌, ◌∷◌, length, Option, Some, None, IsSome, IfSome, IfNone, OnSome, is_some, option_map, refl, sym, ap, subst, ◌∙◌, inl, inr}
 use Rattle.std.proofs.lemmas.Bool.{eq-eqb}
 use Rattle.std.proofs.lemmas.Bool.Decides.{eqb_tells}
 use Rattle.triple_arena_ptr.specs.Generation.{next_generation}
-use Rattle.triple_arena.specs.Entries.{without, value_if}
+use Rattle.triple_arena.specs.Entries.{value_if}
 use Rattle.triple_arena.specs.Content.{Content, entry_at, removed, IsWellFormed}
 use Rattle.triple_arena.specs.RemovalLaws.{entry-removed, live-removed, counter-removed, free-removed, slots-removed, room-removed, formed-removed}
 use Rattle.triple_arena_chain.specs.declared.link.IndexLink.{IndexLink}
 use Rattle.triple_arena_chain.specs.Chains.{Ends, with_next_if, dropped, bridged, taken_from, next_in, prev_in}
 use Rattle.triple_arena_chain.specs.declared.place.Place.TheVariants.{Between}
-use Rattle.triple_arena_chain.specs.Links.{valued, values_in, link_ends, entry_ends, ends_in, with_next_of, with_prev_of, AreNeighborsLive, IsKept, IsChained, IsTakenOut}
+use Rattle.triple_arena_chain.specs.Links.{valued, values_in, entry_ends, ends_in, with_next_of, with_prev_of, AreNeighborsLive, IsKept, IsChained, IsTakenOut}
 use Rattle.triple_arena_chain.specs.LinkLaws.{neighbor-with_next_of, entry-with_link, ends-with_next_of, ends-with_prev_of, values-with_next_of, values-with_prev_of, kept-with_next_of, kept-with_prev_of, formed-with_next_of, formed-with_prev_of}
 use Rattle.triple_arena_chain.proofs.InsertionLemmas.{IsAgreed-same, with_prev_if-same, kept-after}
 use Rattle.triple_arena_chain.proofs.ConnectionLemmas.{live_next, live_prev}

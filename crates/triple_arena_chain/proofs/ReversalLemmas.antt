@@ -2,7 +2,7 @@
 use Rattle.std.proofs.Common.{◌≡◌, ℕ, Bool, true, false, Option, Some, None, refl, sym, ap, ◌∙◌, cond, eqb, inl, inr}
 use Rattle.std.proofs.lemmas.Bool.{eqb-true, eq-eqb}
 use Rattle.std.proofs.lemmas.Bool.Decides.{eqb_tells}
-use Rattle.triple_arena_chain.specs.Chains.{Ends, with_next, with_prev, renext, reprev, linked, unlinked, exchanged, IsAgreed, next_at, prev_at, next_in, prev_in}
+use Rattle.triple_arena_chain.specs.Chains.{Ends, with_next, with_prev, linked, unlinked, exchanged, IsAgreed, next_at, prev_at, next_in, prev_in}
 use Rattle.triple_arena_chain.proofs.AgreedLemmas.{valid_next, found_after, next_reprev}
 use Rattle.triple_arena_chain.proofs.ExchangeLemmas.{next_where, prev_where}
 

@@ -8,7 +8,7 @@ use Rattle.triple_arena_chain.specs.declared.link.IndexLink.{IndexLink}
 use Rattle.triple_arena_chain.specs.Chains.{Ends, next_in, prev_in, prev_at, last_or, Stands, Off, Standing, linear, ring}
 use Rattle.triple_arena_chain.specs.ChainLaws.{Off-back, Apart-taken, Stands-front, Stands-back, stands}
 use Rattle.triple_arena_chain.specs.UniquenessLaws.{linear_apart}
-use Rattle.triple_arena_chain.specs.Links.{entry_ends, link_ends, ends_in, ends_found, IsChained}
+use Rattle.triple_arena_chain.specs.Links.{entry_ends, link_ends, ends_in, IsChained}
 use Rattle.triple_arena_chain.specs.Walks.{ChainWalk, walk_from, forwards, Leaves, along, IsWalkAlong}
 use Rattle.triple_arena_chain.proofs.KindLemmas.{found}
 

@@ -60,7 +60,7 @@ Apart-taken (y ∷ xs) ys x apart =
     let rest = Apart-taken xs ys x apart.1 in
     ((Off-taken xs ys x y apart.0, rest.0), ((λ same. Off-not_on xs ys y (subst (λ z. Off (xs ++ z ∷ ys) y) (sym same) apart.0)), rest.1))
 
-Apart-last : (xs : List ℕ) (y : ℕ) → Apart xs → Off xs y → Apart (xs ++ y ∷ [])
+pub Apart-last : (xs : List ℕ) (y : ℕ) → Apart xs → Off xs y → Apart (xs ++ y ∷ [])
 Apart-last [] y apart off = (tt, tt)
 Apart-last (x ∷ xs) y apart off = (Off-append xs (y ∷ []) x apart.0 ((λ same. off.0 (sym same)), tt), Apart-last xs y apart.1 off.1)
 

@@ -7,3 +7,5 @@ pub mod Values
 pub mod InsertEntry
 pub mod Walks
 pub mod UniquenessLaws
+pub mod Drains
+pub mod DrainLaws

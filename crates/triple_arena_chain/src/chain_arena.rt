@@ -7,6 +7,7 @@ ghost use Rattle.triple_arena_chain.specs.Links.{IsChained};
 mod advancer;
 mod calls;
 mod connections;
+pub(crate) mod drain;
 pub(crate) mod entry;
 mod exchange;
 mod growth;

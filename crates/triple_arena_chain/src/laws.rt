@@ -1,9 +1,10 @@
 //! What follows from the calls of a chain arena.
-ghost use Rattle.std.specs.Prelude.{◌≡◌, ℕ, Some, IsSome};
+ghost use Rattle.std.specs.Prelude.{◌≡◌, ℕ, List, [], ◌∷◌, ◌++◌, Option, Some, IsSome};
 ghost use Rattle.triple_arena.specs.Content.{Content};
 ghost use Rattle.triple_arena_chain.specs.declared.kind.InsertKind.TheVariants.{Bridge};
 ghost use Rattle.triple_arena_chain.specs.declared.link.IndexLink.{IndexLink};
-ghost use Rattle.triple_arena_chain.specs.Chains.{next_at, prev_at, linked, unlinked, exchanged};
+ghost use Rattle.triple_arena_chain.specs.Chains.{Ends, next_at, linked, unlinked, exchanged, IsRing};
+ghost use Rattle.triple_arena_chain.specs.Drains.{IsWalkFrom};
 ghost use Rattle.triple_arena_chain.specs.Links.{ends_in, place_among, IsChained, IsRelinked};
 ghost use Rattle.triple_arena_chain.specs.UniquenessLaws.{IsInOneChain};
 
@@ -13,6 +14,20 @@ use triple_arena::Ptr;
 pub fn links_stand_in_one_chain<P: Ptr, T>()
     ensures { (c : Content (IndexLink P.Inx T)) (i : ℕ) → IsChained P.Inx.number c
         → IsSome (ends_in P.Inx.number c i) → IsInOneChain (ends_in P.Inx.number c) i }
+{}
+
+/// A live link begins one walk.
+pub fn links_begin_one_walk<P: Ptr, T>()
+    ensures { (c : Content (IndexLink P.Inx T)) (i : ℕ) → IsChained P.Inx.number c
+        → IsSome (ends_in P.Inx.number c i) → (walk : List ℕ)
+        × IsWalkFrom (ends_in P.Inx.number c) i walk
+        × ((other : List ℕ) → IsWalkFrom (ends_in P.Inx.number c) i other → other ≡ walk) }
+{}
+
+/// A walk of a ring from a link and one from its next are rotations of one another.
+pub fn walks_of_a_ring_are_rotations()
+    ensures { (ends : ℕ → Option Ends) (i next : ℕ) (rest : List ℕ) → IsRing ends (i ∷ next ∷ rest)
+        → IsWalkFrom ends i (i ∷ next ∷ rest) × IsWalkFrom ends next (next ∷ rest ++ i ∷ []) }
 {}
 
 /// A `connect` that answers `Some`, and then `break_next` of its first, restores all interlinks, and leaves all else as it

@@ -11,8 +11,9 @@ mod link;
 mod place;
 mod ptr_link;
 
-/// The advancers and the iterators of `ChainArena`.
+/// The advancers, the iterators and the drains of `ChainArena`.
 pub mod chain_iterators {
+    pub use crate::chain_arena::drain::ChainDrain;
     pub use crate::chain_arena::walk::ChainPtrAdvancer;
     pub use triple_arena::arena_iterators::PtrAdvancer;
 

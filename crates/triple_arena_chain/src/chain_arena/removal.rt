@@ -61,10 +61,10 @@ impl<P: Ptr, T: Drop, S: NonZeroInxGenericStack<ArenaSlot<P, LinkNoGen<P, T>>> +
         let _ = self.has_room();
         match self.arena.get_inx(i) {
             Some((_, link)) => {
-                let prev = link.prev;
-                let next = link.next;
-                set_next(&mut self.arena, prev, next);
-                set_prev(&mut self.arena, next, prev);
+                let before = link.prev;
+                let after = link.next;
+                set_next(&mut self.arena, before, after);
+                set_prev(&mut self.arena, after, before);
                 self.arena.remove_inx(i)
             }
             None => InvalidationResult::InvalidPtr,

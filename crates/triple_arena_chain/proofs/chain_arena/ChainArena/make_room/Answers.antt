@@ -1,5 +1,4 @@
-use Rattle.std.proofs.Common.{rules, ◌≡◌}
-use Rattle.triple_arena.specs.Content.{grown_if_full}
+use Rattle.std.proofs.Common.{rules}
 use Rattle.triple_arena_chain.proofs.GrowthLemmas.{chained-grown}
 use Rattle.triple_arena_chain.proofs.chain_arena.ChainArena.make_room.Goals as goal
 

@@ -1,0 +1,20 @@
+use Rattle.std.proofs.Common.{rules, Some, IsSome, ap, refl}
+use Rattle.triple_arena.specs.Content.{get}
+use Rattle.triple_arena_chain.proofs.DrainLemmas.{walk_from, keeps_along}
+use Rattle.triple_arena_chain.proofs.chain_arena.ChainArena.drain_chain.Goals as goal
+
+pub returns : goal.returns
+returns g c =
+    let some : IsSome (get c.args.self.now (g.P.Ptr.index c.args.p) (g.P.Ptr.generation c.args.p)) = search rules in
+    let walk = walk_from g.P.Inx.PtrInx.number g.P.Gen.PtrGen.last c.args.self.now c.inx.result (g.P.Ptr.index c.args.p) (g.P.Ptr.generation c.args.p) c.has_room.ensures.chained c.inx.ensures some in (
+      (refl, λ w. refl, tt),
+      record {
+        variant = (λ is. some, λ is. refl);
+        same_reference = refl;
+        chains = refl;
+        start = ap Some c.inx.ensures;
+        ready = walk;
+        stays = keeps_along g.P.Inx.PtrInx.number g.P.Gen.PtrGen.last g.P.Ptr.index g.P.Ptr.generation _;
+        none = tt;
+      },
+    )

@@ -1,0 +1,123 @@
+-- What a drain of a chain gives, and what it leaves.
+use Rattle.std.specs.Prelude.{◌≡◌, ℕ, ◌+◌, ◌==◌, List, [], ◌∷◌, ◌++◌, length, reverse, Option, Some, None, if◌then◌else◌}
+use Rattle.std.specs.Borrow.{GName}
+use Rattle.std.specs.Fn.{iterate}
+use Rattle.std.specs.Iterator.{Yields}
+use Rattle.std.specs.Option.{option_map, option_or}
+use Rattle.triple_arena_ptr.specs.Generation.{next_generation, next_wraps}
+use Rattle.triple_arena_ptr.specs.InvalidationOption.{value_of, overflowed}
+use Rattle.triple_arena_ptr.specs.declared.invalidation.InvalidationOption.{InvalidationOption}
+use Rattle.triple_arena.specs.Content.{Content, entry_at, live_count, removed}
+use Rattle.triple_arena.specs.Entries.{without}
+use Rattle.triple_arena_chain.specs.declared.link.IndexLink.{IndexLink}
+use Rattle.triple_arena_chain.specs.Chains.{Ends, IsLinear, IsRing, dropped}
+use Rattle.triple_arena_chain.specs.Links.{ends_in, values_in, IsTakenOut}
+use Rattle.triple_arena_chain.specs.declared.chain_arena.drain.ChainDrain.{ChainDrain}
+
+-- the walk from an index: to the end of its chain, or once round a ring, then backwards from the index before it
+pub data IsWalkFrom (ends : ℕ → Option Ends) (i : ℕ) (walk : List ℕ) : Type 0 where
+  along : (before after : List ℕ) → IsLinear ends (before ++ i ∷ after) → walk ≡ i ∷ (after ++ reverse before) → IsWalkFrom ends i walk
+  around : (after : List ℕ) → IsRing ends (i ∷ after) → walk ≡ i ∷ after → IsWalkFrom ends i walk
+
+-- the walk from an index, if there is one to start at
+abbrev pub IsWalk : (ℕ → Option Ends) → Option ℕ → List ℕ → Type 0
+IsWalk ends None walk = walk ≡ []
+IsWalk ends (Some i) walk = IsWalkFrom ends i walk
+
+-- the interlinks without these indexes
+abbrev pub dropped_all : (ℕ → Option Ends) → List ℕ → ℕ → Option Ends
+dropped_all ends [] = ends
+dropped_all ends (i ∷ is) = dropped (dropped_all ends is) i
+
+-- an index, but not this one
+abbrev pub but_not : ℕ → Option ℕ → Option ℕ
+but_not i None = None
+but_not i (Some j) = if j == i then None else Some j
+
+-- where a walk goes from an index with these neighbours, once it was taken out: to its next, or else to its previous one
+abbrev pub onward_from : ℕ → Ends → Option ℕ
+onward_from i own = but_not i (option_or own.1 own.0)
+
+module _ {T : Type 0} where
+  -- the values without those at these indexes
+  abbrev pub without_all : (ℕ → Option (ℕ × T)) → List ℕ → ℕ → Option (ℕ × T)
+  without_all entries [] = entries
+  without_all entries (i ∷ is) = without (without_all entries is) i
+
+  -- the content after the entries at these indexes were removed in turn
+  abbrev pub removed_all : Option ℕ → Content T → List ℕ → Content T
+  removed_all last c [] = c
+  removed_all last c (i ∷ is) = removed_all last (removed last c i) is
+
+module _ {I T : Type 0} (number : I → ℕ) (last : Option ℕ) where
+  -- the links at these indexes are gone, each by a removal in turn; all others stay with their interlinks
+  pub record IsDrained (walk : List ℕ) (old new : Content (IndexLink I T)) : Type 0 where
+    pub ends : (k : ℕ) → ends_in number new k ≡ dropped_all (ends_in number old) walk k
+    pub values : (k : ℕ) → values_in new k ≡ without_all (values_in old) walk k
+    pub live : live_count new + length walk ≡ live_count old
+    pub counter : new.counter ≡ iterate (next_generation last) (length walk) old.counter
+    pub free : new.free ≡ (removed_all last old walk).free
+    pub slots : length new.slots ≡ length (removed_all last old walk).slots
+    pub room : new.room ≡ old.room
+
+  -- the links of the walk from this index, if there is one to start at, are gone
+  abbrev pub IsRestDrained : Option ℕ → Content (IndexLink I T) → Content (IndexLink I T) → Type 0
+  IsRestDrained at old new = (walk : List ℕ) → IsWalk (ends_in number old) at walk → IsDrained walk old new
+
+module _ {P I T : Type 0} (number : I → ℕ) (last : Option ℕ) (index generation : P → ℕ) where
+  -- an item is the removal of the link at this index, and whether its step started the generations again; the walk that
+  -- began there goes on from the next one
+  pub record IsStep (i : ℕ) (item : InvalidationOption (P × IndexLink I T)) (next : Option ℕ) (old new : Content (IndexLink I T)) : Type 0 where
+    pub index_is : index (value_of item).0 ≡ i
+    pub entry : Some (generation (value_of item).0, (value_of item).1) ≡ entry_at old i
+    pub overflow : overflowed item ≡ next_wraps last old.counter
+    pub taken : IsTakenOut number last i old new
+    pub goes_on : (walk : List ℕ) → IsWalk (ends_in number old) (Some i) walk → (rest : List ℕ) × (walk ≡ i ∷ rest) × IsWalk (ends_in number new) next rest
+    pub leaves : (left : Content (IndexLink I T)) → IsRestDrained number last next new left → IsRestDrained number last (Some i) old left
+
+module _ {P T S Inx Gen Alloc : Type 0} where
+  -- the links as the drain has them
+  abbrev pub drain_chains : ChainDrain P T S Inx Gen Alloc → Content (IndexLink Inx T)
+  drain_chains d = d.chains.now
+
+  -- the ghost name of the reference to the links
+  abbrev pub drain_lender : ChainDrain P T S Inx Gen Alloc → GName
+  drain_lender d = d.chains.ghost_name
+
+  module _ (number : Inx → ℕ) where
+    -- the index that goes next
+    abbrev pub drain_at : ChainDrain P T S Inx Gen Alloc → Option ℕ
+    drain_at d = option_map number d.at
+
+    -- these indexes are still to come
+    abbrev pub IsLeft : ChainDrain P T S Inx Gen Alloc → List ℕ → Type 0
+    IsLeft d walk = IsWalk (ends_in number (drain_chains d)) (drain_at d) walk
+
+    -- what is still to come is a walk
+    abbrev pub DrainCanStep : ChainDrain P T S Inx Gen Alloc → Type 0
+    DrainCanStep d = (walk : List ℕ) × IsLeft d walk
+
+    module _ (last : Option ℕ) where
+      -- what the drain leaves once it is dropped: the links that are still to come are gone
+      abbrev pub DrainLeaves : ChainDrain P T S Inx Gen Alloc → Content (IndexLink Inx T) → Type 0
+      DrainLeaves d left = IsRestDrained number last (drain_at d) (drain_chains d) left
+
+      -- both borrow the same arena, and what the later one leaves the earlier one leaves
+      abbrev pub DrainKeeps : ChainDrain P T S Inx Gen Alloc → ChainDrain P T S Inx Gen Alloc → Type 0
+      DrainKeeps old new = (drain_lender new ≡ drain_lender old)
+          × ((left : Content (IndexLink Inx T)) → DrainLeaves new left → DrainLeaves old left)
+
+      module _ (index generation : P → ℕ) where
+        -- the first removal of those that are still to come, or nothing where there is none
+        abbrev pub DrainGives : ChainDrain P T S Inx Gen Alloc → Option (InvalidationOption (P × IndexLink Inx T)) → ChainDrain P T S Inx Gen Alloc → Type 0
+        DrainGives old None new = (drain_at old ≡ None) × (drain_chains new ≡ drain_chains old)
+        DrainGives old (Some item) new = (i : ℕ) × (drain_at old ≡ Some i)
+            × IsStep number last index generation i item (drain_at new) (drain_chains old) (drain_chains new)
+
+        abbrev pub DrainSteps : ChainDrain P T S Inx Gen Alloc → Option (InvalidationOption (P × IndexLink Inx T)) → ChainDrain P T S Inx Gen Alloc → Type 0
+        DrainSteps old item new = DrainGives old item new × DrainKeeps old new × DrainCanStep new
+
+        -- each state that steps lead to keeps what the first one keeps
+        abbrev pub DrainKeepsAlong : ChainDrain P T S Inx Gen Alloc → Type 0
+        DrainKeepsAlong first = (items : List (InvalidationOption (P × IndexLink Inx T))) (later : ChainDrain P T S Inx Gen Alloc)
+            → Yields DrainSteps first items later → DrainKeeps first later
