@@ -1,8 +1,7 @@
 //! Drains, taken whole and dropped early, and searches, at concrete arenas.
-use crate::tests::places::put;
-use crate::{find_equal, find_first, raise_each};
+use crate::tests::places::{at, put};
 use std::alloc::Global;
-use std::num::{NonZeroU8, NonZeroU64, NonZeroUsize};
+use std::num::{NonZeroU8, NonZeroUsize};
 use std::process::Abort;
 use std::test::Fail;
 use triple_arena::{
@@ -10,6 +9,7 @@ use triple_arena::{
     HeapDirectArena, InvalidationOption, NonZeroInxGenericStack, P0, P1, P5, Ptr, PtrGen, PtrInx,
     ReallocationError,
 };
+use triple_arena_user::{find_equal, find_first, raise_each};
 
 // Four entries, with a free slot between them.
 fn fill<P: Ptr, S: NonZeroInxGenericStack<ArenaSlot<P, u64>> + Drop>(
@@ -122,21 +122,13 @@ type InVec = HeapDirectArena<P0, u64, Global>;
 
 // Entries at the indexes 1, 3 and 6.
 fn fill_direct(arena: &mut InVec) -> Result<[(P0, u64); 3], DirectInsertionError> {
-    let first = P0::_from_raw(at(1), generation(9));
-    let second = P0::_from_raw(at(3), generation(8));
-    let third = P0::_from_raw(at(6), generation(9));
+    let first = at(1, 9);
+    let second = at(3, 8);
+    let third = at(6, 9);
     put(arena, third, 60)?;
     put(arena, first, 10)?;
     put(arena, second, 30)?;
     Ok([(first, 10), (second, 30), (third, 60)])
-}
-
-fn at(index: usize) -> NonZeroUsize {
-    NonZeroUsize::MIN.saturating_add(index.saturating_sub(1))
-}
-
-fn generation(number: u64) -> NonZeroU64 {
-    NonZeroU64::MIN.saturating_add(number.saturating_sub(1))
 }
 
 // Takes so many of the items of a direct arena.

@@ -1,9 +1,10 @@
 //! Transfers at concrete arenas, and with each request for memory refused in turn.
-use crate::tests::places::put;
+use crate::tests::copies::insert;
+use crate::tests::places::{at, put};
 use crate::tests::texts::reads;
 use refusing_allocator::RefusingAllocator;
 use std::alloc::{Allocator, Global};
-use std::num::{NonZeroU8, NonZeroU64, NonZeroUsize};
+use std::num::{NonZeroU8, NonZeroU64};
 use std::process::Abort;
 use std::test::Fail;
 use triple_arena::{
@@ -27,30 +28,35 @@ fn five(rt: &impl Abort) -> ArrayArena<P1, u64, 5> {
     source
 }
 
-// The pointer of this index and generation.
-fn at(index: usize, generation: NonZeroU64) -> P0 {
-    P0::_from_raw(
-        NonZeroUsize::MIN.saturating_add(index.saturating_sub(1)),
-        generation,
-    )
+type From = ArrayArena<P1, u64, 4>;
+
+type To = ArrayArena<P0, ((P1, P0), (u64, bool)), 3>;
+
+// Three entries, with a free slot before the second, under a counter whose second step starts the generations again.
+fn three(rt: &impl Abort, source: &mut From) {
+    insert(rt, source, 10);
+    let gone = insert(rt, source, 20);
+    insert(rt, source, 30);
+    insert(rt, source, 40);
+    assert!(rt; source.remove(gone).is_success());
+    source.set_generation(NonZeroU8::MIN.saturating_add(253));
+}
+
+// The target takes what the source has, each value with both pointers and whether the generations started again.
+fn moves(rt: &impl Abort, target: &mut To, source: &mut From) {
+    let moved = target.transfer_reallocating(seventh(), source, |from, item, to| {
+        ((from, to), item.overflowing())
+    });
+    assert_eq!(rt; moved, Ok(()));
 }
 
 #[test]
 fn an_arena_gives_its_entries_to_another(rt: HostRuntime) -> Result<(), Fail> {
-    let mut source = ArrayArena::<P1, u64, 4>::new(());
-    source.insert(10)?;
-    let gone = source.insert(20)?;
-    source.insert(30)?;
-    source.insert(40)?;
-    assert!(rt; source.remove(gone).is_success());
-    // The second step starts the generations again.
-    source.set_generation(NonZeroU8::MIN.saturating_add(253));
-    let mut target = ArrayArena::<P0, ((P1, P0), (u64, bool)), 3>::new(());
+    let mut source = From::new(());
+    three(&rt, &mut source);
+    let mut target = To::new(());
     target.insert(((P1::invalid(), P0::invalid()), (0, true)))?;
-    let moved = target.transfer_reallocating(seventh(), &mut source, |from, item, to| {
-        ((from, to), item.overflowing())
-    });
-    assert_eq!(rt; moved, Ok(()));
+    moves(&rt, &mut target, &mut source);
     reads(
         &rt,
         &target,
@@ -58,26 +64,28 @@ fn an_arena_gives_its_entries_to_another(rt: HostRuntime) -> Result<(), Fail> {
     );
     assert_eq!(rt; target.generation(), seventh());
     assert_eq!(rt; target.freelist_root(), None);
-    reads(&rt, &source, "{}");
+    gave_all(&rt, &source);
+
+    // Nothing is moved from an empty arena, and the target is empty too.
+    moves(&rt, &mut target, &mut source);
+    reads(&rt, &target, "{}");
+    gave_all(&rt, &source);
+    Ok(())
+}
+
+// The source is empty, and its counter was stepped for each entry.
+fn gave_all(rt: &impl Abort, source: &From) {
+    assert_eq!(rt; source.len(), 0);
     assert_eq!(rt; source.generation(), NonZeroU8::MIN.saturating_add(2));
     assert_eq!(rt; source.capacity(), 4);
     assert_eq!(rt; source.freelist_root(), None);
-
-    // Nothing is moved from an empty arena, and the target is empty too.
-    let moved = target.transfer_reallocating(seventh(), &mut source, |from, item, to| {
-        ((from, to), item.overflowing())
-    });
-    assert_eq!(rt; moved, Ok(()));
-    reads(&rt, &target, "{}");
-    assert_eq!(rt; source.generation(), NonZeroU8::MIN.saturating_add(2));
-    Ok(())
 }
 
 #[test]
 fn a_direct_arena_gives_its_entries_to_others(rt: HostRuntime) -> Result<(), Fail> {
     let mut source = ArrayDirectArena::<P0, u64, 4>::new(());
-    assert_eq!(rt; put(&mut source, at(4, NonZeroU64::MAX), 20), Ok(()));
-    assert_eq!(rt; put(&mut source, at(1, seventh()), 10), Ok(()));
+    assert_eq!(rt; put(&mut source, at(4, u64::MAX), 20), Ok(()));
+    assert_eq!(rt; put(&mut source, at(1, 7), 10), Ok(()));
     let mut direct = ArrayDirectArena::<P5, (u64, bool), 2>::new(());
     let moved = direct.transfer_reallocating((), &mut source, |_, item, _| item.overflowing());
     assert_eq!(rt; moved, Ok(()));
@@ -105,7 +113,7 @@ fn more_entries_than_the_target_can_have(rt: HostRuntime) -> Result<(), Fail> {
     assert_eq!(rt; moved, Err(ReallocationError::BeyondMaxCapacity));
     reads(&rt, &target, "{P0[1](2): 77}");
     let mut direct = ArrayDirectArena::<P0, u64, 4>::new(());
-    assert_eq!(rt; put(&mut direct, at(3, seventh()), 77), Ok(()));
+    assert_eq!(rt; put(&mut direct, at(3, 7), 77), Ok(()));
     let moved = direct.transfer_reallocating(seventh(), &mut source, |_, item, _| item.allow());
     assert_eq!(rt; moved, Err(ReallocationError::BeyondMaxCapacity));
     reads(&rt, &direct, "{P0[3](7): 77}");
@@ -169,7 +177,7 @@ fn into_a_direct_arena<H: Allocator>(rt: &(impl Abort + Alloc), heap: &Heap, all
         assert!(rt; heap.has_refused());
         return;
     };
-    assert_eq!(rt; put(&mut target, at(2, seventh()), 77), Ok(()));
+    assert_eq!(rt; put(&mut target, at(2, 7), 77), Ok(()));
     let had_refused = heap.has_refused();
     let mut source = five(rt);
     let moved = target.transfer_reallocating(seventh(), &mut source, |_, item, _| item.allow());
