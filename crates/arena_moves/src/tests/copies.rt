@@ -50,9 +50,9 @@ pub(super) fn holds<P: Ptr, A: ArenaTrait<P, u64>>(
     second: u64,
     fourth: u64,
 ) {
-    assert_eq!(rt; arena.len(), 2);
-    assert_eq!(rt; arena.get(at(index(1))), Some(&second));
-    assert_eq!(rt; arena.get(at(index(3))), Some(&fourth));
+    assert!(rt; arena.len() == 2);
+    assert!(rt; arena.get(at(index(1))) == Some(&second));
+    assert!(rt; arena.get(at(index(3))) == Some(&fourth));
 }
 
 // The arena becomes a copy of `source` with twice its values, which are these then.
@@ -64,7 +64,7 @@ fn doubles<P: Ptr, S: ArenaCloneSource<P, u64>, A: ArenaCloneFromWith<P, u64>>(
     fourth: u64,
 ) {
     let answer = copy.clone_from_with(source, |_, value| Ok(value.wrapping_mul(2)));
-    assert_eq!(rt; answer, Ok(()));
+    assert!(rt; answer == Ok(()));
     holds(rt, copy, second, fourth);
 }
 
@@ -75,8 +75,8 @@ fn is_past_the_limit<P: Ptr, S: ArenaCloneSource<P, u64>, A: ArenaCloneFromWith<
     copy: &mut A,
 ) {
     let answer = copy.clone_from_with(source, |_, value| Ok(*value));
-    assert_eq!(rt; answer, Err(ReallocationError::BeyondMaxCapacity));
-    assert_eq!(rt; copy.len(), 0);
+    assert!(rt; answer == Err(ReallocationError::BeyondMaxCapacity));
+    assert!(rt; copy.len() == 0);
 }
 
 // The two free indexes are taken, the smaller one first, with this generation.
@@ -86,11 +86,11 @@ fn takes_the_free<P: Ptr, A: ArenaInsertTrait<P, u64>>(
     generation: P::Gen,
 ) {
     let first = insert(rt, arena, 0);
-    assert_eq!(rt; first.inx().try_into_usize(), Some(index(0)));
-    assert_eq!(rt; first.generation(), generation);
+    assert!(rt; first.inx().try_into_usize() == Some(index(0)));
+    assert!(rt; first.generation() == generation);
     let second = insert(rt, arena, 0);
-    assert_eq!(rt; second.inx().try_into_usize(), Some(index(2)));
-    assert_eq!(rt; second.generation(), generation);
+    assert!(rt; second.inx().try_into_usize() == Some(index(2)));
+    assert!(rt; second.generation() == generation);
 }
 
 pub(super) type Source<P> = ArrayArena<P, u64, 5>;
@@ -99,8 +99,8 @@ pub(super) type Source<P> = ArrayArena<P, u64, 5>;
 fn copies<P: Ptr>(rt: &impl Abort, alloc: Global, source: &Source<P>) {
     let mut copy = HeapArena::<P, u64, Global>::new(alloc);
     doubles(rt, source, &mut copy, 40, 80);
-    assert_eq!(rt; copy.capacity(), 4);
-    assert_eq!(rt; copy.generation(), source.generation());
+    assert!(rt; copy.capacity() == 4);
+    assert!(rt; copy.generation() == source.generation());
     takes_the_free(rt, &mut copy, source.generation());
     let mut mirror = ArrayDirectArena::<P, u64, 6>::new(());
     doubles(rt, source, &mut mirror, 40, 80);
@@ -115,10 +115,10 @@ fn copies_of_a_mirror<P: Ptr, S: ArenaCloneSource<P, u64>>(
 ) {
     let mut back = ArrayArena::<P, u64, 6>::new(());
     doubles(rt, mirror, &mut back, 80, 160);
-    assert_eq!(rt; back.generation(), PtrGen::two());
+    assert!(rt; back.generation() == PtrGen::two());
     let mut other = HeapDirectArena::<P, u64, Global>::new(alloc);
     doubles(rt, mirror, &mut other, 80, 160);
-    assert_eq!(rt; other.capacity(), 4);
+    assert!(rt; other.capacity() == 4);
 }
 
 #[test]
@@ -140,14 +140,14 @@ fn clones<P: Ptr>(rt: &impl Abort) -> Result<(), ReallocationError> {
     fills(rt, &mut source);
     let clone = source.clone(())?;
     holds(rt, &clone, 20, 40);
-    assert_eq!(rt; clone.generation(), source.generation());
+    assert!(rt; clone.generation() == source.generation());
     let mut other = Source::<P>::new(());
     other.clone_from(&clone)?;
     holds(rt, &other, 20, 40);
     let mut pointers = ArrayDirectArena::<P, P, 6>::new(());
     reflect(&source, &mut pointers);
-    assert_eq!(rt; pointers.get(at(index(1))), Some(&at(index(1))));
-    assert_eq!(rt; pointers.len(), 2);
+    assert!(rt; pointers.get(at(index(1))) == Some(&at(index(1))));
+    assert!(rt; pointers.len() == 2);
     Ok(())
 }
 

@@ -30,13 +30,13 @@ fn refuses_into<P: Ptr, S: ArenaCloneSource<P, u64>, A: ArenaCloneFromWith<P, u6
         }
         None => Err(AllocError),
     });
-    assert_eq!(rt; copy.capacity(), 4);
+    assert!(rt; copy.capacity() == 4);
     if calls < 2 {
-        assert_eq!(rt; answer, Err(ReallocationError::AllocError));
-        assert_eq!(rt; copy.len(), 0);
-        assert_eq!(rt; copy.find_first_inx_ptr(), None);
+        assert!(rt; answer == Err(ReallocationError::AllocError));
+        assert!(rt; copy.len() == 0);
+        assert!(rt; copy.find_first_inx_ptr() == None);
     } else {
-        assert_eq!(rt; answer, Ok(()));
+        assert!(rt; answer == Ok(()));
         holds(rt, copy, 20, 40);
     }
 }
@@ -52,9 +52,9 @@ fn refuses<P: Ptr>(rt: &impl Abort, alloc: Global, calls: u8) -> Result<(), Real
     let stepped = copy.generation().generational_inc().0;
     refuses_into(rt, &source, &mut copy, calls);
     if calls < 2 {
-        assert_eq!(rt; copy.generation(), stepped);
+        assert!(rt; copy.generation() == stepped);
         let next = insert(rt, &mut copy, 0);
-        assert_eq!(rt; next.inx().try_into_usize(), Some(index(0)));
+        assert!(rt; next.inx().try_into_usize() == Some(index(0)));
     }
     refuses_into(rt, &mirror, &mut copy, calls);
     let mut direct = HeapDirectArena::<P, u64, Global>::new(alloc);
@@ -117,7 +117,7 @@ fn clones<P: Ptr>(rt: &impl Abort, calls: u8) {
             })
             .is_ok()
     );
-    assert_eq!(rt; source.clone(()).is_ok(), 2 <= calls);
+    assert!(rt; source.clone(()).is_ok() == (2 <= calls));
     left.set(calls);
     let mut copy = ArrayArena::<P, Scarce<'_>, 5>::new(());
     assert!(rt;
@@ -127,20 +127,17 @@ fn clones<P: Ptr>(rt: &impl Abort, calls: u8) {
         })
         .is_ok()
     );
-    assert_eq!(rt; copy.clone_from(&source).is_ok(), 2 <= calls);
-    assert_eq!(rt; copy.len(), if 2 <= calls { 2 } else { 0 });
+    assert!(rt; copy.clone_from(&source).is_ok() == (2 <= calls));
+    assert!(rt; copy.len() == (if 2 <= calls { 2 } else { 0 }));
     left.set(2);
     let mut mirror = ArrayDirectArena::<P, Scarce<'_>, 5>::new(());
-    assert_eq!(rt;
-        mirror.clone_from_with(&source, |_, item| item.clone()),
-        Ok(())
-    );
+    assert!(rt; mirror.clone_from_with(&source, |_, item| item.clone()) == Ok(()));
     left.set(calls);
-    assert_eq!(rt; mirror.clone(()).is_ok(), 2 <= calls);
+    assert!(rt; mirror.clone(()).is_ok() == (2 <= calls));
     left.set(calls);
     let mut other = ArrayDirectArena::<P, Scarce<'_>, 5>::new(());
-    assert_eq!(rt; other.clone_from(&mirror).is_ok(), 2 <= calls);
-    assert_eq!(rt; other.len(), if 2 <= calls { 2 } else { 0 });
+    assert!(rt; other.clone_from(&mirror).is_ok() == (2 <= calls));
+    assert!(rt; other.len() == (if 2 <= calls { 2 } else { 0 }));
 }
 
 #[test]
@@ -164,19 +161,19 @@ fn grows<A: ArenaCloneFromWith<P0, u64>>(
     let had_refused = heap.has_refused();
     let capacity = copy.capacity();
     let answer = copy.clone_from_with(source, |_, value| Ok(*value));
-    assert_eq!(rt; answer.is_err(), heap.has_refused() != had_refused);
+    assert!(rt; answer.is_err() == (heap.has_refused() != had_refused));
     match answer {
         Ok(()) => {
             holds(rt, copy, 20, 40);
             let had_refused = heap.has_refused();
             let again = copy.clone_from_with(source, |_, value| Ok(*value));
-            assert_eq!(rt; again, Ok(()));
-            assert_eq!(rt; heap.has_refused(), had_refused);
+            assert!(rt; again == Ok(()));
+            assert!(rt; heap.has_refused() == had_refused);
         }
         Err(error) => {
-            assert_eq!(rt; error, ReallocationError::AllocError);
-            assert_eq!(rt; copy.len(), 0);
-            assert_eq!(rt; copy.capacity(), capacity);
+            assert!(rt; error == ReallocationError::AllocError);
+            assert!(rt; copy.len() == 0);
+            assert!(rt; copy.capacity() == capacity);
         }
     }
 }
@@ -191,19 +188,19 @@ fn clones_an_arena<H: Allocator>(
 ) {
     let had_refused = heap.has_refused();
     let clone = source.clone(alloc);
-    assert_eq!(rt; clone.is_err(), heap.has_refused() != had_refused);
+    assert!(rt; clone.is_err() == (heap.has_refused() != had_refused));
     if let Ok(clone) = clone {
         holds(rt, &clone, 20, 40);
     }
     let mut copy = HeapArena::<P0, u64, H>::new(other);
     let had_refused = heap.has_refused();
     let answer = copy.clone_from(source);
-    assert_eq!(rt; answer.is_err(), heap.has_refused() != had_refused);
+    assert!(rt; answer.is_err() == (heap.has_refused() != had_refused));
     if answer.is_ok() {
         holds(rt, &copy, 20, 40);
-        assert_eq!(rt; copy.clone_from(source), Ok(()));
+        assert!(rt; copy.clone_from(source) == Ok(()));
     } else {
-        assert_eq!(rt; copy.capacity(), 0);
+        assert!(rt; copy.capacity() == 0);
     }
 }
 
@@ -216,19 +213,19 @@ fn clones_a_direct_arena<H: Allocator>(
 ) {
     let had_refused = heap.has_refused();
     let clone = source.clone(alloc);
-    assert_eq!(rt; clone.is_err(), heap.has_refused() != had_refused);
+    assert!(rt; clone.is_err() == (heap.has_refused() != had_refused));
     if let Ok(clone) = clone {
         holds(rt, &clone, 20, 40);
     }
     let mut copy = HeapDirectArena::<P0, u64, H>::new(other);
     let had_refused = heap.has_refused();
     let answer = copy.clone_from(source);
-    assert_eq!(rt; answer.is_err(), heap.has_refused() != had_refused);
+    assert!(rt; answer.is_err() == (heap.has_refused() != had_refused));
     if answer.is_ok() {
         holds(rt, &copy, 20, 40);
-        assert_eq!(rt; copy.clone_from(source), Ok(()));
+        assert!(rt; copy.clone_from(source) == Ok(()));
     } else {
-        assert_eq!(rt; copy.capacity(), 0);
+        assert!(rt; copy.capacity() == 0);
     }
 }
 
@@ -254,7 +251,7 @@ fn each_request_in_turn(rt: HostRuntime) -> Result<(), Fail> {
         let heap = RefusingAllocator::new(rt.alloc(), nth);
         runs(&rt, &heap, &heap);
         // Two growths, two clones and two growths of clones.
-        assert_eq!(rt; heap.has_refused(), nth <= 6);
+        assert!(rt; heap.has_refused() == (nth <= 6));
     }
     Ok(())
 }

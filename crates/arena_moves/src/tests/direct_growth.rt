@@ -23,31 +23,31 @@ fn grows<H: Allocator, S: NonZeroInxGenericStack<Slot, Alloc = H> + Drop>(
         Ok(arena) => arena,
         Err(error) => {
             assert!(rt; heap.has_refused());
-            assert_eq!(rt; error, ReallocationError::AllocError);
+            assert!(rt; error == ReallocationError::AllocError);
             return;
         }
     };
     let had_refused = heap.has_refused();
     // What has room takes no memory.
-    assert_eq!(rt; put(&mut arena, at(3, 7), 30), Ok(()));
-    assert_eq!(rt; arena.reallocate_min_capacity(3), Ok(()));
-    assert_eq!(rt; arena.reallocate_min_capacity(0), Ok(()));
-    assert_eq!(rt; heap.has_refused(), had_refused);
+    assert!(rt; put(&mut arena, at(3, 7), 30) == Ok(()));
+    assert!(rt; arena.reallocate_min_capacity(3) == Ok(()));
+    assert!(rt; arena.reallocate_min_capacity(0) == Ok(()));
+    assert!(rt; heap.has_refused() == had_refused);
     // Boxed slots keep the capacity that they are made with.
     let is_bounded = arena.max_capacity() == Some(3);
     let grown = arena.reallocate_min_capacity(5);
     if is_bounded {
-        assert_eq!(rt; grown, Err(ReallocationError::BeyondMaxCapacity));
-        assert_eq!(rt; heap.has_refused(), had_refused);
+        assert!(rt; grown == Err(ReallocationError::BeyondMaxCapacity));
+        assert!(rt; heap.has_refused() == had_refused);
     } else if heap.has_refused() != had_refused {
-        assert_eq!(rt; grown, Err(ReallocationError::AllocError));
-        assert_eq!(rt; arena.capacity(), 3);
+        assert!(rt; grown == Err(ReallocationError::AllocError));
+        assert!(rt; arena.capacity() == 3);
     } else {
-        assert_eq!(rt; grown, Ok(()));
-        assert_eq!(rt; arena.capacity(), 5);
+        assert!(rt; grown == Ok(()));
+        assert!(rt; arena.capacity() == 5);
     }
-    assert_eq!(rt; arena.len(), 1);
-    assert_eq!(rt; arena.get(at(3, 7)), Some(&30));
+    assert!(rt; arena.len() == 1);
+    assert!(rt; arena.get(at(3, 7)) == Some(&30));
 }
 
 #[test]
@@ -59,9 +59,9 @@ fn each_request_of_a_growth(rt: HostRuntime) -> Result<(), Fail> {
         grows::<&Heap, NonZeroInxLimitedVec<Slot, &Heap>>(&rt, &limited, &limited);
         let boxed = RefusingAllocator::new(rt.alloc(), nth);
         grows::<&Heap, NonZeroInxBoxedSlice<Slot, &Heap>>(&rt, &boxed, &boxed);
-        assert_eq!(rt; vector.has_refused(), nth <= 2);
-        assert_eq!(rt; limited.has_refused(), nth <= 2);
-        assert_eq!(rt; boxed.has_refused(), nth == 1);
+        assert!(rt; vector.has_refused() == (nth <= 2));
+        assert!(rt; limited.has_refused() == (nth <= 2));
+        assert!(rt; boxed.has_refused() == (nth == 1));
     }
     Ok(())
 }

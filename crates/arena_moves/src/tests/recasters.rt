@@ -19,10 +19,10 @@ type Heap = RefusingAllocator<Global>;
 fn texts_of_direct_arenas(rt: HostRuntime) -> Result<(), Fail> {
     let mut arena = ArrayDirectArena::<P0, &str, 4>::new(());
     reads(&rt, &arena, "{}");
-    assert_eq!(rt; put(&mut arena, at(3, 16), "y"), Ok(()));
-    assert_eq!(rt; put(&mut arena, at(1, 9), "x"), Ok(()));
+    assert!(rt; put(&mut arena, at(3, 16), "y") == Ok(()));
+    assert!(rt; put(&mut arena, at(1, 9), "x") == Ok(()));
     reads(&rt, &arena, "{P0[1](9): \"x\", P0[3](10): \"y\"}");
-    assert_eq!(rt; arena.swap(at(1, 9), at(3, 16)), Ok(()));
+    assert!(rt; arena.swap(at(1, 9), at(3, 16)) == Ok(()));
     reads(&rt, &arena, "{P0[1](9): \"y\", P0[3](10): \"x\"}");
     assert!(rt; arena.swap(at(1, 9), at(1, 9)).is_err());
     assert!(rt; arena.swap(at(1, 9), at(3, 9)).is_err());
@@ -33,20 +33,20 @@ fn texts_of_direct_arenas(rt: HostRuntime) -> Result<(), Fail> {
 #[test]
 fn pointers_in_a_direct_arena_are_recast(rt: HostRuntime) -> Result<(), Fail> {
     let mut renaming = ArrayDirectArena::<P0, P0, 4>::new(());
-    assert_eq!(rt; put(&mut renaming, at(4, 7), at(1, 2)), Ok(()));
-    assert_eq!(rt; put(&mut renaming, at(2, 5), at(2, 2)), Ok(()));
+    assert!(rt; put(&mut renaming, at(4, 7), at(1, 2)) == Ok(()));
+    assert!(rt; put(&mut renaming, at(2, 5), at(2, 2)) == Ok(()));
     let mut arena = ArrayDirectArena::<P0, Option<P0>, 4>::new(());
-    assert_eq!(rt; put(&mut arena, at(1, 3), Some(at(4, 7))), Ok(()));
-    assert_eq!(rt; put(&mut arena, at(2, 3), None), Ok(()));
-    assert_eq!(rt; put(&mut arena, at(4, 3), Some(at(2, 5))), Ok(()));
-    assert_eq!(rt; arena.recast(&renaming), Ok(()));
+    assert!(rt; put(&mut arena, at(1, 3), Some(at(4, 7))) == Ok(()));
+    assert!(rt; put(&mut arena, at(2, 3), None) == Ok(()));
+    assert!(rt; put(&mut arena, at(4, 3), Some(at(2, 5))) == Ok(()));
+    assert!(rt; arena.recast(&renaming) == Ok(()));
     reads(
         &rt,
         &arena,
         "{P0[1](3): Some(P0[1](2)), P0[2](3): None, P0[4](3): Some(P0[2](2))}",
     );
     // The new names have no names: the recast stops at the first.
-    assert_eq!(rt; arena.recast(&renaming), Err(at(1, 2)));
+    assert!(rt; arena.recast(&renaming) == Err(at(1, 2)));
     Ok(())
 }
 
@@ -75,10 +75,10 @@ fn a_compression_answers_its_map(rt: HostRuntime) -> Result<(), Fail> {
     )?;
     reads(&rt, &map, "{P1[2](2): P1[1](2), P1[4](2): P1[2](2)}");
     reads(&rt, &arena, "{P1[1](2): 20, P1[2](2): 40}");
-    assert_eq!(rt; arena.generation(), NonZeroU8::MIN.saturating_add(1));
-    assert_eq!(rt; names.recast(&map), Ok(()));
-    assert_eq!(rt; arena.get(names.0), Some(&20));
-    assert_eq!(rt; arena.get(names.1), Some(&40));
+    assert!(rt; arena.generation() == NonZeroU8::MIN.saturating_add(1));
+    assert!(rt; names.recast(&map) == Ok(()));
+    assert!(rt; arena.get(names.0) == Some(&20));
+    assert!(rt; arena.get(names.1) == Some(&40));
     Ok(())
 }
 
@@ -94,7 +94,7 @@ fn a_map_without_room_is_refused(rt: HostRuntime) -> Result<(), Fail> {
     );
     match refused {
         Ok(_) => panic!(rt; "a map without room is accepted"),
-        Err(error) => assert_eq!(rt; error, ReallocationError::BeyondMaxCapacity),
+        Err(error) => assert!(rt; error == ReallocationError::BeyondMaxCapacity),
     }
     reads(&rt, &arena, "{P1[2](2): 20, P1[4](2): 40}");
     arena.clear();
@@ -134,15 +134,15 @@ fn maps<H: Allocator>(rt: &(impl Abort + Alloc), heap: &Heap, alloc: H) {
     let made = compress_recaster::<P0, u64, _, NonZeroInxVec<DirectSlot<P0, P0>, H>>(
         &mut arena, false, alloc,
     );
-    assert_eq!(rt; made.is_err(), heap.has_refused());
+    assert!(rt; made.is_err() == heap.has_refused());
     match made {
         Ok(map) => {
             reads(rt, &map, "{P0[2](2): P0[1](4), P0[3](2): P0[2](4)}");
-            assert_eq!(rt; map.capacity(), 3);
+            assert!(rt; map.capacity() == 3);
             reads(rt, &arena, "{P0[1](4): 1, P0[2](4): 2}");
         }
         Err(error) => {
-            assert_eq!(rt; error, ReallocationError::AllocError);
+            assert!(rt; error == ReallocationError::AllocError);
             reads(rt, &arena, "{P0[2](2): 1, P0[3](2): 2}");
         }
     }
@@ -153,7 +153,7 @@ fn each_request_of_a_map(rt: HostRuntime) -> Result<(), Fail> {
     for nth in 1..3u64 {
         let heap = RefusingAllocator::new(rt.alloc(), nth);
         maps(&rt, &heap, &heap);
-        assert_eq!(rt; heap.has_refused(), nth == 1);
+        assert!(rt; heap.has_refused() == (nth == 1));
     }
     Ok(())
 }

@@ -35,20 +35,13 @@ fn takes_whole_pointers<P: Ptr, S: NonZeroInxGenericStack<DirectSlot<P, u64>> + 
     text: &str,
 ) {
     let p = pointer(rt, 2, 5);
-    assert_eq!(rt; put(arena, p, 10), Ok(()));
-    assert_eq!(rt;
-        put(arena, pointer(rt, 2, 7), 11),
-        Err(DirectInsertionError::ExistingElementAtIndex)
+    assert!(rt; put(arena, p, 10) == Ok(()));
+    assert!(rt;
+        put(arena, pointer(rt, 2, 7), 11) == Err(DirectInsertionError::ExistingElementAtIndex)
     );
-    assert_eq!(rt;
-        put(arena, pointer(rt, 4, 0), 11),
-        Err(DirectInsertionError::NotWithinCapacity)
-    );
-    assert_eq!(rt;
-        arena.invalidate(p),
-        InvalidationResult::Success(pointer(rt, 2, 6))
-    );
-    assert_eq!(rt; arena.compress(false), InvalidationOption::Success(()));
+    assert!(rt; put(arena, pointer(rt, 4, 0), 11) == Err(DirectInsertionError::NotWithinCapacity));
+    assert!(rt; arena.invalidate(p) == InvalidationResult::Success(pointer(rt, 2, 6)));
+    assert!(rt; arena.compress(false) == InvalidationOption::Success(()));
     reads(rt, arena, text);
 }
 
@@ -91,8 +84,8 @@ fn shows_two<P: Ptr, A: ArenaInsertTrait<P, &'static str> + Debug>(
     let first = arena.insert("test")?;
     arena.insert("hello")?;
     reads(rt, arena, text);
-    assert_eq!(rt; arena.remove(first), InvalidationResult::Success("test"));
-    assert_eq!(rt; arena.get(first), None);
+    assert!(rt; arena.remove(first) == InvalidationResult::Success("test"));
+    assert!(rt; arena.get(first) == None);
     Ok(())
 }
 
@@ -198,7 +191,7 @@ fn recasts<
     texts: &[&str; 2],
 ) {
     reads(rt, map, texts[0]);
-    assert_eq!(rt; arena.recast(map), Ok(()));
+    assert!(rt; arena.recast(map) == Ok(()));
     reads(rt, arena, texts[1]);
 }
 

@@ -47,7 +47,7 @@ fn moves(rt: &impl Abort, target: &mut To, source: &mut From) {
     let moved = target.transfer_reallocating(seventh(), source, |from, item, to| {
         ((from, to), item.overflowing())
     });
-    assert_eq!(rt; moved, Ok(()));
+    assert!(rt; moved == Ok(()));
 }
 
 #[test]
@@ -62,8 +62,8 @@ fn an_arena_gives_its_entries_to_another(rt: HostRuntime) -> Result<(), Fail> {
         &target,
         "{P0[1](7): ((P1[1](2), P0[1](7)), (10, false)), P0[2](7): ((P1[3](2), P0[2](7)), (30, true)), P0[3](7): ((P1[4](2), P0[3](7)), (40, false))}",
     );
-    assert_eq!(rt; target.generation(), seventh());
-    assert_eq!(rt; target.freelist_root(), None);
+    assert!(rt; target.generation() == seventh());
+    assert!(rt; target.freelist_root() == None);
     gave_all(&rt, &source);
 
     // Nothing is moved from an empty arena, and the target is empty too.
@@ -75,31 +75,31 @@ fn an_arena_gives_its_entries_to_another(rt: HostRuntime) -> Result<(), Fail> {
 
 // The source is empty, and its counter was stepped for each entry.
 fn gave_all(rt: &impl Abort, source: &From) {
-    assert_eq!(rt; source.len(), 0);
-    assert_eq!(rt; source.generation(), NonZeroU8::MIN.saturating_add(2));
-    assert_eq!(rt; source.capacity(), 4);
-    assert_eq!(rt; source.freelist_root(), None);
+    assert!(rt; source.len() == 0);
+    assert!(rt; source.generation() == NonZeroU8::MIN.saturating_add(2));
+    assert!(rt; source.capacity() == 4);
+    assert!(rt; source.freelist_root() == None);
 }
 
 #[test]
 fn a_direct_arena_gives_its_entries_to_others(rt: HostRuntime) -> Result<(), Fail> {
     let mut source = ArrayDirectArena::<P0, u64, 4>::new(());
-    assert_eq!(rt; put(&mut source, at(4, u64::MAX), 20), Ok(()));
-    assert_eq!(rt; put(&mut source, at(1, 7), 10), Ok(()));
+    assert!(rt; put(&mut source, at(4, u64::MAX), 20) == Ok(()));
+    assert!(rt; put(&mut source, at(1, 7), 10) == Ok(()));
     let mut direct = ArrayDirectArena::<P5, (u64, bool), 2>::new(());
     let moved = direct.transfer_reallocating((), &mut source, |_, item, _| item.overflowing());
-    assert_eq!(rt; moved, Ok(()));
+    assert!(rt; moved == Ok(()));
     reads(&rt, &direct, "{P5[1]: (10, false), P5[2]: (20, false)}");
     reads(&rt, &source, "{}");
     let mut arena = ArrayArena::<P5, u64, 2>::new(());
     let moved = arena.transfer_reallocating((), &mut direct, |_, item, _| item.allow().0);
-    assert_eq!(rt; moved, Ok(()));
+    assert!(rt; moved == Ok(()));
     reads(&rt, &arena, "{P5[1]: 10, P5[2]: 20}");
     let mut last = ArrayDirectArena::<P0, (P5, u64), 2>::new(());
     let moved = last.transfer_reallocating(seventh(), &mut arena, |from, item, _| {
         (from, item.allow())
     });
-    assert_eq!(rt; moved, Ok(()));
+    assert!(rt; moved == Ok(()));
     reads(&rt, &last, "{P0[1](7): (P5[1], 10), P0[2](7): (P5[2], 20)}");
     Ok(())
 }
@@ -110,19 +110,19 @@ fn more_entries_than_the_target_can_have(rt: HostRuntime) -> Result<(), Fail> {
     let mut target = ArrayArena::<P0, u64, 4>::new(());
     target.insert(77)?;
     let moved = target.transfer_reallocating(seventh(), &mut source, |_, item, _| item.allow());
-    assert_eq!(rt; moved, Err(ReallocationError::BeyondMaxCapacity));
+    assert!(rt; moved == Err(ReallocationError::BeyondMaxCapacity));
     reads(&rt, &target, "{P0[1](2): 77}");
     let mut direct = ArrayDirectArena::<P0, u64, 4>::new(());
-    assert_eq!(rt; put(&mut direct, at(3, 7), 77), Ok(()));
+    assert!(rt; put(&mut direct, at(3, 7), 77) == Ok(()));
     let moved = direct.transfer_reallocating(seventh(), &mut source, |_, item, _| item.allow());
-    assert_eq!(rt; moved, Err(ReallocationError::BeyondMaxCapacity));
+    assert!(rt; moved == Err(ReallocationError::BeyondMaxCapacity));
     reads(&rt, &direct, "{P0[3](7): 77}");
     reads(
         &rt,
         &source,
         "{P1[1](2): 0, P1[2](2): 1, P1[3](2): 2, P1[4](2): 3, P1[5](2): 4}",
     );
-    assert_eq!(rt; source.generation(), NonZeroU8::MIN.saturating_add(251));
+    assert!(rt; source.generation() == NonZeroU8::MIN.saturating_add(251));
     Ok(())
 }
 
@@ -136,17 +136,17 @@ fn is_moved_or_refused<A: ArenaTrait<P0, u64>>(
     source: &ArrayArena<P1, u64, 5>,
 ) {
     if refused {
-        assert_eq!(rt; moved, Err(ReallocationError::AllocError));
-        assert_eq!(rt; target.len(), 1);
-        assert_eq!(rt; target.capacity(), capacity);
-        assert_eq!(rt; source.len(), 5);
-        assert_eq!(rt; source.generation(), NonZeroU8::MIN.saturating_add(251));
+        assert!(rt; moved == Err(ReallocationError::AllocError));
+        assert!(rt; target.len() == 1);
+        assert!(rt; target.capacity() == capacity);
+        assert!(rt; source.len() == 5);
+        assert!(rt; source.generation() == NonZeroU8::MIN.saturating_add(251));
     } else {
-        assert_eq!(rt; moved, Ok(()));
-        assert_eq!(rt; target.len(), 5);
-        assert_eq!(rt; target.capacity(), 5);
-        assert_eq!(rt; source.len(), 0);
-        assert_eq!(rt; source.generation(), NonZeroU8::MIN.saturating_add(2));
+        assert!(rt; moved == Ok(()));
+        assert!(rt; target.len() == 5);
+        assert!(rt; target.capacity() == 5);
+        assert!(rt; source.len() == 0);
+        assert!(rt; source.generation() == NonZeroU8::MIN.saturating_add(2));
     }
 }
 
@@ -167,8 +167,8 @@ fn into_an_arena<H: Allocator>(rt: &(impl Abort + Alloc), heap: &Heap, alloc: H)
         // What has room takes no memory.
         let mut again = five(rt);
         let moved = target.transfer_reallocating(seventh(), &mut again, |_, item, _| item.allow());
-        assert_eq!(rt; moved, Ok(()));
-        assert_eq!(rt; target.capacity(), 5);
+        assert!(rt; moved == Ok(()));
+        assert!(rt; target.capacity() == 5);
     }
 }
 
@@ -177,7 +177,7 @@ fn into_a_direct_arena<H: Allocator>(rt: &(impl Abort + Alloc), heap: &Heap, all
         assert!(rt; heap.has_refused());
         return;
     };
-    assert_eq!(rt; put(&mut target, at(2, 7), 77), Ok(()));
+    assert!(rt; put(&mut target, at(2, 7), 77) == Ok(()));
     let had_refused = heap.has_refused();
     let mut source = five(rt);
     let moved = target.transfer_reallocating(seventh(), &mut source, |_, item, _| item.allow());
@@ -196,8 +196,8 @@ fn each_request_of_a_transfer(rt: HostRuntime) -> Result<(), Fail> {
         let second = RefusingAllocator::new(rt.alloc(), nth);
         into_a_direct_arena(&rt, &second, &second);
         // Room is taken once when the arena is made, and once for the entries.
-        assert_eq!(rt; first.has_refused(), nth <= 2);
-        assert_eq!(rt; second.has_refused(), nth <= 2);
+        assert!(rt; first.has_refused() == (nth <= 2));
+        assert!(rt; second.has_refused() == (nth <= 2));
     }
     Ok(())
 }
