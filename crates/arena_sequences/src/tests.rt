@@ -1,5 +1,7 @@
 //! Whole pointers at concrete types, and what each call answers where it is refused.
 mod advancers;
 mod compress;
-mod rows;
+mod entries;
+mod refusals;
 mod sequences;
+mod writes;

@@ -18,6 +18,3 @@ pub use nodes::{Node, Nodes};
 pub use searches::{find_equal, find_first};
 pub use sums::{direct_sum_of, sum_of, sum_of_entries};
 pub use values::{map_values, raise, sum_up};
-
-#[cfg(test)]
-mod tests;

@@ -1,9 +1,10 @@
 //! Transfers at concrete arenas, and with each request for memory refused in turn.
-use crate::tests::places::put;
+use crate::tests::copies::insert;
+use crate::tests::places::{at, put};
 use crate::tests::texts::reads;
 use refusing_allocator::RefusingAllocator;
 use std::alloc::{Allocator, Global};
-use std::num::{NonZeroU8, NonZeroU64, NonZeroUsize};
+use std::num::{NonZeroU8, NonZeroU64};
 use std::process::Abort;
 use std::test::Fail;
 use triple_arena::{
@@ -27,71 +28,78 @@ fn five(rt: &impl Abort) -> ArrayArena<P1, u64, 5> {
     source
 }
 
-// The pointer of this index and generation.
-fn at(index: usize, generation: NonZeroU64) -> P0 {
-    P0::_from_raw(
-        NonZeroUsize::MIN.saturating_add(index.saturating_sub(1)),
-        generation,
-    )
+type From = ArrayArena<P1, u64, 4>;
+
+type To = ArrayArena<P0, ((P1, P0), (u64, bool)), 3>;
+
+// Three entries, with a free slot before the second, under a counter whose second step starts the generations again.
+fn three(rt: &impl Abort, source: &mut From) {
+    insert(rt, source, 10);
+    let gone = insert(rt, source, 20);
+    insert(rt, source, 30);
+    insert(rt, source, 40);
+    assert!(rt; source.remove(gone).is_success());
+    source.set_generation(NonZeroU8::MIN.saturating_add(253));
+}
+
+// The target takes what the source has, each value with both pointers and whether the generations started again.
+fn moves(rt: &impl Abort, target: &mut To, source: &mut From) {
+    let moved = target.transfer_reallocating(seventh(), source, |from, item, to| {
+        ((from, to), item.overflowing())
+    });
+    assert!(rt; moved == Ok(()));
 }
 
 #[test]
 fn an_arena_gives_its_entries_to_another(rt: HostRuntime) -> Result<(), Fail> {
-    let mut source = ArrayArena::<P1, u64, 4>::new(());
-    source.insert(10)?;
-    let gone = source.insert(20)?;
-    source.insert(30)?;
-    source.insert(40)?;
-    assert!(rt; source.remove(gone).is_success());
-    // The second step starts the generations again.
-    source.set_generation(NonZeroU8::MIN.saturating_add(253));
-    let mut target = ArrayArena::<P0, ((P1, P0), (u64, bool)), 3>::new(());
+    let mut source = From::new(());
+    three(&rt, &mut source);
+    let mut target = To::new(());
     target.insert(((P1::invalid(), P0::invalid()), (0, true)))?;
-    let moved = target.transfer_reallocating(seventh(), &mut source, |from, item, to| {
-        ((from, to), item.overflowing())
-    });
-    assert_eq!(rt; moved, Ok(()));
+    moves(&rt, &mut target, &mut source);
     reads(
         &rt,
         &target,
         "{P0[1](7): ((P1[1](2), P0[1](7)), (10, false)), P0[2](7): ((P1[3](2), P0[2](7)), (30, true)), P0[3](7): ((P1[4](2), P0[3](7)), (40, false))}",
     );
-    assert_eq!(rt; target.generation(), seventh());
-    assert_eq!(rt; target.freelist_root(), None);
-    reads(&rt, &source, "{}");
-    assert_eq!(rt; source.generation(), NonZeroU8::MIN.saturating_add(2));
-    assert_eq!(rt; source.capacity(), 4);
-    assert_eq!(rt; source.freelist_root(), None);
+    assert!(rt; target.generation() == seventh());
+    assert!(rt; target.freelist_root() == None);
+    gave_all(&rt, &source);
 
     // Nothing is moved from an empty arena, and the target is empty too.
-    let moved = target.transfer_reallocating(seventh(), &mut source, |from, item, to| {
-        ((from, to), item.overflowing())
-    });
-    assert_eq!(rt; moved, Ok(()));
+    moves(&rt, &mut target, &mut source);
     reads(&rt, &target, "{}");
-    assert_eq!(rt; source.generation(), NonZeroU8::MIN.saturating_add(2));
+    gave_all(&rt, &source);
     Ok(())
+}
+
+// The source is empty, and its counter was stepped for each entry.
+fn gave_all(rt: &impl Abort, source: &From) {
+    assert!(rt; source.len() == 0);
+    assert!(rt; source.generation() == NonZeroU8::MIN.saturating_add(2));
+    assert!(rt; source.capacity() == 4);
+    assert!(rt; source.freelist_root() == None);
 }
 
 #[test]
 fn a_direct_arena_gives_its_entries_to_others(rt: HostRuntime) -> Result<(), Fail> {
     let mut source = ArrayDirectArena::<P0, u64, 4>::new(());
-    assert_eq!(rt; put(&mut source, at(4, NonZeroU64::MAX), 20), Ok(()));
-    assert_eq!(rt; put(&mut source, at(1, seventh()), 10), Ok(()));
+    assert!(rt; put(&mut source, at(4, u64::MAX), 20) == Ok(()));
+    assert!(rt; put(&mut source, at(1, 7), 10) == Ok(()));
     let mut direct = ArrayDirectArena::<P5, (u64, bool), 2>::new(());
     let moved = direct.transfer_reallocating((), &mut source, |_, item, _| item.overflowing());
-    assert_eq!(rt; moved, Ok(()));
+    assert!(rt; moved == Ok(()));
     reads(&rt, &direct, "{P5[1]: (10, false), P5[2]: (20, false)}");
     reads(&rt, &source, "{}");
     let mut arena = ArrayArena::<P5, u64, 2>::new(());
     let moved = arena.transfer_reallocating((), &mut direct, |_, item, _| item.allow().0);
-    assert_eq!(rt; moved, Ok(()));
+    assert!(rt; moved == Ok(()));
     reads(&rt, &arena, "{P5[1]: 10, P5[2]: 20}");
     let mut last = ArrayDirectArena::<P0, (P5, u64), 2>::new(());
     let moved = last.transfer_reallocating(seventh(), &mut arena, |from, item, _| {
         (from, item.allow())
     });
-    assert_eq!(rt; moved, Ok(()));
+    assert!(rt; moved == Ok(()));
     reads(&rt, &last, "{P0[1](7): (P5[1], 10), P0[2](7): (P5[2], 20)}");
     Ok(())
 }
@@ -102,19 +110,19 @@ fn more_entries_than_the_target_can_have(rt: HostRuntime) -> Result<(), Fail> {
     let mut target = ArrayArena::<P0, u64, 4>::new(());
     target.insert(77)?;
     let moved = target.transfer_reallocating(seventh(), &mut source, |_, item, _| item.allow());
-    assert_eq!(rt; moved, Err(ReallocationError::BeyondMaxCapacity));
+    assert!(rt; moved == Err(ReallocationError::BeyondMaxCapacity));
     reads(&rt, &target, "{P0[1](2): 77}");
     let mut direct = ArrayDirectArena::<P0, u64, 4>::new(());
-    assert_eq!(rt; put(&mut direct, at(3, seventh()), 77), Ok(()));
+    assert!(rt; put(&mut direct, at(3, 7), 77) == Ok(()));
     let moved = direct.transfer_reallocating(seventh(), &mut source, |_, item, _| item.allow());
-    assert_eq!(rt; moved, Err(ReallocationError::BeyondMaxCapacity));
+    assert!(rt; moved == Err(ReallocationError::BeyondMaxCapacity));
     reads(&rt, &direct, "{P0[3](7): 77}");
     reads(
         &rt,
         &source,
         "{P1[1](2): 0, P1[2](2): 1, P1[3](2): 2, P1[4](2): 3, P1[5](2): 4}",
     );
-    assert_eq!(rt; source.generation(), NonZeroU8::MIN.saturating_add(251));
+    assert!(rt; source.generation() == NonZeroU8::MIN.saturating_add(251));
     Ok(())
 }
 
@@ -128,17 +136,17 @@ fn is_moved_or_refused<A: ArenaTrait<P0, u64>>(
     source: &ArrayArena<P1, u64, 5>,
 ) {
     if refused {
-        assert_eq!(rt; moved, Err(ReallocationError::AllocError));
-        assert_eq!(rt; target.len(), 1);
-        assert_eq!(rt; target.capacity(), capacity);
-        assert_eq!(rt; source.len(), 5);
-        assert_eq!(rt; source.generation(), NonZeroU8::MIN.saturating_add(251));
+        assert!(rt; moved == Err(ReallocationError::AllocError));
+        assert!(rt; target.len() == 1);
+        assert!(rt; target.capacity() == capacity);
+        assert!(rt; source.len() == 5);
+        assert!(rt; source.generation() == NonZeroU8::MIN.saturating_add(251));
     } else {
-        assert_eq!(rt; moved, Ok(()));
-        assert_eq!(rt; target.len(), 5);
-        assert_eq!(rt; target.capacity(), 5);
-        assert_eq!(rt; source.len(), 0);
-        assert_eq!(rt; source.generation(), NonZeroU8::MIN.saturating_add(2));
+        assert!(rt; moved == Ok(()));
+        assert!(rt; target.len() == 5);
+        assert!(rt; target.capacity() == 5);
+        assert!(rt; source.len() == 0);
+        assert!(rt; source.generation() == NonZeroU8::MIN.saturating_add(2));
     }
 }
 
@@ -159,8 +167,8 @@ fn into_an_arena<H: Allocator>(rt: &(impl Abort + Alloc), heap: &Heap, alloc: H)
         // What has room takes no memory.
         let mut again = five(rt);
         let moved = target.transfer_reallocating(seventh(), &mut again, |_, item, _| item.allow());
-        assert_eq!(rt; moved, Ok(()));
-        assert_eq!(rt; target.capacity(), 5);
+        assert!(rt; moved == Ok(()));
+        assert!(rt; target.capacity() == 5);
     }
 }
 
@@ -169,7 +177,7 @@ fn into_a_direct_arena<H: Allocator>(rt: &(impl Abort + Alloc), heap: &Heap, all
         assert!(rt; heap.has_refused());
         return;
     };
-    assert_eq!(rt; put(&mut target, at(2, seventh()), 77), Ok(()));
+    assert!(rt; put(&mut target, at(2, 7), 77) == Ok(()));
     let had_refused = heap.has_refused();
     let mut source = five(rt);
     let moved = target.transfer_reallocating(seventh(), &mut source, |_, item, _| item.allow());
@@ -188,8 +196,8 @@ fn each_request_of_a_transfer(rt: HostRuntime) -> Result<(), Fail> {
         let second = RefusingAllocator::new(rt.alloc(), nth);
         into_a_direct_arena(&rt, &second, &second);
         // Room is taken once when the arena is made, and once for the entries.
-        assert_eq!(rt; first.has_refused(), nth <= 2);
-        assert_eq!(rt; second.has_refused(), nth <= 2);
+        assert!(rt; first.has_refused() == (nth <= 2));
+        assert!(rt; second.has_refused() == (nth <= 2));
     }
     Ok(())
 }

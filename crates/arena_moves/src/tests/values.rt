@@ -1,5 +1,4 @@
 //! The callers of a compression, at a concrete arena.
-use crate::{direct_sum_of, map_values, raise, sum_of, sum_up};
 use std::alloc::Global;
 use std::num::NonZeroUsize;
 use std::process::Abort;
@@ -7,6 +6,7 @@ use std::test::Fail;
 use triple_arena::{
     ArenaInsertTrait, ArenaTrait, ArrayDirectArena, HeapArena, InvalidationOption, P0,
 };
+use triple_arena_user::{direct_sum_of, map_values, raise, sum_of, sum_up};
 
 type InVec = HeapArena<P0, u64, Global>;
 

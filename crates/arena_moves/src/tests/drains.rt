@@ -1,8 +1,7 @@
 //! Drains, taken whole and dropped early, and searches, at concrete arenas.
-use crate::tests::places::put;
-use crate::{find_equal, find_first, raise_each};
+use crate::tests::places::{at, put};
 use std::alloc::Global;
-use std::num::{NonZeroU8, NonZeroU64, NonZeroUsize};
+use std::num::{NonZeroU8, NonZeroUsize};
 use std::process::Abort;
 use std::test::Fail;
 use triple_arena::{
@@ -10,6 +9,7 @@ use triple_arena::{
     HeapDirectArena, InvalidationOption, NonZeroInxGenericStack, P0, P1, P5, Ptr, PtrGen, PtrInx,
     ReallocationError,
 };
+use triple_arena_user::{find_equal, find_first, raise_each};
 
 // Four entries, with a free slot between them.
 fn fill<P: Ptr, S: NonZeroInxGenericStack<ArenaSlot<P, u64>> + Drop>(
@@ -41,7 +41,7 @@ fn take<P: Ptr, S: NonZeroInxGenericStack<ArenaSlot<P, u64>>>(
         } else {
             InvalidationOption::Success(*item)
         };
-        assert_eq!(rt; drain.next(), Some(wanted));
+        assert!(rt; drain.next() == Some(wanted));
     }
     counter
 }
@@ -61,11 +61,11 @@ fn drains<P: Ptr, S: NonZeroInxGenericStack<ArenaSlot<P, u64>> + Drop>(
     assert!(rt; arena.is_empty());
     assert!(rt; arena.backing().is_empty());
     assert!(rt; arena.freelist_root().is_none());
-    assert_eq!(rt; arena.capacity(), capacity);
-    assert_eq!(rt; arena.generation(), counter);
+    assert!(rt; arena.capacity() == capacity);
+    assert!(rt; arena.generation() == counter);
     let next = arena.insert(60)?;
-    assert_eq!(rt; next.inx().try_into_usize(), Some(NonZeroUsize::MIN));
-    assert_eq!(rt; next.generation(), counter);
+    assert!(rt; next.inx().try_into_usize() == Some(NonZeroUsize::MIN));
+    assert!(rt; next.generation() == counter);
     drop(arena.drain());
     Ok(())
 }
@@ -105,16 +105,13 @@ fn tells_the_item_at_which_the_generations_start_again(rt: HostRuntime) -> Resul
     let items = fill(&rt, &mut arena)?;
     arena.set_generation(NonZeroU8::MIN.saturating_add(253));
     let mut drain = arena.drain();
-    assert_eq!(rt; drain.len(), 4);
-    assert_eq!(rt; drain.next(), Some(InvalidationOption::Success(items[0])));
-    assert_eq!(rt;
-        drain.next(),
-        Some(InvalidationOption::GenerationOverflow(items[1]))
-    );
-    assert_eq!(rt; drain.next(), Some(InvalidationOption::Success(items[2])));
-    assert_eq!(rt; drain.len(), 1);
+    assert!(rt; drain.len() == 4);
+    assert!(rt; drain.next() == Some(InvalidationOption::Success(items[0])));
+    assert!(rt; drain.next() == Some(InvalidationOption::GenerationOverflow(items[1])));
+    assert!(rt; drain.next() == Some(InvalidationOption::Success(items[2])));
+    assert!(rt; drain.len() == 1);
     drop(drain);
-    assert_eq!(rt; arena.generation().get(), 4);
+    assert!(rt; arena.generation().get() == 4);
     Ok(())
 }
 
@@ -122,28 +119,20 @@ type InVec = HeapDirectArena<P0, u64, Global>;
 
 // Entries at the indexes 1, 3 and 6.
 fn fill_direct(arena: &mut InVec) -> Result<[(P0, u64); 3], DirectInsertionError> {
-    let first = P0::_from_raw(at(1), generation(9));
-    let second = P0::_from_raw(at(3), generation(8));
-    let third = P0::_from_raw(at(6), generation(9));
+    let first = at(1, 9);
+    let second = at(3, 8);
+    let third = at(6, 9);
     put(arena, third, 60)?;
     put(arena, first, 10)?;
     put(arena, second, 30)?;
     Ok([(first, 10), (second, 30), (third, 60)])
 }
 
-fn at(index: usize) -> NonZeroUsize {
-    NonZeroUsize::MIN.saturating_add(index.saturating_sub(1))
-}
-
-fn generation(number: u64) -> NonZeroU64 {
-    NonZeroU64::MIN.saturating_add(number.saturating_sub(1))
-}
-
 // Takes so many of the items of a direct arena.
 fn take_direct(rt: &impl Abort, arena: &mut InVec, items: &[(P0, u64)]) {
     let mut drain = arena.drain();
     for item in items {
-        assert_eq!(rt; drain.next(), Some(InvalidationOption::Success(*item)));
+        assert!(rt; drain.next() == Some(InvalidationOption::Success(*item)));
     }
 }
 
@@ -155,12 +144,12 @@ fn drains_direct(
 ) -> Result<(), DirectInsertionError> {
     let items = fill_direct(arena)?;
     let capacity = arena.capacity();
-    assert_eq!(rt; find_equal(arena, &30), Some(items[1].0));
-    assert_eq!(rt; find_equal(arena, &31), None);
+    assert!(rt; find_equal(arena, &30) == Some(items[1].0));
+    assert!(rt; find_equal(arena, &31) == None);
     take_direct(rt, arena, &items[..count]);
     assert!(rt; arena.is_empty());
     assert!(rt; arena.backing().is_empty());
-    assert_eq!(rt; arena.capacity(), capacity);
+    assert!(rt; arena.capacity() == capacity);
     Ok(())
 }
 
@@ -177,9 +166,9 @@ fn drains_a_direct_vector(rt: HostRuntime) -> Result<(), Fail> {
 fn finds_the_first_value(rt: HostRuntime) -> Result<(), Fail> {
     let mut arena = HeapArena::<P0, u64, Global>::new(rt.alloc());
     let items = fill(&rt, &mut arena)?;
-    assert_eq!(rt; find_first(&arena, |value| *value > 10), Some(items[1].0));
-    assert_eq!(rt; find_first(&arena, |value| *value > 50), None);
+    assert!(rt; (find_first(&arena, |value| *value > 10)) == Some(items[1].0));
+    assert!(rt; (find_first(&arena, |value| *value > 50)) == None);
     raise_each(&mut arena, 1);
-    assert_eq!(rt; find_first(&arena, |value| *value == 51), Some(items[3].0));
+    assert!(rt; (find_first(&arena, |value| *value == 51)) == Some(items[3].0));
     Ok(())
 }

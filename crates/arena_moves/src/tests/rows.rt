@@ -1,5 +1,7 @@
 //! Calls in a row whose answers and texts are known beforehand, at several pointers and stacks.
-use super::sequences::{InArray, InVec, insert, shows};
+use crate::tests::copies::insert;
+use crate::tests::places::put;
+use crate::tests::texts::reads;
 use std::alloc::Global;
 use std::fmt::Debug;
 use std::num::NonZeroUsize;
@@ -11,14 +13,6 @@ use triple_arena::{
     HeapArena, HeapDirectArena, InvalidationOption, InvalidationResult, NonZeroInxGenericStack, P0,
     P1, P5, Ptr, PtrGen, PtrInx, ReallocationError, Recast, compress_recaster,
 };
-
-// What stands in a text, by `{:?}`.
-fn reads<A: Debug>(rt: &(impl Abort + Alloc), shown: &A, text: &str) {
-    match format!(in rt.alloc(); "{shown:?}") {
-        Ok(shown) => assert_eq!(rt; shown.as_str(), text),
-        Err(_) => panic!(rt; "no memory for a text"),
-    }
-}
 
 // The pointer whose index has so many before it, with the generation that is so many after the second.
 fn pointer<P: Ptr>(rt: &impl Abort, before: usize, steps: usize) -> P {
@@ -33,21 +27,6 @@ fn pointer<P: Ptr>(rt: &impl Abort, before: usize, steps: usize) -> P {
     }
 }
 
-// Stores `t` under `p`.
-fn put<P: Ptr, T: Drop, S: NonZeroInxGenericStack<DirectSlot<P, T>> + Drop>(
-    arena: &mut DirectArena<P, T, S>,
-    p: P,
-    t: T,
-) -> Result<(), DirectInsertionError> {
-    match arena.direct_insert_within_capacity(p) {
-        Ok(place) => {
-            place.insert(t);
-            Ok(())
-        }
-        Err(error) => Err(error),
-    }
-}
-
 // One entry is accepted, one refused since it is there, one since it is past the capacity of 4; its pointer ends, and it
 // moves to the first index.
 fn takes_whole_pointers<P: Ptr, S: NonZeroInxGenericStack<DirectSlot<P, u64>> + Drop>(
@@ -56,20 +35,13 @@ fn takes_whole_pointers<P: Ptr, S: NonZeroInxGenericStack<DirectSlot<P, u64>> + 
     text: &str,
 ) {
     let p = pointer(rt, 2, 5);
-    assert_eq!(rt; put(arena, p, 10), Ok(()));
-    assert_eq!(rt;
-        put(arena, pointer(rt, 2, 7), 11),
-        Err(DirectInsertionError::ExistingElementAtIndex)
+    assert!(rt; put(arena, p, 10) == Ok(()));
+    assert!(rt;
+        put(arena, pointer(rt, 2, 7), 11) == Err(DirectInsertionError::ExistingElementAtIndex)
     );
-    assert_eq!(rt;
-        put(arena, pointer(rt, 4, 0), 11),
-        Err(DirectInsertionError::NotWithinCapacity)
-    );
-    assert_eq!(rt;
-        arena.invalidate(p),
-        InvalidationResult::Success(pointer(rt, 2, 6))
-    );
-    assert_eq!(rt; arena.compress(false), InvalidationOption::Success(()));
+    assert!(rt; put(arena, pointer(rt, 4, 0), 11) == Err(DirectInsertionError::NotWithinCapacity));
+    assert!(rt; arena.invalidate(p) == InvalidationResult::Success(pointer(rt, 2, 6)));
+    assert!(rt; arena.compress(false) == InvalidationOption::Success(()));
     reads(rt, arena, text);
 }
 
@@ -79,6 +51,8 @@ fn takes_whole_pointers_in_a_vector(rt: HostRuntime) -> Result<(), Fail> {
     takes_whole_pointers(&rt, &mut wide, "{P0[1](9): 10}");
     let mut narrow = HeapDirectArena::<P1, u64, Global>::with_min_capacity(rt.alloc(), 4)?;
     takes_whole_pointers(&rt, &mut narrow, "{P1[1](9): 10}");
+    let mut uncounted = HeapDirectArena::<P5, u64, Global>::with_min_capacity(rt.alloc(), 4)?;
+    takes_whole_pointers(&rt, &mut uncounted, "{P5[1]: 10}");
     Ok(())
 }
 
@@ -88,6 +62,11 @@ fn takes_whole_pointers_in_an_array(rt: HostRuntime) {
         &rt,
         &mut ArrayDirectArena::<P0, u64, 4>::new(()),
         "{P0[1](9): 10}",
+    );
+    takes_whole_pointers(
+        &rt,
+        &mut ArrayDirectArena::<P1, u64, 4>::new(()),
+        "{P1[1](9): 10}",
     );
     takes_whole_pointers(
         &rt,
@@ -105,8 +84,8 @@ fn shows_two<P: Ptr, A: ArenaInsertTrait<P, &'static str> + Debug>(
     let first = arena.insert("test")?;
     arena.insert("hello")?;
     reads(rt, arena, text);
-    assert_eq!(rt; arena.remove(first), InvalidationResult::Success("test"));
-    assert_eq!(rt; arena.get(first), None);
+    assert!(rt; arena.remove(first) == InvalidationResult::Success("test"));
+    assert!(rt; arena.get(first) == None);
     Ok(())
 }
 
@@ -125,7 +104,13 @@ fn shows_two_of_each_pointer(rt: HostRuntime) -> Result<(), Fail> {
         &mut HeapArena::<P1, &str, Global>::new(rt.alloc()),
         narrow,
     )?;
+    shows_two(&rt, &mut ArrayArena::<P1, &str, 2>::new(()), narrow)?;
     let uncounted = "{P5[1]: \"test\", P5[2]: \"hello\"}";
+    shows_two(
+        &rt,
+        &mut HeapArena::<P5, &str, Global>::new(rt.alloc()),
+        uncounted,
+    )?;
     shows_two(&rt, &mut ArrayArena::<P5, &str, 2>::new(()), uncounted)?;
     Ok(())
 }
@@ -148,19 +133,33 @@ fn drops_the_free_end<P: Ptr, S: NonZeroInxGenericStack<ArenaSlot<P, u64>> + Dro
     assert!(rt; arena.remove(e).is_success());
     arena.remove_free_end_slots();
     for text in texts {
-        shows(rt, insert(rt, arena, 15), *text);
+        reads(rt, &insert(rt, arena, 15), *text);
     }
 }
 
 #[test]
 fn drops_the_free_end_of_each_stack(rt: HostRuntime) {
     let steps = ["P0[1](6)", "P0[2](6)", "P0[4](6)"];
-    drops_the_free_end(&rt, &mut InVec::<P0>::new(rt.alloc()), &steps);
-    drops_the_free_end(&rt, &mut InArray::<P0, 5>::new(()), &steps);
+    drops_the_free_end(
+        &rt,
+        &mut HeapArena::<P0, u64, Global>::new(rt.alloc()),
+        &steps,
+    );
+    drops_the_free_end(&rt, &mut ArrayArena::<P0, u64, 5>::new(()), &steps);
     let narrow = ["P1[1](6)", "P1[2](6)", "P1[4](6)"];
-    drops_the_free_end(&rt, &mut InVec::<P1>::new(rt.alloc()), &narrow);
+    drops_the_free_end(
+        &rt,
+        &mut HeapArena::<P1, u64, Global>::new(rt.alloc()),
+        &narrow,
+    );
+    drops_the_free_end(&rt, &mut ArrayArena::<P1, u64, 5>::new(()), &narrow);
     let uncounted = ["P5[1]", "P5[2]", "P5[4]"];
-    drops_the_free_end(&rt, &mut InArray::<P5, 5>::new(()), &uncounted);
+    drops_the_free_end(
+        &rt,
+        &mut HeapArena::<P5, u64, Global>::new(rt.alloc()),
+        &uncounted,
+    );
+    drops_the_free_end(&rt, &mut ArrayArena::<P5, u64, 5>::new(()), &uncounted);
 }
 
 // A value, and the pointer that it holds.
@@ -192,64 +191,58 @@ fn recasts<
     texts: &[&str; 2],
 ) {
     reads(rt, map, texts[0]);
-    assert_eq!(rt; arena.recast(map), Ok(()));
+    assert!(rt; arena.recast(map) == Ok(()));
     reads(rt, arena, texts[1]);
 }
 
-#[test]
-fn recasts_by_a_compression_in_a_vector(rt: HostRuntime) -> Result<(), Fail> {
-    let mut wide = HeapArena::<P0, Named<P0>, Global>::new(rt.alloc());
-    names(&rt, &mut wide)?;
-    let map: HeapDirectArena<P0, P0, Global> = compress_recaster(&mut wide, false, rt.alloc())?;
-    recasts(
-        &rt,
-        &mut wide,
-        &map,
-        &[
-            "{P0[2](2): P0[1](5), P0[4](2): P0[2](5)}",
-            "{P0[1](5): (42, None), P0[2](5): (1337, Some(P0[1](5)))}",
-        ],
-    );
-    let mut narrow = HeapArena::<P1, Named<P1>, Global>::new(rt.alloc());
-    names(&rt, &mut narrow)?;
-    let map: HeapDirectArena<P1, P1, Global> = compress_recaster(&mut narrow, false, rt.alloc())?;
-    recasts(
-        &rt,
-        &mut narrow,
-        &map,
-        &[
-            "{P1[2](2): P1[1](5), P1[4](2): P1[2](5)}",
-            "{P1[1](5): (42, None), P1[2](5): (1337, Some(P1[1](5)))}",
-        ],
-    );
+// What the map and the recast arena show.
+const WIDE: [&str; 2] = [
+    "{P0[2](2): P0[1](5), P0[4](2): P0[2](5)}",
+    "{P0[1](5): (42, None), P0[2](5): (1337, Some(P0[1](5)))}",
+];
+
+const NARROW: [&str; 2] = [
+    "{P1[2](2): P1[1](5), P1[4](2): P1[2](5)}",
+    "{P1[1](5): (42, None), P1[2](5): (1337, Some(P1[1](5)))}",
+];
+
+const UNCOUNTED: [&str; 2] = [
+    "{P5[2]: P5[1], P5[4]: P5[2]}",
+    "{P5[1]: (42, None), P5[2]: (1337, Some(P5[1]))}",
+];
+
+// By a map in a vector.
+fn recasts_in_a_vector<P: Ptr + Recast<P>>(
+    rt: &(impl Abort + Alloc),
+    alloc: Global,
+    texts: &[&str; 2],
+) -> Result<(), ReallocationError> {
+    let mut arena = HeapArena::<P, Named<P>, Global>::new(alloc);
+    names(rt, &mut arena)?;
+    let map: HeapDirectArena<P, P, Global> = compress_recaster(&mut arena, false, alloc)?;
+    recasts(rt, &mut arena, &map, texts);
+    Ok(())
+}
+
+// By a map in an array.
+fn recasts_in_an_array<P: Ptr + Recast<P>>(
+    rt: &(impl Abort + Alloc),
+    texts: &[&str; 2],
+) -> Result<(), ReallocationError> {
+    let mut arena = ArrayArena::<P, Named<P>, 4>::new(());
+    names(rt, &mut arena)?;
+    let map: ArrayDirectArena<P, P, 4> = compress_recaster(&mut arena, false, ())?;
+    recasts(rt, &mut arena, &map, texts);
     Ok(())
 }
 
 #[test]
-fn recasts_by_a_compression_in_an_array(rt: HostRuntime) -> Result<(), Fail> {
-    let mut wide = ArrayArena::<P0, Named<P0>, 4>::new(());
-    names(&rt, &mut wide)?;
-    let map: ArrayDirectArena<P0, P0, 4> = compress_recaster(&mut wide, false, ())?;
-    recasts(
-        &rt,
-        &mut wide,
-        &map,
-        &[
-            "{P0[2](2): P0[1](5), P0[4](2): P0[2](5)}",
-            "{P0[1](5): (42, None), P0[2](5): (1337, Some(P0[1](5)))}",
-        ],
-    );
-    let mut uncounted = ArrayArena::<P5, Named<P5>, 4>::new(());
-    names(&rt, &mut uncounted)?;
-    let map: ArrayDirectArena<P5, P5, 4> = compress_recaster(&mut uncounted, false, ())?;
-    recasts(
-        &rt,
-        &mut uncounted,
-        &map,
-        &[
-            "{P5[2]: P5[1], P5[4]: P5[2]}",
-            "{P5[1]: (42, None), P5[2]: (1337, Some(P5[1]))}",
-        ],
-    );
+fn recasts_by_a_compression(rt: HostRuntime) -> Result<(), Fail> {
+    recasts_in_a_vector::<P0>(&rt, rt.alloc(), &WIDE)?;
+    recasts_in_a_vector::<P1>(&rt, rt.alloc(), &NARROW)?;
+    recasts_in_a_vector::<P5>(&rt, rt.alloc(), &UNCOUNTED)?;
+    recasts_in_an_array::<P0>(&rt, &WIDE)?;
+    recasts_in_an_array::<P1>(&rt, &NARROW)?;
+    recasts_in_an_array::<P5>(&rt, &UNCOUNTED)?;
     Ok(())
 }

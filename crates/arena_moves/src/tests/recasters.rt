@@ -1,34 +1,28 @@
 //! Direct arenas and the map of a compression at concrete arenas.
-use crate::documents::tidy;
-use crate::tests::places::put;
+use crate::tests::copies::insert;
+use crate::tests::places::{at, put};
 use crate::tests::texts::reads;
 use refusing_allocator::RefusingAllocator;
 use std::alloc::{Allocator, Global};
-use std::num::{NonZeroU8, NonZeroU64, NonZeroUsize};
+use std::num::NonZeroU8;
 use std::process::Abort;
 use std::test::Fail;
 use triple_arena::{
     ArenaInsertTrait, ArenaTrait, ArrayArena, ArrayDirectArena, DirectSlot, DisjointableArenaTrait,
-    NonZeroInxArray, NonZeroInxVec, P0, P1, P5, Ptr, ReallocationError, Recast, compress_recaster,
+    NonZeroInxArray, NonZeroInxVec, P0, P1, P5, ReallocationError, Recast, compress_recaster,
 };
+use triple_arena_user::tidy;
 
 type Heap = RefusingAllocator<Global>;
-
-fn at(index: usize, generation: u64) -> P0 {
-    P0::_from_raw(
-        NonZeroUsize::MIN.saturating_add(index.saturating_sub(1)),
-        NonZeroU64::MIN.saturating_add(generation.saturating_sub(1)),
-    )
-}
 
 #[test]
 fn texts_of_direct_arenas(rt: HostRuntime) -> Result<(), Fail> {
     let mut arena = ArrayDirectArena::<P0, &str, 4>::new(());
     reads(&rt, &arena, "{}");
-    assert_eq!(rt; put(&mut arena, at(3, 16), "y"), Ok(()));
-    assert_eq!(rt; put(&mut arena, at(1, 9), "x"), Ok(()));
+    assert!(rt; put(&mut arena, at(3, 16), "y") == Ok(()));
+    assert!(rt; put(&mut arena, at(1, 9), "x") == Ok(()));
     reads(&rt, &arena, "{P0[1](9): \"x\", P0[3](10): \"y\"}");
-    assert_eq!(rt; arena.swap(at(1, 9), at(3, 16)), Ok(()));
+    assert!(rt; arena.swap(at(1, 9), at(3, 16)) == Ok(()));
     reads(&rt, &arena, "{P0[1](9): \"y\", P0[3](10): \"x\"}");
     assert!(rt; arena.swap(at(1, 9), at(1, 9)).is_err());
     assert!(rt; arena.swap(at(1, 9), at(3, 9)).is_err());
@@ -39,34 +33,41 @@ fn texts_of_direct_arenas(rt: HostRuntime) -> Result<(), Fail> {
 #[test]
 fn pointers_in_a_direct_arena_are_recast(rt: HostRuntime) -> Result<(), Fail> {
     let mut renaming = ArrayDirectArena::<P0, P0, 4>::new(());
-    assert_eq!(rt; put(&mut renaming, at(4, 7), at(1, 2)), Ok(()));
-    assert_eq!(rt; put(&mut renaming, at(2, 5), at(2, 2)), Ok(()));
+    assert!(rt; put(&mut renaming, at(4, 7), at(1, 2)) == Ok(()));
+    assert!(rt; put(&mut renaming, at(2, 5), at(2, 2)) == Ok(()));
     let mut arena = ArrayDirectArena::<P0, Option<P0>, 4>::new(());
-    assert_eq!(rt; put(&mut arena, at(1, 3), Some(at(4, 7))), Ok(()));
-    assert_eq!(rt; put(&mut arena, at(2, 3), None), Ok(()));
-    assert_eq!(rt; put(&mut arena, at(4, 3), Some(at(2, 5))), Ok(()));
-    assert_eq!(rt; arena.recast(&renaming), Ok(()));
+    assert!(rt; put(&mut arena, at(1, 3), Some(at(4, 7))) == Ok(()));
+    assert!(rt; put(&mut arena, at(2, 3), None) == Ok(()));
+    assert!(rt; put(&mut arena, at(4, 3), Some(at(2, 5))) == Ok(()));
+    assert!(rt; arena.recast(&renaming) == Ok(()));
     reads(
         &rt,
         &arena,
         "{P0[1](3): Some(P0[1](2)), P0[2](3): None, P0[4](3): Some(P0[2](2))}",
     );
     // The new names have no names: the recast stops at the first.
-    assert_eq!(rt; arena.recast(&renaming), Err(at(1, 2)));
+    assert!(rt; arena.recast(&renaming) == Err(at(1, 2)));
     Ok(())
+}
+
+type Counted = ArrayArena<P1, u64, 5>;
+
+// The second and the fourth of four values, under a counter whose next step starts the generations again.
+fn two_of_four(rt: &impl Abort, arena: &mut Counted) -> (P1, P1) {
+    let a = insert(rt, arena, 10);
+    let b = insert(rt, arena, 20);
+    let c = insert(rt, arena, 30);
+    let d = insert(rt, arena, 40);
+    assert!(rt; arena.remove(a).is_success());
+    assert!(rt; arena.remove(c).is_success());
+    arena.set_generation(NonZeroU8::MAX);
+    (b, d)
 }
 
 #[test]
 fn a_compression_answers_its_map(rt: HostRuntime) -> Result<(), Fail> {
-    let mut arena = ArrayArena::<P1, u64, 5>::new(());
-    let a = arena.insert(10)?;
-    let b = arena.insert(20)?;
-    let c = arena.insert(30)?;
-    let d = arena.insert(40)?;
-    assert!(rt; arena.remove(a).is_success());
-    assert!(rt; arena.remove(c).is_success());
-    // The step of the compression starts the generations again.
-    arena.set_generation(NonZeroU8::MAX);
+    let mut arena = Counted::new(());
+    let mut names = two_of_four(&rt, &mut arena);
     let map = compress_recaster::<P1, u64, _, NonZeroInxArray<DirectSlot<P1, P1>, 4>>(
         &mut arena,
         false,
@@ -74,14 +75,18 @@ fn a_compression_answers_its_map(rt: HostRuntime) -> Result<(), Fail> {
     )?;
     reads(&rt, &map, "{P1[2](2): P1[1](2), P1[4](2): P1[2](2)}");
     reads(&rt, &arena, "{P1[1](2): 20, P1[2](2): 40}");
-    assert_eq!(rt; arena.generation(), NonZeroU8::MIN.saturating_add(1));
-    let mut names = ((b, d), Some(a));
-    assert_eq!(rt; names.0.recast(&map), Ok(()));
-    assert_eq!(rt; names.1.recast(&map), Err(a));
-    assert_eq!(rt; arena.get(names.0.0), Some(&20));
-    assert_eq!(rt; arena.get(names.0.1), Some(&40));
+    assert!(rt; arena.generation() == NonZeroU8::MIN.saturating_add(1));
+    assert!(rt; names.recast(&map) == Ok(()));
+    assert!(rt; arena.get(names.0) == Some(&20));
+    assert!(rt; arena.get(names.1) == Some(&40));
+    Ok(())
+}
 
-    // An array of one slot is no map to the second index.
+// An array of one slot is no map to the fourth index.
+#[test]
+fn a_map_without_room_is_refused(rt: HostRuntime) -> Result<(), Fail> {
+    let mut arena = Counted::new(());
+    two_of_four(&rt, &mut arena);
     let refused = compress_recaster::<P1, u64, _, NonZeroInxArray<DirectSlot<P1, P1>, 1>>(
         &mut arena,
         true,
@@ -89,11 +94,10 @@ fn a_compression_answers_its_map(rt: HostRuntime) -> Result<(), Fail> {
     );
     match refused {
         Ok(_) => panic!(rt; "a map without room is accepted"),
-        Err(error) => assert_eq!(rt; error, ReallocationError::BeyondMaxCapacity),
+        Err(error) => assert!(rt; error == ReallocationError::BeyondMaxCapacity),
     }
-    reads(&rt, &arena, "{P1[1](2): 20, P1[2](2): 40}");
-    assert!(rt; arena.remove(names.0.0).is_success());
-    assert!(rt; arena.remove(names.0.1).is_success());
+    reads(&rt, &arena, "{P1[2](2): 20, P1[4](2): 40}");
+    arena.clear();
     let none = compress_recaster::<P1, u64, _, NonZeroInxArray<DirectSlot<P1, P1>, 0>>(
         &mut arena,
         false,
@@ -130,15 +134,15 @@ fn maps<H: Allocator>(rt: &(impl Abort + Alloc), heap: &Heap, alloc: H) {
     let made = compress_recaster::<P0, u64, _, NonZeroInxVec<DirectSlot<P0, P0>, H>>(
         &mut arena, false, alloc,
     );
-    assert_eq!(rt; made.is_err(), heap.has_refused());
+    assert!(rt; made.is_err() == heap.has_refused());
     match made {
         Ok(map) => {
             reads(rt, &map, "{P0[2](2): P0[1](4), P0[3](2): P0[2](4)}");
-            assert_eq!(rt; map.capacity(), 3);
+            assert!(rt; map.capacity() == 3);
             reads(rt, &arena, "{P0[1](4): 1, P0[2](4): 2}");
         }
         Err(error) => {
-            assert_eq!(rt; error, ReallocationError::AllocError);
+            assert!(rt; error == ReallocationError::AllocError);
             reads(rt, &arena, "{P0[2](2): 1, P0[3](2): 2}");
         }
     }
@@ -149,7 +153,7 @@ fn each_request_of_a_map(rt: HostRuntime) -> Result<(), Fail> {
     for nth in 1..3u64 {
         let heap = RefusingAllocator::new(rt.alloc(), nth);
         maps(&rt, &heap, &heap);
-        assert_eq!(rt; heap.has_refused(), nth == 1);
+        assert!(rt; heap.has_refused() == (nth == 1));
     }
     Ok(())
 }

@@ -28,6 +28,11 @@ fn texts_of_arenas(rt: HostRuntime) -> Result<(), Fail> {
     reads(&rt, &arena, "{P0[1](2): \"test\", P0[2](2): \"hello\"}");
     assert!(rt; arena.remove(first).is_success());
     reads(&rt, &arena, "{P0[2](2): \"hello\"}");
+    Ok(())
+}
+
+#[test]
+fn texts_without_generations(rt: HostRuntime) -> Result<(), Fail> {
     let mut uncounted = ArrayArena::<P5, u64, 2>::new(());
     uncounted.insert(10)?;
     reads(&rt, &uncounted, "{P5[1]: 10}");
@@ -84,35 +89,42 @@ fn free_slots_and_limits(rt: HostRuntime) -> Result<(), Fail> {
     Ok(())
 }
 
+type Named = ArrayArena<P0, (u64, Option<P0>), 4>;
+
+type Renaming = ArrayArena<P0, P0, 2>;
+
+// A recast by all names, and by those that are left once the first has gone: what is before the value that holds it is
+// renamed, the rest not.
+fn recasts(rt: &(impl Abort + Alloc), arena: &mut Named, renaming: &mut Renaming, first: P0) {
+    assert_eq!(rt; arena.recast(renaming), Ok(()));
+    reads(
+        rt,
+        arena,
+        "{P0[1](2): (0, None), P0[2](2): (42, Some(P0[2](2))), P0[3](2): (1337, Some(P0[1](2))), P0[4](2): (1, Some(P0[2](2)))}",
+    );
+    assert!(rt; renaming.remove(first).is_success());
+    assert_eq!(rt; arena.recast(renaming), Err(first));
+    reads(
+        rt,
+        arena,
+        "{P0[1](2): (0, None), P0[2](2): (42, Some(P0[1](2))), P0[3](2): (1337, Some(P0[1](2))), P0[4](2): (1, Some(P0[2](2)))}",
+    );
+    let mut gone = first;
+    assert_eq!(rt; renaming.recast_item(&mut gone), Err(first));
+    assert_eq!(rt; gone, first);
+}
+
 #[test]
 fn pointers_in_an_arena_are_recast(rt: HostRuntime) -> Result<(), Fail> {
-    let mut arena = ArrayArena::<P0, (u64, Option<P0>), 4>::new(());
+    let mut arena = Named::new(());
     let zero = arena.insert((0, None))?;
     let first = arena.insert((42, Some(zero)))?;
     arena.insert((1337, Some(first)))?;
     arena.insert((1, Some(zero)))?;
-
     // The renaming has the first two pointers alone, and leads each to the other.
-    let mut renaming = ArrayArena::<P0, P0, 2>::new(());
+    let mut renaming = Renaming::new(());
     renaming.insert(first)?;
     renaming.insert(zero)?;
-    assert_eq!(rt; arena.recast(&renaming), Ok(()));
-    reads(
-        &rt,
-        &arena,
-        "{P0[1](2): (0, None), P0[2](2): (42, Some(P0[2](2))), P0[3](2): (1337, Some(P0[1](2))), P0[4](2): (1, Some(P0[2](2)))}",
-    );
-
-    // With one of them gone, the recast stops at the value that holds it: what is before is renamed, the rest not.
-    assert!(rt; renaming.remove(zero).is_success());
-    assert_eq!(rt; arena.recast(&renaming), Err(zero));
-    reads(
-        &rt,
-        &arena,
-        "{P0[1](2): (0, None), P0[2](2): (42, Some(P0[1](2))), P0[3](2): (1337, Some(P0[1](2))), P0[4](2): (1, Some(P0[2](2)))}",
-    );
-    let mut gone = zero;
-    assert_eq!(rt; renaming.recast_item(&mut gone), Err(zero));
-    assert_eq!(rt; gone, zero);
+    recasts(&rt, &mut arena, &mut renaming, zero);
     Ok(())
 }

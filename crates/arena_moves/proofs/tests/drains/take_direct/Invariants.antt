@@ -1,5 +1,5 @@
 use Rattle.triple_arena.specs.DirectDrains.{DrainCanStep}
-use Rattle.triple_arena_user.proofs.tests.drains.take_direct.Given as goal
+use Rattle.arena_moves.proofs.tests.drains.take_direct.Given as goal
 
 abbrev pub invariant-loop-item : goal.invariant-loop-item
 invariant-loop-item g l = DrainCanStep l.drain

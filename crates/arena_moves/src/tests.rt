@@ -1,0 +1,10 @@
+mod copies;
+mod copy_refusals;
+mod direct_growth;
+mod drains;
+mod places;
+mod recasters;
+mod rows;
+mod texts;
+mod transfers;
+mod values;

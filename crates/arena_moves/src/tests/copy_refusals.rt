@@ -1,0 +1,257 @@
+//! Copies whose map, clones or memory are refused.
+ghost use Rattle.std.specs.Prelude.{◌≡◌};
+
+use crate::tests::copies::{at, fills, holds, index, insert};
+use refusing_allocator::RefusingAllocator;
+use std::alloc::{AllocError, Allocator, Global};
+use std::cell::Cell;
+use std::process::Abort;
+use std::test::Fail;
+use triple_arena::{
+    ArenaCloneFromWith, ArenaCloneSource, ArenaInsertTrait, ArenaTrait, ArrayArena,
+    ArrayDirectArena, HeapArena, HeapDirectArena, P0, P1, P5, Ptr, PtrGen, PtrInx,
+    ReallocationError,
+};
+
+type Heap = RefusingAllocator<Global>;
+
+// The map refuses its call after the first `calls`. Nothing is left then but the room.
+fn refuses_into<P: Ptr, S: ArenaCloneSource<P, u64>, A: ArenaCloneFromWith<P, u64>>(
+    rt: &impl Abort,
+    source: &S,
+    copy: &mut A,
+    calls: u8,
+) {
+    let mut left = calls;
+    let answer = copy.clone_from_with(source, |_, value| match left.checked_sub(1) {
+        Some(less) => {
+            left = less;
+            Ok(*value)
+        }
+        None => Err(AllocError),
+    });
+    assert!(rt; copy.capacity() == 4);
+    if calls < 2 {
+        assert!(rt; answer == Err(ReallocationError::AllocError));
+        assert!(rt; copy.len() == 0);
+        assert!(rt; copy.find_first_inx_ptr() == None);
+    } else {
+        assert!(rt; answer == Ok(()));
+        holds(rt, copy, 20, 40);
+    }
+}
+
+// Into an arena and a direct arena, each by growth and with room, from an arena and a direct arena.
+fn refuses<P: Ptr>(rt: &impl Abort, alloc: Global, calls: u8) -> Result<(), ReallocationError> {
+    let mut source = ArrayArena::<P, u64, 5>::new(());
+    fills(rt, &mut source);
+    let mut mirror = ArrayDirectArena::<P, u64, 5>::new(());
+    mirror.clone_from_with(&source, |_, value| Ok(*value))?;
+    let mut copy = HeapArena::<P, u64, Global>::new(alloc);
+    insert(rt, &mut copy, 1);
+    let stepped = copy.generation().generational_inc().0;
+    refuses_into(rt, &source, &mut copy, calls);
+    if calls < 2 {
+        assert!(rt; copy.generation() == stepped);
+        let next = insert(rt, &mut copy, 0);
+        assert!(rt; next.inx().try_into_usize() == Some(index(0)));
+    }
+    refuses_into(rt, &mirror, &mut copy, calls);
+    let mut direct = HeapDirectArena::<P, u64, Global>::new(alloc);
+    refuses_into(rt, &mirror, &mut direct, calls);
+    refuses_into(rt, &source, &mut direct, calls);
+    Ok(())
+}
+
+#[test]
+fn the_map_refuses_each_call(rt: HostRuntime) -> Result<(), Fail> {
+    for calls in 0..3u8 {
+        refuses::<P0>(&rt, rt.alloc(), calls)?;
+        refuses::<P1>(&rt, rt.alloc(), calls)?;
+        refuses::<P5>(&rt, rt.alloc(), calls)?;
+    }
+    Ok(())
+}
+
+// A number of which as many clones can be made as are left.
+#[derive(Drop)]
+struct Scarce<'a> {
+    value: u64,
+    left: &'a Cell<u8>,
+}
+
+impl Clone for Scarce<'_> {
+    ghost is_clone = { λ x y. y ≡ x };
+
+    fn clone(&self) -> Result<Self, AllocError> {
+        match self.left.get().checked_sub(1) {
+            Some(less) => {
+                self.left.set(less);
+                Ok(Scarce {
+                    value: self.value,
+                    left: self.left,
+                })
+            }
+            None => Err(AllocError),
+        }
+    }
+}
+
+// A clone of two values, of which so many can be made, is made or refused, and onto an arena it leaves that empty.
+fn clones<P: Ptr>(rt: &impl Abort, calls: u8) {
+    let left = Cell::new(calls);
+    let mut source = ArrayArena::<P, Scarce<'_>, 5>::new(());
+    assert!(rt;
+        source
+            .insert(Scarce {
+                value: 10,
+                left: &left
+            })
+            .is_ok()
+    );
+    assert!(rt;
+        source
+            .insert(Scarce {
+                value: 20,
+                left: &left
+            })
+            .is_ok()
+    );
+    assert!(rt; source.clone(()).is_ok() == (2 <= calls));
+    left.set(calls);
+    let mut copy = ArrayArena::<P, Scarce<'_>, 5>::new(());
+    assert!(rt;
+        copy.insert(Scarce {
+            value: 1,
+            left: &left
+        })
+        .is_ok()
+    );
+    assert!(rt; copy.clone_from(&source).is_ok() == (2 <= calls));
+    assert!(rt; copy.len() == (if 2 <= calls { 2 } else { 0 }));
+    left.set(2);
+    let mut mirror = ArrayDirectArena::<P, Scarce<'_>, 5>::new(());
+    assert!(rt; mirror.clone_from_with(&source, |_, item| item.clone()) == Ok(()));
+    left.set(calls);
+    assert!(rt; mirror.clone(()).is_ok() == (2 <= calls));
+    left.set(calls);
+    let mut other = ArrayDirectArena::<P, Scarce<'_>, 5>::new(());
+    assert!(rt; other.clone_from(&mirror).is_ok() == (2 <= calls));
+    assert!(rt; other.len() == (if 2 <= calls { 2 } else { 0 }));
+}
+
+#[test]
+fn the_clone_of_each_value_is_refused(rt: HostRuntime) -> Result<(), Fail> {
+    for calls in 0..4u8 {
+        clones::<P0>(&rt, calls);
+        clones::<P1>(&rt, calls);
+        clones::<P5>(&rt, calls);
+    }
+    Ok(())
+}
+
+// The copy is refused exactly where the heap refused it the memory, and the arena is then as it was. What has room takes
+// no memory.
+fn grows<A: ArenaCloneFromWith<P0, u64>>(
+    rt: &impl Abort,
+    heap: &Heap,
+    source: &ArrayArena<P0, u64, 5>,
+    copy: &mut A,
+) {
+    let had_refused = heap.has_refused();
+    let capacity = copy.capacity();
+    let answer = copy.clone_from_with(source, |_, value| Ok(*value));
+    assert!(rt; answer.is_err() == (heap.has_refused() != had_refused));
+    match answer {
+        Ok(()) => {
+            holds(rt, copy, 20, 40);
+            let had_refused = heap.has_refused();
+            let again = copy.clone_from_with(source, |_, value| Ok(*value));
+            assert!(rt; again == Ok(()));
+            assert!(rt; heap.has_refused() == had_refused);
+        }
+        Err(error) => {
+            assert!(rt; error == ReallocationError::AllocError);
+            assert!(rt; copy.len() == 0);
+            assert!(rt; copy.capacity() == capacity);
+        }
+    }
+}
+
+// A clone is refused exactly where the heap refused it the memory, and so is one onto an arena without room.
+fn clones_an_arena<H: Allocator>(
+    rt: &impl Abort,
+    heap: &Heap,
+    source: &HeapArena<P0, u64, H>,
+    alloc: H,
+    other: H,
+) {
+    let had_refused = heap.has_refused();
+    let clone = source.clone(alloc);
+    assert!(rt; clone.is_err() == (heap.has_refused() != had_refused));
+    if let Ok(clone) = clone {
+        holds(rt, &clone, 20, 40);
+    }
+    let mut copy = HeapArena::<P0, u64, H>::new(other);
+    let had_refused = heap.has_refused();
+    let answer = copy.clone_from(source);
+    assert!(rt; answer.is_err() == (heap.has_refused() != had_refused));
+    if answer.is_ok() {
+        holds(rt, &copy, 20, 40);
+        assert!(rt; copy.clone_from(source) == Ok(()));
+    } else {
+        assert!(rt; copy.capacity() == 0);
+    }
+}
+
+fn clones_a_direct_arena<H: Allocator>(
+    rt: &impl Abort,
+    heap: &Heap,
+    source: &HeapDirectArena<P0, u64, H>,
+    alloc: H,
+    other: H,
+) {
+    let had_refused = heap.has_refused();
+    let clone = source.clone(alloc);
+    assert!(rt; clone.is_err() == (heap.has_refused() != had_refused));
+    if let Ok(clone) = clone {
+        holds(rt, &clone, 20, 40);
+    }
+    let mut copy = HeapDirectArena::<P0, u64, H>::new(other);
+    let had_refused = heap.has_refused();
+    let answer = copy.clone_from(source);
+    assert!(rt; answer.is_err() == (heap.has_refused() != had_refused));
+    if answer.is_ok() {
+        holds(rt, &copy, 20, 40);
+        assert!(rt; copy.clone_from(source) == Ok(()));
+    } else {
+        assert!(rt; copy.capacity() == 0);
+    }
+}
+
+// Each of these takes memory at most once, from `heap`, which `alloc` is as an arena takes it.
+fn runs<H: Allocator + Copy>(rt: &impl Abort, heap: &Heap, alloc: H) {
+    let mut source = ArrayArena::<P0, u64, 5>::new(());
+    fills(rt, &mut source);
+    let mut copy = HeapArena::<P0, u64, H>::new(alloc);
+    grows(rt, heap, &source, &mut copy);
+    if copy.len() == 2 {
+        clones_an_arena(rt, heap, &copy, alloc, alloc);
+    }
+    let mut mirror = HeapDirectArena::<P0, u64, H>::new(alloc);
+    grows(rt, heap, &source, &mut mirror);
+    if mirror.len() == 2 {
+        clones_a_direct_arena(rt, heap, &mirror, alloc, alloc);
+    }
+}
+
+#[test]
+fn each_request_in_turn(rt: HostRuntime) -> Result<(), Fail> {
+    for nth in 1..8u64 {
+        let heap = RefusingAllocator::new(rt.alloc(), nth);
+        runs(&rt, &heap, &heap);
+        // Two growths, two clones and two growths of clones.
+        assert!(rt; heap.has_refused() == (nth <= 6));
+    }
+    Ok(())
+}
