@@ -16,9 +16,11 @@ unreachable-requires g c =
 pub returns-clause-renamed : goal.returns-clause-renamed
 returns-clause-renamed g c =
     let e = c.in_ok-map.ensures in
-    let r = recaster-is_renaming c.args.nodes.now c.compress_recaster.new.arena c.in_ok-map.map e.recaster e.values e.compressed.compact in
-    (_, is_renamed g.P.Ptr.index g.P.Ptr.generation g.T.Recast.items _ (g.T.Recast.recasted _) r e.exact e.values c.requires
-    (g.met.T.Recast.items_recasted _) c.recast.ensures.value)
+    let r = recaster-is_renaming c.args.nodes.now c.compress_recaster.new.arena c.in_ok-map.map e.recaster e.values e.compressed.compact in (
+      _,
+      is_renamed g.P.Ptr.index g.P.Ptr.generation g.T.Recast.items _ (g.T.Recast.recasted _) r e.exact e.values c.requires
+          (g.met.T.Recast.items_recasted _) c.recast.ensures.value,
+    )
 
 pub returns-clause-formed : goal.returns-clause-formed
 returns-clause-formed g c =
