@@ -1,14 +1,16 @@
 //! Copies of arenas at concrete arenas: which pointers they have, and which index comes next.
-use std::alloc::Global;
+use crate::tests::places::put;
+use std::alloc::{AllocError, Global};
+use std::cell::Cell;
 use std::num::NonZeroUsize;
 use std::process::Abort;
 use std::test::Fail;
 use triple_arena::{
-    ArenaCloneFromWith, ArenaCloneSource, ArenaInsertTrait, ArenaTrait, ArrayArena,
-    ArrayDirectArena, BoxedArena, BoxedDirectArena, HeapArena, HeapDirectArena, LimitedArena,
-    LimitedDirectArena, P0, P1, P5, Ptr, PtrGen, PtrInx, ReallocationError, SetMaxCapacity,
+    Arena, ArenaCloneFromWith, ArenaCloneSource, ArenaInsertTrait, ArenaSlot, ArenaTrait,
+    ArrayArena, ArrayDirectArena, BoxedArena, BoxedDirectArena, HeapArena, HeapDirectArena,
+    LimitedArena, LimitedDirectArena, NonZeroInxGenericStack, P0, P1, P5, Ptr, PtrGen, PtrInx,
+    ReallocationError, SetMaxCapacity,
 };
-use triple_arena_user::reflect;
 
 pub(super) fn insert<P: Ptr, A: ArenaInsertTrait<P, u64>>(
     rt: &impl Abort,
@@ -21,14 +23,14 @@ pub(super) fn insert<P: Ptr, A: ArenaInsertTrait<P, u64>>(
     }
 }
 
-// Stores 10 to 40 at the indexes 1 to 4, and removes those at 3 and then at 1: 1 is the next index to be taken.
+// Stores 10 to 40 at the indexes 1 to 4, and removes those at 1 and then at 3: 3 is the next index to be taken.
 pub(super) fn fills<P: Ptr, A: ArenaInsertTrait<P, u64>>(rt: &impl Abort, arena: &mut A) {
     let first = insert(rt, arena, 10);
     insert(rt, arena, 20);
     let third = insert(rt, arena, 30);
     insert(rt, arena, 40);
-    assert!(rt; !arena.remove(third).is_invalid());
     assert!(rt; !arena.remove(first).is_invalid());
+    assert!(rt; !arena.remove(third).is_invalid());
 }
 
 // The pointer with this index and the first generation that is given.
@@ -68,15 +70,18 @@ fn doubles<P: Ptr, S: ArenaCloneSource<P, u64>, A: ArenaCloneFromWith<P, u64>>(
     holds(rt, copy, second, fourth);
 }
 
-// The copy is refused, as the arena can have no fourth slot, and leaves it empty.
+// The copy is refused, as the arena can have no fourth slot, and leaves what is there.
 fn is_past_the_limit<P: Ptr, S: ArenaCloneSource<P, u64>, A: ArenaCloneFromWith<P, u64>>(
     rt: &impl Abort,
     source: &S,
     copy: &mut A,
 ) {
+    let first = copy.find_first_inx_ptr();
     let answer = copy.clone_from_with(source, |_, value| Ok(*value));
     assert!(rt; answer == Err(ReallocationError::BeyondMaxCapacity));
-    assert!(rt; copy.len() == 0);
+    assert!(rt; first.is_some());
+    assert!(rt; copy.find_first_inx_ptr() == first);
+    assert!(rt; copy.len() == 1);
 }
 
 // The two free indexes are taken, the smaller one first, with this generation.
@@ -93,16 +98,18 @@ fn takes_the_free<P: Ptr, A: ArenaInsertTrait<P, u64>>(
     assert!(rt; second.generation() == generation);
 }
 
-pub(super) type Source<P> = ArrayArena<P, u64, 5>;
-
 // Copies of an arena, whose counter they take over.
-fn copies<P: Ptr>(rt: &impl Abort, alloc: Global, source: &Source<P>) {
+fn copies<P: Ptr, S: NonZeroInxGenericStack<ArenaSlot<P, u64>> + Drop>(
+    rt: &impl Abort,
+    alloc: Global,
+    source: &Arena<P, u64, S>,
+) {
     let mut copy = HeapArena::<P, u64, Global>::new(alloc);
     doubles(rt, source, &mut copy, 40, 80);
     assert!(rt; copy.capacity() == 4);
     assert!(rt; copy.generation() == source.generation());
     takes_the_free(rt, &mut copy, source.generation());
-    let mut mirror = ArrayDirectArena::<P, u64, 6>::new(());
+    let mut mirror = HeapDirectArena::<P, u64, Global>::new(alloc);
     doubles(rt, source, &mut mirror, 40, 80);
     copies_of_a_mirror(rt, alloc, &mirror);
 }
@@ -113,7 +120,7 @@ fn copies_of_a_mirror<P: Ptr, S: ArenaCloneSource<P, u64>>(
     alloc: Global,
     mirror: &S,
 ) {
-    let mut back = ArrayArena::<P, u64, 6>::new(());
+    let mut back = HeapArena::<P, u64, Global>::new(alloc);
     doubles(rt, mirror, &mut back, 80, 160);
     assert!(rt; back.generation() == PtrGen::two());
     let mut other = HeapDirectArena::<P, u64, Global>::new(alloc);
@@ -121,100 +128,137 @@ fn copies_of_a_mirror<P: Ptr, S: ArenaCloneSource<P, u64>>(
     assert!(rt; other.capacity() == 4);
 }
 
-#[test]
-fn copies_have_the_pointers(rt: HostRuntime) {
-    let mut wide = Source::<P0>::new(());
-    fills(&rt, &mut wide);
-    copies(&rt, rt.alloc(), &wide);
-    let mut narrow = Source::<P1>::new(());
-    fills(&rt, &mut narrow);
-    copies(&rt, rt.alloc(), &narrow);
-    let mut uncounted = Source::<P5>::new(());
-    fills(&rt, &mut uncounted);
-    copies(&rt, rt.alloc(), &uncounted);
-}
-
-// Clones of an arena, and a mirror that has each pointer under itself.
-fn clones<P: Ptr>(rt: &impl Abort) -> Result<(), ReallocationError> {
-    let mut source = Source::<P>::new(());
-    fills(rt, &mut source);
-    let clone = source.clone(())?;
-    holds(rt, &clone, 20, 40);
+// Clones of an arena and of a mirror of it, also onto an arena that holds something else.
+fn clones<P: Ptr, S: NonZeroInxGenericStack<ArenaSlot<P, u64>> + Drop>(
+    rt: &impl Abort,
+    alloc: Global,
+    source: &Arena<P, u64, S>,
+) -> Result<(), ReallocationError> {
+    let mut copy = HeapArena::<P, u64, Global>::new(alloc);
+    doubles(rt, source, &mut copy, 40, 80);
+    let clone = copy.clone(alloc)?;
+    holds(rt, &clone, 40, 80);
     assert!(rt; clone.generation() == source.generation());
-    let mut other = Source::<P>::new(());
+    let mut other = HeapArena::<P, u64, Global>::new(alloc);
+    insert(rt, &mut other, 1);
     other.clone_from(&clone)?;
-    holds(rt, &other, 20, 40);
-    let mut pointers = ArrayDirectArena::<P, P, 6>::new(());
-    reflect(&source, &mut pointers);
-    assert!(rt; pointers.get(at(index(1))) == Some(&at(index(1))));
-    assert!(rt; pointers.len() == 2);
-    Ok(())
+    holds(rt, &other, 40, 80);
+    clones_directly(rt, alloc, source)
 }
 
-// Clones of a direct arena, also onto itself.
-fn clones_directly<P: Ptr>(rt: &impl Abort, alloc: Global) -> Result<(), ReallocationError> {
-    let mut source = Source::<P>::new(());
-    fills(rt, &mut source);
+fn clones_directly<P: Ptr, S: NonZeroInxGenericStack<ArenaSlot<P, u64>> + Drop>(
+    rt: &impl Abort,
+    alloc: Global,
+    source: &Arena<P, u64, S>,
+) -> Result<(), ReallocationError> {
     let mut direct = HeapDirectArena::<P, u64, Global>::new(alloc);
-    doubles(rt, &source, &mut direct, 40, 80);
+    doubles(rt, source, &mut direct, 40, 80);
     let clone = direct.clone(alloc)?;
     holds(rt, &clone, 40, 80);
-    direct.clone_from(&clone)?;
-    holds(rt, &direct, 40, 80);
-    Ok(())
-}
-
-#[test]
-fn clones_have_the_pointers(rt: HostRuntime) -> Result<(), Fail> {
-    clones::<P0>(&rt)?;
-    clones::<P1>(&rt)?;
-    clones::<P5>(&rt)?;
-    clones_directly::<P0>(&rt, rt.alloc())?;
-    clones_directly::<P1>(&rt, rt.alloc())?;
-    clones_directly::<P5>(&rt, rt.alloc())?;
+    let mut other = HeapDirectArena::<P, u64, Global>::with_min_capacity(alloc, 1)?;
+    assert!(rt; put(&mut other, at(index(0)), 1) == Ok(()));
+    other.clone_from(&clone)?;
+    holds(rt, &other, 40, 80);
     Ok(())
 }
 
 // Copies over stacks with a limit.
-fn copies_within_a_limit<P: Ptr>(rt: &impl Abort, alloc: Global, source: &Source<P>) {
+fn copies_within_a_limit<P: Ptr, S: NonZeroInxGenericStack<ArenaSlot<P, u64>> + Drop>(
+    rt: &impl Abort,
+    alloc: Global,
+    source: &Arena<P, u64, S>,
+) {
     let mut arena = LimitedArena::<P, u64, Global>::new(alloc);
     assert!(rt; arena.set_max_capacity(3).is_ok());
+    insert(rt, &mut arena, 1);
     is_past_the_limit(rt, source, &mut arena);
     assert!(rt; arena.set_max_capacity(4).is_ok());
     doubles(rt, source, &mut arena, 40, 80);
     let mut direct = LimitedDirectArena::<P, u64, Global>::new(alloc);
     assert!(rt; direct.set_max_capacity(3).is_ok());
+    assert!(rt; direct.reallocate_min_capacity(1).is_ok());
+    assert!(rt; put(&mut direct, at(index(0)), 1) == Ok(()));
     is_past_the_limit(rt, source, &mut direct);
     assert!(rt; direct.set_max_capacity(4).is_ok());
     doubles(rt, source, &mut direct, 40, 80);
 }
 
 // Copies over boxed slots, which take room once.
-fn copies_into_boxes<P: Ptr>(
+fn copies_into_boxes<P: Ptr, S: NonZeroInxGenericStack<ArenaSlot<P, u64>> + Drop>(
     rt: &impl Abort,
     alloc: Global,
-    source: &Source<P>,
+    source: &Arena<P, u64, S>,
 ) -> Result<(), ReallocationError> {
     let mut arena = BoxedArena::<P, u64, Global>::with_min_capacity(alloc, 4)?;
     doubles(rt, source, &mut arena, 40, 80);
     let mut direct = BoxedDirectArena::<P, u64, Global>::with_min_capacity(alloc, 4)?;
     doubles(rt, &arena, &mut direct, 80, 160);
     let mut small = BoxedDirectArena::<P, u64, Global>::with_min_capacity(alloc, 3)?;
+    assert!(rt; put(&mut small, at(index(2)), 1) == Ok(()));
     is_past_the_limit(rt, source, &mut small);
     Ok(())
 }
 
-fn copies_over_stacks<P: Ptr>(rt: &impl Abort, alloc: Global) -> Result<(), ReallocationError> {
-    let mut source = Source::<P>::new(());
-    fills(rt, &mut source);
-    copies_within_a_limit(rt, alloc, &source);
-    copies_into_boxes(rt, alloc, &source)
+// Everything that becomes a copy of this arena, which is filled first.
+fn all_copies<P: Ptr, S: NonZeroInxGenericStack<ArenaSlot<P, u64>> + Drop>(
+    rt: &impl Abort,
+    alloc: Global,
+    source: &mut Arena<P, u64, S>,
+) -> Result<(), ReallocationError> {
+    fills(rt, source);
+    copies(rt, alloc, source);
+    clones(rt, alloc, source)?;
+    copies_within_a_limit(rt, alloc, source);
+    copies_into_boxes(rt, alloc, source)
 }
 
 #[test]
-fn copies_over_other_stacks(rt: HostRuntime) -> Result<(), Fail> {
-    copies_over_stacks::<P0>(&rt, rt.alloc())?;
-    copies_over_stacks::<P1>(&rt, rt.alloc())?;
-    copies_over_stacks::<P5>(&rt, rt.alloc())?;
+fn copies_have_the_pointers(rt: HostRuntime) -> Result<(), Fail> {
+    all_copies(&rt, rt.alloc(), &mut ArrayArena::<P0, u64, 5>::new(()))?;
+    all_copies(&rt, rt.alloc(), &mut ArrayArena::<P1, u64, 5>::new(()))?;
+    let mut uncounted = HeapArena::<P5, u64, Global>::new(rt.alloc());
+    all_copies(&rt, rt.alloc(), &mut uncounted)?;
     Ok(())
+}
+
+// Into an array, which takes no memory.
+#[test]
+fn copies_into_arrays(rt: HostRuntime) {
+    let mut source = ArrayArena::<P0, u64, 5>::new(());
+    fills(&rt, &mut source);
+    let mut copy = ArrayArena::<P0, u64, 4>::new(());
+    doubles(&rt, &source, &mut copy, 40, 80);
+    let mut direct = ArrayDirectArena::<P0, u64, 4>::new(());
+    doubles(&rt, &source, &mut direct, 40, 80);
+    let mut small = ArrayArena::<P0, u64, 3>::new(());
+    insert(&rt, &mut small, 1);
+    is_past_the_limit(&rt, &source, &mut small);
+}
+
+// A map is called once for each entry, not again after a refusal, and not where the growth is refused.
+#[test]
+fn a_map_is_called_once_for_each_entry(rt: HostRuntime) {
+    let mut source = ArrayArena::<P0, u64, 5>::new(());
+    fills(&rt, &mut source);
+    let calls = Cell::new(0u8);
+    let mut copy = ArrayArena::<P0, u64, 4>::new(());
+    let answer = copy.clone_from_with(&source, |_, value| {
+        calls.set(calls.get().saturating_add(1));
+        Ok(*value)
+    });
+    assert!(rt; answer == Ok(()));
+    assert!(rt; calls.get() == 2);
+    let answer = copy.clone_from_with(&source, |_, _| {
+        calls.set(calls.get().saturating_add(1));
+        Err(AllocError)
+    });
+    assert!(rt; answer == Err(ReallocationError::AllocError));
+    assert!(rt; calls.get() == 3);
+    let mut small = ArrayDirectArena::<P0, u64, 3>::new(());
+    let answer = small.clone_from_with(&source, |_, value| {
+        calls.set(calls.get().saturating_add(1));
+        Ok(*value)
+    });
+    assert!(rt; answer == Err(ReallocationError::BeyondMaxCapacity));
+    assert!(rt; calls.get() == 3);
 }

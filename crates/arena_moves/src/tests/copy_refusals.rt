@@ -2,6 +2,7 @@
 ghost use Rattle.std.specs.Prelude.{◌≡◌};
 
 use crate::tests::copies::{at, fills, holds, index, insert};
+use crate::tests::places::put;
 use refusing_allocator::RefusingAllocator;
 use std::alloc::{AllocError, Allocator, Global};
 use std::cell::Cell;
@@ -41,36 +42,46 @@ fn refuses_into<P: Ptr, S: ArenaCloneSource<P, u64>, A: ArenaCloneFromWith<P, u6
     }
 }
 
-// Into an arena and a direct arena, each by growth and with room, from an arena and a direct arena.
-fn refuses<P: Ptr>(rt: &impl Abort, alloc: Global, calls: u8) -> Result<(), ReallocationError> {
-    let mut source = ArrayArena::<P, u64, 5>::new(());
-    fills(rt, &mut source);
-    let mut mirror = ArrayDirectArena::<P, u64, 5>::new(());
-    mirror.clone_from_with(&source, |_, value| Ok(*value))?;
+// Into an arena and a direct arena, each by a growth and with room, from an arena and a direct arena.
+fn refuses<P: Ptr, S: ArenaCloneSource<P, u64>, M: ArenaCloneSource<P, u64>>(
+    rt: &impl Abort,
+    alloc: Global,
+    source: &S,
+    mirror: &M,
+    calls: u8,
+) {
     let mut copy = HeapArena::<P, u64, Global>::new(alloc);
     insert(rt, &mut copy, 1);
     let stepped = copy.generation().generational_inc().0;
-    refuses_into(rt, &source, &mut copy, calls);
+    refuses_into(rt, source, &mut copy, calls);
     if calls < 2 {
         assert!(rt; copy.generation() == stepped);
         let next = insert(rt, &mut copy, 0);
         assert!(rt; next.inx().try_into_usize() == Some(index(0)));
     }
-    refuses_into(rt, &mirror, &mut copy, calls);
+    refuses_into(rt, mirror, &mut copy, calls);
     let mut direct = HeapDirectArena::<P, u64, Global>::new(alloc);
-    refuses_into(rt, &mirror, &mut direct, calls);
-    refuses_into(rt, &source, &mut direct, calls);
-    Ok(())
+    refuses_into(rt, mirror, &mut direct, calls);
+    refuses_into(rt, source, &mut direct, calls);
+}
+
+// With each call refused, from an arena that is filled first and a mirror of it.
+fn refuses_each<P: Ptr>(rt: &impl Abort, alloc: Global) {
+    let mut source = HeapArena::<P, u64, Global>::new(alloc);
+    fills(rt, &mut source);
+    let mut mirror = HeapDirectArena::<P, u64, Global>::new(alloc);
+    let made = mirror.clone_from_with(&source, |_, value| Ok(*value));
+    assert!(rt; made == Ok(()));
+    for calls in 0..3u8 {
+        refuses(rt, alloc, &source, &mirror, calls);
+    }
 }
 
 #[test]
-fn the_map_refuses_each_call(rt: HostRuntime) -> Result<(), Fail> {
-    for calls in 0..3u8 {
-        refuses::<P0>(&rt, rt.alloc(), calls)?;
-        refuses::<P1>(&rt, rt.alloc(), calls)?;
-        refuses::<P5>(&rt, rt.alloc(), calls)?;
-    }
-    Ok(())
+fn the_map_refuses_each_call(rt: HostRuntime) {
+    refuses_each::<P0>(&rt, rt.alloc());
+    refuses_each::<P1>(&rt, rt.alloc());
+    refuses_each::<P5>(&rt, rt.alloc());
 }
 
 // A number of which as many clones can be made as are left.
@@ -97,10 +108,22 @@ impl Clone for Scarce<'_> {
     }
 }
 
+// A clone of two values is whole, or is refused where fewer can be made.
+fn is_cloned_or_refused<'a, P: Ptr, A: ArenaTrait<P, Scarce<'a>> + Drop>(
+    rt: &impl Abort,
+    made: Result<A, ReallocationError>,
+    calls: u8,
+) {
+    match made {
+        Ok(clone) => assert!(rt; 2 <= calls && clone.len() == 2),
+        Err(error) => assert!(rt; calls < 2 && error == ReallocationError::AllocError),
+    }
+}
+
 // A clone of two values, of which so many can be made, is made or refused, and onto an arena it leaves that empty.
-fn clones<P: Ptr>(rt: &impl Abort, calls: u8) {
+fn clones<P: Ptr>(rt: &impl Abort, alloc: Global, calls: u8) {
     let left = Cell::new(calls);
-    let mut source = ArrayArena::<P, Scarce<'_>, 5>::new(());
+    let mut source = HeapArena::<P, Scarce<'_>, Global>::new(alloc);
     assert!(rt;
         source
             .insert(Scarce {
@@ -117,9 +140,9 @@ fn clones<P: Ptr>(rt: &impl Abort, calls: u8) {
             })
             .is_ok()
     );
-    assert!(rt; source.clone(()).is_ok() == (2 <= calls));
+    is_cloned_or_refused(rt, source.clone(alloc), calls);
     left.set(calls);
-    let mut copy = ArrayArena::<P, Scarce<'_>, 5>::new(());
+    let mut copy = HeapArena::<P, Scarce<'_>, Global>::new(alloc);
     assert!(rt;
         copy.insert(Scarce {
             value: 1,
@@ -129,25 +152,46 @@ fn clones<P: Ptr>(rt: &impl Abort, calls: u8) {
     );
     assert!(rt; copy.clone_from(&source).is_ok() == (2 <= calls));
     assert!(rt; copy.len() == (if 2 <= calls { 2 } else { 0 }));
-    left.set(2);
-    let mut mirror = ArrayDirectArena::<P, Scarce<'_>, 5>::new(());
+}
+
+// The same of a direct arena.
+fn clones_directly<P: Ptr>(rt: &impl Abort, alloc: Global, calls: u8) {
+    let left = Cell::new(2);
+    let mut source = HeapArena::<P, Scarce<'_>, Global>::new(alloc);
+    assert!(rt;
+        source
+            .insert(Scarce {
+                value: 10,
+                left: &left
+            })
+            .is_ok()
+    );
+    assert!(rt;
+        source
+            .insert(Scarce {
+                value: 20,
+                left: &left
+            })
+            .is_ok()
+    );
+    let mut mirror = HeapDirectArena::<P, Scarce<'_>, Global>::new(alloc);
     assert!(rt; mirror.clone_from_with(&source, |_, item| item.clone()) == Ok(()));
     left.set(calls);
-    assert!(rt; mirror.clone(()).is_ok() == (2 <= calls));
+    is_cloned_or_refused(rt, mirror.clone(alloc), calls);
     left.set(calls);
-    let mut other = ArrayDirectArena::<P, Scarce<'_>, 5>::new(());
+    let mut other = HeapDirectArena::<P, Scarce<'_>, Global>::new(alloc);
     assert!(rt; other.clone_from(&mirror).is_ok() == (2 <= calls));
     assert!(rt; other.len() == (if 2 <= calls { 2 } else { 0 }));
 }
 
 #[test]
-fn the_clone_of_each_value_is_refused(rt: HostRuntime) -> Result<(), Fail> {
+fn the_clone_of_each_value_is_refused(rt: HostRuntime) {
     for calls in 0..4u8 {
-        clones::<P0>(&rt, calls);
-        clones::<P1>(&rt, calls);
-        clones::<P5>(&rt, calls);
+        clones::<P0>(&rt, rt.alloc(), calls);
+        clones::<P5>(&rt, rt.alloc(), calls);
+        clones_directly::<P0>(&rt, rt.alloc(), calls);
+        clones_directly::<P5>(&rt, rt.alloc(), calls);
     }
-    Ok(())
 }
 
 // The copy is refused exactly where the heap refused it the memory, and the arena is then as it was. What has room takes
@@ -172,7 +216,7 @@ fn grows<A: ArenaCloneFromWith<P0, u64>>(
         }
         Err(error) => {
             assert!(rt; error == ReallocationError::AllocError);
-            assert!(rt; copy.len() == 0);
+            assert!(rt; copy.len() == 1);
             assert!(rt; copy.capacity() == capacity);
         }
     }
@@ -229,29 +273,50 @@ fn clones_a_direct_arena<H: Allocator>(
     }
 }
 
-// Each of these takes memory at most once, from `heap`, which `alloc` is as an arena takes it.
-fn runs<H: Allocator + Copy>(rt: &impl Abort, heap: &Heap, alloc: H) {
-    let mut source = ArrayArena::<P0, u64, 5>::new(());
-    fills(rt, &mut source);
-    let mut copy = HeapArena::<P0, u64, H>::new(alloc);
-    grows(rt, heap, &source, &mut copy);
-    if copy.len() == 2 {
-        clones_an_arena(rt, heap, &copy, alloc, alloc);
+// An arena with one entry and no more room, and what becomes of it. Each call takes memory at most once, from `heap`, which
+// `alloc` is as an arena takes it.
+fn runs<H: Allocator + Copy>(
+    rt: &impl Abort,
+    heap: &Heap,
+    alloc: H,
+    source: &ArrayArena<P0, u64, 5>,
+) {
+    if let Ok(mut copy) = HeapArena::<P0, u64, H>::with_min_capacity(alloc, 1) {
+        assert!(rt; copy.insert_within_capacity(77).is_ok());
+        grows(rt, heap, source, &mut copy);
+        if copy.len() == 2 {
+            clones_an_arena(rt, heap, &copy, alloc, alloc);
+        }
     }
-    let mut mirror = HeapDirectArena::<P0, u64, H>::new(alloc);
-    grows(rt, heap, &source, &mut mirror);
-    if mirror.len() == 2 {
-        clones_a_direct_arena(rt, heap, &mirror, alloc, alloc);
+}
+
+// The same of a direct arena.
+fn runs_directly<H: Allocator + Copy>(
+    rt: &impl Abort,
+    heap: &Heap,
+    alloc: H,
+    source: &ArrayArena<P0, u64, 5>,
+) {
+    if let Ok(mut mirror) = HeapDirectArena::<P0, u64, H>::with_min_capacity(alloc, 1) {
+        assert!(rt; put(&mut mirror, at(index(0)), 77) == Ok(()));
+        grows(rt, heap, source, &mut mirror);
+        if mirror.len() == 2 {
+            clones_a_direct_arena(rt, heap, &mirror, alloc, alloc);
+        }
     }
 }
 
 #[test]
-fn each_request_in_turn(rt: HostRuntime) -> Result<(), Fail> {
-    for nth in 1..8u64 {
-        let heap = RefusingAllocator::new(rt.alloc(), nth);
-        runs(&rt, &heap, &heap);
-        // Two growths, two clones and two growths of clones.
-        assert!(rt; heap.has_refused() == (nth <= 6));
+fn each_request_in_turn(rt: HostRuntime) {
+    let mut source = ArrayArena::<P0, u64, 5>::new(());
+    fills(&rt, &mut source);
+    for nth in 1..6u64 {
+        let first = RefusingAllocator::new(rt.alloc(), nth);
+        runs(&rt, &first, &first, &source);
+        let second = RefusingAllocator::new(rt.alloc(), nth);
+        runs_directly(&rt, &second, &second, &source);
+        // The arena, its growth, a clone, and the growth of another one.
+        assert!(rt; first.has_refused() == (nth <= 4));
+        assert!(rt; second.has_refused() == (nth <= 4));
     }
-    Ok(())
 }

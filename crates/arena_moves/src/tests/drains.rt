@@ -11,35 +11,47 @@ use triple_arena::{
 };
 use triple_arena_user::{find_equal, find_first, raise_each};
 
-// Four entries, with a free slot between them.
+// Four entries, with a free slot between them: 10, 30, 40 and 50 under these pointers.
 fn fill<P: Ptr, S: NonZeroInxGenericStack<ArenaSlot<P, u64>> + Drop>(
     rt: &impl Abort,
     arena: &mut Arena<P, u64, S>,
-) -> Result<[(P, u64); 4], ReallocationError> {
+) -> Result<(P, P, P, P), ReallocationError> {
     let first = arena.insert(10)?;
     let second = arena.insert(20)?;
     let third = arena.insert(30)?;
     let fourth = arena.insert(40)?;
     let fifth = arena.insert(50)?;
     assert!(rt; !arena.remove(second).is_invalid());
-    Ok([(first, 10), (third, 30), (fourth, 40), (fifth, 50)])
+    Ok((first, third, fourth, fifth))
+}
+
+// The item at a place among them.
+fn item_at<P: Ptr>(pointers: (P, P, P, P), place: usize) -> (P, u64) {
+    match place {
+        0 => (pointers.0, 10),
+        1 => (pointers.1, 30),
+        2 => (pointers.2, 40),
+        _ => (pointers.3, 50),
+    }
 }
 
 // Takes so many of the items, and answers the counter after them.
 fn take<P: Ptr, S: NonZeroInxGenericStack<ArenaSlot<P, u64>>>(
     rt: &impl Abort,
     arena: &mut Arena<P, u64, S>,
-    items: &[(P, u64)],
+    pointers: (P, P, P, P),
+    count: usize,
 ) -> P::Gen {
     let mut counter = arena.generation();
     let mut drain = arena.drain();
-    for item in items {
+    for place in 0..count {
         let (next, wraps) = counter.generational_inc();
         counter = next;
+        let item = item_at(pointers, place);
         let wanted = if wraps {
-            InvalidationOption::GenerationOverflow(*item)
+            InvalidationOption::GenerationOverflow(item)
         } else {
-            InvalidationOption::Success(*item)
+            InvalidationOption::Success(item)
         };
         assert!(rt; drain.next() == Some(wanted));
     }
@@ -52,9 +64,9 @@ fn drains<P: Ptr, S: NonZeroInxGenericStack<ArenaSlot<P, u64>> + Drop>(
     arena: &mut Arena<P, u64, S>,
     count: usize,
 ) -> Result<(), ReallocationError> {
-    let items = fill(rt, arena)?;
+    let pointers = fill(rt, arena)?;
     let capacity = arena.capacity();
-    let mut counter = take(rt, arena, &items[..count]);
+    let mut counter = take(rt, arena, pointers, count);
     for _ in count..4 {
         counter = counter.generational_inc().0;
     }
@@ -102,13 +114,13 @@ fn drains_past_the_greatest_generation(rt: HostRuntime) -> Result<(), Fail> {
 #[test]
 fn tells_the_item_at_which_the_generations_start_again(rt: HostRuntime) -> Result<(), Fail> {
     let mut arena = HeapArena::<P1, u64, Global>::new(rt.alloc());
-    let items = fill(&rt, &mut arena)?;
+    let pointers = fill(&rt, &mut arena)?;
     arena.set_generation(NonZeroU8::MIN.saturating_add(253));
     let mut drain = arena.drain();
     assert!(rt; drain.len() == 4);
-    assert!(rt; drain.next() == Some(InvalidationOption::Success(items[0])));
-    assert!(rt; drain.next() == Some(InvalidationOption::GenerationOverflow(items[1])));
-    assert!(rt; drain.next() == Some(InvalidationOption::Success(items[2])));
+    assert!(rt; drain.next() == Some(InvalidationOption::Success((pointers.0, 10))));
+    assert!(rt; drain.next() == Some(InvalidationOption::GenerationOverflow((pointers.1, 30))));
+    assert!(rt; drain.next() == Some(InvalidationOption::Success((pointers.2, 40))));
     assert!(rt; drain.len() == 1);
     drop(drain);
     assert!(rt; arena.generation().get() == 4);
@@ -146,7 +158,10 @@ fn drains_direct(
     let capacity = arena.capacity();
     assert!(rt; find_equal(arena, &30) == Some(items[1].0));
     assert!(rt; find_equal(arena, &31) == None);
-    take_direct(rt, arena, &items[..count]);
+    match items.split_at_checked(count) {
+        Some((taken, _)) => take_direct(rt, arena, taken),
+        None => panic!(rt; "there are not so many items"),
+    }
     assert!(rt; arena.is_empty());
     assert!(rt; arena.backing().is_empty());
     assert!(rt; arena.capacity() == capacity);
@@ -165,10 +180,10 @@ fn drains_a_direct_vector(rt: HostRuntime) -> Result<(), Fail> {
 #[test]
 fn finds_the_first_value(rt: HostRuntime) -> Result<(), Fail> {
     let mut arena = HeapArena::<P0, u64, Global>::new(rt.alloc());
-    let items = fill(&rt, &mut arena)?;
-    assert!(rt; (find_first(&arena, |value| *value > 10)) == Some(items[1].0));
+    let pointers = fill(&rt, &mut arena)?;
+    assert!(rt; (find_first(&arena, |value| *value > 10)) == Some(pointers.1));
     assert!(rt; (find_first(&arena, |value| *value > 50)) == None);
     raise_each(&mut arena, 1);
-    assert!(rt; (find_first(&arena, |value| *value == 51)) == Some(items[3].0));
+    assert!(rt; (find_first(&arena, |value| *value == 51)) == Some(pointers.3));
     Ok(())
 }

@@ -10,8 +10,9 @@ use std::test::Fail;
 use triple_arena::{
     Arena, ArenaDirectInsertEntryTrait, ArenaDirectInsertTrait, ArenaInsertTrait, ArenaSlot,
     ArenaTrait, ArrayArena, ArrayDirectArena, DirectArena, DirectInsertionError, DirectSlot,
-    HeapArena, HeapDirectArena, InvalidationOption, InvalidationResult, NonZeroInxGenericStack, P0,
-    P1, P5, Ptr, PtrGen, PtrInx, ReallocationError, Recast, compress_recaster,
+    HeapArena, HeapDirectArena, InvalidationOption, InvalidationResult, NonZeroInxArray,
+    NonZeroInxGenericStack, NonZeroInxVec, P0, P1, P5, Ptr, PtrGen, PtrInx, ReallocationError,
+    Recast, compress_recaster,
 };
 
 // The pointer whose index has so many before it, with the generation that is so many after the second.
@@ -27,19 +28,21 @@ fn pointer<P: Ptr>(rt: &impl Abort, before: usize, steps: usize) -> P {
     }
 }
 
+type Word = &'static str;
+
 // One entry is accepted, one refused since it is there, one since it is past the capacity of 4; its pointer ends, and it
 // moves to the first index.
-fn takes_whole_pointers<P: Ptr, S: NonZeroInxGenericStack<DirectSlot<P, u64>> + Drop>(
+fn takes_whole_pointers<P: Ptr, S: NonZeroInxGenericStack<DirectSlot<P, Word>> + Drop>(
     rt: &(impl Abort + Alloc),
-    arena: &mut DirectArena<P, u64, S>,
+    arena: &mut DirectArena<P, Word, S>,
     text: &str,
 ) {
     let p = pointer(rt, 2, 5);
-    assert!(rt; put(arena, p, 10) == Ok(()));
+    assert!(rt; put(arena, p, "x") == Ok(()));
     assert!(rt;
-        put(arena, pointer(rt, 2, 7), 11) == Err(DirectInsertionError::ExistingElementAtIndex)
+        put(arena, pointer(rt, 2, 7), "y") == Err(DirectInsertionError::ExistingElementAtIndex)
     );
-    assert!(rt; put(arena, pointer(rt, 4, 0), 11) == Err(DirectInsertionError::NotWithinCapacity));
+    assert!(rt; put(arena, pointer(rt, 4, 0), "y") == Err(DirectInsertionError::NotWithinCapacity));
     assert!(rt; arena.invalidate(p) == InvalidationResult::Success(pointer(rt, 2, 6)));
     assert!(rt; arena.compress(false) == InvalidationOption::Success(()));
     reads(rt, arena, text);
@@ -47,12 +50,12 @@ fn takes_whole_pointers<P: Ptr, S: NonZeroInxGenericStack<DirectSlot<P, u64>> + 
 
 #[test]
 fn takes_whole_pointers_in_a_vector(rt: HostRuntime) -> Result<(), Fail> {
-    let mut wide = HeapDirectArena::<P0, u64, Global>::with_min_capacity(rt.alloc(), 4)?;
-    takes_whole_pointers(&rt, &mut wide, "{P0[1](9): 10}");
-    let mut narrow = HeapDirectArena::<P1, u64, Global>::with_min_capacity(rt.alloc(), 4)?;
-    takes_whole_pointers(&rt, &mut narrow, "{P1[1](9): 10}");
-    let mut uncounted = HeapDirectArena::<P5, u64, Global>::with_min_capacity(rt.alloc(), 4)?;
-    takes_whole_pointers(&rt, &mut uncounted, "{P5[1]: 10}");
+    let mut wide = HeapDirectArena::<P0, Word, Global>::with_min_capacity(rt.alloc(), 4)?;
+    takes_whole_pointers(&rt, &mut wide, "{P0[1](9): \"x\"}");
+    let mut narrow = HeapDirectArena::<P1, Word, Global>::with_min_capacity(rt.alloc(), 4)?;
+    takes_whole_pointers(&rt, &mut narrow, "{P1[1](9): \"x\"}");
+    let mut uncounted = HeapDirectArena::<P5, Word, Global>::with_min_capacity(rt.alloc(), 4)?;
+    takes_whole_pointers(&rt, &mut uncounted, "{P5[1]: \"x\"}");
     Ok(())
 }
 
@@ -60,18 +63,18 @@ fn takes_whole_pointers_in_a_vector(rt: HostRuntime) -> Result<(), Fail> {
 fn takes_whole_pointers_in_an_array(rt: HostRuntime) {
     takes_whole_pointers(
         &rt,
-        &mut ArrayDirectArena::<P0, u64, 4>::new(()),
-        "{P0[1](9): 10}",
+        &mut ArrayDirectArena::<P0, Word, 4>::new(()),
+        "{P0[1](9): \"x\"}",
     );
     takes_whole_pointers(
         &rt,
-        &mut ArrayDirectArena::<P1, u64, 4>::new(()),
-        "{P1[1](9): 10}",
+        &mut ArrayDirectArena::<P1, Word, 4>::new(()),
+        "{P1[1](9): \"x\"}",
     );
     takes_whole_pointers(
         &rt,
-        &mut ArrayDirectArena::<P5, u64, 4>::new(()),
-        "{P5[1]: 10}",
+        &mut ArrayDirectArena::<P5, Word, 4>::new(()),
+        "{P5[1]: \"x\"}",
     );
 }
 
@@ -211,7 +214,23 @@ const UNCOUNTED: [&str; 2] = [
     "{P5[1]: (42, None), P5[2]: (1337, Some(P5[1]))}",
 ];
 
-// By a map in a vector.
+// By a map in the stack `R`, which takes its room from `alloc`.
+fn recasts_by<
+    P: Ptr + Recast<P>,
+    S: NonZeroInxGenericStack<ArenaSlot<P, Named<P>>> + Drop,
+    R: NonZeroInxGenericStack<DirectSlot<P, P>> + Drop,
+>(
+    rt: &(impl Abort + Alloc),
+    arena: &mut Arena<P, Named<P>, S>,
+    alloc: R::Alloc,
+    texts: &[&str; 2],
+) -> Result<(), ReallocationError> {
+    let map = compress_recaster::<P, Named<P>, S, R>(arena, false, alloc)?;
+    recasts(rt, arena, &map, texts);
+    Ok(())
+}
+
+// In a vector.
 fn recasts_in_a_vector<P: Ptr + Recast<P>>(
     rt: &(impl Abort + Alloc),
     alloc: Global,
@@ -219,21 +238,7 @@ fn recasts_in_a_vector<P: Ptr + Recast<P>>(
 ) -> Result<(), ReallocationError> {
     let mut arena = HeapArena::<P, Named<P>, Global>::new(alloc);
     names(rt, &mut arena)?;
-    let map: HeapDirectArena<P, P, Global> = compress_recaster(&mut arena, false, alloc)?;
-    recasts(rt, &mut arena, &map, texts);
-    Ok(())
-}
-
-// By a map in an array.
-fn recasts_in_an_array<P: Ptr + Recast<P>>(
-    rt: &(impl Abort + Alloc),
-    texts: &[&str; 2],
-) -> Result<(), ReallocationError> {
-    let mut arena = ArrayArena::<P, Named<P>, 4>::new(());
-    names(rt, &mut arena)?;
-    let map: ArrayDirectArena<P, P, 4> = compress_recaster(&mut arena, false, ())?;
-    recasts(rt, &mut arena, &map, texts);
-    Ok(())
+    recasts_by::<P, _, NonZeroInxVec<DirectSlot<P, P>, Global>>(rt, &mut arena, alloc, texts)
 }
 
 #[test]
@@ -241,8 +246,19 @@ fn recasts_by_a_compression(rt: HostRuntime) -> Result<(), Fail> {
     recasts_in_a_vector::<P0>(&rt, rt.alloc(), &WIDE)?;
     recasts_in_a_vector::<P1>(&rt, rt.alloc(), &NARROW)?;
     recasts_in_a_vector::<P5>(&rt, rt.alloc(), &UNCOUNTED)?;
-    recasts_in_an_array::<P0>(&rt, &WIDE)?;
-    recasts_in_an_array::<P1>(&rt, &NARROW)?;
-    recasts_in_an_array::<P5>(&rt, &UNCOUNTED)?;
+    let mut wide = ArrayArena::<P0, Named<P0>, 4>::new(());
+    names(&rt, &mut wide)?;
+    recasts_by::<P0, _, NonZeroInxArray<DirectSlot<P0, P0>, 4>>(&rt, &mut wide, (), &WIDE)?;
+    let mut narrow = ArrayArena::<P1, Named<P1>, 4>::new(());
+    names(&rt, &mut narrow)?;
+    recasts_by::<P1, _, NonZeroInxArray<DirectSlot<P1, P1>, 4>>(&rt, &mut narrow, (), &NARROW)?;
+    let mut uncounted = ArrayArena::<P5, Named<P5>, 4>::new(());
+    names(&rt, &mut uncounted)?;
+    recasts_by::<P5, _, NonZeroInxArray<DirectSlot<P5, P5>, 4>>(
+        &rt,
+        &mut uncounted,
+        (),
+        &UNCOUNTED,
+    )?;
     Ok(())
 }

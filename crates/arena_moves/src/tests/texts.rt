@@ -31,6 +31,18 @@ fn texts_of_arenas(rt: HostRuntime) -> Result<(), Fail> {
     Ok(())
 }
 
+// With a line for each entry.
+#[test]
+fn long_texts(rt: HostRuntime) -> Result<(), Fail> {
+    let mut arena = ArrayArena::<P0, u64, 2>::new(());
+    let p = arena.insert(7)?;
+    match format!(in rt.alloc(); "{arena:#?} {p:#?}") {
+        Ok(shown) => assert!(rt; shown.as_str() == "{\n    P0[1](2): 7,\n} P0[1](2)"),
+        Err(_) => panic!(rt; "no memory for a text"),
+    }
+    Ok(())
+}
+
 #[test]
 fn texts_without_generations(rt: HostRuntime) -> Result<(), Fail> {
     let mut uncounted = ArrayArena::<P5, u64, 2>::new(());

@@ -1,4 +1,5 @@
 //! The callers of a compression, at a concrete arena.
+use crate::tests::places::{at, put};
 use std::alloc::Global;
 use std::num::NonZeroUsize;
 use std::process::Abort;
@@ -6,7 +7,7 @@ use std::test::Fail;
 use triple_arena::{
     ArenaInsertTrait, ArenaTrait, ArrayDirectArena, HeapArena, InvalidationOption, P0,
 };
-use triple_arena_user::{direct_sum_of, map_values, raise, sum_of, sum_up};
+use triple_arena_user::{direct_sum_of, map_values, raise, sum_of, sum_of_entries, sum_up};
 
 type InVec = HeapArena<P0, u64, Global>;
 
@@ -47,7 +48,13 @@ fn sums_the_values(rt: HostRuntime) -> Result<(), Fail> {
     let second = arena.insert(11)?;
     arena.insert(12)?;
     assert!(rt; !arena.remove(second).is_invalid());
-    assert_eq!(rt; sum_of(&arena), 22);
-    assert_eq!(rt; direct_sum_of(&ArrayDirectArena::<P0, u64, 4>::new(())), 0);
+    assert!(rt; sum_of(&arena) == 22);
+    assert!(rt; sum_of_entries(&arena) == 22);
+    // No more values come than there are slots.
+    assert!(rt; arena.iter().size_hint() == (0, Some(3)));
+    let mut direct = ArrayDirectArena::<P0, u64, 4>::new(());
+    assert!(rt; put(&mut direct, at(3, 2), 30) == Ok(()));
+    assert!(rt; put(&mut direct, at(1, 2), 10) == Ok(()));
+    assert!(rt; direct_sum_of(&direct) == 40);
     Ok(())
 }
