@@ -37,7 +37,7 @@ module _ {I T : Type 0} where
   abbrev pub with_value_in : Content (IndexLink I T) → ℕ → T → Content (IndexLink I T)
   with_value_in c i t = with_link c i (λ link. record link { t = t })
 
-  -- the same indexes are live and free, and the counter and the room are the same
+  -- as many indexes are live, the same are free, and the counter, the number of slots and the room are the same
   pub record IsKept (old new : Content (IndexLink I T)) : Type 0 where
     pub live : live_count new ≡ live_count old
     pub slots : length new.slots ≡ length old.slots

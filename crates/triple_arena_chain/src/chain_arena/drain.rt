@@ -10,8 +10,8 @@ ghost use Rattle.triple_arena_chain.specs.Drains.{onward_from, drain_chains, dra
 use crate::{ChainArena, LinkNoGen};
 use triple_arena::{ArenaSlot, InvalidationOption, NonZeroInxGenericStack, Ptr, PtrInx};
 
-/// Takes the links of one chain out of an arena: from a link on to the end, or once round a ring, and then backwards from
-/// the link before it.
+/// Takes the links of one chain out of an arena: from a link on to the end and then backwards from the link before it, or
+/// once round a ring.
 ///
 /// Each item is one removal, which joins the neighbours and steps the counter; it is `GenerationOverflow` where that step
 /// started the generations again. Dropped, at whatever item, it takes those of the chain that are left in the same way.

@@ -1,4 +1,4 @@
-//! Interlinks, read and written where the links lie.
+//! Interlinks, written where the links lie.
 ghost use Rattle.std.specs.Prelude.{◌≡◌, IsSome, IfSome};
 ghost use Rattle.triple_arena.specs.Content.{entry_at};
 ghost use Rattle.triple_arena_chain.specs.Links.{with_next_of, with_prev_of, joined_to, AreNeighborsLive};
