@@ -28,21 +28,19 @@ fn pointer<P: Ptr>(rt: &impl Abort, before: usize, steps: usize) -> P {
     }
 }
 
-type Word = &'static str;
-
 // One entry is accepted, one refused since it is there, one since it is past the capacity of 4; its pointer ends, and it
 // moves to the first index.
-fn takes_whole_pointers<P: Ptr, S: NonZeroInxGenericStack<DirectSlot<P, Word>> + Drop>(
+fn takes_whole_pointers<P: Ptr, S: NonZeroInxGenericStack<DirectSlot<P, u64>> + Drop>(
     rt: &(impl Abort + Alloc),
-    arena: &mut DirectArena<P, Word, S>,
+    arena: &mut DirectArena<P, u64, S>,
     text: &str,
 ) {
     let p = pointer(rt, 2, 5);
-    assert!(rt; put(arena, p, "x") == Ok(()));
+    assert!(rt; put(arena, p, 10) == Ok(()));
     assert!(rt;
-        put(arena, pointer(rt, 2, 7), "y") == Err(DirectInsertionError::ExistingElementAtIndex)
+        put(arena, pointer(rt, 2, 7), 11) == Err(DirectInsertionError::ExistingElementAtIndex)
     );
-    assert!(rt; put(arena, pointer(rt, 4, 0), "y") == Err(DirectInsertionError::NotWithinCapacity));
+    assert!(rt; put(arena, pointer(rt, 4, 0), 11) == Err(DirectInsertionError::NotWithinCapacity));
     assert!(rt; arena.invalidate(p) == InvalidationResult::Success(pointer(rt, 2, 6)));
     assert!(rt; arena.compress(false) == InvalidationOption::Success(()));
     reads(rt, arena, text);
@@ -50,12 +48,12 @@ fn takes_whole_pointers<P: Ptr, S: NonZeroInxGenericStack<DirectSlot<P, Word>> +
 
 #[test]
 fn takes_whole_pointers_in_a_vector(rt: HostRuntime) -> Result<(), Fail> {
-    let mut wide = HeapDirectArena::<P0, Word, Global>::with_min_capacity(rt.alloc(), 4)?;
-    takes_whole_pointers(&rt, &mut wide, "{P0[1](9): \"x\"}");
-    let mut narrow = HeapDirectArena::<P1, Word, Global>::with_min_capacity(rt.alloc(), 4)?;
-    takes_whole_pointers(&rt, &mut narrow, "{P1[1](9): \"x\"}");
-    let mut uncounted = HeapDirectArena::<P5, Word, Global>::with_min_capacity(rt.alloc(), 4)?;
-    takes_whole_pointers(&rt, &mut uncounted, "{P5[1]: \"x\"}");
+    let mut wide = HeapDirectArena::<P0, u64, Global>::with_min_capacity(rt.alloc(), 4)?;
+    takes_whole_pointers(&rt, &mut wide, "{P0[1](9): 10}");
+    let mut narrow = HeapDirectArena::<P1, u64, Global>::with_min_capacity(rt.alloc(), 4)?;
+    takes_whole_pointers(&rt, &mut narrow, "{P1[1](9): 10}");
+    let mut uncounted = HeapDirectArena::<P5, u64, Global>::with_min_capacity(rt.alloc(), 4)?;
+    takes_whole_pointers(&rt, &mut uncounted, "{P5[1]: 10}");
     Ok(())
 }
 
@@ -63,18 +61,18 @@ fn takes_whole_pointers_in_a_vector(rt: HostRuntime) -> Result<(), Fail> {
 fn takes_whole_pointers_in_an_array(rt: HostRuntime) {
     takes_whole_pointers(
         &rt,
-        &mut ArrayDirectArena::<P0, Word, 4>::new(()),
-        "{P0[1](9): \"x\"}",
+        &mut ArrayDirectArena::<P0, u64, 4>::new(()),
+        "{P0[1](9): 10}",
     );
     takes_whole_pointers(
         &rt,
-        &mut ArrayDirectArena::<P1, Word, 4>::new(()),
-        "{P1[1](9): \"x\"}",
+        &mut ArrayDirectArena::<P1, u64, 4>::new(()),
+        "{P1[1](9): 10}",
     );
     takes_whole_pointers(
         &rt,
-        &mut ArrayDirectArena::<P5, Word, 4>::new(()),
-        "{P5[1]: \"x\"}",
+        &mut ArrayDirectArena::<P5, u64, 4>::new(()),
+        "{P5[1]: 10}",
     );
 }
 
