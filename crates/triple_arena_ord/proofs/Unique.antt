@@ -1,0 +1,72 @@
+-- The nodes determine the tree.
+use Rattle.std.proofs.Common.{◌≡◌, ℕ, zero, suc, ◌+◌, ◌≤◌, Option, Some, None, refl, sym, ap, ◌∙◌, subst, arith, [], ◌∷◌, ◌++◌, append_assoc}
+use Rattle.triple_arena_ord.specs.Knot.{Knot}
+use Rattle.triple_arena_ord.specs.declared.knots.Side.TheVariants.{Left, Right}
+use Rattle.triple_arena_ord.specs.Store.{Store, rank_or_link, rank_or_zero}
+use Rattle.triple_arena_ord.specs.Whole.{read_tree, tree_of}
+use Rattle.triple_arena_ord.proofs.Bound.{height-le-rank}
+use Rattle.triple_arena_ord.specs.Tree.{Tree, leaf, node, walk, rank_of, height, IsRanked}
+use Rattle.triple_arena_ord.specs.Shape.{knot, make, root_of, Represents, Stands, Context, top, under, plug}
+
+pub unique : (n : Store) (p q : Option ℕ) (t u : Tree) → Represents n p t → Represents n q u → root_of t ≡ root_of u → t ≡ u
+unique n p q leaf leaf h g e = refl
+unique n p q leaf (node l i k r) h g e = absurd (cc)
+unique n p q (node l i k r) leaf h g e = absurd (cc)
+unique n p q (node l i k r) (node l' i' k' r') h g e =
+    let ei : i ≡ i' = cc in
+    let same : knot Left p (root_of l) k (root_of r) ≡ knot Left q (root_of l') k' (root_of r') = cc (h.0, g.0, ap n ei) in
+    let el = unique n (Some i) (Some i') l l' h.1 g.1 (ap (λ v. v.left) same) in
+    let er = unique n (Some i) (Some i') r r' h.2 g.2 (ap (λ v. v.right) same) in
+    let ek = ap (λ v. v.rank) same in
+    cc
+
+pub whole_unique : (n : Store) (root : Option ℕ) (t u : Tree) → Stands n root t → Stands n root u → t ≡ u
+whole_unique n root t u h g = unique n None None t u h.1 g.1 (sym h.0 ∙ g.0)
+
+pub read_back : (fuel : ℕ) (n : Store) (p : Option ℕ) (t : Tree) → Represents n p t → height t ≤ fuel → read_tree fuel n (root_of t) ≡ t
+read_back zero n p leaf h e = refl
+read_back zero n p (node l i k r) h e = absurd (omega arith)
+read_back (suc fuel) n p leaf h e = refl
+read_back (suc fuel) n p (node l i k r) h e =
+    rw (h.0, read_back fuel n (Some i) l h.1 (omega arith), read_back fuel n (Some i) r h.2 (omega arith)) refl
+
+rank_link : (n : Store) (p : Option ℕ) (t : Tree) → Represents n p t → rank_or_link n (root_of t) ≡ rank_of t
+rank_link n p leaf h = refl
+rank_link n p (node l i k r) h = ap rank_or_zero h.0
+
+-- the tree that is read from the links is the one that stands there
+pub tree_is : (n : Store) (root : Option ℕ) (t : Tree) → Stands n root t → IsRanked t → tree_of n root ≡ t
+tree_is n root t h r = rw h.0 (read_back (rank_or_link n (root_of t)) n None t h.1 (let e = rank_link n None t h.1 in let g = height-le-rank t r in omega arith))
+
+-- one context inside another
+abbrev pub plug_in : Context → Context → Context
+plug_in c top = c
+plug_in c (under d s i k far) = under (plug_in c d) s i k far
+
+pub plug_in-plug : (c d : Context) (t : Tree) → plug (plug_in c d) t ≡ plug c (plug d t)
+plug_in-plug c top t = refl
+plug_in-plug c (under d s i k far) t = plug_in-plug c d (make s t i k far)
+
+-- the greatest index below a node: the last of the left subtree's walk has no right child
+pub record Last (t : Tree) : Type 0 where
+  pub context : Context
+  pub left : Tree
+  pub index : ℕ
+  pub rank : ℕ
+  pub is : t ≡ plug context (node left index rank leaf)
+  pub at_end : walk t ≡ walk (plug context left) ++ index ∷ []
+
+pub last_at : (t : Tree) (i : ℕ) → root_of t ≡ Some i → Last t
+last_at leaf i e = absurd (cc)
+last_at (node l x k leaf) i e = record { context = top; left = l; index = x; rank = k; is = refl; at_end = refl }
+last_at (node l x k (node a y j b)) i e = go (last_at (node a y j b) y refl)
+  where
+    go : Last (node a y j b) → Last (node l x k (node a y j b))
+    go h = record {
+      context = plug_in (under top Right x k l) h.context;
+      left = h.left;
+      index = h.index;
+      rank = h.rank;
+      is = ap (λ t. node l x k t) h.is ∙ sym (plug_in-plug (under top Right x k l) h.context (node h.left h.index h.rank leaf));
+      at_end = ap (λ w. walk l ++ x ∷ w) h.at_end ∙ sym (append_assoc (walk l) (x ∷ walk (plug h.context h.left)) (h.index ∷ [])) ∙ ap (λ t. walk t ++ h.index ∷ []) (sym (plug_in-plug (under top Right x k l) h.context h.left));
+    }

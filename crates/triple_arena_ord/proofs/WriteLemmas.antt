@@ -1,0 +1,30 @@
+-- A write of a node, as the tree sees it.
+use Rattle.std.proofs.Common.{◌≡◌, ◌≢◌, ℕ, Option, Some, None, IsSome, if◌then◌else◌, ◌==◌, refl, sym, ap, ◌∙◌}
+use Rattle.std.specs.Option.{option_map}
+use Rattle.std.proofs.lemmas.Bool.{eq-eqb, ne_eqb}
+use Rattle.triple_arena.specs.Content.{Content}
+use Rattle.triple_arena_chain.specs.declared.link.IndexLink.{IndexLink}
+use Rattle.triple_arena_chain.specs.Links.{values_in, with_value_in}
+use Rattle.triple_arena_chain.specs.LinkLaws.{values-with_value_in}
+use Rattle.triple_arena_ord.specs.declared.node.IndexNode.{IndexNode}
+use Rattle.triple_arena_ord.specs.Node.{knots_in, knot_of}
+use Rattle.triple_arena_ord.specs.Knot.{Knot}
+use Rattle.triple_arena_ord.specs.Store.{Written}
+
+module _ {I T : Type 0} (number : I → ℕ) where
+  abbrev knot : ℕ × IndexNode I T → Knot
+  knot entry = knot_of number entry.1
+
+  abbrev renewed : IndexNode I T → ℕ × IndexNode I T → ℕ × IndexNode I T
+  renewed v entry = (entry.0, v)
+
+  written_here : (v : IndexNode I T) (o : Option (ℕ × IndexNode I T)) → IsSome (option_map knot o) → option_map knot (option_map (renewed v) o) ≡ Some (knot_of number v)
+  written_here v None h = absurd (cc)
+  written_here v (Some e) h = refl
+
+  pub written : (c : Content (IndexLink I (IndexNode I T))) (i : ℕ) (v : IndexNode I T) → IsSome (knots_in number c i)
+      → Written (knots_in number c) (knots_in number (with_value_in c i v)) i (knot_of number v)
+  written c i v lives = record {
+    here = ap (option_map knot) (values-with_value_in c i v i) ∙ rw (eq-eqb i i refl) (written_here v (values_in c i) lives);
+    elsewhere = λ j other. ap (option_map knot) (values-with_value_in c i v j) ∙ rw (ne_eqb j i other) refl;
+  }

@@ -1,0 +1,46 @@
+use Rattle.std.proofs.Common.{◌≡◌, ◌∙◌, sym, ap, Some, None}
+use Rattle.std.specs.Option.{option_map}
+use Rattle.triple_arena_ord.proofs.NameLemmas.{not_some, if_live}
+use Rattle.triple_arena_ord.specs.Node.{knots_in, rest, named}
+use Rattle.triple_arena_ord.specs.Store.{other_side, child_of}
+use Rattle.triple_arena_ord.specs.Repair.{Spot, IsAround}
+use Rattle.triple_arena_ord.proofs.Spots.{spotted, reads, rank_read, spot_low, spot_parent, spot_high, spot_child, spot_far}
+use Rattle.triple_arena_ord.proofs.looks.look_around.Goals as goal
+
+pub read-below-requires : goal.read-below-requires
+read-below-requires g c = spot_low _ _ _ c.requires.1
+
+pub unreachable-requires : goal.unreachable-requires
+unreachable-requires g c = not_some g.P.Inx.PtrInx.number c.read-below.result.parent _ (spot_parent _ _ _ _ c.read-below.ensures c.requires.1) c.in_default.not-Some
+
+pub read-above-requires : goal.read-above-requires
+read-above-requires g c = spot_high _ _ _ _ _ c.read-below.ensures (ap (option_map g.P.Inx.PtrInx.number) c.in-Some.is) c.requires.1
+
+pub rank_at-requires : goal.rank_at-requires
+rank_at-requires g c = if_live g.P.Inx.PtrInx.number (knots_in g.P.Inx.PtrInx.number c.args.chains.now) c.child-outer.result (λ i e. spot_child _ _ _ _ _ c.read-below.ensures c.requires.1 i (sym c.child-outer.ensures ∙ e))
+
+pub rank_at-requires-2 : goal.rank_at-requires-2
+rank_at-requires-2 g c = if_live g.P.Inx.PtrInx.number (knots_in g.P.Inx.PtrInx.number c.args.chains.now) c.child-inner.result (λ i e. spot_child _ _ _ _ _ c.read-below.ensures c.requires.1 i (sym c.child-inner.ensures ∙ e))
+
+pub rank_at-requires-3 : goal.rank_at-requires-3
+rank_at-requires-3 g c = if_live g.P.Inx.PtrInx.number (knots_in g.P.Inx.PtrInx.number c.args.chains.now) c.child-far.result (λ i e.
+    let spot = c.requires.1 in
+    let r = reads _ _ _ spot _ _ _ _ c.read-below.ensures (ap (option_map g.P.Inx.PtrInx.number) c.in-Some.is) c.read-above.ensures c.side_of-side.ensures.left c.side_of-side.ensures.right in
+    spot_far _ _ _ spot _ _ _ _ r i (ap (λ z. child_of z (named g.P.Inx.PtrInx.number c.read-above.result)) (sym c.other-away.ensures) ∙ sym c.child-far.ensures ∙ e))
+
+pub returns : goal.returns
+returns g c = λ root spot.
+    let r = reads _ _ _ spot _ _ _ _ c.read-below.ensures (ap (option_map g.P.Inx.PtrInx.number) c.in-Some.is) c.read-above.ensures c.side_of-side.ensures.left c.side_of-side.ensures.right in
+    let f = spotted _ _ _ spot in
+    let outer_is = c.child-outer.ensures ∙ r.outer_is in
+    let inner_is = c.child-inner.ensures ∙ ap (λ z. child_of z (named g.P.Inx.PtrInx.number c.read-below.result)) c.other-away.ensures ∙ r.inner_is in
+    let far_is = c.child-far.ensures ∙ ap (λ z. child_of z (named g.P.Inx.PtrInx.number c.read-above.result)) c.other-away.ensures ∙ r.far_is in
+    record {
+      high_is = r.high_is;
+      inner_is = inner_is;
+      low_rank_is = r.low_rank_is;
+      high_rank_is = r.high_rank_is;
+      outer_rank_is = rank_read _ _ spot.outer _ _ outer_is f.outer_stands c.rank_at.ensures.some c.rank_at.ensures.none;
+      inner_rank_is = rank_read _ _ spot.inner _ _ inner_is f.inner_stands c.rank_at-2.ensures.some c.rank_at-2.ensures.none;
+      far_rank_is = rank_read _ _ spot.far _ _ far_is f.far_stands c.rank_at-3.ensures.some c.rank_at-3.ensures.none;
+    }

@@ -1,0 +1,38 @@
+use Rattle.std.proofs.Common.{◌≡◌, ◌∙◌, sym, ap, Some, None, option_map, refl}
+use Rattle.triple_arena_ord.specs.Store.{other_side, child_of, with_child}
+use Rattle.triple_arena_ord.specs.Node.{knots_in, named}
+use Rattle.triple_arena_ord.proofs.NameLemmas.{not_some, if_live}
+use Rattle.triple_arena_ord.proofs.Spots.{spot_low, spot_parent, spot_high, spot_child, spot_holder, write-lives, reparent-lives, turn_works}
+use Rattle.triple_arena_ord.proofs.turn.turn.Goals as goal
+
+pub read-below-requires : goal.read-below-requires
+read-below-requires g c = spot_low _ _ _ c.requires
+
+pub unreachable-requires : goal.unreachable-requires
+unreachable-requires g c = not_some g.P.Inx.PtrInx.number c.read-below.result.parent _ (spot_parent _ _ _ _ c.read-below.ensures c.requires) c.in_default.not-Some
+
+pub read-above-requires : goal.read-above-requires
+read-above-requires g c = spot_high _ _ _ _ _ c.read-below.ensures (ap (option_map g.P.Inx.PtrInx.number) c.in-Some.is) c.requires
+
+pub reparent-requires : goal.reparent-requires
+reparent-requires g c = if_live g.P.Inx.PtrInx.number (knots_in g.P.Inx.PtrInx.number c.write.new.chains) c.child-middle.result (λ i e.
+    write-lives _ _ _ _ c.write.ensures.written i (spot_child _ _ _ _ _ c.read-below.ensures c.requires i (sym c.child-middle.ensures ∙ e)))
+
+pub write-requires-2 : goal.write-requires-2
+write-requires-2 g c = reparent-lives _ _ _ _ c.reparent.ensures.does _ (write-lives _ _ _ _ c.write.ensures.written _ (spot_low _ _ _ c.requires))
+
+pub relink-requires : goal.relink-requires
+relink-requires g c = if_live g.P.Inx.PtrInx.number (knots_in g.P.Inx.PtrInx.number c.write-2.new.chains) c.read-above.result.parent (λ i e.
+    write-lives _ _ _ _ c.write-2.ensures.written i (reparent-lives _ _ _ _ c.reparent.ensures.does i (write-lives _ _ _ _ c.write.ensures.written i
+    (spot_holder _ _ _ _ _ _ c.read-below.ensures (ap (option_map g.P.Inx.PtrInx.number) c.in-Some.is) c.read-above.ensures c.requires i e))))
+
+pub returns-clause-does : goal.returns-clause-does
+returns-clause-does g c = λ spot.
+    let number = g.P.Inx.PtrInx.number in
+    let below = named number c.read-below.result in
+    let raised_is : named number c.with_child-raised.result ≡ with_child (other_side c.side_of-side.result) (Some (number c.in-Some.high)) below =
+    c.with_child-raised.ensures ∙ ap (λ z. with_child z (Some (number c.in-Some.high)) below) c.other-2.ensures in
+    turn_works _ _ _ _ _ _ _ _ c.args.low_rank c.args.high_rank _ _ _ c.side_of-side.result (option_map number c.child-middle.result) (named number c.with_child-lowered.result) (named number c.with_child-raised.result)
+    c.read-below.ensures (ap (option_map number) c.in-Some.is) c.read-above.ensures c.side_of-side.ensures.left c.side_of-side.ensures.right
+    (c.child-middle.ensures ∙ ap (λ z. child_of z below) c.other.ensures) c.with_child-lowered.ensures raised_is
+    c.write.ensures.written c.reparent.ensures.does c.write-2.ensures.written c.relink.ensures.does spot

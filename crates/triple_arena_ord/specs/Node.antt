@@ -1,0 +1,48 @@
+-- The nodes in the links of a chain arena.
+use Rattle.std.specs.Prelude.{ℕ, map, Option, Some, None}
+use Rattle.std.specs.Option.{option_map}
+use Rattle.triple_arena.specs.Content.{Content}
+use Rattle.triple_arena_chain.specs.declared.link.IndexLink.{IndexLink}
+use Rattle.triple_arena_chain.specs.Links.{values_in}
+use Rattle.triple_arena_ord.specs.declared.knots.TreeLinks.{TreeLinks}
+use Rattle.triple_arena_ord.specs.declared.node.IndexNode.{IndexNode}
+use Rattle.triple_arena_ord.specs.Knot.{Knot}
+use Rattle.triple_arena_ord.specs.Store.{Store}
+
+module _ {I : Type 0} (number : I → ℕ) where
+  -- a node's links and rank, by numbers
+  abbrev pub named : TreeLinks I → Knot
+  named k = record {
+    parent = option_map number k.parent;
+    left = option_map number k.left;
+    right = option_map number k.right;
+    rank = k.rank;
+  }
+
+  abbrev pub knot_of : {T : Type 0} → IndexNode I T → Knot
+  knot_of node = record {
+    parent = option_map number node.p_back;
+    left = option_map number node.p_tree0;
+    right = option_map number node.p_tree1;
+    rank = node.rank;
+  }
+
+  -- the node at each index, as the tree sees it
+  abbrev pub knots_in : {T : Type 0} → Content (IndexLink I (IndexNode I T)) → Store
+  knots_in c i = option_map (λ entry. knot_of entry.1) (values_in c i)
+
+module _ {I T : Type 0} where
+  -- an entry with its item alone
+  abbrev pub itemed : ℕ × IndexNode I T → ℕ × T
+  itemed entry = (entry.0, entry.1.t)
+
+  -- the generation and the item at each index
+  abbrev pub items_in : Content (IndexLink I (IndexNode I T)) → ℕ → Option (ℕ × T)
+  items_in c i = option_map itemed (values_in c i)
+
+  abbrev pub bare : ℕ × IndexLink I (IndexNode I T) → ℕ × IndexLink I T
+  bare entry = (entry.0, record { prev = entry.1.prev; next = entry.1.next; t = entry.1.t.t })
+
+  -- all but the knots
+  abbrev pub rest : Content (IndexLink I (IndexNode I T)) → Content (IndexLink I T)
+  rest c = record { slots = map (option_map bare) c.slots; counter = c.counter; free = c.free; room = c.room }

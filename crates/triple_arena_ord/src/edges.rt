@@ -1,0 +1,76 @@
+//! A leaf is attached below a node.
+ghost use Rattle.std.specs.Prelude.{◌≡◌, ℕ, Some, None, IsSome};
+ghost use Rattle.std.specs.Option.{option_map};
+ghost use Rattle.triple_arena_ord.specs.Tree.{walk};
+ghost use Rattle.triple_arena_ord.specs.Shape.{plug};
+ghost use Rattle.triple_arena_ord.specs.Repair.{Gap, filled, Grown, Loose, Pending};
+ghost use Rattle.triple_arena_ord.specs.Node.{knots_in, rest};
+
+use crate::SimpleOrdArenaNode;
+use crate::knots::{Side, TreeLinks, read, relink, reparent, write};
+use triple_arena::{ArenaSlot, NonZeroInxGenericStack, Ptr, PtrInx};
+use triple_arena_chain::{ChainArena, LinkNoGen};
+
+/// A new leaf below a node.
+pub(crate) fn attach<
+    P: Ptr,
+    T: Drop,
+    S: NonZeroInxGenericStack<ArenaSlot<P, LinkNoGen<P, SimpleOrdArenaNode<P, T>>>> + Drop,
+>(
+    chains: &mut ChainArena<P, SimpleOrdArenaNode<P, T>, S>,
+    root: Option<P::Inx>,
+    holder: P::Inx,
+    side: Side,
+    new: P::Inx,
+)
+    requires gap { Gap (knots_in P.Inx.number chains.old) (option_map P.Inx.number root) (P.Inx.number holder) side (P.Inx.number new) }
+    requires slot { IsSome (knots_in P.Inx.number chains.old (P.Inx.number new)) }
+    ensures does { (gap : Gap (knots_in P.Inx.number chains.old) (option_map P.Inx.number root) (P.Inx.number holder) side (P.Inx.number new))
+        → Grown (knots_in P.Inx.number chains.new) (option_map P.Inx.number root) (P.Inx.number new) (walk (filled gap)) }
+    ensures keeps { rest chains.new ≡ rest chains.old }
+{
+    write(
+        chains,
+        new,
+        TreeLinks {
+            parent: Some(holder),
+            left: None,
+            right: None,
+            rank: 1,
+        },
+    );
+    let above = read(chains, holder);
+    write(chains, holder, above.with_child(side, Some(new)));
+}
+
+/// A node with at most one child leaves the tree; the answer is where the rules may be broken.
+pub(crate) fn detach<
+    P: Ptr,
+    T: Drop,
+    S: NonZeroInxGenericStack<ArenaSlot<P, LinkNoGen<P, SimpleOrdArenaNode<P, T>>>> + Drop,
+>(
+    chains: &mut ChainArena<P, SimpleOrdArenaNode<P, T>, S>,
+    root: &mut Option<P::Inx>,
+    gone: P::Inx,
+) -> Option<P::Inx>
+    requires { Loose (knots_in P.Inx.number chains.old) (option_map P.Inx.number root.old) (P.Inx.number gone) }
+    ensures does { (loose : Loose (knots_in P.Inx.number chains.old) (option_map P.Inx.number root.old) (P.Inx.number gone))
+        → Pending (knots_in P.Inx.number chains.new) (option_map P.Inx.number root.new) (option_map P.Inx.number result) (walk (plug loose.context loose.sub)) }
+    ensures keeps { rest chains.new ≡ rest chains.old }
+{
+    let knot = read(chains, gone);
+    let child = first_child(knot);
+    reparent(chains, child, knot.parent);
+    relink(chains, root, knot.parent, gone, child);
+    knot.parent
+}
+
+fn first_child<I: PtrInx>(knot: TreeLinks<I>) -> Option<I>
+    ensures left { (i : ℕ) → option_map I.number knot.left ≡ Some i → option_map I.number result ≡ Some i }
+    ensures right { option_map I.number knot.left ≡ None → option_map I.number result ≡ option_map I.number knot.right }
+{
+    match knot.left {
+        Some(i) => Some(i),
+        None => knot.right,
+    }
+}

@@ -1,0 +1,99 @@
+//! The rank rules are restored after an insertion.
+ghost use Rattle.std.specs.Prelude.{◌≡◌, ◌≢◌, ℕ, ◌+◌, ◌<◌, ◌≤◌, List, IsSome};
+ghost use Rattle.std.specs.Option.{option_map};
+ghost use Rattle.triple_arena_ord.specs.Tree.{walk};
+ghost use Rattle.triple_arena_ord.specs.Repair.{Leaning, Grown, Restored, Gap, filled};
+ghost use Rattle.triple_arena_ord.specs.Node.{knots_in, rest};
+
+use crate::SimpleOrdArenaNode;
+use crate::edges::attach;
+use crate::knots::{Side, TreeLinks, rank_at, read, side_of, write};
+use crate::turn::turn;
+use triple_arena::{ArenaSlot, NonZeroInxGenericStack, Ptr};
+use triple_arena_chain::{ChainArena, LinkNoGen};
+
+fn lean<
+    P: Ptr,
+    T: Drop,
+    S: NonZeroInxGenericStack<ArenaSlot<P, LinkNoGen<P, SimpleOrdArenaNode<P, T>>>> + Drop,
+>(chains: &mut ChainArena<P, SimpleOrdArenaNode<P, T>, S>, root: &mut Option<P::Inx>, low: P::Inx)
+    requires { (w : List ℕ) × Leaning (knots_in P.Inx.number chains.old) (option_map P.Inx.number root.old) (P.Inx.number low) w }
+    ensures does { (w : List ℕ) → Leaning (knots_in P.Inx.number chains.old) (option_map P.Inx.number root.old) (P.Inx.number low) w
+        → Restored (knots_in P.Inx.number chains.new) (option_map P.Inx.number root.new) w }
+    ensures keeps { rest chains.new ≡ rest chains.old }
+{
+    let below = read(chains, low);
+    let Some(high) = below.parent else {
+        unreachable!()
+    };
+    let above = read(chains, high);
+    let side = side_of(above, low);
+    let inner = below.child(side.other());
+    let rank = below.rank;
+    if rank_at(chains, inner) + 1 < rank {
+        turn(chains, root, low, rank, rank - 1);
+    } else {
+        let Some(middle) = inner else { unreachable!() };
+        turn(chains, root, middle, rank, rank - 1);
+        turn(chains, root, middle, rank, rank - 1);
+    }
+}
+
+/// From one subtree that has grown in rank to a tree that keeps the rules.
+pub(crate) fn repair_inserted<
+    P: Ptr,
+    T: Drop,
+    S: NonZeroInxGenericStack<ArenaSlot<P, LinkNoGen<P, SimpleOrdArenaNode<P, T>>>> + Drop,
+>(chains: &mut ChainArena<P, SimpleOrdArenaNode<P, T>, S>, root: &mut Option<P::Inx>, start: P::Inx)
+    requires { (w : List ℕ) × Grown (knots_in P.Inx.number chains.old) (option_map P.Inx.number root.old) (P.Inx.number start) w }
+    ensures does { (w : List ℕ) → Grown (knots_in P.Inx.number chains.old) (option_map P.Inx.number root.old) (P.Inx.number start) w
+        → Restored (knots_in P.Inx.number chains.new) (option_map P.Inx.number root.new) w }
+    ensures keeps { rest chains.new ≡ rest chains.old }
+{
+    let mut low = start;
+    'climb: loop {
+        let below = read(chains, low);
+        let Some(high) = below.parent else { return };
+        let above = read(chains, high);
+        if below.rank < above.rank {
+            return;
+        }
+        let side = side_of(above, low);
+        let sibling = above.child(side.other());
+        if rank_at(chains, sibling) + 1 < below.rank {
+            lean(chains, root, low);
+            return;
+        }
+        write(
+            chains,
+            high,
+            TreeLinks {
+                rank: above.rank + 1,
+                ..above
+            },
+        );
+        low = high;
+    }
+}
+
+/// A new leaf below a node, after which the rules hold.
+pub(crate) fn bring_in<
+    P: Ptr,
+    T: Drop,
+    S: NonZeroInxGenericStack<ArenaSlot<P, LinkNoGen<P, SimpleOrdArenaNode<P, T>>>> + Drop,
+>(
+    chains: &mut ChainArena<P, SimpleOrdArenaNode<P, T>, S>,
+    root: &mut Option<P::Inx>,
+    holder: P::Inx,
+    side: Side,
+    new: P::Inx,
+)
+    requires gap { Gap (knots_in P.Inx.number chains.old) (option_map P.Inx.number root.old) (P.Inx.number holder) side (P.Inx.number new) }
+    requires slot { IsSome (knots_in P.Inx.number chains.old (P.Inx.number new)) }
+    ensures does { (gap : Gap (knots_in P.Inx.number chains.old) (option_map P.Inx.number root.old) (P.Inx.number holder) side (P.Inx.number new))
+        → Restored (knots_in P.Inx.number chains.new) (option_map P.Inx.number root.new) (walk (filled gap)) }
+    ensures keeps { rest chains.new ≡ rest chains.old }
+{
+    attach(chains, *root, holder, side, new);
+    repair_inserted(chains, root, new);
+}

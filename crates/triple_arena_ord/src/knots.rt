@@ -1,0 +1,183 @@
+//! The nodes as the tree sees them, and the single writes.
+ghost use Rattle.std.specs.Prelude.{◌≡◌, ◌≢◌, ℕ, ◌+◌, ◌<◌, ◌≤◌, Some, None, IsSome, IfSome};
+ghost use Rattle.std.specs.Option.{option_map};
+ghost use Rattle.triple_arena_ord.specs.Store.{Written, Reparented, Relinked, child_of, with_child, with_parent, with_rank, other_side};
+ghost use Rattle.triple_arena_ord.specs.Knot.{Knot as Seen};
+ghost use Rattle.triple_arena_ord.specs.Node.{named, knots_in, rest};
+
+use crate::SimpleOrdArenaNode;
+use triple_arena::{ArenaSlot, NonZeroInxGenericStack, Ptr, PtrInx};
+use triple_arena_chain::{ChainArena, LinkNoGen};
+
+#[derive(Clone, Copy, Drop)]
+pub(crate) enum Side {
+    Left,
+    Right,
+}
+
+/// A node without its item.
+#[derive(Clone, Copy, Drop)]
+pub(crate) struct TreeLinks<I> {
+    pub(crate) parent: Option<I>,
+    pub(crate) left: Option<I>,
+    pub(crate) right: Option<I>,
+    pub(crate) rank: u8,
+}
+
+impl Side {
+    pub(crate) fn other(self) -> Side
+        ensures { result ≡ other_side self }
+    {
+        match self {
+            Side::Left => Side::Right,
+            Side::Right => Side::Left,
+        }
+    }
+}
+
+impl<I: PtrInx> TreeLinks<I> {
+    pub(crate) fn child(self, side: Side) -> Option<I>
+        ensures { option_map I.number result ≡ child_of side (named I.number self) }
+    {
+        match side {
+            Side::Left => self.left,
+            Side::Right => self.right,
+        }
+    }
+
+    pub(crate) fn with_child(self, side: Side, child: Option<I>) -> TreeLinks<I>
+        ensures { named I.number result ≡ with_child side (option_map I.number child) (named I.number self) }
+    {
+        match side {
+            Side::Left => TreeLinks {
+                left: child,
+                ..self
+            },
+            Side::Right => TreeLinks {
+                right: child,
+                ..self
+            },
+        }
+    }
+}
+
+pub(crate) fn read<
+    P: Ptr,
+    T: Drop,
+    S: NonZeroInxGenericStack<ArenaSlot<P, LinkNoGen<P, SimpleOrdArenaNode<P, T>>>> + Drop,
+>(chains: &ChainArena<P, SimpleOrdArenaNode<P, T>, S>, i: P::Inx) -> TreeLinks<P::Inx>
+    requires { IsSome (knots_in P.Inx.number chains.now (P.Inx.number i)) }
+    ensures { knots_in P.Inx.number chains.now (P.Inx.number i) ≡ Some (named P.Inx.number result) }
+{
+    let node = chains.get_inx_unwrap(i);
+    TreeLinks {
+        parent: node.p_back,
+        left: node.p_tree0,
+        right: node.p_tree1,
+        rank: node.rank,
+    }
+}
+
+pub(crate) fn write<
+    P: Ptr,
+    T: Drop,
+    S: NonZeroInxGenericStack<ArenaSlot<P, LinkNoGen<P, SimpleOrdArenaNode<P, T>>>> + Drop,
+>(chains: &mut ChainArena<P, SimpleOrdArenaNode<P, T>, S>, i: P::Inx, knot: TreeLinks<P::Inx>)
+    requires { IsSome (knots_in P.Inx.number chains.old (P.Inx.number i)) }
+    ensures written { Written (knots_in P.Inx.number chains.old) (knots_in P.Inx.number chains.new) (P.Inx.number i) (named P.Inx.number knot) }
+    ensures keeps { rest chains.new ≡ rest chains.old }
+{
+    let node = chains.get_inx_mut_unwrap(i);
+    node.p_back = knot.parent;
+    node.p_tree0 = knot.left;
+    node.p_tree1 = knot.right;
+    node.rank = knot.rank;
+}
+
+/// The node that `link` names, if it names one, gets this parent.
+pub(crate) fn reparent<
+    P: Ptr,
+    T: Drop,
+    S: NonZeroInxGenericStack<ArenaSlot<P, LinkNoGen<P, SimpleOrdArenaNode<P, T>>>> + Drop,
+>(
+    chains: &mut ChainArena<P, SimpleOrdArenaNode<P, T>, S>,
+    link: Option<P::Inx>,
+    parent: Option<P::Inx>,
+)
+    requires { IfSome link (λ i. IsSome (knots_in P.Inx.number chains.old (P.Inx.number i))) }
+    ensures does { Reparented (knots_in P.Inx.number chains.old) (knots_in P.Inx.number chains.new) (option_map P.Inx.number link) (option_map P.Inx.number parent) }
+    ensures keeps { rest chains.new ≡ rest chains.old }
+{
+    if let Some(i) = link {
+        let knot = read(chains, i);
+        write(chains, i, TreeLinks { parent, ..knot });
+    }
+}
+
+/// What led to `from` leads to `to`: a child link of the holder, or the root.
+pub(crate) fn relink<
+    P: Ptr,
+    T: Drop,
+    S: NonZeroInxGenericStack<ArenaSlot<P, LinkNoGen<P, SimpleOrdArenaNode<P, T>>>> + Drop,
+>(
+    chains: &mut ChainArena<P, SimpleOrdArenaNode<P, T>, S>,
+    root: &mut Option<P::Inx>,
+    holder: Option<P::Inx>,
+    from: P::Inx,
+    to: Option<P::Inx>,
+)
+    requires { IfSome holder (λ i. IsSome (knots_in P.Inx.number chains.old (P.Inx.number i))) }
+    ensures does { Relinked (knots_in P.Inx.number chains.old) (knots_in P.Inx.number chains.new) (option_map P.Inx.number root.old) (option_map P.Inx.number root.new)
+        (option_map P.Inx.number holder) (P.Inx.number from) (option_map P.Inx.number to) }
+    ensures keeps { rest chains.new ≡ rest chains.old }
+{
+    match holder {
+        Some(i) => {
+            let knot = read(chains, i);
+            let side = side_of(knot, from);
+            write(chains, i, knot.with_child(side, to));
+        }
+        None => *root = to,
+    }
+}
+
+/// The side on which a node has this child.
+pub(crate) fn side_of<I: PtrInx>(knot: TreeLinks<I>, child: I) -> Side
+    ensures left { option_map I.number knot.left ≡ Some (I.number child) → result ≡ Side.Left }
+    ensures right { option_map I.number knot.left ≢ Some (I.number child) → result ≡ Side.Right }
+{
+    match knot.left {
+        Some(i) => { if i == child { Side::Left } else { Side::Right } }
+        None => Side::Right,
+    }
+}
+
+/// The rank of the node that `link` names, 0 where there is none.
+pub(crate) fn rank_at<
+    P: Ptr,
+    T: Drop,
+    S: NonZeroInxGenericStack<ArenaSlot<P, LinkNoGen<P, SimpleOrdArenaNode<P, T>>>> + Drop,
+>(chains: &ChainArena<P, SimpleOrdArenaNode<P, T>, S>, link: Option<P::Inx>) -> u8
+    requires { IfSome link (λ i. IsSome (knots_in P.Inx.number chains.now (P.Inx.number i))) }
+    ensures some { (i : ℕ) → option_map P.Inx.number link ≡ Some i → IfSome (knots_in P.Inx.number chains.now i) (λ v. result ≡ v.rank) }
+    ensures none { option_map P.Inx.number link ≡ None → result ≡ 0 }
+{
+    match link {
+        Some(i) => read(chains, i).rank,
+        None => 0,
+    }
+}
+
+/// A node gets another rank.
+pub(crate) fn set_rank<
+    P: Ptr,
+    T: Drop,
+    S: NonZeroInxGenericStack<ArenaSlot<P, LinkNoGen<P, SimpleOrdArenaNode<P, T>>>> + Drop,
+>(chains: &mut ChainArena<P, SimpleOrdArenaNode<P, T>, S>, i: P::Inx, rank: u8)
+    requires { IsSome (knots_in P.Inx.number chains.old (P.Inx.number i)) }
+    ensures does { (v : Seen) → knots_in P.Inx.number chains.old (P.Inx.number i) ≡ Some v → Written (knots_in P.Inx.number chains.old) (knots_in P.Inx.number chains.new) (P.Inx.number i) (with_rank rank v) }
+    ensures keeps { rest chains.new ≡ rest chains.old }
+{
+    let knot = read(chains, i);
+    write(chains, i, TreeLinks { rank, ..knot });
+}

@@ -1,0 +1,19 @@
+//! One ordered list of items in an arena, whose links are also the nodes of a rank balanced search tree. A port of the ordered
+//! arena of the Rust crate `triple_arena`.
+#![tactic(auto)]
+
+mod edges;
+mod inserted;
+mod item;
+mod kind;
+mod knots;
+mod looks;
+mod node;
+mod pair;
+mod removed;
+mod turn;
+
+pub use item::SimpleOrdItem;
+pub use kind::{InsertKind, OrdEntryKind, OrdInsertKind};
+pub use node::{IndexNode, SimpleOrdArenaNode};
+pub use pair::OrdPair;

@@ -1,0 +1,51 @@
+//! What the repairs read round a node and its parent.
+ghost use Rattle.std.specs.Prelude.{◌≡◌, ℕ, ◌+◌, ◌<◌, ◌≤◌, Option};
+ghost use Rattle.std.specs.Option.{option_map};
+ghost use Rattle.triple_arena_ord.specs.Node.{knots_in};
+ghost use Rattle.triple_arena_ord.specs.Repair.{Spot, IsAround};
+
+use crate::SimpleOrdArenaNode;
+use crate::knots::{rank_at, read, side_of};
+use triple_arena::{ArenaSlot, NonZeroInxGenericStack, Ptr, PtrInx};
+use triple_arena_chain::{ChainArena, LinkNoGen};
+
+#[derive(Clone, Copy, Drop)]
+pub(crate) struct Around<I> {
+    pub(crate) high: I,
+    pub(crate) inner: Option<I>,
+    pub(crate) low_rank: u8,
+    pub(crate) high_rank: u8,
+    pub(crate) outer_rank: u8,
+    pub(crate) inner_rank: u8,
+    pub(crate) far_rank: u8,
+}
+
+/// A node that has a parent: `outer` and `inner` are its children, `far` is its sibling.
+pub(crate) fn look_around<
+    P: Ptr,
+    T: Drop,
+    S: NonZeroInxGenericStack<ArenaSlot<P, LinkNoGen<P, SimpleOrdArenaNode<P, T>>>> + Drop,
+>(chains: &ChainArena<P, SimpleOrdArenaNode<P, T>, S>, low: P::Inx) -> Around<P::Inx>
+    requires { (root : Option ℕ) × Spot (knots_in P.Inx.number chains.now) root (P.Inx.number low) }
+    ensures { (root : Option ℕ) → (spot : Spot (knots_in P.Inx.number chains.now) root (P.Inx.number low)) → IsAround (knots_in P.Inx.number chains.now) root (P.Inx.number low) spot (P.Inx.number result.high) (option_map P.Inx.number result.inner) result.low_rank result.high_rank result.outer_rank result.inner_rank result.far_rank }
+{
+    let below = read(chains, low);
+    let Some(high) = below.parent else {
+        unreachable!()
+    };
+    let above = read(chains, high);
+    let side = side_of(above, low);
+    let away = side.other();
+    let outer = below.child(side);
+    let inner = below.child(away);
+    let far = above.child(away);
+    Around {
+        high,
+        inner,
+        low_rank: below.rank,
+        high_rank: above.rank,
+        outer_rank: rank_at(chains, outer),
+        inner_rank: rank_at(chains, inner),
+        far_rank: rank_at(chains, far),
+    }
+}

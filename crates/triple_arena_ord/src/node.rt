@@ -1,0 +1,22 @@
+//! A node of the tree, which holds its item.
+
+use triple_arena::{Ptr, PtrInx};
+
+/// An item with its place in the tree: the indexes, of the type `I`, of the parent, of the left and of the right child, and
+/// the rank.
+#[derive(Clone, Drop)]
+pub struct IndexNode<I: PtrInx, T> {
+    /// The item.
+    pub t: T,
+    /// The index of the parent.
+    pub p_back: Option<I>,
+    /// The index of the left child.
+    pub p_tree0: Option<I>,
+    /// The index of the right child.
+    pub p_tree1: Option<I>,
+    /// The rank: 1 for a node without children.
+    pub rank: u8,
+}
+
+/// An item with its place in the tree, by the indexes of a pointer type.
+pub type SimpleOrdArenaNode<P, T> = IndexNode<<P as Ptr>::Inx, T>;
