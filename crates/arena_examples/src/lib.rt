@@ -9,8 +9,6 @@
 mod follow;
 mod scene;
 mod scheduler;
-#[cfg(test)]
-mod tests;
 
 pub use follow::{Moved, compress_and_follow, compress_with_table};
 pub use scene::{Node, Scene};

@@ -2,6 +2,7 @@
 mod advancers;
 mod compress;
 mod entries;
+mod examples;
 mod refusals;
 mod sequences;
 mod writes;

@@ -7,7 +7,6 @@ pub mod NumberLemmas
 pub mod PlaceLemmas
 pub mod ReplyLemmas
 pub mod RunLemmas
-pub mod SearchLemmas
 pub mod SoundLemmas
 pub mod UnfinishedLemmas
 pub mod WordLemmas

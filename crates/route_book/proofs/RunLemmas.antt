@@ -8,7 +8,8 @@ use Rattle.std.proofs.lemmas.List.Splits.{slice_split_at, slice_split_none, leng
 use Rattle.route_book.specs.State.{State}
 use Rattle.route_book.specs.Reply.{ended, reply, next}
 use Rattle.route_book.specs.Text.{Line, whole, command_in, replies, after_lines, front, last, lines, whole_lines, rest_of, unended_line}
-use Rattle.route_book.specs.Searches.{CountsWithin, fair, place_count, living_count}
+use Rattle.counted_search.specs.Searches.{fair}
+use Rattle.route_book.specs.Searches.{CountsWithin, place_count, living_count}
 use Rattle.route_book.specs.Run.{Carries, BreaksOff, fair_over}
 use Rattle.route_book.specs.Unfinished.{Cuts, HasNoLineEnd}
 use Rattle.route_book.specs.Written.{AppendsBeginning}

@@ -8,7 +8,8 @@ use Rattle.route_book.specs.State.{State}
 use Rattle.route_book.specs.Grammar.{command_of}
 use Rattle.route_book.specs.Reply.{ended, reply, next}
 use Rattle.route_book.specs.Text.{whole, unended, unended_line, lines, whole_lines}
-use Rattle.route_book.specs.Searches.{CountsWithin, fair, place_count, living_count}
+use Rattle.counted_search.specs.Searches.{fair}
+use Rattle.route_book.specs.Searches.{CountsWithin, place_count, living_count}
 use Rattle.route_book.specs.Run.{Carries, BreaksOff, StopsWithin}
 use Rattle.route_book.specs.Unfinished.{HasNoLineEnd, StandsFor, Cuts, Takes, Stops, StopsAtEnd}
 use Rattle.route_book.specs.Written.{AppendsBeginning}

@@ -4,7 +4,8 @@ use Rattle.std.specs.Io.KnownBytes.{Appends, IsAtEnd}
 use Rattle.route_book.specs.State.{State}
 use Rattle.route_book.specs.Reply.{reply, next}
 use Rattle.route_book.specs.Text.{Line, whole, unended, command_in, replies, after_lines, lines}
-use Rattle.route_book.specs.Searches.{CountsWithin, fair, place_count, living_count}
+use Rattle.counted_search.specs.Searches.{fair}
+use Rattle.route_book.specs.Searches.{CountsWithin, place_count, living_count}
 use Rattle.route_book.specs.declared.counts.Counts.{Counts}
 use Rattle.route_book.specs.declared.running.fault.RunFault.{RunFault}
 use Rattle.route_book.specs.declared.running.fault.RunFault.TheVariants.{Read, Write, TooLong}

@@ -3,7 +3,8 @@ ghost use Rattle.route_book.specs.ReplyText.{HasRoom};
 ghost use Rattle.std.specs.Io.KnownBytes.{Appends};
 ghost use Rattle.route_book.specs.Grammar.{command_of};
 ghost use Rattle.route_book.specs.Reply.{reply, next, places_text};
-ghost use Rattle.route_book.specs.Searches.{CountsWithin, fair, place_count, living_count};
+ghost use Rattle.counted_search.specs.Searches.{fair};
+ghost use Rattle.route_book.specs.Searches.{CountsWithin, place_count, living_count};
 ghost use Rattle.route_book.specs.Watched.{inner_of, failed_of};
 ghost use Rattle.route_book.specs.Written.{AppendsBeginning};
 

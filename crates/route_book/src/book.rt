@@ -1,6 +1,7 @@
 ghost use Rattle.std.specs.Prelude.{◌≡◌, ℕ, ◌+◌, ◌-◌, ◌<◌, ◌≤◌, ◌^◌, ◌↔◌, ◌⊎◌, Ok, Err, IsOk, IfOk, IfErr, IsErrOf, [], ◌∷◌, ◌++◌, length, insert, vec_len, vec_capacity};
 ghost use Rattle.route_book.specs.Calls.{placed, after_place, shown, found};
-ghost use Rattle.route_book.specs.Searches.{CountsWithin, fair, place_count, living_count};
+ghost use Rattle.counted_search.specs.Searches.{fair};
+ghost use Rattle.route_book.specs.Searches.{CountsWithin, place_count, living_count};
 ghost use Rattle.route_book.specs.State.{Rooms, State, empty, is_full_of_places};
 ghost use Rattle.route_book.specs.Book.{IsOrder, entry_at, place_at, places_by};
 
@@ -9,9 +10,9 @@ use crate::place::Place;
 use crate::placed::Placed;
 use crate::places::Places;
 use crate::refusal::{Refusal, RoomError};
-use crate::search::search;
 use crate::shown::Shown;
 use crate::word::Word;
+use counted_search::search;
 use std::alloc::{Allocator, Global};
 use std::marker::Model;
 use std::mem;

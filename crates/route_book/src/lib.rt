@@ -27,10 +27,7 @@ mod places;
 mod refusal;
 mod reply_text;
 mod running;
-mod search;
 mod shown;
-#[cfg(test)]
-mod tests;
 mod unfinished;
 mod watched;
 mod word;

@@ -75,6 +75,3 @@ pub use ptr::{Ptr, PtrGen, PtrInx};
 pub use ptr_no_gen::PtrNoGen;
 pub use ptr_types::{P0, P1, P2, P3, P4, P5, Q2};
 pub use recast::{Recast, Recaster};
-
-#[cfg(test)]
-mod tests;

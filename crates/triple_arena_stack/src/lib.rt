@@ -30,6 +30,3 @@ pub use limited::NonZeroInxLimitedVec;
 pub use set_max_capacity::{NonZeroInxLimitedStack, SetMaxCapacity};
 pub use stack::NonZeroInxGenericStack;
 pub use vec::NonZeroInxVec;
-
-#[cfg(test)]
-mod tests;

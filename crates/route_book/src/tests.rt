@@ -1,9 +1,0 @@
-mod calls;
-mod faults;
-mod programs;
-mod rows;
-mod searches;
-mod streams;
-mod ticks;
-mod watching;
-mod writes;
