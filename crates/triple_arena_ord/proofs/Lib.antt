@@ -13,3 +13,6 @@ pub mod ChangeLemmas
 pub mod WriteLemmas
 pub mod RestLemmas
 pub mod NameLemmas
+pub mod SeekShapes
+pub mod SortedLemmas
+pub mod SeekLemmas

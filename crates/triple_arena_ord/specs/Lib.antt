@@ -8,3 +8,4 @@ pub mod Whole
 pub mod Search
 pub mod Kinds
 pub mod Pairs
+pub mod Ordered

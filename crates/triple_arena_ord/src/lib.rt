@@ -9,11 +9,14 @@ mod kind;
 mod knots;
 mod looks;
 mod node;
+mod ord_arena;
 mod pair;
 mod removed;
+mod search;
 mod turn;
 
 pub use item::SimpleOrdItem;
 pub use kind::{InsertKind, OrdEntryKind, OrdInsertKind};
 pub use node::{IndexNode, SimpleOrdArenaNode};
+pub use ord_arena::SimpleOrdArena;
 pub use pair::OrdPair;

@@ -1,5 +1,5 @@
 use Rattle.std.proofs.Common.{◌+◌, ◌*◌}
-use Rattle.counted_search.proofs.SearchLemmas.{within_bound, fair-greatest}
+use Rattle.counted_search.specs.SearchLaws.{within_bound, fair-greatest}
 use Rattle.counted_search.proofs.laws.the_bound_is_the_greatest.Goals as goal
 
 pub returns-clause-bound : goal.returns-clause-bound

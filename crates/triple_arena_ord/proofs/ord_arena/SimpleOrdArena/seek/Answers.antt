@@ -1,0 +1,49 @@
+use Rattle.std.proofs.Common.{rules, ◌≡◌, ℕ, ◌+◌, Some, None, refl, sym, ap, ◌∙◌, option_map, arith}
+use Rattle.triple_arena_ord.specs.Node.{knots_in}
+use Rattle.triple_arena_ord.specs.Ordered.{Ordered, tree_in, asked_at}
+use Rattle.triple_arena_ord.proofs.Descents.{falls_down, descent_ends, descent_lives}
+use Rattle.triple_arena_ord.proofs.SeekLemmas.{seek_begins, seek_step}
+use Rattle.triple_arena_ord.proofs.ord_arena.SimpleOrdArena.seek.Goals as goal
+
+pub down-init : goal.down-init
+down-init g c = (0, (omega arith, seek_begins g.P.Inx.PtrInx.number g.T.Key.Ord.cmp g.T.SimpleOrdItem.key_of c.args.k.now c.args.self.now _ c.self.view_is c.self.invariant.0))
+
+pub down-smaller-in-Less : goal.down-smaller-in-Less
+down-smaller-in-Less g c =
+    let s = seek_step g.P.Inx.PtrInx.number g.T.Key.Ord.cmp g.T.SimpleOrdItem.key_of c.args.k.now c.args.self.now _ c.self.view_is (g.P.Inx.PtrInx.number c.in-Some.i) _ _ refl c.get_inx_unwrap-node.ensures _ _ c.down.invariant.0 (ap (option_map g.P.Inx.PtrInx.number) c.in-Some.is) c.down.invariant.1.1 in
+    falls_down (knots_in g.P.Inx.PtrInx.number c.args.self.now.chains) _ (option_map g.P.Inx.PtrInx.number c.get_inx_unwrap-node.result.now.p_tree0) _ (ap (option_map g.P.Inx.PtrInx.number) c.in-Some.is) s.here.rank_left
+
+pub down-preserved-in-Less : goal.down-preserved-in-Less
+down-preserved-in-Less g c =
+    let s = seek_step g.P.Inx.PtrInx.number g.T.Key.Ord.cmp g.T.SimpleOrdItem.key_of c.args.k.now c.args.self.now _ c.self.view_is (g.P.Inx.PtrInx.number c.in-Some.i) _ _ refl c.get_inx_unwrap-node.ensures _ _ c.down.invariant.0 (ap (option_map g.P.Inx.PtrInx.number) c.in-Some.is) c.down.invariant.1.1 in
+    let before = c.down.invariant.1.0 in
+    let ticked = c.tick.ensures in
+    (c.down.invariant.0 + 1, (omega arith, s.here.left (s.is ∙ ap (g.T.Key.Ord.cmp c.args.k.now) (sym c.key.ensures) ∙ sym c.cmp.ensures ∙ c.in-Less.is)))
+
+pub returns-in-Equal-clause-answer : goal.returns-in-Equal-clause-answer
+returns-in-Equal-clause-answer g c =
+    let s = seek_step g.P.Inx.PtrInx.number g.T.Key.Ord.cmp g.T.SimpleOrdItem.key_of c.args.k.now c.args.self.now _ c.self.view_is (g.P.Inx.PtrInx.number c.in-Some.i) _ _ refl c.get_inx_unwrap-node.ensures _ _ c.down.invariant.0 (ap (option_map g.P.Inx.PtrInx.number) c.in-Some.is) c.down.invariant.1.1 in
+    s.here.stop (s.is ∙ ap (g.T.Key.Ord.cmp c.args.k.now) (sym c.key.ensures) ∙ sym c.cmp.ensures ∙ c.in-Equal.is)
+
+pub returns-in-Equal-clause-ticks : goal.returns-in-Equal-clause-ticks
+returns-in-Equal-clause-ticks g c =
+    let s = seek_step g.P.Inx.PtrInx.number g.T.Key.Ord.cmp g.T.SimpleOrdItem.key_of c.args.k.now c.args.self.now _ c.self.view_is (g.P.Inx.PtrInx.number c.in-Some.i) _ _ refl c.get_inx_unwrap-node.ensures _ _ c.down.invariant.0 (ap (option_map g.P.Inx.PtrInx.number) c.in-Some.is) c.down.invariant.1.1 in
+    let before = c.down.invariant.1.0 in
+    let ticked = c.tick.ensures in
+    let bound = s.here.in_bound in
+    omega arith
+
+pub down-smaller : goal.down-smaller
+down-smaller g c =
+    let s = seek_step g.P.Inx.PtrInx.number g.T.Key.Ord.cmp g.T.SimpleOrdItem.key_of c.args.k.now c.args.self.now _ c.self.view_is (g.P.Inx.PtrInx.number c.in-Some.i) _ _ refl c.get_inx_unwrap-node.ensures _ _ c.down.invariant.0 (ap (option_map g.P.Inx.PtrInx.number) c.in-Some.is) c.down.invariant.1.1 in
+    falls_down (knots_in g.P.Inx.PtrInx.number c.args.self.now.chains) _ (option_map g.P.Inx.PtrInx.number c.get_inx_unwrap-node.result.now.p_tree1) _ (ap (option_map g.P.Inx.PtrInx.number) c.in-Some.is) s.here.rank_right
+
+pub down-preserved : goal.down-preserved
+down-preserved g c =
+    let s = seek_step g.P.Inx.PtrInx.number g.T.Key.Ord.cmp g.T.SimpleOrdItem.key_of c.args.k.now c.args.self.now _ c.self.view_is (g.P.Inx.PtrInx.number c.in-Some.i) _ _ refl c.get_inx_unwrap-node.ensures _ _ c.down.invariant.0 (ap (option_map g.P.Inx.PtrInx.number) c.in-Some.is) c.down.invariant.1.1 in
+    let before = c.down.invariant.1.0 in
+    let ticked = c.tick.ensures in
+    (c.down.invariant.0 + 1, (omega arith, s.here.right (s.is ∙ ap (g.T.Key.Ord.cmp c.args.k.now) (sym c.key.ensures) ∙ sym c.cmp.ensures ∙ c.in-Greater.is)))
+
+pub returns-clause-answer : goal.returns-clause-answer
+returns-clause-answer g c = descent_ends _ _ _ _ _ _ (ap (option_map g.P.Inx.PtrInx.number) c.in_default.is) c.down.invariant.1.1

@@ -1,0 +1,88 @@
+-- What a contract sees of a `SimpleOrdArena`.
+use Rattle.std.specs.Prelude.{◌≡◌, ◌==◌, if◌then◌else◌, ℕ, ◌+◌, ◌*◌, ◌^◌, ◌<◌, ◌≤◌, List, [], ◌∷◌, ◌++◌, length, filter_map, Option, Some, None, IsSome}
+use Rattle.std.specs.Option.{option_map}
+use Rattle.std.specs.List.Sorted.{IsSorted}
+use Rattle.std.specs.declared.cmp.Ordering.{Ordering}
+use Rattle.std.specs.declared.cmp.Ordering.TheVariants.{Less, Equal, Greater}
+use Rattle.triple_arena.specs.Content.{Content, live_count}
+use Rattle.triple_arena_chain.specs.Chains.{IsLinear}
+use Rattle.triple_arena_chain.specs.Links.{ends_in}
+use Rattle.triple_arena_chain.specs.declared.link.IndexLink.{IndexLink}
+use Rattle.triple_arena_ord.specs.declared.knots.Side.{Side}
+use Rattle.triple_arena_ord.specs.declared.knots.Side.TheVariants.{Left, Right}
+use Rattle.triple_arena_ord.specs.declared.node.IndexNode.{IndexNode}
+use Rattle.triple_arena_ord.specs.Node.{knots_in, items_in}
+use Rattle.triple_arena_ord.specs.Tree.{Tree, walk}
+use Rattle.triple_arena_ord.specs.Shape.{count}
+use Rattle.triple_arena_ord.specs.Whole.{tree_of, IsWhole}
+
+-- the list with one more index directly before or after another
+abbrev pub beside : Side → List ℕ → ℕ → ℕ → List ℕ → List ℕ
+beside Left before h n after = before ++ n ∷ h ∷ after
+beside Right before h n after = before ++ h ∷ n ∷ after
+
+-- one more index stands directly before or after another
+pub record StandsBeside (side : Side) (old new : List ℕ) (h n : ℕ) : Type 0 where
+  pub before : List ℕ
+  pub after : List ℕ
+  pub was : old ≡ before ++ h ∷ after
+  pub is : new ≡ beside side before h n after
+
+-- an end of the list after one more index stands beside another
+abbrev pub replaced : Option ℕ → ℕ → ℕ → Option ℕ
+replaced None h n = None
+replaced (Some i) h n = if i == h then Some n else Some i
+
+abbrev pub moved : Side → Side → Option ℕ → ℕ → ℕ → Option ℕ
+moved Left Left o h n = replaced o h n
+moved Right Right o h n = replaced o h n
+moved Left Right o h n = o
+moved Right Left o h n = o
+
+-- the links with their nodes, and the root of the tree
+pub record Ordered (I T : Type 0) : Type 0 where
+  pub chains : Content (IndexLink I (IndexNode I T))
+  pub root : Option ℕ
+
+-- how a key compares with that of an entry
+abbrev pub asked_of : {K T : Type 0} → (K → K → Ordering) → (T → K) → K → Option (ℕ × T) → Ordering
+asked_of cmp key k None = Equal
+asked_of cmp key k (Some e) = cmp k (key e.1)
+
+module _ {I T : Type 0} where
+  -- the generation and the item at each index
+  abbrev pub entry_in : Ordered I T → ℕ → Option (ℕ × T)
+  entry_in o = items_in o.chains
+
+  -- how a key compares with that of the entry at an index
+  abbrev pub asked_at : {K : Type 0} → (K → K → Ordering) → (T → K) → K → Ordered I T → ℕ → Ordering
+  asked_at cmp key k o i = asked_of cmp key k (entry_in o i)
+
+  -- how many entries
+  abbrev pub size_in : Ordered I T → ℕ
+  size_in o = live_count o.chains
+
+module _ {I T : Type 0} (number : I → ℕ) where
+  -- the tree of the nodes
+  abbrev pub tree_in : Ordered I T → Tree
+  tree_in o = tree_of (knots_in number o.chains) o.root
+
+  -- the indexes in order
+  abbrev pub order_in : Ordered I T → List ℕ
+  order_in o = walk (tree_in o)
+
+  -- the index, generation and item of each entry, in order
+  abbrev pub listed : Ordered I T → List (ℕ × (ℕ × T))
+  listed o = filter_map (λ i. option_map (λ e. (i, e)) (entry_in o i)) (order_in o)
+
+  -- the tree keeps the rank rules and has each live index once; its walk is the one chain
+  pub record IsOrdered (o : Ordered I T) : Type 0 where
+    pub whole : IsWhole (knots_in number o.chains) o.root
+    pub linear : IsLinear (ends_in number o.chains) (order_in o)
+    pub all : (i : ℕ) → IsSome (knots_in number o.chains i) → 0 < count i (tree_in o)
+    pub counted : length (order_in o) ≡ live_count o.chains
+
+  module _ {K : Type 0} (cmp : K → K → Ordering) (key : T → K) where
+    -- no key is greater than the next one
+    abbrev pub IsAscending : Ordered I T → Type 0
+    IsAscending o = IsSorted (λ x y. cmp (key x.1.1) (key y.1.1)) (listed o)
