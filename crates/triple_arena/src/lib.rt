@@ -51,8 +51,9 @@ pub mod arena_iterators {
     pub type Vals<'a, P, T> = iterators::Vals<'a, P, T, ArenaSlot<P, T>>;
 }
 
-/// The iterators of `DirectArena`.
+/// The advancer and the iterators of `DirectArena`.
 pub mod direct_iterators {
+    pub use crate::advancer::PtrAdvancer;
     pub use crate::direct::{CapacityDrain, Drain};
     use crate::{DirectSlot, iterators};
 
