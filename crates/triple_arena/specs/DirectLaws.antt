@@ -207,6 +207,15 @@ module _ {T : Type 0} where
   entry-in_room d r zero = refl
   entry-in_room d r (suc k) = refl
 
+  pub live-in_room : (d : DirectContent T) (r : Room) → live_count (in_room d r) ≡ live_count d
+  live-in_room d r = refl
+
+  pub slots-in_room : (d : DirectContent T) (r : Room) → length (in_room d r).slots ≡ length d.slots
+  slots-in_room d r = refl
+
+  pub room-in_room : (d : DirectContent T) (r : Room) → (in_room d r).room ≡ r
+  room-in_room d r = refl
+
   pub formed-in_room : (d : DirectContent T) (r : Room) → arena_capacity d ≤ capacity r → IsWellFormed d → IsWellFormed (in_room d r)
   formed-in_room d r more formed = omega (arith, formed, more)
 
@@ -263,6 +272,9 @@ module _ {T : Type 0} where
 
 -- what a direct insertion changes and keeps
 pub ruleset direct_insertions = (formed-inserted, entry-inserted, live-inserted, slots-inserted, room-inserted)
+
+-- what a growth of a direct arena changes and keeps
+pub ruleset direct_growths = (formed-in_room, entry-in_room, live-in_room, slots-in_room, room-in_room)
 
 -- what a removal from a direct arena changes and keeps
 pub ruleset direct_removals = (formed-removed, entry-removed, live-removed, slots-removed, room-removed)
