@@ -2,6 +2,9 @@ pub mod AgreedLemmas
 pub mod PlaceLemmas
 pub mod TakeOutLemmas
 pub mod ExchangeLemmas
+pub mod ListLemmas
+pub mod PutInLemmas
+pub mod TurnLemmas
 pub mod InsertionLemmas
 pub mod KindLemmas
 pub mod ConnectionLemmas

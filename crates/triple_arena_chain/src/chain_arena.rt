@@ -10,6 +10,7 @@ mod connections;
 pub(crate) mod drain;
 pub(crate) mod entry;
 mod exchange;
+mod gap;
 mod growth;
 mod insertion;
 mod interlinks;
