@@ -9,3 +9,6 @@ pub mod Walks
 pub mod UniquenessLaws
 pub mod Drains
 pub mod DrainLaws
+pub mod Listed
+pub mod LinkRecasting
+pub mod IndexDrains
