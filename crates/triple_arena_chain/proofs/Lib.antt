@@ -17,3 +17,6 @@ pub mod RemovalLemmas
 pub mod LawLemmas
 pub mod TakenWalkLemmas
 pub mod DrainLemmas
+pub mod SameLinksLemmas
+pub mod ListedLemmas
+pub mod IndexDrainLemmas

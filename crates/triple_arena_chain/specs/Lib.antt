@@ -16,3 +16,6 @@ pub mod Walks
 pub mod WalkLaws
 pub mod Drains
 pub mod DrainLaws
+pub mod Listed
+pub mod LinkRecasting
+pub mod IndexDrains
