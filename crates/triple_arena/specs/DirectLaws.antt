@@ -247,6 +247,14 @@ module _ {T : Type 0} where
   pub live-with_limit : (greatest : ℕ) (d : DirectContent T) (max : ℕ) → live_count (with_limit greatest d max) ≡ live_count d
   live-with_limit greatest d max = live-with_limit_of greatest (as_content d) max
 
+  -- the same of what is known to be such a content, as a search finds it
+  pub entry-limited : (greatest : ℕ) (d limited : DirectContent T) (max : ℕ) → limited ≡ with_limit greatest d max → (j : ℕ)
+      → entry_at limited j ≡ entry_at d j
+  entry-limited greatest d limited max is j = ap (λ e. entry_at e j) is ∙ entry-with_limit greatest d max j
+
+  pub live-limited : (greatest : ℕ) (d limited : DirectContent T) (max : ℕ) → limited ≡ with_limit greatest d max → live_count limited ≡ live_count d
+  live-limited greatest d limited max is = ap live_count is ∙ live-with_limit greatest d max
+
   pub slots-with_limit : (greatest : ℕ) (d : DirectContent T) (max : ℕ)
       → length (with_limit greatest d max).slots ≡ (if nat_lt max (length d.slots) then last_index d else length d.slots)
   slots-with_limit greatest d max = slots-with_limit_of greatest (as_content d) max
@@ -295,7 +303,15 @@ pub ruleset direct_free_end_removals = (
 )
 
 -- what a limit that is set changes and keeps
-pub ruleset direct_limits = (formed-with_limit, entry-with_limit, live-with_limit, slots-with_limit, room-with_limit)
+pub ruleset direct_limits = (
+  formed-with_limit,
+  entry-with_limit,
+  live-with_limit,
+  entry-limited,
+  live-limited,
+  slots-with_limit,
+  room-with_limit,
+)
 
 -- what is left where all entries went
 pub ruleset direct_clearings = (formed-cleared, entry-cleared, live-cleared, slots-cleared, room-cleared)
