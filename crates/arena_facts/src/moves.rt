@@ -7,7 +7,7 @@ ghost use Rattle.triple_arena_stack.specs.Room.{capacity as capacity_of, IsBeyon
 ghost use Rattle.triple_arena.specs.ArenaRoom.{room_with};
 ghost use Rattle.triple_arena.specs.Compression.{generation_of, IsCompact};
 ghost use Rattle.triple_arena.specs.Content.{entry_at, live_count, last_index, with_limit};
-ghost use Rattle.triple_arena.specs.DirectContent.{live_count as direct_live_count, cleared};
+ghost use Rattle.triple_arena.specs.DirectContent.{entry_at as direct_entry_at, live_count as direct_live_count, cleared};
 ghost use Rattle.triple_arena.specs.Drains.{drained};
 ghost use Rattle.triple_arena.specs.Transfer.{IsTransferred};
 
@@ -117,8 +117,23 @@ pub fn limit<P: Ptr, T: Drop, S: NonZeroInxLimitedStack<ArenaSlot<P, T>> + Drop>
 ) -> Result<(), MaxCapacityReductionError>
     ensures variant { IsOk result ↔ (last_index arena.old ≤ max) }
     ensures exact { OnOk result (arena.new ≡ with_limit P.Inx.greatest arena.old max) }
+    ensures entries { OnOk result ((j : ℕ) → entry_at arena.new j ≡ entry_at arena.old j) }
+    ensures count { OnOk result (live_count arena.new ≡ live_count arena.old) }
     ensures counter { OnOk result (arena.new.counter ≡ arena.old.counter) }
     ensures err { OnErr result (arena.new ≡ arena.old) }
+{
+    arena.set_max_capacity(max)
+}
+
+/// The same of an arena to which the caller gives the pointers.
+#[tactic(auto, using(triple_arena::specs::DirectLaws::direct_limits))]
+pub fn limit_direct<P: Ptr, T: Drop, S: NonZeroInxLimitedStack<DirectSlot<P, T>> + Drop>(
+    arena: &mut DirectArena<P, T, S>,
+    max: usize,
+) -> Result<(), MaxCapacityReductionError>
+    ensures entries { OnOk result ((j : ℕ) → direct_entry_at arena.new j
+        ≡ direct_entry_at arena.old j) }
+    ensures count { OnOk result (direct_live_count arena.new ≡ direct_live_count arena.old) }
 {
     arena.set_max_capacity(max)
 }

@@ -2,7 +2,7 @@
 ghost use Rattle.std.specs.Prelude.{◌≡◌, ℕ, ◌+◌, ◌<◌, OnOk, IfOk, IsOk, Some};
 ghost use Rattle.triple_arena.specs.Content.{entry_at, live_count, arena_capacity, inserted, grown_if_full};
 
-use std::alloc::{Allocator, Global};
+use std::alloc::Global;
 use triple_arena::{ArenaInsertTrait, ArenaTrait, HeapArena, P0, Ptr, ReallocationError};
 
 pub fn make(alloc: Global) -> HeapArena<P0, u64, Global>

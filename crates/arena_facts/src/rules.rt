@@ -1,7 +1,7 @@
 //! What the rules of each exact state give to a function that names them.
 ghost use Rattle.std.specs.Prelude.{◌≡◌, ◌==◌, ◌-◌, ℕ, [], ◌∷◌, length, drop, max, OnOk, OnSome, if◌then◌else◌};
 ghost use Rattle.triple_arena_ptr.specs.InvalidationResult.{answer_of};
-ghost use Rattle.triple_arena.specs.DirectContent.{live_count as direct_live_count};
+ghost use Rattle.triple_arena.specs.DirectContent.{entry_at as direct_entry_at, live_count as direct_live_count};
 ghost use Rattle.triple_arena.specs.Content.{entry_at, live_count, next_index, IsWellFormed};
 
 use triple_arena::{
@@ -34,6 +34,31 @@ pub fn grow<P: Ptr, T: Drop, S: NonZeroInxGenericStack<ArenaSlot<P, T>> + Drop>(
     ensures entries { OnOk result ((j : ℕ) → entry_at arena.new j ≡ entry_at arena.old j) }
 {
     arena.reallocate_min_capacity(min)
+}
+
+/// The slots after a growth of an arena to which the caller gives the pointers.
+#[tactic(auto, using(triple_arena::specs::DirectLaws::direct_growths))]
+pub fn grow_direct<P: Ptr, T: Drop, S: NonZeroInxGenericStack<DirectSlot<P, T>> + Drop>(
+    arena: &mut DirectArena<P, T, S>,
+    min: usize,
+) -> Result<(), ReallocationError>
+    ensures entries { OnOk result ((j : ℕ) → direct_entry_at arena.new j
+        ≡ direct_entry_at arena.old j) }
+    ensures slots { OnOk result (length arena.new.slots ≡ length arena.old.slots) }
+    ensures count { OnOk result (direct_live_count arena.new ≡ direct_live_count arena.old) }
+{
+    arena.reallocate_min_capacity(min)
+}
+
+/// The entries where the counter stepped.
+pub fn inc_generation<P: Ptr, T: Drop, S: NonZeroInxGenericStack<ArenaSlot<P, T>> + Drop>(
+    arena: &mut Arena<P, T, S>,
+) -> InvalidationOption<()>
+    ensures entries { (j : ℕ) → entry_at arena.new j ≡ entry_at arena.old j }
+    ensures count { live_count arena.new ≡ live_count arena.old }
+    ensures free { arena.new.free ≡ arena.old.free }
+{
+    arena.inc_generation()
 }
 
 /// The slots and the free indexes after a removal.

@@ -62,7 +62,8 @@ module _ {P U T A F : Type 0} (index generation : P → ℕ) (step : F → P →
 
 module _ {T : Type 0} where
   -- a direct arena that was grown and then cleared
-  pub emptied_direct : (g : Option ℕ) {n last : ℕ} (d : DirectContent T) {grown new : DirectContent T} → new ≡ cleared grown → grown ≡ reallocated d n → n ≡ last
+  pub emptied_direct : (g : Option ℕ) {n last : ℕ} (d : DirectContent T) {grown new : DirectContent T} → new ≡ cleared grown
+      → grown ≡ reallocated d n → n ≡ last
       → IsNew entry_at live_count no_counter (λ x. x.room) (option_map (next_generation g) (no_counter d)) (room_with last d.room) new
       × (new ≡ cleared (reallocated d last))
   emptied_direct g {n} {last} d {grown} {new} is grew at =

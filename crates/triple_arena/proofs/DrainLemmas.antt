@@ -68,7 +68,8 @@ module _ {T : Type 0} where
       (taken (suc k) ∙ rw (eq-eqb (suc k) (suc k) refl) refl)
       (λ j other. taken (suc j) ∙ rw (ne_eqb (suc j) (suc k) (λ is. other (omega (arith, is)))) refl))
 
-  counter_is : (last : Option ℕ) (old new : Content T) → some_counter new ≡ option_map (next_generation last) (some_counter old) → new.counter ≡ next_generation last old.counter
+  counter_is : (last : Option ℕ) (old new : Content T) → some_counter new ≡ option_map (next_generation last) (some_counter old)
+      → new.counter ≡ next_generation last old.counter
   counter_is last old new stepped = cc
 
   -- what is left to remove after a removal
@@ -107,7 +108,8 @@ module _ {T : Type 0} where
       ]
 
 -- a step of a drain, which took what stood at this index
-pub record Stepped {P T : Type 0} (last : Option ℕ) (index generation : P → ℕ) (old : Content T) (item : InvalidationOption (P × T)) (i : ℕ) (new : Content T) : Type 0 where
+pub record Stepped {P T : Type 0} (last : Option ℕ) (index generation : P → ℕ) (old : Content T) (item : InvalidationOption (P × T)) (i : ℕ)
+    (new : Content T) : Type 0 where
   pub first : removals last old.counter (live_entries old) ≡ removal_of index generation item ∷ removals last new.counter (live_entries new)
   pub leaves : drained last new ≡ drained last old
   pub passed : (j : ℕ) → j ≤ i → entry_at new j ≡ None

@@ -366,7 +366,8 @@ module _ {T : Type 0} where
       }
 
   -- a live slot has another value
-  pub rewritten : {es es' : List (Slot T)} {len : ℕ} (i : ℕ) {head : Option ℕ} {room room' : Room} {g : ℕ} (w : T) {old : Slot T} {e : ℕ × T} {c : Content T} → IsSound es len head room → content_of es room g head ≡ c → entry_at c i ≡ Some e → slice_get es (i - 1) ≡ Some old
+  pub rewritten : {es es' : List (Slot T)} {len : ℕ} (i : ℕ) {head : Option ℕ} {room room' : Room} {g : ℕ} (w : T) {old : Slot T} {e : ℕ × T} {c : Content T}
+      → IsSound es len head room → content_of es room g head ≡ c → entry_at c i ≡ Some e → slice_get es (i - 1) ≡ Some old
       → es' ≡ set es (i - 1) (with_slot_value old w) → room' ≡ room → Leaves es' len head room' g (with_value c i w) old e
   rewritten {es} {len} i {head} {room} w {old} {e} sound seen is was written kept =
       let f = finds head seen is in

@@ -427,7 +427,8 @@ module _ {T : Type 0} where
       (chain.0, positive, (chain.2.0, slice_get-take es n (i - 1) below ∙ chain.2.1, chain_take es n chain.2.0 l up_to.1 chain.2.2))
 
   -- the slots up to the last live one, with the list of those of them that are free
-  pub cut : {es : List (Slot T)} (es' : List (Slot T)) {es'' : List (Slot T)} {len last : ℕ} {head head' : Option ℕ} {room room' : Room} {g : ℕ} {c : Content T} {l : List ℕ}
+  pub cut : {es : List (Slot T)} (es' : List (Slot T)) {es'' : List (Slot T)} {len last : ℕ} {head head' : Option ℕ} {room room' : Room} {g : ℕ}
+      {c : Content T} {l : List ℕ}
       → IsSound es len head room → content_of es room g head ≡ c → last ≡ last_index c → map entry_of es' ≡ map entry_of es
       → l ≡ reverse (filter (λ i. leb i last) (links es (length es) head)) → IsChain es' head' (reverse (filter (λ i. leb i last) l))
       → es'' ≡ take last es' → room' ≡ room → Becomes es'' len head' room' g (without_free_end c)

@@ -66,8 +66,10 @@ module _ {T : Type 0} where
       → Taken xs ys i (number g) t
   entry_taken {G} number given g t xs ys n i vacant is stood place written =
       let back : i - 1 ≡ n = omega (arith, place) in
-      let holds : Some (option_map (λ (e : G × T). (number e.0, e.1)) given) ≡ Some (Some (number g, t)) = ap (λ o. Some (option_map (λ (e : G × T). (number e.0, e.1)) o)) is in
-      let here : get_or xs n None ≡ Some (number g, t) = get_or_from_slice_get xs n (Some (number g, t)) None (ap (slice_get xs) (sym back) ∙ sym stood ∙ holds) in
+      let holds : Some (option_map (λ (e : G × T). (number e.0, e.1)) given) ≡ Some (Some (number g, t)) =
+      ap (λ o. Some (option_map (λ (e : G × T). (number e.0, e.1)) o)) is in
+      let here : get_or xs n None ≡ Some (number g, t) =
+      get_or_from_slice_get xs n (Some (number g, t)) None (ap (slice_get xs) (sym back) ∙ sym stood ∙ holds) in
       let within = within_slots xs n (number g, t) here in
       let now : ys ≡ set xs n None = written ∙ ap (λ k. set xs k None) back in
       let gone : get_or ys n None ≡ None = ap (λ l. get_or l n None) now ∙ get_or-set_same xs n None None within in

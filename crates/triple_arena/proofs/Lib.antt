@@ -1,7 +1,9 @@
 pub mod FreeListLemmas
 pub mod FreeSlotsLemmas
 pub mod ExchangeLemmas
+pub mod EntriesLemmas
 pub mod WalkLemmas
+mod AdvancerLemmas
 mod CompressionLemmas
 mod TransferLemmas
 mod TakeOverLemmas

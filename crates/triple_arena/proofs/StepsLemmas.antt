@@ -6,11 +6,12 @@ use Rattle.std.specs.Fn.{iterate}
 use Rattle.std.specs.Option.{option_map}
 use Rattle.triple_arena_ptr.specs.Generation.{next_generation}
 use Rattle.triple_arena_stack.specs.Room.{Room}
+use Rattle.triple_arena.proofs.EntriesLemmas.{either_of}
 use Rattle.triple_arena.specs.Changes.{IsNew}
-use Rattle.triple_arena.specs.Entries.{counter_wraps, generation_at, look_up, revalued}
-use Rattle.triple_arena.specs.Compression.{entry_of_listed, generation_of, generation_given, index_of}
+use Rattle.triple_arena.specs.Entries.{counter_wraps, generation_at, look_up, revalued, IsOneOf}
+use Rattle.triple_arena.specs.Compression.{entry_of_listed, generation_of, generation_given, index_of, pointer_of}
 use Rattle.triple_arena.specs.Transfer.{steps_wrap}
-use Rattle.triple_arena.specs.Steps.{Step, insert, remove, invalidate, clear, drain, compress, exchange, write, reallocate, keep, counts, IsOneOf, AreNew, Finds, given, all_given, reached, Takes, Happens}
+use Rattle.triple_arena.specs.Steps.{Step, insert, remove, invalidate, clear, drain, inc_generation, compress, exchange, write, reallocate, keep, counts, AreNew, Finds, given, all_given, reached, Takes, Happens}
 
 -- the generation of an entry, if there is one
 abbrev generation : {T : Type 0} → Option (ℕ × T) → Option ℕ
@@ -18,24 +19,6 @@ generation o = option_map (λ entry. entry.0) o
 
 same_pair : {i j g h : ℕ} → i ≡ j → g ≡ h → ◌≡◌ {A = ℕ × ℕ} (i, g) (j, h)
 same_pair e f = cc
-
-either_of : (l m : List (ℕ × ℕ)) (p : ℕ × ℕ) → IsOneOf (l ++ m) p → IsOneOf l p ⊎ IsOneOf m p
-either_of [] m p one = inr one
-either_of (q ∷ l) m p (inl here) = inl (inl here)
-either_of (q ∷ l) m p (inr one) = later (either_of l m p one)
-  where
-    later : IsOneOf l p ⊎ IsOneOf m p → IsOneOf (q ∷ l) p ⊎ IsOneOf m p
-    later (inl first) = inl (inr first)
-    later (inr second) = inr second
-
-first_of : (l m : List (ℕ × ℕ)) (p : ℕ × ℕ) → IsOneOf l p → IsOneOf (l ++ m) p
-first_of [] m p one = absurd one
-first_of (q ∷ l) m p (inl here) = inl here
-first_of (q ∷ l) m p (inr one) = inr (first_of l m p one)
-
-second_of : (l m : List (ℕ × ℕ)) (p : ℕ × ℕ) → IsOneOf m p → IsOneOf (l ++ m) p
-second_of [] m p one = one
-second_of (q ∷ l) m p one = inr (second_of l m p one)
 
 both_new : (l m : List (ℕ × ℕ)) → AreNew l → AreNew m → ((p : ℕ × ℕ) → IsOneOf l p → IsOneOf m p → ⊥) → AreNew (l ++ m)
 both_new [] m new more apart = more
@@ -46,36 +29,32 @@ both_new (q ∷ l) m new more apart = (λ one. twice (either_of l m q one), both
     twice (inr second) = apart q (inl refl) second
 
 module _ {T : Type 0} where
-  -- the pointer of a listed entry
-  abbrev pointer : ℕ × (ℕ × T) → ℕ × ℕ
-  pointer entry = (entry.0, entry.1.0)
-
   record Listed (entries : List (ℕ × (ℕ × T))) (p : ℕ × ℕ) : Type 0 where
     pub place : ℕ
     pub entry : ℕ × (ℕ × T)
     pub stands : slice_get entries place ≡ Some entry
-    pub is : pointer entry ≡ p
+    pub is : pointer_of entry ≡ p
 
-  listed_of : (entries : List (ℕ × (ℕ × T))) (p : ℕ × ℕ) → IsOneOf (map pointer entries) p → Listed entries p
+  listed_of : (entries : List (ℕ × (ℕ × T))) (p : ℕ × ℕ) → IsOneOf (map pointer_of entries) p → Listed entries p
   listed_of [] p one = absurd one
   listed_of (e ∷ entries) p (inl here) = record { place = 0; entry = e; stands = refl; is = here }
   listed_of (e ∷ entries) p (inr one) =
       let l = listed_of entries p one in
       record { place = suc l.place; entry = l.entry; stands = l.stands; is = l.is }
 
-  is_listed : (entries : List (ℕ × (ℕ × T))) (k : ℕ) (e : ℕ × (ℕ × T)) → slice_get entries k ≡ Some e → IsOneOf (map pointer entries) (pointer e)
+  is_listed : (entries : List (ℕ × (ℕ × T))) (k : ℕ) (e : ℕ × (ℕ × T)) → slice_get entries k ≡ Some e → IsOneOf (map pointer_of entries) (pointer_of e)
   is_listed [] k e found = absurd (cc)
-  is_listed (x ∷ entries) zero e found = inl (let same : x ≡ e = cc in ap pointer same)
+  is_listed (x ∷ entries) zero e found = inl (let same : x ≡ e = cc in ap pointer_of same)
   is_listed (x ∷ entries) (suc k) e found = inr (is_listed entries k e found)
 
   -- where each stands at its own index, none is listed twice
   listed_once : (n : ℕ) (entries : List (ℕ × (ℕ × T))) → ((k : ℕ) (e : ℕ × (ℕ × T)) → slice_get entries k ≡ Some e → index_of e ≡ n + k)
-      → AreNew (map pointer entries)
+      → AreNew (map pointer_of entries)
   listed_once n [] at = tt
   listed_once n (x ∷ entries) at =
       let later = λ (k : ℕ) (e : ℕ × (ℕ × T)) (found : slice_get entries k ≡ Some e). at (suc k) e found in (
         λ one.
-            let l = listed_of entries (pointer x) one in
+            let l = listed_of entries (pointer_of x) one in
             let same : index_of l.entry ≡ index_of x = ap (λ (p : ℕ × ℕ). p.0) l.is in
             omega (arith, at 0 x refl, later l.place l.entry l.stands, same),
         listed_once (n + 1) entries (λ k e found. omega (arith, later k e found)),
@@ -216,6 +195,15 @@ module _ {S T : Type 0} (entry_of : S → ℕ → Option (ℕ × T)) (live_of : 
     effect = steps entry_of (λ p f. absurd (absent (took.entries p.0) f)) (λ p one. absurd one) tt;
   }
 
+  -- the counter alone
+  counted_step : {c : ℕ} {old new : S} → counter_of old ≡ Some c → counter_wraps (Some greatest) (counter_of old) ≡ false
+      → Takes entry_of live_of counter_of room_of listed (Some greatest) inc_generation old new → Stepped c [] old new
+  counted_step {c} {old} {new} is wraps took = record {
+    c' = c + 1;
+    is = stepped_to is wraps took.counter;
+    effect = steps entry_of (λ p f. inl (sym (ap generation (took.entries p.0)) ∙ f)) (λ p one. absurd one) tt;
+  }
+
   -- so many steps of the counter, none of which wraps
   stepped_often : (n c : ℕ) → steps_wrap (Some greatest) n (Some c) ≡ replicate n false → iterate (next_generation (Some greatest)) n c ≡ c + n
   stepped_often zero c wraps = omega arith
@@ -296,12 +284,12 @@ module _ {S T : Type 0} (entry_of : S → ℕ → Option (ℕ × T)) (live_of : 
   -- all entries move, and each gets a new pointer
   compressed_step : {c : ℕ} {old new : S} → counter_of old ≡ Some c → counter_wraps (Some greatest) (counter_of old) ≡ false
       → Takes entry_of live_of counter_of room_of listed (Some greatest) compress old new
-      → Stepped c (map (λ entry. (entry.0, entry.1.0)) (listed new)) old new
+      → Stepped c (map pointer_of (listed new)) old new
   compressed_step {c} {old} {new} is wraps took = record {
     c' = c + 1;
     is = stepped_to is wraps took.counter;
     effect = steps entry_of
-        (λ p f. inr (subst (IsOneOf (map pointer (listed new))) (same_pair refl refl) (by_index p.0 p.1 f)))
+        (λ p f. inr (subst (IsOneOf (map pointer_of (listed new))) (same_pair refl refl) (by_index p.0 p.1 f)))
         by_listed
         (listed_once 1 (listed new) (λ k e found. omega (arith, took.compact k e found)));
   }
@@ -311,22 +299,22 @@ module _ {S T : Type 0} (entry_of : S → ℕ → Option (ℕ × T)) (live_of : 
           took.generations ∙ ap (λ o. map (λ e. generation_given (Some greatest) false o (generation_of e)) (listed old)) is
           ∙ ap (λ n. map (λ _. n) (listed old)) (next_is is wraps)
 
-      by_index : (i g : ℕ) → Finds entry_of new (i, g) → IsOneOf (map pointer (listed new)) (i, g)
+      by_index : (i g : ℕ) → Finds entry_of new (i, g) → IsOneOf (map pointer_of (listed new)) (i, g)
       by_index zero g f = absurd (absent {p = (0, g)} (none_at_zero new) f)
       by_index (suc k) g f = by_place (slice_get (listed new) k) refl
         where
           stands : entry_of new (suc k) ≡ option_map entry_of_listed (slice_get (listed new) k)
           stands = let next : k + 1 ≡ suc k = omega arith in ap (entry_of new) (sym next) ∙ took.entries k
 
-          by_place : (o : Option (ℕ × (ℕ × T))) → slice_get (listed new) k ≡ o → IsOneOf (map pointer (listed new)) (suc k, g)
+          by_place : (o : Option (ℕ × (ℕ × T))) → slice_get (listed new) k ≡ o → IsOneOf (map pointer_of (listed new)) (suc k, g)
           by_place None e = absurd (absent {p = (suc k, g)} (stands ∙ ap (option_map entry_of_listed) e) f)
           by_place (Some x) e =
               let o : Some x.1.0 ≡ Some g = finds_by entry_of {s = new} {p = (suc k, g)} (stands ∙ ap (option_map entry_of_listed) e) f in
               let at : x.1.0 ≡ g = cc in
               let here : x.0 ≡ suc k = omega (arith, took.compact k x e) in
-              subst (IsOneOf (map pointer (listed new))) (same_pair here at) (is_listed (listed new) k x e)
+              subst (IsOneOf (map pointer_of (listed new))) (same_pair here at) (is_listed (listed new) k x e)
 
-      by_listed : (p : ℕ × ℕ) → IsOneOf (map pointer (listed new)) p → Finds entry_of new p × (p.1 ≡ c + 1)
+      by_listed : (p : ℕ × ℕ) → IsOneOf (map pointer_of (listed new)) p → Finds entry_of new p × (p.1 ≡ c + 1)
       by_listed p one =
           let l = listed_of (listed new) p one in
           let at = same_generation (c + 1) (listed new) (listed old) renewed l.place l.entry l.stands in
@@ -380,6 +368,7 @@ module _ {S T : Type 0} (entry_of : S → ℕ → Option (ℕ × T)) (live_of : 
   step_of (invalidate i g) old new is took wraps = invalidated_step i g is (one_step (counter_of old) wraps) took
   step_of clear old new is took wraps = cleared_step is (one_step (counter_of old) wraps) took
   step_of drain old new is took wraps = drained_step is wraps took
+  step_of inc_generation old new is took wraps = counted_step is (one_step (counter_of old) wraps) took
   step_of compress old new is took wraps = compressed_step is (one_step (counter_of old) wraps) took
   step_of (exchange i j) old new is took wraps = exchanged_step i j is took
   step_of (write i t) old new is took wraps = written_step i t is took

@@ -210,7 +210,8 @@ module _ {Q U P T F : Type 0} (old_index old_generation : Q → ℕ) (index gene
       let entries = map (entry_before old_index old_generation index generation) n.p.moves in
       let all = ap length n.p.before ∙ listed-length 1 old in
       let parts = length-append entries (listed_from (at + 1) n.p.rest) in
-      let some : length (listed_from (at + 1) n.p.rest) ≡ suc (length (listed_from ((at + 1) + 1) n.rest)) = ap (λ l. length (listed_from (at + 1) l)) n.rest_is in
+      let some : length (listed_from (at + 1) n.p.rest) ≡ suc (length (listed_from ((at + 1) + 1) n.rest)) =
+      ap (λ l. length (listed_from (at + 1) l)) n.rest_is in
       let moved = length-map n.p.moves (entry_before old_index old_generation index generation) in
       let kept = ap length n.p.slots in
       let first = length-map n.p.moves given_of in
@@ -238,7 +239,8 @@ module _ {Q U P T F : Type 0} (old_index old_generation : Q → ℕ) (index gene
       → MovesOut old_index old_generation index generation step f last counter g (listed_from 1 old) to
   partly_all {last} {counter} {old} {f'} p past =
       let passed = nothing_left p past in
-      let many : length p.moves ≡ length (listed_from 1 old) = sym (length-map p.moves (entry_before old_index old_generation index generation)) ∙ ap length passed in
+      let many : length p.moves ≡ length (listed_from 1 old) =
+      sym (length-map p.moves (entry_before old_index old_generation index generation)) ∙ ap length passed in
       record {
         moves = p.moves;
         last = f';

@@ -70,6 +70,13 @@ module _ {S T : Type 0} (entry_of : S → ℕ → Option (ℕ × T)) (live_of : 
     pub counter : counter_of new ≡ option_map (next_generation last) (counter_of old)
     pub room : room_of new ≡ room_of old
 
+  -- the counter steps; all entries stay
+  pub record IsStepped (old new : S) : Type 0 where
+    pub entries : (j : ℕ) → entry_of new j ≡ entry_of old j
+    pub live : live_of new ≡ live_of old
+    pub counter : counter_of new ≡ option_map (next_generation last) (counter_of old)
+    pub room : room_of new ≡ room_of old
+
   -- the live entries at the indexes from 1 on, in the order in which they are listed, with the generations and the counter
   -- renewed
   pub record IsCompressed (listed : S → List (ℕ × (ℕ × T))) (reset : Bool) (old new : S) : Type 0 where

@@ -43,6 +43,10 @@ module _ {T : Type 0} where
   abbrev pub value_of : ℕ × (ℕ × T) → T
   value_of entry = entry.1.1
 
+  -- the index and the generation
+  abbrev pub pointer_of : ℕ × (ℕ × T) → ℕ × ℕ
+  pointer_of entry = (entry.0, entry.1.0)
+
   -- the entries stand at the indexes from 1 on
   abbrev pub IsCompact : List (ℕ × (ℕ × T)) → Type 0
   IsCompact entries = (k : ℕ) (entry : ℕ × (ℕ × T)) → slice_get entries k ≡ Some entry → index_of entry ≡ k + 1

@@ -207,6 +207,15 @@ module _ {T : Type 0} where
   entry-in_room d r zero = refl
   entry-in_room d r (suc k) = refl
 
+  pub live-in_room : (d : DirectContent T) (r : Room) → live_count (in_room d r) ≡ live_count d
+  live-in_room d r = refl
+
+  pub slots-in_room : (d : DirectContent T) (r : Room) → length (in_room d r).slots ≡ length d.slots
+  slots-in_room d r = refl
+
+  pub room-in_room : (d : DirectContent T) (r : Room) → (in_room d r).room ≡ r
+  room-in_room d r = refl
+
   pub formed-in_room : (d : DirectContent T) (r : Room) → arena_capacity d ≤ capacity r → IsWellFormed d → IsWellFormed (in_room d r)
   formed-in_room d r more formed = omega (arith, formed, more)
 
@@ -238,6 +247,14 @@ module _ {T : Type 0} where
   pub live-with_limit : (greatest : ℕ) (d : DirectContent T) (max : ℕ) → live_count (with_limit greatest d max) ≡ live_count d
   live-with_limit greatest d max = live-with_limit_of greatest (as_content d) max
 
+  -- the same of what is known to be such a content, as a search finds it
+  pub entry-limited : (greatest : ℕ) (d limited : DirectContent T) (max : ℕ) → limited ≡ with_limit greatest d max → (j : ℕ)
+      → entry_at limited j ≡ entry_at d j
+  entry-limited greatest d limited max is j = ap (λ e. entry_at e j) is ∙ entry-with_limit greatest d max j
+
+  pub live-limited : (greatest : ℕ) (d limited : DirectContent T) (max : ℕ) → limited ≡ with_limit greatest d max → live_count limited ≡ live_count d
+  live-limited greatest d limited max is = ap live_count is ∙ live-with_limit greatest d max
+
   pub slots-with_limit : (greatest : ℕ) (d : DirectContent T) (max : ℕ)
       → length (with_limit greatest d max).slots ≡ (if nat_lt max (length d.slots) then last_index d else length d.slots)
   slots-with_limit greatest d max = slots-with_limit_of greatest (as_content d) max
@@ -264,6 +281,9 @@ module _ {T : Type 0} where
 -- what a direct insertion changes and keeps
 pub ruleset direct_insertions = (formed-inserted, entry-inserted, live-inserted, slots-inserted, room-inserted)
 
+-- what a growth of a direct arena changes and keeps
+pub ruleset direct_growths = (formed-in_room, entry-in_room, live-in_room, slots-in_room, room-in_room)
+
 -- what a removal from a direct arena changes and keeps
 pub ruleset direct_removals = (formed-removed, entry-removed, live-removed, slots-removed, room-removed)
 
@@ -283,7 +303,15 @@ pub ruleset direct_free_end_removals = (
 )
 
 -- what a limit that is set changes and keeps
-pub ruleset direct_limits = (formed-with_limit, entry-with_limit, live-with_limit, slots-with_limit, room-with_limit)
+pub ruleset direct_limits = (
+  formed-with_limit,
+  entry-with_limit,
+  live-with_limit,
+  entry-limited,
+  live-limited,
+  slots-with_limit,
+  room-with_limit,
+)
 
 -- what is left where all entries went
 pub ruleset direct_clearings = (formed-cleared, entry-cleared, live-cleared, slots-cleared, room-cleared)

@@ -1,5 +1,5 @@
 -- What is known of any arena: the entry at each index.
-use Rattle.std.specs.Prelude.{ℕ, ◌==◌, Bool, true, false, List, find, Option, Some, None, if◌then◌else◌}
+use Rattle.std.specs.Prelude.{◌≡◌, ◌⊎◌, ℕ, ◌==◌, Bool, true, false, List, [], ◌∷◌, find, Option, Some, None, if◌then◌else◌}
 use Rattle.std.specs.Option.{option_map}
 use Rattle.triple_arena_ptr.specs.Generation.{next_wraps}
 
@@ -13,6 +13,11 @@ number_if false n = None
 abbrev pub counter_wraps : Option ℕ → Option ℕ → Bool
 counter_wraps last None = false
 counter_wraps last (Some g) = next_wraps last g
+
+-- p is one of these
+abbrev pub IsOneOf : List (ℕ × ℕ) → ℕ × ℕ → Type 0
+IsOneOf [] p = ⊥
+IsOneOf (q ∷ l) p = (q ≡ p) ⊎ IsOneOf l p
 
 module _ {T : Type 0} where
   -- the value of an entry that has this generation

@@ -1,6 +1,6 @@
 -- What a limit that is set changes and keeps.
 use Rattle.std.specs.Prelude.{nat_lt}
-use Rattle.std.proofs.Common.{◌≡◌, if◌then◌else◌, ℕ, Bool, true, false, ◌<◌, ◌≤◌, length, min, Option, Some, None, refl, ◌∙◌, arith}
+use Rattle.std.proofs.Common.{◌≡◌, if◌then◌else◌, ℕ, Bool, true, false, ◌<◌, ◌≤◌, length, min, Option, Some, None, refl, ap, ◌∙◌, arith}
 use Rattle.std.proofs.lemmas.Bool.{ltb-true, ltb-false}
 use Rattle.triple_arena_ptr.specs.Index.{max_index_of}
 use Rattle.triple_arena_stack.specs.Room.{Room, within, capacity, limited}
@@ -40,6 +40,13 @@ module _ {T : Type 0} where
 
   pub live-with_limit : (greatest : ℕ) (c : Content T) (max : ℕ) → live_count (with_limit greatest c max) ≡ live_count c
   live-with_limit greatest c max = fitted_same live_count live-without_free_end c max
+
+  -- the same of what is known to be such a content, as a search finds it
+  pub entry-limited : (greatest : ℕ) (c limited : Content T) (max : ℕ) → limited ≡ with_limit greatest c max → (j : ℕ) → entry_at limited j ≡ entry_at c j
+  entry-limited greatest c limited max is j = ap (λ d. entry_at d j) is ∙ entry-with_limit greatest c max j
+
+  pub live-limited : (greatest : ℕ) (c limited : Content T) (max : ℕ) → limited ≡ with_limit greatest c max → live_count limited ≡ live_count c
+  live-limited greatest c limited max is = ap live_count is ∙ live-with_limit greatest c max
 
   pub counter-with_limit : (greatest : ℕ) (c : Content T) (max : ℕ) → (with_limit greatest c max).counter ≡ c.counter
   counter-with_limit greatest c max = fitted_same (λ d. d.counter) (λ d. refl) c max
@@ -106,6 +113,8 @@ pub ruleset limits = (
   formed-with_limit,
   entry-with_limit,
   live-with_limit,
+  entry-limited,
+  live-limited,
   slots-with_limit,
   counter-with_limit,
   free-with_limit,

@@ -3,6 +3,7 @@ use Rattle.std.specs.Prelude.{ℕ, List, [], ◌∷◌, Option, Some, None, flat
 use Rattle.triple_arena_ptr.specs.Recast.{recast_answer, where_ok}
 use Rattle.triple_arena.specs.Content.{Content}
 use Rattle.triple_arena.specs.Compression.{live_values}
+use Rattle.triple_arena.specs.DirectContent.{DirectContent, as_content, of_content}
 
 module _ {I T : Type 0} (items : T → List I) where
   -- the items of the values, in the order of the indexes
@@ -20,3 +21,7 @@ module _ {I T : Type 0} (items : T → List I) where
     -- the content with its values recast
     abbrev pub content_recasted : Content T → Content T
     content_recasted c = record c { slots = slots_recasted c.slots }
+
+    -- the same of an arena without a counter and without a list of free indexes
+    abbrev pub directly_recasted : DirectContent T → DirectContent T
+    directly_recasted d = of_content (content_recasted (as_content d))

@@ -9,7 +9,8 @@ use Rattle.triple_arena.specs.ContentLaws.{vacant-kept}
 use Rattle.triple_arena.specs.Entries.{generation_at}
 use Rattle.triple_arena.specs.LiveEntries.{listed_from}
 use Rattle.triple_arena.specs.Compression.{value_of}
-use Rattle.triple_arena.specs.Recasting.{content_items, slots_recasted, content_recasted}
+use Rattle.triple_arena.specs.DirectContent.{DirectContent, as_content, entry_at as direct_entry_at, live_count as direct_live_count, IsWellFormed as IsDirectlyFormed}
+use Rattle.triple_arena.specs.Recasting.{content_items, slots_recasted, content_recasted, directly_recasted}
 
 module _ {I T : Type 0} (items : T → List I) where
   -- the items of the values in slots
@@ -142,6 +143,29 @@ module _ {I T : Type 0} (items : T → List I) where
           fits = omega (arith, slots, fits);
         }
 
+    -- the same of a direct arena
+    pub generation-directly_recasted : (d : DirectContent T) (j : ℕ)
+        → generation_at (direct_entry_at (directly_recasted items f recasted d)) j ≡ generation_at (direct_entry_at d) j
+    generation-directly_recasted d zero = refl
+    generation-directly_recasted d (suc k) = generation-recasted (as_content d) (suc k)
+
+    pub entry-directly_recasted : (d : DirectContent T) → recast_answer f (content_items items (as_content d)) ≡ Ok tt → (j : ℕ)
+        → direct_entry_at (directly_recasted items f recasted d) j ≡ option_map (λ (e : ℕ × T). (e.0, recasted e.1)) (direct_entry_at d j)
+    entry-directly_recasted d ok zero = refl
+    entry-directly_recasted d ok (suc k) = entry-recasted (as_content d) ok (suc k)
+
+    pub live-directly_recasted : (d : DirectContent T) → direct_live_count (directly_recasted items f recasted d) ≡ direct_live_count d
+    live-directly_recasted d = live-recasted (as_content d)
+
+    pub slots-directly_recasted : (d : DirectContent T) → length (directly_recasted items f recasted d).slots ≡ length d.slots
+    slots-directly_recasted d = slots-recasted (as_content d)
+
+    pub room-directly_recasted : (d : DirectContent T) → (directly_recasted items f recasted d).room ≡ d.room
+    room-directly_recasted d = refl
+
+    pub formed-directly_recasted : (d : DirectContent T) → IsDirectlyFormed d → IsDirectlyFormed (directly_recasted items f recasted d)
+    formed-directly_recasted d formed = let same = slots-directly_recasted d in omega (arith, same, formed)
+
 -- what a recast changes and keeps
 pub ruleset recastings = (
   formed-recasted,
@@ -152,4 +176,14 @@ pub ruleset recastings = (
   counter-recasted,
   free-recasted,
   room-recasted,
+)
+
+-- the same of a direct arena
+pub ruleset direct_recastings = (
+  formed-directly_recasted,
+  generation-directly_recasted,
+  entry-directly_recasted,
+  live-directly_recasted,
+  slots-directly_recasted,
+  room-directly_recasted,
 )

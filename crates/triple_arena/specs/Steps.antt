@@ -1,22 +1,25 @@
 -- What is done with an arena step by step, and the pointers that the steps give.
-use Rattle.std.specs.Prelude.{◌≡◌, ◌⊎◌, ℕ, false, List, [], ◌∷◌, ◌++◌, map, replicate, Option, Some, IsSome}
+use Rattle.std.specs.Prelude.{◌≡◌, ℕ, false, List, [], ◌∷◌, ◌++◌, map, replicate, Option, Some, IsSome}
 use Rattle.std.specs.Option.{option_map}
 use Rattle.triple_arena_ptr.specs.Generation.{next_generation}
 use Rattle.triple_arena_stack.specs.Room.{Room}
-use Rattle.triple_arena.specs.Entries.{generation_at, with_value_at}
+use Rattle.triple_arena.specs.Compression.{pointer_of}
+use Rattle.triple_arena.specs.Entries.{generation_at, with_value_at, IsOneOf}
 use Rattle.triple_arena.specs.Transfer.{steps_wrap, IsGivenUp}
-use Rattle.triple_arena.specs.Changes.{IsInserted, IsRemoved, IsInvalidated, IsCleared, IsCompressed, IsExchanged, IsReallocated}
+use Rattle.triple_arena.specs.Changes.{IsInserted, IsRemoved, IsInvalidated, IsCleared, IsStepped, IsCompressed, IsExchanged, IsReallocated}
 
 -- an entry stored at an index under a generation; the entry at an index removed; its pointer ended, and one with this
 -- generation given in its place; all entries removed at once; each of them taken out, by a drain or by a transfer from here; the
--- entries moved to the first indexes; the values at two indexes exchanged; a value written; room made; and whatever leaves the
--- generation at each index, and the counter
+-- counter stepped alone; the entries moved to the first indexes; the values at two indexes exchanged; a value written; room made;
+-- and whatever leaves the generation at each index, and the counter. The last is one step for many calls, since what else they
+-- change matters to no pointer: a recast, the free slots put in order or taken from the end, a limit, a place that is let go
 pub data Step (T : Type 0) : Type 0 where
   insert : ℕ → ℕ → T → Step T
   remove : ℕ → Step T
   invalidate : ℕ → ℕ → Step T
   clear : Step T
   drain : Step T
+  inc_generation : Step T
   compress : Step T
   exchange : ℕ → ℕ → Step T
   write : ℕ → T → Step T
@@ -29,13 +32,9 @@ counts (remove i) live = 1
 counts (invalidate i g) live = 1
 counts clear live = 1
 counts drain live = live
+counts inc_generation live = 1
 counts compress live = 1
 counts _ live = 0
-
--- p is one of these
-abbrev pub IsOneOf : List (ℕ × ℕ) → ℕ × ℕ → Type 0
-IsOneOf [] p = ⊥
-IsOneOf (q ∷ l) p = (q ≡ p) ⊎ IsOneOf l p
 
 -- none of these comes twice
 abbrev pub AreNew : List (ℕ × ℕ) → Type 0
@@ -52,7 +51,7 @@ module _ {S T : Type 0} (listed : S → List (ℕ × (ℕ × T))) where
   abbrev pub given : Step T → S → List (ℕ × ℕ)
   given (insert i g t) new = (i, g) ∷ []
   given (invalidate i g) new = (i, g) ∷ []
-  given compress new = map (λ entry. (entry.0, entry.1.0)) (listed new)
+  given compress new = map pointer_of (listed new)
   given _ new = []
 
   -- those of a history, which has each step with what it left, in the order of the steps
@@ -76,6 +75,7 @@ module _ {S T : Type 0} (entry_of : S → ℕ → Option (ℕ × T)) (live_of : 
       × IsInvalidated entry_of live_of counter_of room_of last i g old new
   Takes clear old new = IsCleared entry_of live_of counter_of room_of last old new
   Takes drain old new = IsGivenUp entry_of live_of counter_of room_of last old new
+  Takes inc_generation old new = IsStepped entry_of live_of counter_of room_of last old new
   Takes compress old new = IsCompressed entry_of live_of counter_of room_of last listed false old new
   Takes (exchange i j) old new =
       IsSome (entry_of old i) × IsSome (entry_of old j) × IsExchanged entry_of live_of counter_of room_of i j old new

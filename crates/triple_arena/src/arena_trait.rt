@@ -62,8 +62,9 @@ pub trait ArenaTrait<P: Ptr, T: Drop> {
 
     ghost cleared: { Self → Self };
 
-    // The arena whose live entries went to the first indexes, with these values and with the generations renewed.
-    ghost compressed: { Self → Bool → List T → Self };
+    // What an arena becomes whose live entries go to the first indexes, with these values and with the generations
+    // renewed. It is a relation, since an arena whose slots hold pointers' indexes has no word for the new ones.
+    ghost is_compressed: { Self → Bool → List T → Self → Type 0 };
 
     // What holds of each arena that a call leaves.
     ghost is_formed: { Self → Type 0 };
@@ -268,8 +269,8 @@ pub trait ArenaTrait<P: Ptr, T: Drop> {
             (list_map generation_of (live_entries self.old)) }
         ensures compressed { IsCompressed entry_at live_count counter room P.Gen.last live_entries
             reset self.old self.new }
-        ensures exact { self.new ≡ compressed self.old reset
-            (list_map value_of_entry (live_entries self.new)) }
+        ensures exact { is_compressed self.old reset
+            (list_map value_of_entry (live_entries self.new)) self.new }
         ensures formed { is_formed self.new };
 
     ghost counter_if_has_counter: { (s : Self) → is_some (counter s) ≡ has_counter };
@@ -310,8 +311,8 @@ pub trait ArenaTrait<P: Ptr, T: Drop> {
             (list_map generation_of (live_entries self.old)) }
         ensures compressed { IsCompressed entry_at live_count counter room P.Gen.last live_entries
             reset self.old self.new }
-        ensures exact { self.new ≡ compressed self.old reset
-            (list_map value_of_entry (live_entries self.old)) }
+        ensures exact { is_compressed self.old reset
+            (list_map value_of_entry (live_entries self.old)) self.new }
         ensures formed { is_formed self.new }
     {
         self.compress_with(reset, |_, value, _| value)

@@ -1,13 +1,22 @@
-//! What follows from the calls of an arena for those who keep pointers. `specs/Steps.antt` has the words: a history is a
-//! list of steps, each with the arena that it left, and what a step changes is what the calls' contracts say.
+//! What follows from the calls of an arena for those who keep pointers, and for those who go over them.
+//!
+//! `specs/Steps.antt` has the words for the first: a history is a list of steps, each with the arena that it left, and
+//! what a step changes is what the calls' contracts say.
 //!
 //! Where generations are counted (`P::Gen` is no `()`), and as long as no step of the counter starts them again and
 //! nobody sets, resets or copies it, a pointer never comes to mean another entry.
-ghost use Rattle.std.specs.Prelude.{◌≡◌, ℕ, List, Some};
+//!
+//! `specs/Walk.antt` has them for the second.
+ghost use Rattle.std.specs.Prelude.{◌≡◌, ◌≤◌, ◌↔◌, ℕ, List, length, map as list_map, Option, Some, IsSome, false};
+ghost use Rattle.std.specs.List.{FoldsTo};
+ghost use Rattle.std.specs.Option.{option_map};
 ghost use Rattle.triple_arena.specs.Changes.{IsNew};
-ghost use Rattle.triple_arena.specs.Steps.{Step, AreNew, Finds, Happens, IsOneOf, all_given, reached};
-ghost use Rattle.triple_arena.specs.Compression.{live_values, IsCompact};
-ghost use Rattle.triple_arena.specs.Content.{Content};
+ghost use Rattle.triple_arena.specs.Entries.{generation_at, IsOneOf};
+ghost use Rattle.triple_arena.specs.Steps.{Step, write, keep, AreNew, Finds, Takes, Happens, all_given, reached};
+ghost use Rattle.triple_arena.specs.Walk.{Walk, IsAhead, GoInOrder, given_by, pointers_ahead};
+ghost use Rattle.triple_arena.specs.Compression.{live_values, pointer_of, IsCompact};
+ghost use Rattle.triple_arena.specs.Content.{Content, entry_at, live_count, some_counter, without_free_end, canonicalized, with_limit, grown_if_full};
+ghost use Rattle.triple_arena.specs.Recasting.{content_recasted};
 ghost use Rattle.triple_arena.specs.DirectContent.{DirectContent, live_entries as live_entries_of};
 ghost use Rattle.triple_arena.specs.LiveEntries.{live_entries};
 ghost use Rattle.triple_arena.specs.Recaster.{IsRecaster, IsRenaming};
@@ -40,6 +49,47 @@ pub fn invalid_pointers_find_nothing<P: Ptr, T: Drop, A: ArenaTrait<P, T>>()
         → IsNew A.entry_at A.live_count A.counter A.room (Some 2) (A.room made) made
         → Happens A.entry_at A.live_count A.counter A.room A.live_entries P.Gen.last made history
         → Finds A.entry_at (reached made history) (index, 1) → ⊥ }
+{}
+
+/// A value that is written where it was lent is a step of a history.
+pub fn writes_are_steps<P: Ptr, T: Drop, A: ArenaTrait<P, T>>()
+    ensures { (arena : A) (index : ℕ) (value : T) → Takes A.entry_at A.live_count A.counter A.room
+        A.live_entries P.Gen.last (write index value) arena (A.with_value arena index value) }
+{}
+
+/// What is done to an `Arena` and leaves each pointer is a step of a history too: a recast, the free slots put in order
+/// or taken from the end, a limit that is set, and the growth for a place that is let go.
+pub fn what_keeps_pointers_is_a_step<I, P: Ptr, T: Drop>()
+    ensures recast { (items : T → List I) (image : I → Option I) (recasted : T → T)
+        (arena : Content T) → Takes entry_at live_count some_counter (λ c. c.room) live_entries
+        P.Gen.last keep arena (content_recasted items image recasted arena) }
+    ensures order { (arena : Content T) → Takes entry_at live_count some_counter (λ c. c.room)
+        live_entries P.Gen.last keep arena (canonicalized arena) }
+    ensures free_end { (arena : Content T) → Takes entry_at live_count some_counter (λ c. c.room)
+        live_entries P.Gen.last keep arena (without_free_end arena) }
+    ensures limit { (arena : Content T) (max : ℕ) → Takes entry_at live_count some_counter
+        (λ c. c.room) live_entries P.Gen.last keep arena (with_limit P.Inx.greatest arena max) }
+    ensures growth { (arena : Content T) → Takes entry_at live_count some_counter (λ c. c.room)
+        live_entries P.Gen.last keep arena (grown_if_full arena) }
+{}
+
+/// Over an arena that stays as it is, an advancer gives the pointers ahead of it in turn, one a call, and then nothing.
+/// They are the pointers of the live entries from its start on, each once, by rising index, or by falling index
+/// where it falls. What `advancer` answers has all of them ahead.
+pub fn advancers_give_each_entry_once<P: Ptr, T: Drop, A: ArenaTrait<P, T>>()
+    ensures given { (arena : A) (advancer left : A.PtrAdvancer) (given : List (Option P))
+        → FoldsTo (λ before p after. A.PtrAdvancer.advance_gives before arena p after)
+        advancer given left
+        → list_map (option_map (λ p. (P.index p, P.generation p))) given
+        ≡ given_by (length given) (pointers_ahead (A.walk advancer) (A.live_entries arena)) }
+    ensures live { (arena : A) (walk : Walk) (p : ℕ × ℕ)
+        → IsOneOf (pointers_ahead walk (A.live_entries arena)) p
+        ↔ (IsAhead walk p.0 × (generation_at (A.entry_at arena) p.0 ≡ Some p.1)) }
+    ensures order { (arena : A) (walk : Walk)
+        → GoInOrder walk.falls (pointers_ahead walk (A.live_entries arena)) }
+    ensures all { (arena : A) (walk : Walk) → walk.falls ≡ false → walk.low ≡ 1
+        → ((j : ℕ) → IsSome (A.entry_at arena j) → j ≤ walk.high)
+        → pointers_ahead walk (A.live_entries arena) ≡ list_map pointer_of (A.live_entries arena) }
 {}
 
 /// The map that `compress_recaster` answers is one-to-one and onto: each pointer that was valid, and no other, has a

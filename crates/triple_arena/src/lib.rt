@@ -4,7 +4,8 @@
 //! `Arena<P, T, S>` is over a pointer type `P` and keeps its slots in a stack `S`; it gives the pointers. To a
 //! `DirectArena<P, T, S>` the caller gives them. What arenas do stands in traits, which generic code asks for:
 //! `ArenaTrait`, `ArenaInsertTrait`, `ArenaDirectInsertTrait`, `DisjointableArenaTrait`, `ArenaCloneFromWith` of copies
-//! (from an `ArenaCloneSource`), and `ArenaTransferTrait` of entries moved from another arena (an `ArenaTransferSource`).
+//! (from an `ArenaCloneSource`), and `ArenaTransferTrait` of entries moved from another arena (an
+//! `ArenaTransferSource`).
 //!
 //! Contracts speak of an arena's `Content` (`specs/Content.antt`): the generation and the value at each index, the
 //! counter, the free indexes in the order in which they are taken, and the room; and of a direct arena's
@@ -51,8 +52,9 @@ pub mod arena_iterators {
     pub type Vals<'a, P, T> = iterators::Vals<'a, P, T, ArenaSlot<P, T>>;
 }
 
-/// The iterators of `DirectArena`.
+/// The advancer and the iterators of `DirectArena`.
 pub mod direct_iterators {
+    pub use crate::advancer::PtrAdvancer;
     pub use crate::direct::{CapacityDrain, Drain};
     use crate::{DirectSlot, iterators};
 

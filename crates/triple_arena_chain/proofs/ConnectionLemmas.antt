@@ -6,12 +6,13 @@ use Rattle.triple_arena_chain.specs.declared.link.IndexLink.{IndexLink}
 use Rattle.triple_arena_chain.specs.Chains.{Ends, with_next, with_prev, with_next_if, with_prev_if, linked, unlinked, exchanged, IsAgreed, next_at, prev_at, next_in, prev_in}
 use Rattle.triple_arena_chain.specs.declared.place.Place.{Place}
 use Rattle.triple_arena_chain.specs.Kinds.{at_bridge}
-use Rattle.triple_arena_chain.proofs.KindLemmas.{found}
+use Rattle.triple_arena_chain.specs.KindLaws.{found}
 use Rattle.triple_arena_chain.specs.Links.{entry_ends, ends_in, ends_found, with_next_of, with_prev_of, IsChained, IsRelinked}
 use Rattle.triple_arena_chain.specs.LinkLaws.{live-with_link, live-with_next_of, ends-with_next_of, ends-with_prev_of, values-with_next_of, values-with_prev_of, kept-with_next_of, kept-with_prev_of, formed-with_next_of, formed-with_prev_of}
 use Rattle.triple_arena_chain.proofs.AgreedLemmas.{IsAgreed-linked, IsAgreed-unlinked, valid_next, valid_prev}
 use Rattle.triple_arena_chain.proofs.ExchangeLemmas.{exchanged_is, exchanged_self, IsAgreed-exchanged}
-use Rattle.triple_arena_chain.proofs.InsertionLemmas.{IsAgreed-same, with_next_if-same, with_prev_if-same, kept-after}
+use Rattle.triple_arena_chain.specs.ChainLaws.{IsAgreed-same}
+use Rattle.triple_arena_chain.proofs.InsertionLemmas.{with_next_if-same, with_prev_if-same, kept-after}
 
 -- an exchange of nexts keeps the two ways agreed, also of an index with itself
 agreed-exchanged : (e : ℕ → Option Ends) (p q s t : ℕ) → next_at e p ≡ Some s → next_at e q ≡ Some t → IsAgreed e → IsAgreed (exchanged e p q s t)

@@ -9,10 +9,12 @@ use Rattle.triple_arena.specs.Entries.{without, value_if}
 use Rattle.triple_arena.specs.Content.{Content, entry_at, get, removed}
 use Rattle.triple_arena.specs.RemovalLaws.{free-removed, slots-removed}
 use Rattle.triple_arena_chain.specs.declared.link.IndexLink.{IndexLink}
-use Rattle.triple_arena_chain.specs.Chains.{Ends, Stands, taken_out, first_or, last_or}
+use Rattle.triple_arena_chain.specs.Chains.{Ends, taken_out, first_or, last_or}
 use Rattle.triple_arena_chain.specs.ChainLaws.{Stands-back}
+use Rattle.triple_arena_chain.specs.ListLaws.{Stands-where}
 use Rattle.triple_arena_chain.specs.Links.{values_in, link_ends, entry_ends, ends_in, IsChained, IsTakenOut}
-use Rattle.triple_arena_chain.specs.Drains.{IsWalkFrom, along, around, IsWalk, dropped_all, onward_from, without_all, removed_all, IsDrained, IsRestDrained, IsStep, DrainKeeps, DrainKeepsAlong}
+use Rattle.triple_arena_chain.specs.Drains.{IsWalk, dropped_all, next_or_prev, without_all, removed_all, IsDrained, IsRestDrained, IsStep, DrainKeeps, DrainKeepsAlong, drain_chains, IsLeft, indexes_of, DrainGoesAlong}
+use Rattle.triple_arena_chain.specs.Walks.{IsWalkFrom, along, around}
 use Rattle.triple_arena_chain.specs.declared.chain_arena.drain.ChainDrain.{ChainDrain}
 use Rattle.triple_arena_chain.specs.DrainLaws.{walk_of}
 use Rattle.triple_arena_chain.proofs.LawLemmas.{in_one_chain}
@@ -22,16 +24,12 @@ some_is : {A : Type 0} {a b : A} → Some a ≡ Some b → a ≡ b
 some_is h = cc
 
 module _ (e f : ℕ → Option Ends) (same : (k : ℕ) → f k ≡ e k) where
-  Stands-same : (b a : Option ℕ) (xs : List ℕ) → Stands e b xs a → Stands f b xs a
-  Stands-same b a [] s = tt
-  Stands-same b a (x ∷ xs) s = (same x ∙ s.0, Stands-same (Some x) a xs s.1)
-
   -- interlinks that are the same at each index have the same walks
   IsWalk-same : (at : Option ℕ) (walk : List ℕ) → IsWalk e at walk → IsWalk f at walk
   IsWalk-same None walk is = is
-  IsWalk-same (Some i) walk (along before after s is) = along before after (Stands-same None None (before ++ i ∷ after) s) is
+  IsWalk-same (Some i) walk (along before after s is) = along before after (Stands-where e f None None (before ++ i ∷ after) (λ k on. same k) s) is
   IsWalk-same (Some i) walk (around after r is) =
-      around after (record { stands = Stands-same (last_or None (i ∷ after)) (first_or (i ∷ after) None) (i ∷ after) r.stands; apart = r.apart }) is
+      around after (record { stands = Stands-where e f (last_or None (i ∷ after)) (first_or (i ∷ after) None) (i ∷ after) (λ k on. same k) r.stands; apart = r.apart }) is
 
   dropped_all-same : (xs : List ℕ) (k : ℕ) → dropped_all f xs k ≡ dropped_all e xs k
   dropped_all-same [] k = same k
@@ -76,7 +74,7 @@ module _ {I T : Type 0} (number : I → ℕ) (last : Option ℕ) where
     pub leaves : (left : Content (IndexLink I T)) → IsRestDrained number last next d left → IsRestDrained number last (Some i) c left
 
   pub advanced : (c d : Content (IndexLink I T)) (i g : ℕ) (l : IndexLink I T) (next : Option ℕ) → IsChained number c → entry_at c i ≡ Some (g, l)
-      → IsTakenOut number last i c d → next ≡ onward_from i (link_ends number l) → Advanced i next c d
+      → IsTakenOut number last i c d → next ≡ next_or_prev i (link_ends number l) → Advanced i next c d
   advanced c d i g l next chained at taken onward =
       let e = ends_in number c in
       let own : e i ≡ Some (option_map number l.prev, option_map number l.next) = ap (option_map (entry_ends number)) at in
@@ -87,7 +85,7 @@ module _ {I T : Type 0} (number : I → ℕ) (last : Option ℕ) where
               on.rest,
               on.is,
               subst (λ o. IsWalk (ends_in number d) o on.rest) (sym onward)
-                  (IsWalk-same (taken_out e i) (ends_in number d) taken.ends (onward_from i (link_ends number l)) on.rest on.goes_on),
+                  (IsWalk-same (taken_out e i) (ends_in number d) taken.ends (next_or_prev i (link_ends number l)) on.rest on.goes_on),
             );
         leaves =
             λ left drained walk is.
@@ -95,7 +93,7 @@ module _ {I T : Type 0} (number : I → ℕ) (last : Option ℕ) where
             let rest =
             drained on.rest
             (subst (λ o. IsWalk (ends_in number d) o on.rest) (sym onward)
-            (IsWalk-same (taken_out e i) (ends_in number d) taken.ends (onward_from i (link_ends number l)) on.rest on.goes_on)) in
+            (IsWalk-same (taken_out e i) (ends_in number d) taken.ends (next_or_prev i (link_ends number l)) on.rest on.goes_on)) in
             let same = removed_all-same last on.rest (removed last c i) d taken.free taken.slots in
             let fewer = rest.live in
             let one = taken.live in
@@ -135,7 +133,7 @@ module _ {I T : Type 0} (number : I → ℕ) (last : Option ℕ) where
         → (let t : Option ((G × IndexLink I T) × Bool) = Some ((gen, link), wrapped) in t)
         ≡ option_map (λ a. (let u : (G × IndexLink I T) × Bool = (value_of a, overflowed a) in u)) r
         → option_map (λ a. (generation_number (value_of a).0, (value_of a).1)) r ≡ entry_at c i → IfSome r (λ a. overflowed a ≡ next_wraps last c.counter)
-        → OnSome r (IsTakenOut number last i c d) → next ≡ onward_from i (link_ends number link)
+        → OnSome r (IsTakenOut number last i c d) → next ≡ next_or_prev i (link_ends number link)
         → IsStep number last index generation i item next c d
     step_by None c d i p gen link wrapped item next chained is_i is_gen value wraps told entry overflow taken onward =
         absurd (let never : (let t : Option ((G × IndexLink I T) × Bool) = Some ((gen, link), wrapped) in t) ≡ None = told in cc)
@@ -176,3 +174,13 @@ module _ {P T S Inx Gen Alloc : Type 0} (number : Inx → ℕ) (last : Option �
       let step = run.1.1 in
       let rest = keeps_along run.0 items later run.2 in
       (rest.0 ∙ step.0, λ left leaves. step.1 left (rest.1 left leaves))
+
+  -- the items of a drain are the walk in order
+  pub goes_along : (first : ChainDrain P T S Inx Gen Alloc) → DrainGoesAlong number last index generation first
+  goes_along first [] later run walk is = (walk, refl, subst (λ d. IsLeft number d walk) run is)
+  goes_along first (item ∷ items) later run walk is =
+      let gives = run.1.0 in
+      let on = gives.2.goes_on walk (subst (λ o. IsWalk (ends_in number (drain_chains first)) o walk) gives.1 is) in
+      let others = goes_along run.0 items later run.2 on.0 on.2 in
+      let first_is = ap (λ k. k ∷ (indexes_of index items ++ others.0)) (sym gives.2.index_is) in
+      (others.0, on.1 ∙ ap (λ l. gives.0 ∷ l) others.1 ∙ first_is, others.2)

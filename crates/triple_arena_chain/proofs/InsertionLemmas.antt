@@ -12,15 +12,10 @@ use Rattle.triple_arena_chain.specs.Chains.{Ends, with_next_if, with_prev_if, ad
 use Rattle.triple_arena_chain.specs.Kinds.{place_by}
 use Rattle.triple_arena_chain.specs.Links.{valued, values_in, entry_ends, ends_in, link_ends, link_for, joined_to, with_next_of, IsKept, IsChained, IsPlaced}
 use Rattle.triple_arena_chain.specs.LinkLaws.{ends-with_next_of, ends-with_prev_of, values-with_next_of, values-with_prev_of, kept-with_next_of, kept-with_prev_of, formed-with_next_of, formed-with_prev_of}
+use Rattle.triple_arena_chain.specs.ChainLaws.{IsAgreed-same}
+use Rattle.triple_arena_chain.specs.Lists.{IsPutAt}
 use Rattle.triple_arena_chain.proofs.PlaceLemmas.{IsAgreed-placed}
-
--- interlinks that are the same at each index
-pub IsAgreed-same : (e f : ℕ → Option Ends) → ((i : ℕ) → f i ≡ e i) → IsAgreed e → IsAgreed f
-IsAgreed-same e f same agreed =
-    record {
-      forward = λ p q h. ap prev_in (same q) ∙ agreed.forward p q (sym (ap next_in (same p)) ∙ h);
-      backward = λ p q h. ap next_in (same p) ∙ agreed.backward p q (sym (ap prev_in (same q)) ∙ h);
-    }
+use Rattle.triple_arena_chain.proofs.PutInLemmas.{is_put_in, is_own_ring}
 
 pub with_next_if-same : (e f : ℕ → Option Ends) (o n : Option ℕ) → ((j : ℕ) → f j ≡ e j) → (i : ℕ) → with_next_if f o n i ≡ with_next_if e o n i
 with_next_if-same e f None n same i = same i
@@ -67,6 +62,14 @@ IsAgreed-ring e n vacant agreed =
 pub IsAgreed-put_in : (e : ℕ → Option Ends) (n : ℕ) (place : Place ℕ) → e n ≡ None → IsPlace e place → IsAgreed e → IsAgreed (put_in e n place)
 IsAgreed-put_in e n (Between before after) vacant gap agreed = IsAgreed-placed e n (before, after) vacant gap agreed
 IsAgreed-put_in e n OwnRing vacant gap agreed = IsAgreed-ring e n vacant agreed
+
+-- what it makes of the chains
+put_at : (e e' : ℕ → Option Ends) (n : ℕ) (place : Place ℕ) → e n ≡ None → IsPlace e place → IsAgreed e → ((k : ℕ) → e' k ≡ put_in e n place k)
+    → IsPutAt place n e e'
+put_at e e' n (Between before after) vacant gap agreed same =
+    let place : Place ℕ = Between before after in
+    is_put_in e e' n (before, after) (IsAgreed-same (put_in e n place) e' same (IsAgreed-put_in e n place vacant gap agreed)) vacant gap same
+put_at e e' n OwnRing vacant gap agreed same = is_own_ring e e' n vacant same
 
 module _ {I T : Type 0} (number : I → ℕ) where
   -- what the neighbours are after they name one more
@@ -145,6 +148,8 @@ module _ {I T : Type 0} (number : I → ℕ) where
           generation = refl;
           vacant = vacant;
           ends = ends;
+          lists = put_at (ends_in number c) (ends_in number (joined_to number d place i)) n (place_by number place)
+              (ap (option_map (entry_ends number)) vacant) gap chained.agreed ends;
           values = λ k.
               values-joined d place i k
               ∙ ap (option_map valued) (entries k)

@@ -1,16 +1,15 @@
 -- Each kind of insertion asks for a place where one more index may stand.
 use Rattle.std.proofs.Common.{◌≡◌, ℕ, Option, Some, None, IsSome, refl, sym, ap, subst, ◌∙◌, inl, inr}
-use Rattle.std.specs.Option.{option_map}
 use Rattle.std.proofs.lemmas.Bool.Decides.{eqb_tells}
-use Rattle.triple_arena.specs.Entries.{value_if}
-use Rattle.triple_arena.specs.Content.{Content, entry_at}
+use Rattle.triple_arena.specs.Content.{Content}
 use Rattle.triple_arena_chain.specs.declared.link.IndexLink.{IndexLink}
-use Rattle.triple_arena_chain.specs.Links.{link_ends, ends_in, ends_found, place_among, IsChained}
+use Rattle.triple_arena_chain.specs.Links.{ends_in, ends_found, place_among, IsChained}
 use Rattle.triple_arena_chain.specs.declared.kind.InsertKind.{InsertKind}
 use Rattle.triple_arena_chain.specs.declared.kind.InsertKind.TheVariants.{Disconnected, SingleLinkCyclic, ChainEnd, ChainEndInx, ChainStart, ChainStartInx, NextTo, NextToInx, PrevTo, PrevToInx, AtInterlink, AtInterlinkInx, Bridge, BridgeInx}
 use Rattle.triple_arena_chain.specs.declared.place.Place.{Place}
 use Rattle.triple_arena_chain.specs.declared.place.Place.TheVariants.{Between, OwnRing}
 use Rattle.triple_arena_chain.specs.Chains.{Ends, IsAgreed, IsGap, IsPlace, next_at, prev_at, next_in, prev_in}
+use Rattle.triple_arena_chain.specs.KindLaws.{found}
 use Rattle.triple_arena_chain.specs.Kinds.{at_end, at_start, after_link, before_link, at_interlink, at_bridge, place_of}
 
 IsSome-prev : (o : Option Ends) (p : ℕ) → prev_in o ≡ Some p → IsSome o
@@ -147,19 +146,6 @@ module _ (e : ℕ → Option Ends) (agreed : IsAgreed e) where
   places index number ends_of (Bridge p q) place at is = by_bridge (index p) (index q) (ends_of p) (ends_of q) place (at p) (at q) is
   places index number ends_of (BridgeInx i j) place at is =
       by_bridge (number i) (number j) (e (number i)) (e (number j)) place (λ v h. h) (λ v h. h) is
-
-module _ {I T : Type 0} (number : I → ℕ) where
-  -- what a pointer finds is what is at its index
-  pub found : (c : Content (IndexLink I T)) (i g : ℕ) (v : Ends) → ends_found number c i g ≡ Some v → ends_in number c i ≡ Some v
-  found c i g v h = by (entry_at c i) refl h
-    where
-      by : (o : Option (ℕ × IndexLink I T)) → entry_at c i ≡ o → option_map (link_ends number) (value_if g o) ≡ Some v → ends_in number c i ≡ Some v
-      by None at is = absurd (let no : None ≡ Some v = is in cc)
-      by (Some e) at is =
-          elim (eqb_tells e.0 g) [
-            | inl same ↦ rw at (let it : Some (link_ends number e.1) ≡ Some v = rw same.0 at is in it)
-            | inr differs ↦ absurd (let no : None ≡ Some v = rw differs.0 at is in cc)
-          ]
 
 module _ {P I T : Type 0} (index generation : P → ℕ) (number : I → ℕ) where
   pub placeable : (c : Content (IndexLink I T)) (kind : InsertKind P I) (place : Place ℕ) → IsChained number c

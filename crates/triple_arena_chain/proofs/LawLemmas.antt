@@ -1,16 +1,18 @@
 -- What the laws on chains stand on.
-use Rattle.std.proofs.Common.{◌≡◌, ℕ, suc, length, Option, Some, None, IsSome, option_map, true, false, refl, ap, ◌∙◌, arith}
+use Rattle.std.proofs.Common.{◌≡◌, ℕ, suc, ◌<◌, List, length, Option, Some, None, IsSome, option_map, true, false, refl, ap, ◌∙◌, arith}
 use Rattle.triple_arena.specs.Content.{Content, entry_at}
 use Rattle.triple_arena.specs.ContentLaws.{live_entry}
 use Rattle.triple_arena_chain.specs.declared.link.IndexLink.{IndexLink}
 use Rattle.triple_arena_chain.specs.Chains.{Ends, with_next, with_prev, linked, unlinked, exchanged, next_in, prev_in, next_at}
 use Rattle.triple_arena_chain.specs.ChainLaws.{stands}
+use Rattle.triple_arena_chain.specs.AllChainsLaws.{all_chains}
+use Rattle.triple_arena_chain.specs.Lists.{Chain, AreChains}
 use Rattle.triple_arena_chain.specs.Kinds.{at_bridge}
 use Rattle.triple_arena_chain.specs.Links.{entry_ends, ends_in, ends_found, IsChained, IsRelinked}
 use Rattle.triple_arena_chain.specs.UniquenessLaws.{IsInOneChain, stands_once}
 use Rattle.triple_arena_chain.proofs.AgreedLemmas.{next_at_p}
 use Rattle.triple_arena_chain.proofs.InsertionLemmas.{with_next_if-same, with_prev_if-same, kept-after}
-use Rattle.triple_arena_chain.proofs.KindLemmas.{found}
+use Rattle.triple_arena_chain.specs.KindLaws.{found}
 use Rattle.triple_arena_chain.proofs.ReversalLemmas.{linked_back, unlinked_back, exchanged_back, next_exchanged}
 
 -- two that have no neighbours to each other's side
@@ -96,11 +98,14 @@ module _ {I T : Type 0} (number : I → ℕ) where
   live_by_ends None h = absurd (let no : false ≡ true = h in cc)
   live_by_ends (Some e) h = refl
 
+  bounded : (c : Content (IndexLink I T)) (j : ℕ) → IsSome (ends_in number c j) → j < suc (length c.slots)
+  bounded c j some = let l = live_entry c j (live_by_ends (entry_at c j) some) in let within = l.within in omega (arith, within)
+
   pub in_one_chain : (c : Content (IndexLink I T)) (i : ℕ) → IsChained number c → IsSome (ends_in number c i) → IsInOneChain (ends_in number c) i
   in_one_chain c i chained live =
       let e = ends_in number c in
-      let here =
-      stands e chained.agreed (suc (length c.slots))
-      (λ j some. let l = live_entry c j (live_by_ends (entry_at c j) some) in let within = l.within in omega (arith, within))
-      i live in
+      let here = stands e chained.agreed (suc (length c.slots)) (bounded c) i live in
       record { stands = here; once = λ other. stands_once e i here other }
+
+  pub in_chains : (c : Content (IndexLink I T)) → IsChained number c → (cs : List Chain) × AreChains (ends_in number c) cs
+  in_chains c chained = all_chains (ends_in number c) chained.agreed (suc (length c.slots)) (bounded c)

@@ -2,18 +2,10 @@
 use Rattle.std.proofs.Common.{◌≡◌, ℕ, Option, Some, None, option_map, refl, sym, ap, subst, ◌∙◌}
 use Rattle.triple_arena.specs.Content.{Content, entry_at, with_value}
 use Rattle.triple_arena_chain.specs.declared.link.IndexLink.{IndexLink}
-use Rattle.triple_arena_chain.specs.LinkLaws.{ends-with_value_in, formed-with_value_in}
-use Rattle.triple_arena_chain.specs.Links.{ends_in, with_link_of, with_value_in, IsChained}
-use Rattle.triple_arena_chain.proofs.InsertionLemmas.{IsAgreed-same}
+use Rattle.triple_arena_chain.specs.LinkLaws.{chained-with_value_in}
+use Rattle.triple_arena_chain.specs.Links.{with_link_of, with_value_in, IsChained}
 
 module _ {I T : Type 0} (number : I → ℕ) where
-  chained-with_value_in : (c : Content (IndexLink I T)) (i : ℕ) (w : T) → IsChained number c → IsChained number (with_value_in c i w)
-  chained-with_value_in c i w chained =
-      record {
-        formed = formed-with_value_in c i w chained.formed;
-        agreed = IsAgreed-same (ends_in number c) (ends_in number (with_value_in c i w)) (ends-with_value_in number c i w) chained.agreed;
-      }
-
   pub chained-lent : (c : Content (IndexLink I T)) (i : ℕ) (l : IndexLink I T) (w : T) → option_map (λ e. e.1) (entry_at c i) ≡ Some l
       → IsChained number c → IsChained number (with_value c i (record l { t = w }))
   chained-lent c i l w is chained = by (entry_at c i) refl is
@@ -24,4 +16,4 @@ module _ {I T : Type 0} (number : I → ℕ) where
           let it : entry.1 ≡ l = cc in
           let same : with_value c i (record l { t = w }) ≡ with_value_in c i w =
           ap (λ (m : IndexLink I T). with_value c i (record m { t = w })) (sym it) ∙ sym (ap (with_link_of c i (λ link. record link { t = w })) at) in
-          subst (IsChained number) (sym same) (chained-with_value_in c i w chained)
+          subst (IsChained number) (sym same) (chained-with_value_in number c i w chained)

@@ -2,6 +2,9 @@ pub mod AgreedLemmas
 pub mod PlaceLemmas
 pub mod TakeOutLemmas
 pub mod ExchangeLemmas
+pub mod ListLemmas
+pub mod PutInLemmas
+pub mod TurnLemmas
 pub mod InsertionLemmas
 pub mod KindLemmas
 pub mod ConnectionLemmas
@@ -14,3 +17,6 @@ pub mod RemovalLemmas
 pub mod LawLemmas
 pub mod TakenWalkLemmas
 pub mod DrainLemmas
+pub mod SameLinksLemmas
+pub mod ListedLemmas
+pub mod IndexDrainLemmas

@@ -5,7 +5,7 @@ use Rattle.triple_arena_chain.specs.declared.link.IndexLink.{IndexLink}
 use Rattle.triple_arena_chain.specs.Chains.{Ends, prev_in, next_in}
 use Rattle.triple_arena_chain.specs.Links.{link_ends, ends_in, ends_found, IsChained}
 use Rattle.triple_arena_chain.specs.Values.{ptr_to}
-use Rattle.triple_arena_chain.proofs.KindLemmas.{found}
+use Rattle.triple_arena_chain.specs.KindLaws.{found}
 use Rattle.triple_arena_chain.proofs.ConnectionLemmas.{live_next, live_prev}
 
 abbrev numbers_of : {P : Type 0} → (P → ℕ) → (P → ℕ) → P → ℕ × ℕ

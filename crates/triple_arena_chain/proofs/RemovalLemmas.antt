@@ -9,11 +9,16 @@ use Rattle.triple_arena.specs.RemovalLaws.{entry-removed, live-removed, counter-
 use Rattle.triple_arena_chain.specs.declared.link.IndexLink.{IndexLink}
 use Rattle.triple_arena_chain.specs.Chains.{Ends, with_next_if, dropped, bridged, taken_from, next_in, prev_in}
 use Rattle.triple_arena_chain.specs.declared.place.Place.TheVariants.{Between}
-use Rattle.triple_arena_chain.specs.Links.{valued, values_in, entry_ends, ends_in, with_next_of, with_prev_of, AreNeighborsLive, IsKept, IsChained, IsTakenOut}
+use Rattle.triple_arena_chain.specs.Links.{valued, values_in, entry_ends, ends_in, with_next_of, with_prev_of, bridged_over, AreNeighborsLive, IsKept, IsChained, IsTakenOut}
 use Rattle.triple_arena_chain.specs.LinkLaws.{neighbor-with_next_of, entry-with_link, ends-with_next_of, ends-with_prev_of, values-with_next_of, values-with_prev_of, kept-with_next_of, kept-with_prev_of, formed-with_next_of, formed-with_prev_of}
-use Rattle.triple_arena_chain.proofs.InsertionLemmas.{IsAgreed-same, with_prev_if-same, kept-after}
+use Rattle.triple_arena_chain.specs.TakenLaws.{is_taken}
+use Rattle.triple_arena_chain.specs.ChainLaws.{IsAgreed-same}
+use Rattle.triple_arena_chain.proofs.InsertionLemmas.{with_prev_if-same, kept-after}
 use Rattle.triple_arena_chain.proofs.ConnectionLemmas.{live_next, live_prev}
 use Rattle.triple_arena_chain.proofs.TakeOutLemmas.{IsAgreed-taken}
+
+some_is : {A : Type 0} {a b : A} → Some a ≡ Some b → a ≡ b
+some_is h = cc
 
 dropped-same : (e f : ℕ → Option Ends) (p k : ℕ) → f k ≡ e k → dropped f p k ≡ dropped e p k
 dropped-same e f p k same =
@@ -23,10 +28,6 @@ dropped-same e f p k same =
     ]
 
 module _ {I T : Type 0} (number : I → ℕ) where
-  -- the neighbours of a link over it, which name one another
-  abbrev pub bridged_over : Content (IndexLink I T) → IndexLink I T → Content (IndexLink I T)
-  bridged_over c l = with_prev_of number (with_next_of number c l.prev l.next) l.next l.prev
-
   -- what a link names is live
   pub neighbors_live : (c : Content (IndexLink I T)) (p g : ℕ) (l : IndexLink I T) → IsChained number c → entry_at c p ≡ Some (g, l)
       → AreNeighborsLive number c (Between l.prev l.next)
@@ -66,11 +67,11 @@ module _ {I T : Type 0} (number : I → ℕ) where
       ]
 
   -- a link is as it was once its neighbours are joined
-  pub entry-bridged : (c : Content (IndexLink I T)) (p g : ℕ) (l : IndexLink I T) → entry_at c p ≡ Some (g, l) → entry_at (bridged_over c l) p ≡ Some (g, l)
+  pub entry-bridged : (c : Content (IndexLink I T)) (p g : ℕ) (l : IndexLink I T) → entry_at c p ≡ Some (g, l) → entry_at (bridged_over number c l) p ≡ Some (g, l)
   entry-bridged c p g l at = prev_again (with_next_of number c l.prev l.next) p g l l.next (next_again c p g l l.prev at)
 
   ends-bridged : (c : Content (IndexLink I T)) (l : IndexLink I T) (k : ℕ)
-      → ends_in number (bridged_over c l) k ≡ bridged (ends_in number c) (option_map number l.prev) (option_map number l.next) k
+      → ends_in number (bridged_over number c l) k ≡ bridged (ends_in number c) (option_map number l.prev) (option_map number l.next) k
   ends-bridged c l k =
       let one = with_next_of number c l.prev l.next in
       ends-with_prev_of number one l.next l.prev k
@@ -79,16 +80,16 @@ module _ {I T : Type 0} (number : I → ℕ) where
       (ends-with_next_of number c l.prev l.next)
       k
 
-  values-bridged : (c : Content (IndexLink I T)) (l : IndexLink I T) (k : ℕ) → values_in (bridged_over c l) k ≡ values_in c k
+  values-bridged : (c : Content (IndexLink I T)) (l : IndexLink I T) (k : ℕ) → values_in (bridged_over number c l) k ≡ values_in c k
   values-bridged c l k =
       values-with_prev_of number (with_next_of number c l.prev l.next) l.next l.prev k ∙ values-with_next_of number c l.prev l.next k
 
-  kept-bridged : (c : Content (IndexLink I T)) (l : IndexLink I T) → IsKept c (bridged_over c l)
+  kept-bridged : (c : Content (IndexLink I T)) (l : IndexLink I T) → IsKept c (bridged_over number c l)
   kept-bridged c l =
       let one = with_next_of number c l.prev l.next in
-      kept-after number c one (bridged_over c l) (kept-with_next_of number c l.prev l.next) (kept-with_prev_of number one l.next l.prev)
+      kept-after number c one (bridged_over number c l) (kept-with_next_of number c l.prev l.next) (kept-with_prev_of number one l.next l.prev)
 
-  formed-bridged : (c : Content (IndexLink I T)) (l : IndexLink I T) → IsWellFormed c → IsWellFormed (bridged_over c l)
+  formed-bridged : (c : Content (IndexLink I T)) (l : IndexLink I T) → IsWellFormed c → IsWellFormed (bridged_over number c l)
   formed-bridged c l formed =
       formed-with_prev_of number (with_next_of number c l.prev l.next) l.next l.prev (formed-with_next_of number c l.prev l.next formed)
 
@@ -98,9 +99,9 @@ module _ {I T : Type 0} (number : I → ℕ) where
 
   -- a link is removed once its neighbours are joined
   pub taken_out_by : (last : Option ℕ) (c joined new : Content (IndexLink I T)) (p g : ℕ) (l : IndexLink I T) → IsChained number c
-      → entry_at c p ≡ Some (g, l) → joined ≡ bridged_over c l → new ≡ removed last joined p → TakenOut last p c new
+      → entry_at c p ≡ Some (g, l) → joined ≡ bridged_over number c l → new ≡ removed last joined p → TakenOut last p c new
   taken_out_by last c joined new p g l chained at join remove =
-      let d = bridged_over c l in
+      let d = bridged_over number c l in
       let e = ends_in number c in
       let b = option_map number l.prev in
       let n = option_map number l.next in
@@ -114,10 +115,12 @@ module _ {I T : Type 0} (number : I → ℕ) where
         | inl same ↦ rw same.0 refl
         | inr differs ↦ rw differs.0 (ends-bridged c l k)
       ] in
+      let ends : (k : ℕ) → ends_in number (removed last d p) k ≡ taken_from e p (e p) k = λ k. dropped_ends k ∙ ap (λ o. taken_from e p o k) (sym own) in
       rw is
       (record {
         taken = record {
-          ends = λ k. dropped_ends k ∙ ap (λ o. taken_from e p o k) (sym own);
+          ends = ends;
+          lists = is_taken e chained.agreed p b n own (ends_in number (removed last d p)) ends;
           values = λ k.
               ap (option_map valued) (entry-removed last d p live k)
               ∙ elim (eqb_tells k p) [
@@ -148,29 +151,40 @@ module _ {I T : Type 0} (number : I → ℕ) where
       (neighbor-with_next_of number c l.prev l.next l.next (neighbors_live c p g l chained at).1)
 
   -- a removal, of which the answer tells what is seen of the entry
-  pub record Removed {A V : Type 0} (f : A → V) (r : Option A) (seen : Option (ℕ × IndexLink I T) → Option V) (last : Option ℕ) (p : ℕ) (c new : Content (IndexLink I T)) : Type 0 where
+  pub record Removed {A V : Type 0} (f : A → V) (r : Option A) (link_of : A → IndexLink I T) (seen : Option (ℕ × IndexLink I T) → Option V)
+      (last : Option ℕ) (p : ℕ) (c new : Content (IndexLink I T)) : Type 0 where
     pub value : option_map f r ≡ seen (entry_at c p)
     pub taken : OnSome r (IsTakenOut number last p c new)
+    pub exact : IfSome r (λ a. new ≡ removed last (bridged_over number c (link_of a)) p)
     pub none : IfNone r (new ≡ c)
     pub chained : IsChained number new
 
-  pub removed_by : {A V : Type 0} (f : A → V) (r : Option A) (seen : Option (ℕ × IndexLink I T) → Option V) (last : Option ℕ)
+  pub removed_by : {A V : Type 0} (f : A → V) (r : Option A) (link_of : A → IndexLink I T) (seen : Option (ℕ × IndexLink I T) → Option V) (last : Option ℕ)
       (c d1 d2 new : Content (IndexLink I T)) (p g : ℕ) (l : IndexLink I T) (v : V) → IsChained number c → entry_at c p ≡ Some (g, l)
       → seen (Some (g, l)) ≡ Some v → d1 ≡ with_next_of number c l.prev l.next → d2 ≡ with_prev_of number d1 l.next l.prev
-      → option_map f r ≡ seen (entry_at d2 p) → OnSome r (new ≡ removed last d2 p) → Removed f r seen last p c new
-  removed_by f r seen last c d1 d2 new p g l v chained at shown first second value remove = by r value remove
+      → option_map f r ≡ seen (entry_at d2 p) → OnSome r (new ≡ removed last d2 p) → ((a : A) → f a ≡ v → link_of a ≡ l)
+      → Removed f r link_of seen last p c new
+  removed_by f r link_of seen last c d1 d2 new p g l v chained at shown first second value remove told = by r value remove
     where
-      join : d2 ≡ bridged_over c l
+      join : d2 ≡ bridged_over number c l
       join = second ∙ ap (λ d. with_prev_of number d l.next l.prev) first
 
       same : entry_at d2 p ≡ entry_at c p
       same = ap (λ d. entry_at d p) join ∙ entry-bridged c p g l at ∙ sym at
 
-      by : (o : Option _) → option_map f o ≡ seen (entry_at d2 p) → OnSome o (new ≡ removed last d2 p) → Removed f o seen last p c new
+      by : (o : Option _) → option_map f o ≡ seen (entry_at d2 p) → OnSome o (new ≡ removed last d2 p) → Removed f o link_of seen last p c new
       by None is gone = absurd (let no : None ≡ Some v = is ∙ ap seen (same ∙ at) ∙ shown in cc)
       by (Some a) is gone =
           let t = taken_out_by last c d2 new p g l chained at join gone in
-          record { value = is ∙ ap seen same; taken = t.taken; none = tt; chained = t.chained }
+          let given : Some (f a) ≡ Some v = is ∙ ap seen (same ∙ at) ∙ shown in
+          let link_is = told a (some_is given) in
+          record {
+            value = is ∙ ap seen same;
+            taken = t.taken;
+            exact = gone ∙ ap (λ d. removed last d p) (join ∙ ap (bridged_over number c) (sym link_is));
+            none = tt;
+            chained = t.chained;
+          }
 
 module _ {T : Type 0} where
   -- an entry that has this generation

@@ -1,7 +1,15 @@
 -- Each live index stands in a chain.
 use Rattle.std.proofs.Common.{◌≡◌, ◌≢◌, ℕ, zero, suc, ◌+◌, ◌-◌, ◌<◌, ◌≤◌, List, [], ◌∷◌, ◌++◌, length, Option, Some, None, IsSome, is_some, refl, sym, ap, subst, ◌∙◌, arith, true, false, inl, inr, ◌⊎◌, append_assoc, length-append}
 use Rattle.std.proofs.lemmas.Bool.Decides.{eqb_tells}
-use Rattle.triple_arena_chain.specs.Chains.{Ends, next_in, prev_in, next_at, prev_at, IsAgreed, first_or, last_or, Stands, Off, Apart, Standing, linear, ring}
+use Rattle.triple_arena_chain.specs.Chains.{Ends, next_in, prev_in, next_at, prev_at, IsAgreed, first_or, last_or, Stands, Off, Apart, On, Standing, linear, ring}
+
+-- interlinks that are the same at each index
+pub IsAgreed-same : (e f : ℕ → Option Ends) → ((i : ℕ) → f i ≡ e i) → IsAgreed e → IsAgreed f
+IsAgreed-same e f same agreed =
+    record {
+      forward = λ p q h. ap prev_in (same q) ∙ agreed.forward p q (sym (ap next_in (same p)) ∙ h);
+      backward = λ p q h. ap next_in (same p) ∙ agreed.backward p q (sym (ap prev_in (same q)) ∙ h);
+    }
 
 pub first_or-append : (xs ys : List ℕ) (a : Option ℕ) → first_or (xs ++ ys) a ≡ first_or xs (first_or ys a)
 first_or-append [] ys a = refl
@@ -26,12 +34,6 @@ Off-append (x ∷ xs) ys i f g = (f.0, Off-append xs ys i f.1 g)
 pub Off-not_on : (xs ys : List ℕ) (i : ℕ) → Off (xs ++ i ∷ ys) i → ⊥
 Off-not_on [] ys i off = off.0 refl
 Off-not_on (x ∷ xs) ys i off = Off-not_on xs ys i off.1
-
--- an index that is on a list stands between two parts of it
-pub record On (xs : List ℕ) (i : ℕ) : Type 0 where
-  pub front : List ℕ
-  pub back : List ℕ
-  pub is : xs ≡ front ++ i ∷ back
 
 pub off_or_on : (xs : List ℕ) (i : ℕ) → Off xs i ⊎ On xs i
 off_or_on [] i = inl tt
@@ -65,7 +67,7 @@ Apart-last [] y apart off = (tt, tt)
 Apart-last (x ∷ xs) y apart off = (Off-append xs (y ∷ []) x apart.0 ((λ same. off.0 (sym same)), tt), Apart-last xs y apart.1 off.1)
 
 -- each index of a list is less than this number
-abbrev Below : ℕ → List ℕ → Type 0
+abbrev pub Below : ℕ → List ℕ → Type 0
 Below n [] = Unit {0}
 Below n (x ∷ xs) = (x < n) × Below n xs
 
@@ -99,7 +101,7 @@ few (suc n) xs apart below =
     ]
 
 -- no index stands on both of two lists whose indexes are apart together
-Apart-both : (xs ys : List ℕ) (z : ℕ) → Apart (xs ++ ys) → On xs z → On ys z → ⊥
+pub Apart-both : (xs ys : List ℕ) (z : ℕ) → Apart (xs ++ ys) → On xs z → On ys z → ⊥
 Apart-both xs ys z apart first second =
     let split : xs ++ ys ≡ first.front ++ z ∷ (first.back ++ ys) = ap (λ l. l ++ ys) first.is ∙ append_assoc first.front (z ∷ first.back) ys in
     let off = (Apart-taken first.front (first.back ++ ys) z (subst Apart split apart)).1 in
@@ -107,14 +109,14 @@ Apart-both xs ys z apart first second =
     Off-not_on second.front second.back z (subst (λ l. Off l z) second.is behind)
 
 -- a list that begins with an index has a last one, which is on it
-last_is : (x : ℕ) (xs : List ℕ) → (z : ℕ) × (last_or (Some x) xs ≡ Some z)
+pub last_is : (x : ℕ) (xs : List ℕ) → (z : ℕ) × (last_or (Some x) xs ≡ Some z)
 last_is x [] = (x, refl)
 last_is x (y ∷ ys) = last_is y ys
 
-On-cons : (x z : ℕ) (xs : List ℕ) → On xs z → On (x ∷ xs) z
+pub On-cons : (x z : ℕ) (xs : List ℕ) → On xs z → On (x ∷ xs) z
 On-cons x z xs on = record { front = x ∷ on.front; back = on.back; is = ap (λ l. x ∷ l) on.is }
 
-last_on : (x : ℕ) (xs : List ℕ) (z : ℕ) → last_or (Some x) xs ≡ Some z → On (x ∷ xs) z
+pub last_on : (x : ℕ) (xs : List ℕ) (z : ℕ) → last_or (Some x) xs ≡ Some z → On (x ∷ xs) z
 last_on x [] z is = let same : x ≡ z = cc in record { front = []; back = []; is = ap (λ y. y ∷ []) same }
 last_on x (y ∷ ys) z is = On-cons x z (y ∷ ys) (last_on y ys z is)
 
@@ -150,7 +152,7 @@ module _ (e : ℕ → Option Ends) where
   Stands-back b a (x ∷ xs) ys s = Stands-back (Some x) a xs ys s.1
 
   -- the next of the last of a list is what follows the list
-  next_of_last : (b a : Option ℕ) (x : ℕ) (xs : List ℕ) (z : ℕ) → last_or (Some x) xs ≡ Some z → Stands e b (x ∷ xs) a → next_at e z ≡ a
+  pub next_of_last : (b a : Option ℕ) (x : ℕ) (xs : List ℕ) (z : ℕ) → last_or (Some x) xs ≡ Some z → Stands e b (x ∷ xs) a → next_at e z ≡ a
   next_of_last b a x [] z is s = let same : x ≡ z = cc in ap (next_at e) (sym same) ∙ ap next_in s.0
   next_of_last b a x (y ∷ ys) z is s = next_of_last (Some x) a y ys z is s.1
 

@@ -1,7 +1,6 @@
 -- The chains that interlinks make, over a plain function from an index to its two neighbours, which has a value where the index
 -- is live.
 use Rattle.std.specs.Prelude.{◌≡◌, ◌≢◌, ℕ, ◌==◌, List, [], ◌∷◌, ◌++◌, Option, Some, None, if◌then◌else◌, IsSome, ◌⊎◌}
-use Rattle.std.specs.Option.{option_map}
 use Rattle.triple_arena_chain.specs.declared.place.Place.{Place}
 use Rattle.triple_arena_chain.specs.declared.place.Place.TheVariants.{Between, OwnRing}
 
@@ -49,6 +48,12 @@ Stands ends before (x ∷ xs) after = (ends x ≡ Some (before, first_or xs afte
 abbrev pub Off : List ℕ → ℕ → Type 0
 Off [] i = Unit {0}
 Off (x ∷ xs) i = (x ≢ i) × Off xs i
+
+-- an index is on a list, between two parts of it
+pub record On (xs : List ℕ) (i : ℕ) : Type 0 where
+  pub front : List ℕ
+  pub back : List ℕ
+  pub is : xs ≡ front ++ i ∷ back
 
 -- each index of a list stands there once
 abbrev pub Apart : List ℕ → Type 0
@@ -126,18 +131,6 @@ pub record IsGap (ends : ℕ → Option Ends) (gap : Ends) : Type 0 where
 -- the interlinks with one more index in a gap
 abbrev pub placed : (ℕ → Option Ends) → ℕ → Ends → ℕ → Option Ends
 placed ends n gap = with_prev_if (with_next_if (added ends n gap) gap.0 (Some n)) gap.1 (Some n)
-
--- the index that stands in for another where `i` and `j` change places
-abbrev pub exchanged_index : ℕ → ℕ → ℕ → ℕ
-exchanged_index i j k = if k == i then j else if k == j then i else k
-
-abbrev pub renamed_ends : (ℕ → ℕ) → Option Ends → Option Ends
-renamed_ends name None = None
-renamed_ends name (Some v) = Some (option_map name v.0, option_map name v.1)
-
--- the interlinks under other names, where a renaming done twice is none
-abbrev pub renamed : (ℕ → ℕ) → (ℕ → Option Ends) → ℕ → Option Ends
-renamed name ends k = renamed_ends name (ends (name k))
 
 -- one more index may stand at this place
 abbrev pub IsPlace : (ℕ → Option Ends) → Place ℕ → Type 0

@@ -3,7 +3,7 @@ use Rattle.std.proofs.Common.{◌≡◌, ℕ, List, [], ◌∷◌, ◌++◌, rev
 use Rattle.triple_arena_chain.specs.Chains.{Ends, IsRing, Standing, linear, ring}
 use Rattle.triple_arena_chain.specs.ChainLaws.{Apart-last, Stands-append, last_or-append}
 use Rattle.triple_arena_chain.specs.UniquenessLaws.{stands_once}
-use Rattle.triple_arena_chain.specs.Drains.{IsWalkFrom, along, around}
+use Rattle.triple_arena_chain.specs.Walks.{IsWalkFrom, along, around}
 
 -- an index that stands in a chain begins a walk
 pub walk_of : (e : ℕ → Option Ends) (i : ℕ) → Standing e i → (walk : List ℕ) × IsWalkFrom e i walk

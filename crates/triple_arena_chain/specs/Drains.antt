@@ -1,5 +1,5 @@
 -- What a drain of a chain gives, and what it leaves.
-use Rattle.std.specs.Prelude.{◌≡◌, ℕ, ◌+◌, ◌==◌, List, [], ◌∷◌, ◌++◌, length, reverse, Option, Some, None, if◌then◌else◌}
+use Rattle.std.specs.Prelude.{◌≡◌, ℕ, ◌+◌, ◌==◌, List, [], ◌∷◌, ◌++◌, length, map, Option, Some, None, if◌then◌else◌}
 use Rattle.std.specs.Borrow.{GName}
 use Rattle.std.specs.Fn.{iterate}
 use Rattle.std.specs.Iterator.{Yields}
@@ -10,14 +10,10 @@ use Rattle.triple_arena_ptr.specs.declared.invalidation.InvalidationOption.{Inva
 use Rattle.triple_arena.specs.Content.{Content, entry_at, live_count, removed}
 use Rattle.triple_arena.specs.Entries.{without}
 use Rattle.triple_arena_chain.specs.declared.link.IndexLink.{IndexLink}
-use Rattle.triple_arena_chain.specs.Chains.{Ends, IsLinear, IsRing, dropped}
+use Rattle.triple_arena_chain.specs.Chains.{Ends, dropped}
 use Rattle.triple_arena_chain.specs.Links.{ends_in, values_in, IsTakenOut}
+use Rattle.triple_arena_chain.specs.Walks.{IsWalkFrom}
 use Rattle.triple_arena_chain.specs.declared.chain_arena.drain.ChainDrain.{ChainDrain}
-
--- the walk from an index: to the end of its chain, or once round a ring, then backwards from the index before it
-pub data IsWalkFrom (ends : ℕ → Option Ends) (i : ℕ) (walk : List ℕ) : Type 0 where
-  along : (before after : List ℕ) → IsLinear ends (before ++ i ∷ after) → walk ≡ i ∷ (after ++ reverse before) → IsWalkFrom ends i walk
-  around : (after : List ℕ) → IsRing ends (i ∷ after) → walk ≡ i ∷ after → IsWalkFrom ends i walk
 
 -- the walk from an index, if there is one to start at
 abbrev pub IsWalk : (ℕ → Option Ends) → Option ℕ → List ℕ → Type 0
@@ -35,8 +31,8 @@ but_not i None = None
 but_not i (Some j) = if j == i then None else Some j
 
 -- where a walk goes from an index with these neighbours, once it was taken out: to its next, or else to its previous one
-abbrev pub onward_from : ℕ → Ends → Option ℕ
-onward_from i own = but_not i (option_or own.1 own.0)
+abbrev pub next_or_prev : ℕ → Ends → Option ℕ
+next_or_prev i own = but_not i (option_or own.1 own.0)
 
 module _ {T : Type 0} where
   -- the values without those at these indexes
@@ -74,6 +70,11 @@ module _ {P I T : Type 0} (number : I → ℕ) (last : Option ℕ) (index genera
     pub taken : IsTakenOut number last i old new
     pub goes_on : (walk : List ℕ) → IsWalk (ends_in number old) (Some i) walk → (rest : List ℕ) × (walk ≡ i ∷ rest) × IsWalk (ends_in number new) next rest
     pub leaves : (left : Content (IndexLink I T)) → IsRestDrained number last next new left → IsRestDrained number last (Some i) old left
+
+module _ {P I T : Type 0} (index : P → ℕ) where
+  -- the indexes of these items
+  abbrev pub indexes_of : List (InvalidationOption (P × IndexLink I T)) → List ℕ
+  indexes_of items = map (λ (item : InvalidationOption (P × IndexLink I T)). index (value_of item).0) items
 
 module _ {P T S Inx Gen Alloc : Type 0} where
   -- the links as the drain has them
@@ -121,3 +122,9 @@ module _ {P T S Inx Gen Alloc : Type 0} where
         abbrev pub DrainKeepsAlong : ChainDrain P T S Inx Gen Alloc → Type 0
         DrainKeepsAlong first = (items : List (InvalidationOption (P × IndexLink Inx T))) (later : ChainDrain P T S Inx Gen Alloc)
             → Yields DrainSteps first items later → DrainKeeps first later
+
+        -- the items are the walk in order: what is left at each state that steps lead to follows them
+        abbrev pub DrainGoesAlong : ChainDrain P T S Inx Gen Alloc → Type 0
+        DrainGoesAlong first = (items : List (InvalidationOption (P × IndexLink Inx T))) (later : ChainDrain P T S Inx Gen Alloc)
+            → Yields DrainSteps first items later → (walk : List ℕ) → IsLeft first walk
+            → (rest : List ℕ) × (walk ≡ indexes_of index items ++ rest) × IsLeft later rest

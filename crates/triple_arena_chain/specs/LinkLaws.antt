@@ -7,7 +7,8 @@ use Rattle.triple_arena.specs.Content.{Content, entry_at, IsWellFormed}
 use Rattle.triple_arena.specs.ContentLaws.{formed-with_value, entry-with_value, live-with_value, slots-with_value, counter-with_value, free-with_value, room-with_value}
 use Rattle.triple_arena_chain.specs.declared.link.IndexLink.{IndexLink}
 use Rattle.triple_arena_chain.specs.Chains.{Ends, with_next_if, with_prev_if, renext, reprev}
-use Rattle.triple_arena_chain.specs.Links.{valued, values_in, with_link, with_link_of, with_value_in, IsKept, link_ends, entry_ends, ends_in, with_next_of, with_prev_of}
+use Rattle.triple_arena_chain.specs.ChainLaws.{IsAgreed-same}
+use Rattle.triple_arena_chain.specs.Links.{valued, values_in, with_link, with_link_of, with_value_in, IsKept, IsChained, link_ends, entry_ends, ends_in, with_next_of, with_prev_of}
 
 module _ {I T : Type 0} where
   abbrev changed : (IndexLink I T → IndexLink I T) → ℕ × IndexLink I T → ℕ × IndexLink I T
@@ -204,8 +205,17 @@ module _ {I T : Type 0} where
   pub formed-with_value_in : (c : Content (IndexLink I T)) (i : ℕ) (t : T) → IsWellFormed c → IsWellFormed (with_value_in c i t)
   formed-with_value_in c i t formed = formed-with_link c i (λ link. record link { t = t }) formed
 
+module _ {I T : Type 0} (number : I → ℕ) where
+  -- the interlinks agree as before
+  pub chained-with_value_in : (c : Content (IndexLink I T)) (i : ℕ) (w : T) → IsChained number c → IsChained number (with_value_in c i w)
+  chained-with_value_in c i w chained =
+      record {
+        formed = formed-with_value_in c i w chained.formed;
+        agreed = IsAgreed-same (ends_in number c) (ends_in number (with_value_in c i w)) (ends-with_value_in number c i w) chained.agreed;
+      }
+
 -- what a write of a value changes and keeps
-pub ruleset link_writes = (formed-with_value_in, values-with_value_in, ends-with_value_in, kept-with_value_in)
+pub ruleset link_writes = (chained-with_value_in, formed-with_value_in, values-with_value_in, ends-with_value_in, kept-with_value_in)
 
 -- what is live stays live where an interlink is written
 pub ruleset live_links = (neighbor-with_next_of)

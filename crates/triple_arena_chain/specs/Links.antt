@@ -10,6 +10,7 @@ use Rattle.triple_arena_chain.specs.declared.kind.InsertKind.{InsertKind}
 use Rattle.triple_arena_chain.specs.declared.place.Place.{Place}
 use Rattle.triple_arena_chain.specs.declared.place.Place.TheVariants.{Between, OwnRing}
 use Rattle.triple_arena_chain.specs.Chains.{Ends, IsAgreed, put_in, taken_out}
+use Rattle.triple_arena_chain.specs.Lists.{IsPutAt, IsTaken}
 
 module _ {I T : Type 0} where
   -- the previous and the next index of a link
@@ -91,12 +92,17 @@ module _ {I T : Type 0} (number : I → ℕ) where
   joined_to c (Between before after) i = with_prev_of (with_next_of c before (Some i)) after (Some i)
   joined_to c OwnRing i = c
 
+  -- the neighbours of a link name one another over it
+  abbrev pub bridged_over : Content (IndexLink I T) → IndexLink I T → Content (IndexLink I T)
+  bridged_over c link = with_prev_of (with_next_of c link.prev link.next) link.next link.prev
+
   -- one link more at this place, under the next index and the counter; all others stay
   pub record IsPlaced (place : Place ℕ) (i g : ℕ) (t : T) (old new : Content (IndexLink I T)) : Type 0 where
     pub index : i ≡ next_index old
     pub generation : g ≡ old.counter
     pub vacant : entry_at old i ≡ None
     pub ends : (k : ℕ) → ends_in new k ≡ put_in (ends_in old) i place k
+    pub lists : IsPutAt place i (ends_in old) (ends_in new)
     pub values : (k : ℕ) → values_in new k ≡ with_entry (values_in old) i (g, t) k
     pub live : live_count new ≡ live_count old + 1
     pub counter : new.counter ≡ old.counter
@@ -112,6 +118,7 @@ module _ {I T : Type 0} (number : I → ℕ) where
   -- the link at this index is gone, and its neighbours are joined; all others stay, and the counter steps
   pub record IsTakenOut (last : Option ℕ) (i : ℕ) (old new : Content (IndexLink I T)) : Type 0 where
     pub ends : (k : ℕ) → ends_in new k ≡ taken_out (ends_in old) i k
+    pub lists : IsTaken i (ends_in old) (ends_in new)
     pub values : (k : ℕ) → values_in new k ≡ without (values_in old) i k
     pub live : live_count new + 1 ≡ live_count old
     pub counter : new.counter ≡ next_generation last old.counter

@@ -1,7 +1,7 @@
 -- A live index stands in one chain alone, and there once.
 use Rattle.std.proofs.Common.{◌≡◌, ℕ, zero, suc, ◌<◌, List, [], ◌∷◌, ◌++◌, length, Option, Some, None, refl, sym, ap, subst, ◌∙◌, arith, inl, inr, append_assoc, length-append}
-use Rattle.triple_arena_chain.specs.Chains.{Ends, next_in, prev_in, next_at, prev_at, last_or, Stands, Off, Apart, Standing, linear, ring}
-use Rattle.triple_arena_chain.specs.ChainLaws.{last_or-append, Stands-back, Stands-front, On, off_or_on}
+use Rattle.triple_arena_chain.specs.Chains.{Ends, next_in, prev_in, next_at, prev_at, last_or, Stands, Off, Apart, On, Standing, linear, ring}
+use Rattle.triple_arena_chain.specs.ChainLaws.{last_or-append, Stands-back, Stands-front, off_or_on}
 
 -- a list is empty, or another one and its last index
 pub data Ended (xs : List ℕ) : Type 0 where

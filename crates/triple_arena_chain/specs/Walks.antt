@@ -1,13 +1,21 @@
 -- Walks along a chain.
-use Rattle.std.specs.Prelude.{◌≡◌, ℕ, ◌==◌, Bool, true, false, List, [], ◌∷◌, ◌++◌, reverse, Option, Some, None, if◌then◌else◌, IsSome, IfSome}
+use Rattle.std.specs.Prelude.{◌≡◌, ℕ, zero, suc, ◌+◌, ◌==◌, Bool, true, false, List, [], ◌∷◌, ◌++◌, length, reverse, Option, Some, None, if◌then◌else◌, IsSome, IfSome}
+use Rattle.triple_arena.specs.Content.{Content}
 use Rattle.triple_arena.specs.Entries.{generation_at}
-use Rattle.triple_arena_chain.specs.Chains.{Ends, next_at, prev_at, Standing, linear, ring}
+use Rattle.triple_arena_chain.specs.Chains.{Ends, next_at, prev_at, IsLinear, IsRing}
+use Rattle.triple_arena_chain.specs.declared.link.IndexLink.{IndexLink}
+use Rattle.triple_arena_chain.specs.Links.{ends_in}
 
 -- where a walk began, the index that it gives next, if there is one, and whether it goes backwards
 pub record ChainWalk : Type 0 where
   pub start : ℕ
   pub at : Option ℕ
   pub back : Bool
+
+-- the walk from an index: to the end of its chain, or once round a ring, then backwards from the index before it
+pub data IsWalkFrom (ends : ℕ → Option Ends) (i : ℕ) (walk : List ℕ) : Type 0 where
+  along : (before after : List ℕ) → IsLinear ends (before ++ i ∷ after) → walk ≡ i ∷ (after ++ reverse before) → IsWalkFrom ends i walk
+  around : (after : List ℕ) → IsRing ends (i ∷ after) → walk ≡ i ∷ after → IsWalkFrom ends i walk
 
 -- a walk that begins at an index
 abbrev pub walk_from : ℕ → ChainWalk
@@ -25,25 +33,45 @@ module _ (ends : ℕ → Option Ends) where
   forwards w (Some next) = record { start = w.start; at = if next == w.start then None else Some next; back = w.back }
 
   -- the walk after it gave an index
-  abbrev pub gone_on : ChainWalk → ℕ → ChainWalk
-  gone_on w i = if w.back then record { start = w.start; at = prev_at ends i; back = true } else forwards w (next_at ends i)
+  abbrev pub past_index : ChainWalk → ℕ → ChainWalk
+  past_index w i = if w.back then record { start = w.start; at = prev_at ends i; back = true } else forwards w (next_at ends i)
 
   -- these indexes are left to a walk along interlinks that stay
   abbrev pub Leaves : ChainWalk → List ℕ → Type 0
   Leaves w [] = w.at ≡ None
-  Leaves w (x ∷ xs) = (w.at ≡ Some x) × (IsSome (ends x) × Leaves (gone_on w x) xs)
+  Leaves w (x ∷ xs) = (w.at ≡ Some x) × (IsSome (ends x) × Leaves (past_index w x) xs)
 
-  -- a chain from an index on: to the end and then backwards from the one before that index, or once round a ring
-  abbrev pub along : (i : ℕ) → Standing ends i → List ℕ
-  along i (linear before after stands) = i ∷ after ++ reverse before
-  along i (ring after stands) = i ∷ after
+  -- an index where a walk is and those of the walk that goes on from there, if the index is live
+  abbrev pub from_index : (ChainWalk → List ℕ) → ChainWalk → ℕ → Option Ends → List ℕ
+  from_index on w i None = []
+  from_index on w i (Some _) = i ∷ on (past_index w i)
 
-  -- what is left to a walk is the chain of an index, from there on
-  pub record IsWalkAlong (w : ChainWalk) (i : ℕ) : Type 0 where
-    pub chain : Standing ends i
-    pub left : Leaves w (along i chain)
+  abbrev pub from_where : (ChainWalk → List ℕ) → ChainWalk → Option ℕ → List ℕ
+  from_where on w None = []
+  from_where on w (Some i) = from_index on w i (ends i)
+
+  -- the indexes that at most so many steps of a walk along interlinks that stay give
+  abbrev pub steps_of : ℕ → ChainWalk → List ℕ
+  steps_of zero w = []
+  steps_of (suc n) w = from_where (steps_of n) w w.at
+
+  -- a walk gives the chain of an index, from there on, and ends within so many steps
+  pub record IsWalkAlong (most : ℕ) (w : ChainWalk) (i : ℕ) : Type 0 where
+    pub walk : List ℕ
+    pub from : IsWalkFrom ends i walk
+    pub left : Leaves w walk
+    pub steps : steps_of most w ≡ walk
 
   -- a step gives the pointer at the index where the walk is, and goes on from there. Where that is not live the walk ends
   abbrev pub ChainSteps : {T : Type 0} → (ℕ → Option (ℕ × T)) → ChainWalk → Option (ℕ × ℕ) → ChainWalk → Type 0
   ChainSteps entries before None after = IfSome before.at (λ i. entries i ≡ None) × (after.at ≡ None)
-  ChainSteps entries before (Some p) after = (before.at ≡ Some p.0) × ((generation_at entries p.0 ≡ Some p.1) × (after ≡ gone_on before p.0))
+  ChainSteps entries before (Some p) after = (before.at ≡ Some p.0) × ((generation_at entries p.0 ≡ Some p.1) × (after ≡ past_index before p.0))
+
+module _ {I T : Type 0} (number : I → ℕ) where
+  -- the indexes that are left to a walk over links that stay: a loop over them is measured by their number
+  abbrev pub left_over : Content (IndexLink I T) → ChainWalk → List ℕ
+  left_over c w = steps_of (ends_in number c) (length c.slots + 1) w
+
+  -- a walk over links that stay gives these, and ends
+  abbrev pub IsEnding : Content (IndexLink I T) → ChainWalk → Type 0
+  IsEnding c w = Leaves (ends_in number c) w (left_over c w)

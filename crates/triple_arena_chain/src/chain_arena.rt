@@ -5,17 +5,29 @@ ghost use Rattle.triple_arena.specs.Content.{get, entry_at, live_count, arena_ca
 ghost use Rattle.triple_arena_chain.specs.Links.{IsChained};
 
 mod advancer;
+mod backing;
 mod calls;
 mod connections;
+mod copy;
+mod default;
 pub(crate) mod drain;
 pub(crate) mod entry;
+mod entry_insert;
 mod exchange;
+mod gap;
+mod generation;
 mod growth;
+pub(crate) mod index_drain;
+mod indexing;
 mod insertion;
 mod interlinks;
+pub(crate) mod iterators;
+mod max_capacity;
 mod neighbors;
+mod recast;
 mod removal;
 mod requirement;
+mod text;
 pub(crate) mod walk;
 mod writing;
 

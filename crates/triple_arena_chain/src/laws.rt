@@ -3,8 +3,9 @@ ghost use Rattle.std.specs.Prelude.{◌≡◌, ℕ, List, [], ◌∷◌, ◌++�
 ghost use Rattle.triple_arena.specs.Content.{Content};
 ghost use Rattle.triple_arena_chain.specs.declared.kind.InsertKind.TheVariants.{Bridge};
 ghost use Rattle.triple_arena_chain.specs.declared.link.IndexLink.{IndexLink};
-ghost use Rattle.triple_arena_chain.specs.Chains.{Ends, next_at, linked, unlinked, exchanged, IsRing};
-ghost use Rattle.triple_arena_chain.specs.Drains.{IsWalkFrom};
+ghost use Rattle.triple_arena_chain.specs.Chains.{Ends, next_at, linked, unlinked, exchanged, IsLinear, IsRing, On};
+ghost use Rattle.triple_arena_chain.specs.Lists.{Chain, members, IsChainOf, AreChains};
+ghost use Rattle.triple_arena_chain.specs.Walks.{IsWalkFrom};
 ghost use Rattle.triple_arena_chain.specs.Links.{ends_in, place_among, IsChained, IsRelinked};
 ghost use Rattle.triple_arena_chain.specs.UniquenessLaws.{IsInOneChain};
 
@@ -14,6 +15,26 @@ use triple_arena::Ptr;
 pub fn links_stand_in_one_chain<P: Ptr, T>()
     ensures { (c : Content (IndexLink P.Inx T)) (i : ℕ) → IsChained P.Inx.number c
         → IsSome (ends_in P.Inx.number c i) → IsInOneChain (ends_in P.Inx.number c) i }
+{}
+
+/// The links stand in chains, of which each live index is in one, once. A ring is written from its least index.
+pub fn links_make_chains<P: Ptr, T>()
+    ensures { (c : Content (IndexLink P.Inx T)) → IsChained P.Inx.number c
+        → (chains : List Chain) × AreChains (ends_in P.Inx.number c) chains }
+{}
+
+/// Two chains that share an index have the same indexes, and two that are linear are one.
+pub fn chains_that_share_are_one()
+    ensures members { (ends : ℕ → Option Ends) (c d : Chain) (k j : ℕ) → IsChainOf ends c → IsChainOf ends d
+        → On (members c) k → On (members d) k → On (members d) j → On (members c) j }
+    ensures linear { (ends : ℕ → Option Ends) (xs ys : List ℕ) (k : ℕ) → IsLinear ends xs → IsLinear ends ys
+        → On xs k → On ys k → xs ≡ ys }
+{}
+
+/// A ring may be read from any of its indexes on.
+pub fn rings_turn()
+    ensures { (ends : ℕ → Option Ends) (xs : List ℕ) (y : ℕ) (ys : List ℕ) → IsRing ends (xs ++ y ∷ ys)
+        → IsRing ends (y ∷ ys ++ xs) }
 {}
 
 /// A live link begins one walk.

@@ -8,12 +8,15 @@ mod chain_arena;
 mod kind;
 pub mod laws;
 mod link;
+mod link_text;
 mod place;
 mod ptr_link;
 
 /// The advancers, the iterators and the drains of `ChainArena`.
 pub mod chain_iterators {
     pub use crate::chain_arena::drain::ChainDrain;
+    pub use crate::chain_arena::index_drain::Drain;
+    pub use crate::chain_arena::iterators::{Iter, Vals};
     pub use crate::chain_arena::walk::ChainPtrAdvancer;
     pub use triple_arena::arena_iterators::PtrAdvancer;
 
@@ -23,6 +26,9 @@ pub mod chain_iterators {
         P,
         crate::LinkNoGen<P, T>,
     >;
+
+    /// The pointers, in the order of the indexes.
+    pub type Ptrs<'a, P, T> = triple_arena::arena_iterators::Ptrs<'a, P, crate::LinkNoGen<P, T>>;
 }
 
 pub use chain_arena::ChainArena;

@@ -1,2 +1,3 @@
 mod DocumentLemmas
 pub mod MirrorLemmas
+pub mod PlaylistLemmas

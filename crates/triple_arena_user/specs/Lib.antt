@@ -1,3 +1,4 @@
 pub mod Node
 pub mod Nodes
 pub mod Documents
+pub mod Playlists

@@ -1,12 +1,13 @@
 //! What a crate above the arena can prove by the arena's public contracts alone: of a stack of nodes that are linked by
 //! pointers, of values that change by a compression or one by one, of a document that is recast by the map of one, of
-//! sums and searches by iterators, and of a mirror of an arena.
+//! sums and searches by iterators, of a mirror of an arena, and of playlists, which are lists in a chain arena.
 #![tactic(auto)]
 
 mod documents;
 mod each;
 mod mirrors;
 mod nodes;
+mod playlist;
 mod searches;
 mod sums;
 mod values;
@@ -15,6 +16,7 @@ pub use documents::tidy;
 pub use each::raise_each;
 pub use mirrors::reflect;
 pub use nodes::{Node, Nodes};
+pub use playlist::{add_after, play_from, reverse_pair};
 pub use searches::{find_equal, find_first};
 pub use sums::{direct_sum_of, sum_of, sum_of_entries};
 pub use values::{map_values, raise, sum_up};

@@ -53,7 +53,8 @@ impl<P: Ptr, T: Drop, S: NonZeroInxGenericStack<ArenaSlot<P, T>> + Drop> ArenaTr
 
     ghost cleared = { cleared_of P.Gen.last };
 
-    ghost compressed = { λ c reset values. compacted (renewed P.Gen.last reset c.counter) values c };
+    ghost is_compressed = { λ c reset values new. new
+        ≡ compacted (renewed P.Gen.last reset c.counter) values c };
 
     ghost walk = { λ a. a };
 

@@ -81,9 +81,9 @@ pub(crate) fn keep_first<L: Drop, S: NonZeroInxGenericStack<L>>(slots: &mut S, l
     }
 }
 
-// Moves the live entries to the first indexes, each with what `map` makes of its value and with the given generation, or
-// else its own one renewed, and drops the other slots. It says whether the step of one's own generation started the
-// generations again.
+// Moves the live entries to the first indexes, each with what `map` makes of its value and with the given generation,
+// or else its own one renewed, and drops the other slots. It says whether the step of one's own generation started
+// the generations again.
 pub(crate) fn compact<P, T: Drop, L: EntrySlot<P, T> + Drop, S: NonZeroInxGenericStack<L>, F>(
     slots: &mut S,
     given: Option<P::Gen>,

@@ -75,8 +75,8 @@ pub trait ArenaInsertEntries<P: Ptr, T: Drop> {
     // The arena as its entries see it.
     ghost content: { Self → Content T };
 
-    /// A place for one entry more. Where there is no room it answers `NotWithinCapacityError`, and the arena stays as it
-    /// is.
+    /// A place for one entry more. Where there is no room it answers `NotWithinCapacityError`, and the arena stays as
+    /// it is.
     fn entry_insert_within_capacity(
         &mut self,
     ) -> Result<ArenaInsertEntry<'_, P, T, Self::Stack>, NotWithinCapacityError>

@@ -2,7 +2,8 @@
 ghost use Rattle.std.specs.Prelude.{◌≡◌};
 ghost use Rattle.triple_arena_ptr.specs.Generation.{next_wraps};
 ghost use Rattle.triple_arena_ptr.specs.InvalidationOption.{overflowed};
-ghost use Rattle.triple_arena.specs.Content.{with_counter, stepped, IsWellFormed};
+ghost use Rattle.triple_arena.specs.Changes.{IsStepped};
+ghost use Rattle.triple_arena.specs.Content.{entry_at, live_count, some_counter, with_counter, stepped, IsWellFormed};
 
 use crate::ArenaSlot;
 use crate::arena::Arena;
@@ -29,7 +30,9 @@ impl<P: Ptr, T: Drop, S: NonZeroInxGenericStack<ArenaSlot<P, T>>> Arena<P, T, S>
 
     /// Steps the counter once, as a removal does, and says whether the generations started again.
     pub fn inc_generation(&mut self) -> InvalidationOption<()>
-        ensures value { self.new ≡ stepped P.Gen.last self.old }
+        ensures stepped { IsStepped entry_at live_count some_counter (λ c. c.room) P.Gen.last
+            self.old self.new }
+        ensures exact { self.new ≡ stepped P.Gen.last self.old }
         ensures overflow { overflowed result ≡ next_wraps P.Gen.last self.old.counter }
         ensures formed { IsWellFormed self.new }
     {

@@ -21,8 +21,8 @@ use triple_arena_ptr::{Ptr, ReallocationError};
 use triple_arena_stack::NonZeroInxGenericStack;
 
 /// Moves the live entries to the first indexes, as `compress` does, and answers the map from each old pointer to the
-/// new one, by which the values and other arenas can be recast. The map has an entry under each pointer that was valid, and
-/// no other.
+/// new one, by which the values and other arenas can be recast. The map has an entry under each pointer that was valid,
+/// and no other.
 ///
 /// Its memory is taken from `alloc` before, for as many slots as the last live index says. It answers
 /// `BeyondMaxCapacity` where the map cannot have so many, and `AllocError` where the memory was refused. An error

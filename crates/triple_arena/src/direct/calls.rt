@@ -49,7 +49,7 @@ impl<P: Ptr, T: Drop, S: NonZeroInxGenericStack<DirectSlot<P, T>> + Drop> ArenaT
 
     ghost cleared = { cleared_of };
 
-    ghost compressed = { compressed_of P.Gen.last };
+    ghost is_compressed = { λ d reset values new. new ≡ compressed_of P.Gen.last d reset values };
 
     ghost walk = { λ a. a };
 

@@ -12,8 +12,8 @@ use std::num::NonZeroUsize;
 use triple_arena_ptr::Ptr;
 use triple_arena_stack::NonZeroInxGenericStack;
 
-/// The pointers and the values of a direct arena, by value, in the order of the indexes, seen as the list of the entries
-/// that are left. Dropped, it drops those.
+/// The pointers and the values of a direct arena, by value, in the order of the indexes, seen as the list of the
+/// entries that are left. Dropped, it drops those.
 #[derive(Drop)]
 pub struct CapacityDrain<P: Ptr, T: Drop, S: NonZeroInxGenericStack<DirectSlot<P, T>>> {
     slots: S,

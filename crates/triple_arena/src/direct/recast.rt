@@ -1,8 +1,8 @@
 //! Renaming what the values of a direct arena hold, and renaming by a direct arena of pointers.
 ghost use Rattle.std.specs.Prelude.{refl};
-ghost use Rattle.triple_arena.specs.DirectContent.{as_content, of_content, get as get_of};
+ghost use Rattle.triple_arena.specs.DirectContent.{as_content, get as get_of};
 ghost use Rattle.triple_arena.specs.DirectLaws.{content-with_value};
-ghost use Rattle.triple_arena.specs.Recasting.{content_items, content_recasted};
+ghost use Rattle.triple_arena.specs.Recasting.{content_items, directly_recasted};
 ghost use Rattle.triple_arena.specs.RecastingLaws.{items-recasted};
 
 use crate::arena::{RecastByIndex, recast_values};
@@ -17,7 +17,7 @@ impl<I, P: Ptr, T: Recast<I> + Drop, S: NonZeroInxGenericStack<DirectSlot<P, T>>
     for DirectArena<P, T, S> {
     ghost items = { λ d. content_items T.items (as_content d) };
 
-    ghost recasted = { λ f d. of_content (content_recasted T.items f (T.recasted f) (as_content d)) };
+    ghost recasted = { λ f d. directly_recasted T.items f (T.recasted f) d };
 
     ghost items_recasted = { λ f d. items-recasted T.items f (T.recasted f) (T.items_recasted f)
         (as_content d) };

@@ -2,7 +2,8 @@
 ghost use Rattle.std.specs.Prelude.{◌≡◌, ◌↔◌, ℕ, Some, IsSome, IfNone, OnSome};
 ghost use Rattle.triple_arena_chain.specs.declared.kind.InsertKind.TheVariants.{Bridge};
 ghost use Rattle.triple_arena_chain.specs.Chains.{next_in, prev_in, next_at, prev_at, linked, unlinked};
-ghost use Rattle.triple_arena_chain.specs.Links.{ends_in, ends_found, place_among, IsRelinked};
+ghost use Rattle.triple_arena_chain.specs.Links.{ends_in, ends_found, place_among, IsChained, IsRelinked};
+ghost use Rattle.triple_arena_chain.specs.Lists.{IsAppended, IsSplit};
 
 use crate::chain_arena::interlinks::{set_next, set_prev};
 use crate::{ChainArena, LinkInsertKind, LinkNoGen};
@@ -21,6 +22,9 @@ impl<P: Ptr, T: Drop, S: NonZeroInxGenericStack<ArenaSlot<P, LinkNoGen<P, T>>> +
             ↔ IsSome (place_among P.index P.generation P.Inx.number self.old (Bridge p q)) }
         ensures relinked { OnSome result (IsRelinked P.Inx.number
             (linked (ends_in P.Inx.number self.old) (P.index p) (P.index q)) self.old self.new) }
+        ensures lists { OnSome result (IsAppended (P.index p) (P.index q)
+            (ends_in P.Inx.number self.old) (ends_in P.Inx.number self.new)) }
+        ensures formed { IsChained P.Inx.number self.new }
         ensures none { IfNone result (self.new ≡ self.old) }
     {
         // The interlinks agree.
@@ -41,6 +45,10 @@ impl<P: Ptr, T: Drop, S: NonZeroInxGenericStack<ArenaSlot<P, LinkNoGen<P, T>>> +
             → next_at (ends_in P.Inx.number self.old) (P.index p) ≡ Some q
             → IsRelinked P.Inx.number (unlinked (ends_in P.Inx.number self.old) (P.index p) q)
             self.old self.new) }
+        ensures lists { OnSome result ((q : ℕ)
+            → next_at (ends_in P.Inx.number self.old) (P.index p) ≡ Some q
+            → IsSplit (P.index p) q (ends_in P.Inx.number self.old) (ends_in P.Inx.number self.new)) }
+        ensures formed { IsChained P.Inx.number self.new }
         ensures none { IfNone result (self.new ≡ self.old) }
     {
         // The interlinks agree.
@@ -59,6 +67,10 @@ impl<P: Ptr, T: Drop, S: NonZeroInxGenericStack<ArenaSlot<P, LinkNoGen<P, T>>> +
             → prev_at (ends_in P.Inx.number self.old) (P.index p) ≡ Some q
             → IsRelinked P.Inx.number (unlinked (ends_in P.Inx.number self.old) q (P.index p))
             self.old self.new) }
+        ensures lists { OnSome result ((q : ℕ)
+            → prev_at (ends_in P.Inx.number self.old) (P.index p) ≡ Some q
+            → IsSplit q (P.index p) (ends_in P.Inx.number self.old) (ends_in P.Inx.number self.new)) }
+        ensures formed { IsChained P.Inx.number self.new }
         ensures none { IfNone result (self.new ≡ self.old) }
     {
         // The interlinks agree.

@@ -5,7 +5,8 @@ ghost use Rattle.std.specs.Iterator.{at_most};
 ghost use Rattle.std.specs.Option.{option_map};
 ghost use Rattle.triple_arena.specs.Content.{get, entry_at, live_count};
 ghost use Rattle.triple_arena_chain.specs.Kinds.{ends_by};
-ghost use Rattle.triple_arena_chain.specs.Drains.{onward_from, drain_chains, drain_lender, drain_at, IsRestDrained, IsStep, DrainCanStep, DrainLeaves, DrainSteps, DrainKeepsAlong};
+ghost use Rattle.triple_arena_chain.specs.Links.{IsChained};
+ghost use Rattle.triple_arena_chain.specs.Drains.{next_or_prev, drain_chains, drain_lender, drain_at, IsRestDrained, IsStep, DrainCanStep, DrainLeaves, DrainSteps, DrainKeepsAlong, DrainGoesAlong};
 
 use crate::{ChainArena, LinkNoGen};
 use triple_arena::{ArenaSlot, InvalidationOption, NonZeroInxGenericStack, Ptr, PtrInx};
@@ -30,7 +31,7 @@ pub struct ChainDrain<
 // Where a walk goes on from a link with these neighbours, once the link is gone: to its next, or at the end of the chain
 // to its previous one, which is the end then.
 fn onward<I: PtrInx>(i: I, own: (Option<I>, Option<I>)) -> Option<I>
-    ensures { option_map I.number result ≡ onward_from (I.number i) (ends_by I.number own) }
+    ensures { option_map I.number result ≡ next_or_prev (I.number i) (ends_by I.number own) }
 {
     let next = match own.1 {
         Some(next) => Some(next),
@@ -60,6 +61,7 @@ impl<P: Ptr, T: Drop, S: NonZeroInxGenericStack<ArenaSlot<P, LinkNoGen<P, T>>> +
         ensures start { IfSome result (λ d. drain_at P.Inx.number d ≡ Some (P.index p)) }
         ensures ready { IfSome result (λ d. DrainCanStep P.Inx.number d) }
         ensures stays { IfSome result (λ d. DrainKeepsAlong P.Inx.number P.Gen.last P.index P.generation d) }
+        ensures in_order { IfSome result (λ d. DrainGoesAlong P.Inx.number P.Gen.last P.index P.generation d) }
         ensures* none { sem 𝓛 (RestsIfNone
             (the_row P.row T.row S.row P.Inx.row P.Gen.row S.Alloc.row P.Ptr.own P.Debug P.Hash.own
             P.PartialEq P.Ord.own P.PartialOrd.own P.Inx.PtrInx.own P.Inx.Debug P.Inx.Hash.own
@@ -118,10 +120,13 @@ impl<P: Ptr, T: Drop, S: NonZeroInxGenericStack<ArenaSlot<P, LinkNoGen<P, T>>> +
 impl<'a, P: Ptr, T: Drop, S: NonZeroInxGenericStack<ArenaSlot<P, LinkNoGen<P, T>>> + Drop> Drop
     for ChainDrain<'a, P, T, S> {
     fn drop(self)
-        ensures { DrainLeaves P.Inx.number P.Gen.last self.entry self.exit.0.now }
+        ensures leaves { DrainLeaves P.Inx.number P.Gen.last self.entry self.exit.0.now }
+        ensures formed { IsChained P.Inx.number self.exit.0.now }
     {
         let ChainDrain { chains, at } = self;
         chains.take_rest(at);
+        // The interlinks agree.
+        let _ = chains.has_room();
     }
 }
 

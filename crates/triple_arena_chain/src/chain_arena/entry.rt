@@ -3,7 +3,7 @@ ghost use Rattle.std.specs.Prelude.{◌≡◌, ◌<◌, ◌≤◌, ◌↔◌, No
 ghost use Rattle.std.specs.Borrow.{sem, RestsIfErr};
 ghost use Rattle.triple_arena.specs.Content.{live_count, arena_capacity, next_index, grown_if_full};
 ghost use Rattle.triple_arena_chain.specs.InsertEntry.{entry_chains, entry_lender, entry_place, IsReady, IsLinkRefusal};
-ghost use Rattle.triple_arena_chain.specs.Links.{place_among, IsPlaced};
+ghost use Rattle.triple_arena_chain.specs.Links.{place_among, IsChained, IsPlaced};
 
 use crate::place::Place;
 use crate::{ChainArena, LinkInsertKind, LinkNoGen};
@@ -47,6 +47,7 @@ impl<
         // `self.exit.0.now` are the links as they are left.
         ensures placed { IsPlaced P.Inx.number (entry_place P.Inx.number self.entry) (P.index result)
             (P.generation result) t (entry_chains self.entry) self.exit.0.now }
+        ensures formed { IsChained P.Inx.number self.exit.0.now }
         ensures room { self.exit.0.now.room ≡ (entry_chains self.entry).room }
     {
         let ChainArenaInsertEntry {

@@ -1,7 +1,8 @@
 //! Nexts that are exchanged.
 ghost use Rattle.std.specs.Prelude.{◌≡◌, ◌↔◌, ℕ, Some, None, IsSome, IfNone, OnSome};
 ghost use Rattle.triple_arena_chain.specs.Chains.{next_in, next_at, exchanged};
-ghost use Rattle.triple_arena_chain.specs.Links.{ends_in, ends_found, IsRelinked};
+ghost use Rattle.triple_arena_chain.specs.Links.{ends_in, ends_found, IsChained, IsRelinked};
+ghost use Rattle.triple_arena_chain.specs.Lists.{IsExchanged};
 
 use crate::chain_arena::interlinks::{set_next, set_prev};
 use crate::{ChainArena, LinkNoGen};
@@ -27,6 +28,9 @@ impl<P: Ptr, T: Drop, S: NonZeroInxGenericStack<ArenaSlot<P, LinkNoGen<P, T>>> +
             → IsRelinked P.Inx.number
             (exchanged (ends_in P.Inx.number self.old) (P.index p) (P.index q) s t)
             self.old self.new) }
+        ensures lists { OnSome result (IsExchanged (P.index p) (P.index q)
+            (ends_in P.Inx.number self.old) (ends_in P.Inx.number self.new)) }
+        ensures formed { IsChained P.Inx.number self.new }
         ensures none { IfNone result (self.new ≡ self.old) }
     {
         // The interlinks agree.

@@ -6,7 +6,7 @@ ghost use Rattle.triple_arena.specs.Content.{live_count, arena_capacity, next_in
 ghost use Rattle.triple_arena_chain.specs.Chains.{IsPlace};
 ghost use Rattle.triple_arena_chain.specs.InsertEntry.{IsLinkRefusal};
 ghost use Rattle.triple_arena_chain.specs.Kinds.{place_by};
-ghost use Rattle.triple_arena_chain.specs.Links.{ends_in, place_among, IsPlaced};
+ghost use Rattle.triple_arena_chain.specs.Links.{ends_in, place_among, IsChained, IsPlaced};
 
 use crate::place::Place;
 use crate::{ChainArena, LinkInsertKind, LinkNoGen};
@@ -22,11 +22,12 @@ impl<P: Ptr, T: Drop, S: NonZeroInxGenericStack<ArenaSlot<P, LinkNoGen<P, T>>> +
     S,
 > {
     // Makes room for one link more, where there is none, and answers its pointer.
-    fn make_room(&mut self) -> Result<P, ReallocationError>
+    pub(crate) fn make_room(&mut self) -> Result<P, ReallocationError>
         ensures has_index { IfOk result (λ p. P.index p ≡ next_index self.new) }
         ensures has_generation { IfOk result (λ p. P.generation p ≡ self.new.counter) }
         ensures grown { OnOk result (self.new ≡ grown_if_full self.old) }
         ensures room { OnOk result (live_count self.new < arena_capacity self.new) }
+        ensures formed { IsChained P.Inx.number self.new }
         ensures refusal { IsRefusal S.takes_memory (live_count self.old) self.old.room result }
         ensures err { OnErr result (self.new ≡ self.old) }
     {
@@ -50,6 +51,7 @@ impl<P: Ptr, T: Drop, S: NonZeroInxGenericStack<ArenaSlot<P, LinkNoGen<P, T>>> +
         ensures has_index { IfOk result (λ made. P.index made.1 ≡ next_index self.new) }
         ensures has_generation { IfOk result (λ made. P.generation made.1 ≡ self.new.counter) }
         ensures grown { OnOk result (self.new ≡ grown_if_full self.old) }
+        ensures formed { IsChained P.Inx.number self.new }
         ensures room { OnOk result (live_count self.new < arena_capacity self.new) }
         ensures err { OnErr result (self.new ≡ self.old) }
     {
@@ -83,6 +85,7 @@ impl<P: Ptr, T: Drop, S: NonZeroInxGenericStack<ArenaSlot<P, LinkNoGen<P, T>>> +
         ensures placed { IfOk result
             (λ p. IfSome (place_among P.index P.generation P.Inx.number self.old kind)
             (λ place. IsPlaced P.Inx.number place (P.index p) (P.generation p) t self.old self.new)) }
+        ensures formed { IsChained P.Inx.number self.new }
         ensures room { OnOk result (self.new.room
             ≡ room_after (live_count self.old) self.old.room) }
         ensures err { OnErr result (self.new ≡ self.old) }
@@ -99,6 +102,7 @@ impl<P: Ptr, T: Drop, S: NonZeroInxGenericStack<ArenaSlot<P, LinkNoGen<P, T>>> +
         ensures placed { IfOk result
             (λ p. IfSome (place_among P.index P.generation P.Inx.number self.old kind)
             (λ place. IsPlaced P.Inx.number place (P.index p) (P.generation p) t self.old self.new)) }
+        ensures formed { IsChained P.Inx.number self.new }
         ensures room { OnOk result (self.new.room
             ≡ room_after (live_count self.old) self.old.room) }
         ensures err { OnErr result (self.new ≡ self.old) }

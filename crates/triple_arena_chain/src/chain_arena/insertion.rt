@@ -3,7 +3,7 @@ ghost use Rattle.std.specs.Prelude.{◌≡◌, ◌<◌, ◌≤◌, ◌↔◌, No
 ghost use Rattle.triple_arena.specs.Content.{live_count, arena_capacity};
 ghost use Rattle.triple_arena_chain.specs.Chains.{IsPlace};
 ghost use Rattle.triple_arena_chain.specs.Kinds.{place_by};
-ghost use Rattle.triple_arena_chain.specs.Links.{ends_in, link_for, place_among, IsPlaced};
+ghost use Rattle.triple_arena_chain.specs.Links.{ends_in, link_for, place_among, IsChained, IsPlaced};
 
 use crate::chain_arena::interlinks::join;
 use crate::place::Place;
@@ -38,6 +38,7 @@ impl<P: Ptr, T: Drop, S: NonZeroInxGenericStack<ArenaSlot<P, LinkNoGen<P, T>>> +
         requires place { IsPlace (ends_in P.Inx.number self.old) (place_by P.Inx.number place) }
         ensures placed { IsPlaced P.Inx.number (place_by P.Inx.number place) (P.index result)
             (P.generation result) t self.old self.new }
+        ensures formed { IsChained P.Inx.number self.new }
         ensures room { self.new.room ≡ self.old.room }
     {
         match self.arena.entry_insert_within_capacity() {
@@ -71,9 +72,12 @@ impl<P: Ptr, T: Drop, S: NonZeroInxGenericStack<ArenaSlot<P, LinkNoGen<P, T>>> +
         ensures placed { IfOk result
             (λ p. IfSome (place_among P.index P.generation P.Inx.number self.old kind)
             (λ place. IsPlaced P.Inx.number place (P.index p) (P.generation p) t self.old self.new)) }
+        ensures formed { IsChained P.Inx.number self.new }
         ensures room { self.new.room ≡ self.old.room }
         ensures err { OnErr result (self.new ≡ self.old) }
     {
+        // The interlinks agree.
+        let _ = self.has_room();
         let Some(place) = self.place(kind) else {
             return Err(ChainInsertionError::FailedLinkRequirement);
         };

@@ -4,8 +4,8 @@ ghost use Rattle.std.specs.Option.{option_map};
 ghost use Rattle.triple_arena_ptr.specs.Generation.{next_wraps};
 ghost use Rattle.triple_arena_ptr.specs.InvalidationOption.{value_of, overflowed};
 ghost use Rattle.triple_arena_ptr.specs.InvalidationResult.{answer_of};
-ghost use Rattle.triple_arena.specs.Content.{get, entry_at};
-ghost use Rattle.triple_arena_chain.specs.Links.{IsTakenOut};
+ghost use Rattle.triple_arena.specs.Content.{get, entry_at, removed};
+ghost use Rattle.triple_arena_chain.specs.Links.{bridged_over, IsChained, IsTakenOut};
 
 use crate::chain_arena::interlinks::{set_next, set_prev};
 use crate::{ChainArena, LinkNoGen};
@@ -27,6 +27,9 @@ impl<P: Ptr, T: Drop, S: NonZeroInxGenericStack<ArenaSlot<P, LinkNoGen<P, T>>> +
             (λ a. overflowed a ≡ next_wraps P.Gen.last self.old.counter) }
         ensures taken { OnSome (answer_of result) (IsTakenOut P.Inx.number P.Gen.last
             (P.index p) self.old self.new) }
+        ensures exact { IfSome (answer_of result) (λ a. self.new ≡ removed P.Gen.last
+            (bridged_over P.Inx.number self.old (value_of a)) (P.index p)) }
+        ensures formed { IsChained P.Inx.number self.new }
         ensures invalid { IfNone (answer_of result) (self.new ≡ self.old) }
     {
         // The interlinks agree.
@@ -55,6 +58,9 @@ impl<P: Ptr, T: Drop, S: NonZeroInxGenericStack<ArenaSlot<P, LinkNoGen<P, T>>> +
             (λ a. overflowed a ≡ next_wraps P.Gen.last self.old.counter) }
         ensures taken { OnSome (answer_of result) (IsTakenOut P.Inx.number P.Gen.last
             (P.Inx.number i) self.old self.new) }
+        ensures exact { IfSome (answer_of result) (λ a. self.new ≡ removed P.Gen.last
+            (bridged_over P.Inx.number self.old (value_of a).1) (P.Inx.number i)) }
+        ensures formed { IsChained P.Inx.number self.new }
         ensures invalid { IfNone (answer_of result) (self.new ≡ self.old) }
     {
         // The interlinks agree.

@@ -1,11 +1,11 @@
 //! Walks along a chain.
-ghost use Rattle.std.specs.Prelude.{◌≡◌, ◌↔◌, IsSome, IfSome};
+ghost use Rattle.std.specs.Prelude.{◌≡◌, ◌+◌, ◌↔◌, length, IsSome, IfSome};
 ghost use Rattle.std.specs.Option.{option_map};
 ghost use Rattle.triple_arena.specs.Content.{get};
 ghost use Rattle.triple_arena.specs.LiveEntries.{live_entries};
 ghost use Rattle.triple_arena_chain.specs.Chains.{next_at, prev_at};
 ghost use Rattle.triple_arena_chain.specs.Links.{ends_in, values_in};
-ghost use Rattle.triple_arena_chain.specs.Walks.{walk_from, left_to, gone_on, IsWalkAlong, ChainSteps};
+ghost use Rattle.triple_arena_chain.specs.Walks.{walk_from, left_to, past_index, IsWalkAlong, ChainSteps};
 
 use crate::chain_iterators::IterLinkNoGen;
 use crate::{ChainArena, LinkNoGen};
@@ -45,7 +45,7 @@ impl<P: Ptr> ChainPtrAdvancer<P> {
         chains: &ChainArena<P, T, S>,
         i: P::Inx,
     )
-        ensures { self.new ≡ gone_on (ends_in P.Inx.number chains.now) self.old (P.Inx.number i) }
+        ensures { self.new ≡ past_index (ends_in P.Inx.number chains.now) self.old (P.Inx.number i) }
     {
         if self.back {
             self.at = chains.prev_of(i);
@@ -132,7 +132,7 @@ impl<P: Ptr, T: Drop, S: NonZeroInxGenericStack<ArenaSlot<P, LinkNoGen<P, T>>> +
         ensures variant { IsSome result ↔ IsSome (get self.now (P.index p) (P.generation p)) }
         ensures from { IfSome result (λ a. a ≡ walk_from (P.index p)) }
         ensures along { IfSome result (λ a.
-            IsWalkAlong (ends_in P.Inx.number self.now) a (P.index p)) }
+            IsWalkAlong (ends_in P.Inx.number self.now) (length self.now.slots + 1) a (P.index p)) }
     {
         // The interlinks agree.
         let _ = self.has_room();

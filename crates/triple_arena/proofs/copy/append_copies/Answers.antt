@@ -20,7 +20,8 @@ returns-in_err-value-in-Some-lent_entry-clause-refused g c _ =
     let bound = c.requires.indexes in
     let split = c.in-Some.ensures.cases.1 in
     copying_refused _ _ _ c.loop-slot.invariant.1 (first_shown g.E.LentEntry.shown _ c.in-Some.ensures.cases.0 c.lent_entry.ensures c.in-Some-lent_entry.is)
-    (omega (arith, c.saturating_add-index.ensures, c.len.ensures.value)) c.pointer_at.ensures.has_index c.pointer_at.ensures.has_generation c.map.ensures c.in_err-value-in-Some-lent_entry.was
+    (omega (arith, c.saturating_add-index.ensures, c.len.ensures.value)) c.pointer_at.ensures.has_index c.pointer_at.ensures.has_generation
+    c.map.ensures c.in_err-value-in-Some-lent_entry.was
 
 pub loop-slot-preserved-in_ok-value-in-Some-lent_entry :
     goal.loop-slot-preserved-in_ok-value-in-Some-lent_entry

@@ -1,5 +1,5 @@
 use Rattle.std.proofs.Common.{[], ◌∷◌, ◌++◌, refl}
-use Rattle.triple_arena_chain.specs.Drains.{around}
+use Rattle.triple_arena_chain.specs.Walks.{around}
 use Rattle.triple_arena_chain.specs.DrainLaws.{rotated}
 use Rattle.triple_arena_chain.proofs.laws.walks_of_a_ring_are_rotations.Goals as goal
 

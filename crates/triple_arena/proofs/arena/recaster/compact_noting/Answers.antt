@@ -63,7 +63,8 @@ loop-at-preserved g c =
             omega (arith, long, longer, at.invariant.1, old_is),
             ap (λ d. d.room) stored ∙ at.invariant.2,
             ap g.S.NonZeroInxGenericStack.room w.slots-is ∙ w.put_entry.ensures.room ∙ c.take_entry.ensures.room ∙ at.invariant.3,
-            ends_more (live_entries at.map) (i, (g.P.Gen.PtrGen.number w.generation.result, w.pointer_at-to.result)) _ noted (omega (arith, long, longer, at.invariant.1, old_is)),
+            ends_more (live_entries at.map) (i, (g.P.Gen.PtrGen.number w.generation.result, w.pointer_at-to.result)) _ noted
+                (omega (arith, long, longer, at.invariant.1, old_is)),
           )
       | in_default w ↦
           let stood = stood_none _ _ _ c.take_entry.ensures.entry old_is w.in_default.is in

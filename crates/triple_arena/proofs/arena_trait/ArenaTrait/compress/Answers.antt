@@ -1,4 +1,4 @@
-use Rattle.std.proofs.Common.{ap, ◌∙◌, rules}
+use Rattle.std.proofs.Common.{subst, rules}
 use Rattle.triple_arena.proofs.CompressionLemmas.{values_kept}
 use Rattle.triple_arena.proofs.arena_trait.ArenaTrait.compress.Goals as goal
 
@@ -8,5 +8,5 @@ returns-clause-values g c =
 
 pub returns-clause-exact : goal.returns-clause-exact
 returns-clause-exact g c =
+    subst (λ values. g.Self.ArenaTrait.is_compressed c.args.self.now c.args.reset values c.compress_with.new.self) (returns-clause-values g c)
     c.compress_with.ensures.exact
-    ∙ ap (g.Self.ArenaTrait.compressed c.args.self.now c.args.reset) (returns-clause-values g c)

@@ -2,6 +2,7 @@ use Rattle.std.proofs.Common.{rules, ◌≡◌, Some}
 use Rattle.triple_arena_chain.specs.Chains.{linked}
 use Rattle.triple_arena_chain.specs.Kinds.{at_bridge, place_by}
 use Rattle.triple_arena_chain.specs.Links.{ends_in, ends_found, with_next_of}
+use Rattle.triple_arena_chain.proofs.ListLemmas.{is_appended}
 use Rattle.triple_arena_chain.proofs.ConnectionLemmas.{connected, Relinked}
 use Rattle.triple_arena_chain.proofs.chain_arena.ChainArena.connect.Given.{Over}
 use Rattle.triple_arena_chain.proofs.chain_arena.ChainArena.connect.Goals as goal
@@ -27,3 +28,13 @@ invariant_of-self g c = (done g c).chained
 
 pub returns-clause-relinked : goal.returns-clause-relinked
 returns-clause-relinked g c = (done g c).relinked
+
+pub returns-clause-lists : goal.returns-clause-lists
+returns-clause-lists g c =
+    let number = g.P.Inx.PtrInx.number in
+    let d = done g c in
+    is_appended (ends_in number c.args.self.now) (ends_in number c.set_prev.new.arena) (g.P.Ptr.index c.args.p) (g.P.Ptr.index c.args.q) d.chained.agreed
+    d.relinked.ends
+
+pub returns-clause-formed : goal.returns-clause-formed
+returns-clause-formed g c = (done g c).chained

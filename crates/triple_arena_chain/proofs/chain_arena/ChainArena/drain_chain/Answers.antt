@@ -1,6 +1,6 @@
 use Rattle.std.proofs.Common.{rules, Some, IsSome, ap, refl}
 use Rattle.triple_arena.specs.Content.{get}
-use Rattle.triple_arena_chain.proofs.DrainLemmas.{walk_from, keeps_along}
+use Rattle.triple_arena_chain.proofs.DrainLemmas.{walk_from, keeps_along, goes_along}
 use Rattle.triple_arena_chain.proofs.chain_arena.ChainArena.drain_chain.Goals as goal
 
 pub returns : goal.returns
@@ -15,6 +15,7 @@ returns g c =
         start = ap Some c.inx.ensures;
         ready = walk;
         stays = keeps_along g.P.Inx.PtrInx.number g.P.Gen.PtrGen.last g.P.Ptr.index g.P.Ptr.generation _;
+        in_order = goes_along g.P.Inx.PtrInx.number g.P.Gen.PtrGen.last g.P.Ptr.index g.P.Ptr.generation _;
         none = tt;
       },
     )

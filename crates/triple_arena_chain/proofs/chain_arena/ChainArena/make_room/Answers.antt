@@ -4,3 +4,6 @@ use Rattle.triple_arena_chain.proofs.chain_arena.ChainArena.make_room.Goals as g
 
 pub invariant_of-self-2 : goal.invariant_of-self-2
 invariant_of-self-2 g c = chained-grown g.P.Inx.PtrInx.number c.args.self.now _ c.has_room.ensures.chained (search rules)
+
+pub returns-clause-formed : goal.returns-clause-formed
+returns-clause-formed g c = chained-grown g.P.Inx.PtrInx.number c.args.self.now _ c.has_room.ensures.chained (search rules)

@@ -21,3 +21,6 @@ invariant_of-self g c = (placed g c).chained
 
 pub returns-clause-placed : goal.returns-clause-placed
 returns-clause-placed g c = let p = placed g c in search rules
+
+pub returns-clause-formed : goal.returns-clause-formed
+returns-clause-formed g c = (placed g c).chained

@@ -1,6 +1,6 @@
 use Rattle.std.proofs.Common.{rules, ◌≡◌, option_map, refl, sym}
 use Rattle.triple_arena_ptr.specs.InvalidationResult.{answer_of}
-use Rattle.triple_arena_chain.specs.Drains.{onward_from}
+use Rattle.triple_arena_chain.specs.Drains.{next_or_prev}
 use Rattle.triple_arena_chain.specs.Links.{link_ends}
 use Rattle.triple_arena_chain.proofs.DrainLemmas.{step_by}
 use Rattle.triple_arena_chain.proofs.chain_arena.ChainArena.take_first.Goals as goal
@@ -8,7 +8,7 @@ use Rattle.triple_arena_chain.proofs.chain_arena.ChainArena.take_first.Goals as 
 pub returns-then-wrapped-clause-step : goal.returns-then-wrapped-clause-step
 returns-then-wrapped-clause-step g c =
     let number = g.P.Inx.PtrInx.number in
-    let next : option_map number c.onward-next.result ≡ onward_from (number c.args.i) (link_ends number c.in_ok-generation.link) = search rules in
+    let next : option_map number c.onward-next.result ≡ next_or_prev (number c.args.i) (link_ends number c.in_ok-generation.link) = search rules in
     step_by number g.P.Gen.PtrGen.last g.P.Gen.PtrGen.number g.P.Ptr.index g.P.Ptr.generation (answer_of c.remove_inx_link_no_gen.result) c.args.self.now
     c.remove_inx_link_no_gen.new.self (number c.args.i) c._from_raw.result c.in_ok-generation.generation c.in_ok-generation.link c.in_ok-generation.wrapped _
     (option_map number c.onward-next.result) c.has_room.ensures.chained c._from_raw.ensures.has_index c._from_raw.ensures.has_generation refl
@@ -18,7 +18,7 @@ returns-then-wrapped-clause-step g c =
 pub returns-else-wrapped-clause-step : goal.returns-else-wrapped-clause-step
 returns-else-wrapped-clause-step g c =
     let number = g.P.Inx.PtrInx.number in
-    let next : option_map number c.onward-next.result ≡ onward_from (number c.args.i) (link_ends number c.in_ok-generation.link) = search rules in
+    let next : option_map number c.onward-next.result ≡ next_or_prev (number c.args.i) (link_ends number c.in_ok-generation.link) = search rules in
     step_by number g.P.Gen.PtrGen.last g.P.Gen.PtrGen.number g.P.Ptr.index g.P.Ptr.generation (answer_of c.remove_inx_link_no_gen.result) c.args.self.now
     c.remove_inx_link_no_gen.new.self (number c.args.i) c._from_raw.result c.in_ok-generation.generation c.in_ok-generation.link c.in_ok-generation.wrapped _
     (option_map number c.onward-next.result) c.has_room.ensures.chained c._from_raw.ensures.has_index c._from_raw.ensures.has_generation refl

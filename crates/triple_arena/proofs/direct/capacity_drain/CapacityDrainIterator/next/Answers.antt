@@ -13,7 +13,8 @@ returns-in-Some-clause-steps g c =
     let place : i ≡ l.self-inside.passed + 1 = omega (arith, c.saturating_add-i.ensures) in
     let items = g.S.NonZeroInxGenericStack.items l.self-inside.slots in
     let stood = c.take_entry.ensures.entry ∙ ap (λ xs. slice_get xs (i - 1)) (map-id items) in
-    let written = sym (map-id (g.S.NonZeroInxGenericStack.items c.take_entry.new.slots)) ∙ c.take_entry.ensures.slots ∙ ap (λ xs. slice_set xs (i - 1) None) (map-id items) in
+    let same = sym (map-id (g.S.NonZeroInxGenericStack.items c.take_entry.new.slots)) in
+    let written = same ∙ c.take_entry.ensures.slots ∙ ap (λ xs. slice_set xs (i - 1) None) (map-id items) in
     let t = entry_taken g.P.Gen.PtrGen.number c.take_entry.result _ _ _ _ _ i l.invariant.vacant c.in-Some.is stood place written in
     rw (c.pointer_at.ensures.has_index, c.pointer_at.ensures.has_generation) (sym l.invariant.left ∙ t.first)
 
@@ -26,7 +27,8 @@ returns-in-Some-clause-goes g c =
     let place : i ≡ l.self-inside.passed + 1 = omega (arith, c.saturating_add-i.ensures) in
     let items = g.S.NonZeroInxGenericStack.items l.self-inside.slots in
     let stood = c.take_entry.ensures.entry ∙ ap (λ xs. slice_get xs (i - 1)) (map-id items) in
-    let written = sym (map-id (g.S.NonZeroInxGenericStack.items c.take_entry.new.slots)) ∙ c.take_entry.ensures.slots ∙ ap (λ xs. slice_set xs (i - 1) None) (map-id items) in
+    let same = sym (map-id (g.S.NonZeroInxGenericStack.items c.take_entry.new.slots)) in
+    let written = same ∙ c.take_entry.ensures.slots ∙ ap (λ xs. slice_set xs (i - 1) None) (map-id items) in
     let t = entry_taken g.P.Gen.PtrGen.number c.take_entry.result _ _ _ _ _ i l.invariant.vacant c.in-Some.is stood place written in
     let fewer = ap length (sym l.invariant.left ∙ t.first) in
     record { on = λ finite. (tt, finite, omega (arith, fewer)); keeps = tt; rests = λ _. tt }
@@ -40,7 +42,8 @@ loop-self-preserved g c =
     let place : i ≡ l.self-inside.passed + 1 = omega (arith, c.saturating_add-i.ensures) in
     let items = g.S.NonZeroInxGenericStack.items l.self-inside.slots in
     let stood = c.take_entry.ensures.entry ∙ ap (λ xs. slice_get xs (i - 1)) (map-id items) in
-    let written = sym (map-id (g.S.NonZeroInxGenericStack.items c.take_entry.new.slots)) ∙ c.take_entry.ensures.slots ∙ ap (λ xs. slice_set xs (i - 1) None) (map-id items) in
+    let same = sym (map-id (g.S.NonZeroInxGenericStack.items c.take_entry.new.slots)) in
+    let written = same ∙ c.take_entry.ensures.slots ∙ ap (λ xs. slice_set xs (i - 1) None) (map-id items) in
     let p = free_passed g.P.Gen.PtrGen.number c.take_entry.result _ _ _ i l.invariant.vacant c.in_default.is stood place written in
     let long = ap length written ∙ length-set items (i - 1) None in
     record {

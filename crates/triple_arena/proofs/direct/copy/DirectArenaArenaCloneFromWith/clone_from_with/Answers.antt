@@ -6,14 +6,16 @@ use Rattle.triple_arena.proofs.direct.copy.DirectArenaArenaCloneFromWith.clone_f
 
 pub returns-in-Ok-clause-copied : goal.returns-in-Ok-clause-copied
 returns-in-Ok-clause-copied g c =
-    (grown_direct _ _ _ (g.A.ArenaTrait.counter c.args.source.now) c.args.self.now c.in-Ok.ensures.mapped (c.up_to_last-slots.ensures.entries ∙ c.lent_slots.ensures.entries)
+    (grown_direct _ _ _ (g.A.ArenaTrait.counter c.args.source.now) c.args.self.now c.in-Ok.ensures.mapped
+    (c.up_to_last-slots.ensures.entries ∙ c.lent_slots.ensures.entries)
     (g.met.A.ArenaTrait.entry_listed c.args.source.now) (g.met.A.ArenaTrait.live_entries_counted c.args.source.now) c.in-Ok.ensures.exact
     c.in_ok-reallocate.ensures.exact
     (c.up_to_last-slots.ensures.last ∙ ap last_listed c.lent_slots.ensures.entries) c.in_ok-reallocate.ensures.fits).copy
 
 pub returns-in-Ok-clause-exact : goal.returns-in-Ok-clause-exact
 returns-in-Ok-clause-exact g c =
-    (grown_direct _ _ _ (g.A.ArenaTrait.counter c.args.source.now) c.args.self.now c.in-Ok.ensures.mapped (c.up_to_last-slots.ensures.entries ∙ c.lent_slots.ensures.entries)
+    (grown_direct _ _ _ (g.A.ArenaTrait.counter c.args.source.now) c.args.self.now c.in-Ok.ensures.mapped
+    (c.up_to_last-slots.ensures.entries ∙ c.lent_slots.ensures.entries)
     (g.met.A.ArenaTrait.entry_listed c.args.source.now) (g.met.A.ArenaTrait.live_entries_counted c.args.source.now) c.in-Ok.ensures.exact
     c.in_ok-reallocate.ensures.exact
     (c.up_to_last-slots.ensures.last ∙ ap last_listed c.lent_slots.ensures.entries) c.in_ok-reallocate.ensures.fits).exact

@@ -1,0 +1,5 @@
+use Rattle.triple_arena_chain.specs.ListLaws.{turned}
+use Rattle.triple_arena_chain.proofs.laws.rings_turn.Goals as goal
+
+pub returns : goal.returns
+returns c = turned

@@ -1,0 +1,13 @@
+-- The value of a link under a renaming of the items that it holds.
+use Rattle.std.specs.Prelude.{List}
+use Rattle.triple_arena_chain.specs.declared.link.IndexLink.{IndexLink}
+
+module _ {N I T : Type 0} where
+  -- the items of its value
+  abbrev pub link_items : (T → List N) → IndexLink I T → List N
+  link_items items link = items link.t
+
+module _ {I T : Type 0} where
+  -- the link with its value recast
+  abbrev pub link_recasted : (T → T) → IndexLink I T → IndexLink I T
+  link_recasted recasted link = record link { t = recasted link.t }

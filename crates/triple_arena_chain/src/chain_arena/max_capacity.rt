@@ -1,0 +1,28 @@
+//! The greatest capacity of a chain arena, where it can be set.
+ghost use Rattle.triple_arena.specs.Content.{last_index as last_index_of, with_limit as with_limit_of};
+
+use crate::{ChainArena, LinkNoGen};
+use triple_arena::{
+    ArenaSlot, ArenaTrait, MaxCapacityReductionError, NonZeroInxLimitedStack, Ptr, SetMaxCapacity,
+};
+
+impl<
+    P: Ptr,
+    T: Drop,
+    S: NonZeroInxLimitedStack<ArenaSlot<P, LinkNoGen<P, T>>> + Drop,
+> SetMaxCapacity for ChainArena<P, T, S> {
+    ghost least_limit = { last_index_of };
+
+    ghost with_limit = { with_limit_of P.Inx.greatest };
+
+    /// Sets the greatest capacity to `max`, as far as the pointers' indexes reach, or changes nothing where the last
+    /// live index is past `max`. Where there are slots past `max`, the free slots at the end are popped first.
+    fn set_max_capacity(&mut self, max: usize) -> Result<(), MaxCapacityReductionError> {
+        // The interlinks agree.
+        let _ = self.has_room();
+        let answer = self.arena.set_max_capacity(max);
+        // The arena is well-formed after.
+        let _ = self.arena.len();
+        answer
+    }
+}

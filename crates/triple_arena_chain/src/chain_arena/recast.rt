@@ -1,0 +1,44 @@
+//! Renaming what the values of links hold.
+ghost use Rattle.triple_arena.specs.Recasting.{content_items, content_recasted};
+ghost use Rattle.triple_arena.specs.RecastingLaws.{items-recasted};
+ghost use Rattle.triple_arena_chain.specs.LinkRecasting.{link_items, link_recasted};
+
+use crate::{ChainArena, IndexLink, LinkNoGen};
+use triple_arena::{ArenaSlot, ArenaTrait, NonZeroInxGenericStack, Ptr, PtrInx, Recast, Recaster};
+
+/// The items are those of the value.
+impl<N, I: PtrInx, T: Recast<N>> Recast<N> for IndexLink<I, T> {
+    ghost items = { link_items T.items };
+
+    ghost recasted = { λ f link. link_recasted (T.recasted f) link };
+
+    ghost items_recasted = { λ f link. T.items_recasted f link.t };
+
+    fn recast<R: Recaster<Item = N>>(&mut self, recaster: &R) -> Result<(), N> {
+        self.t.recast(recaster)
+    }
+}
+
+/// The items are those of the values, in the order of the indexes. The interlinks stay.
+impl<
+    N,
+    P: Ptr,
+    T: Recast<N> + Drop,
+    S: NonZeroInxGenericStack<ArenaSlot<P, LinkNoGen<P, T>>> + Drop,
+> Recast<N> for ChainArena<P, T, S> {
+    ghost items = { content_items (link_items T.items) };
+
+    ghost recasted = { λ f c. content_recasted (link_items T.items) f (link_recasted (T.recasted f)) c };
+
+    ghost items_recasted = { λ f c. items-recasted (link_items T.items) f (link_recasted (T.recasted f))
+        (λ link. T.items_recasted f link.t) c };
+
+    fn recast<R: Recaster<Item = N>>(&mut self, recaster: &R) -> Result<(), N> {
+        // The interlinks agree.
+        let _ = self.has_room();
+        let answer = self.arena.recast(recaster);
+        // The arena is well-formed after.
+        let _ = self.arena.len();
+        answer
+    }
+}

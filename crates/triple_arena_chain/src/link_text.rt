@@ -1,0 +1,48 @@
+//! The text of links: the neighbours in parentheses, `-` where there is none, and the value, as `(-, 2) hello`.
+use crate::{IndexLink, Link};
+use std::fmt;
+use triple_arena_ptr::{Ptr, PtrInx};
+
+// An index as its digits, or `-`.
+#[derive(Drop)]
+struct InxText<I>(Option<I>);
+
+impl<I: PtrInx> fmt::Display for InxText<I> {
+    fn fmt<W: fmt::Write>(&self, f: &mut fmt::Formatter<W>) -> fmt::Result {
+        match self.0 {
+            Some(i) => i.fmt_hex(f),
+            None => f.write_str("-"),
+        }
+    }
+}
+
+// A pointer as its text, or `-`.
+#[derive(Drop)]
+struct PtrText<P>(Option<P>);
+
+impl<P: Ptr> fmt::Display for PtrText<P> {
+    fn fmt<W: fmt::Write>(&self, f: &mut fmt::Formatter<W>) -> fmt::Result {
+        match self.0 {
+            Some(p) => write!(f, "{p:?}"),
+            None => f.write_str("-"),
+        }
+    }
+}
+
+/// The indexes of the neighbours in lower-case hexadecimal digits, and the value: `(-, 2) hello`.
+impl<I: PtrInx, T: fmt::Display> fmt::Display for IndexLink<I, T> {
+    fn fmt<W: fmt::Write>(&self, f: &mut fmt::Formatter<W>) -> fmt::Result {
+        let prev = InxText(self.prev);
+        let next = InxText(self.next);
+        write!(f, "({prev}, {next}) {}", self.t)
+    }
+}
+
+/// The pointers to the neighbours, and the value: `(-, P0[2](2)) hello`.
+impl<P: Ptr, T: fmt::Display> fmt::Display for Link<P, T> {
+    fn fmt<W: fmt::Write>(&self, f: &mut fmt::Formatter<W>) -> fmt::Result {
+        let prev = PtrText(self.prev());
+        let next = PtrText(self.next());
+        write!(f, "({prev}, {next}) {}", self.t)
+    }
+}

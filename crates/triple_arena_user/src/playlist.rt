@@ -1,0 +1,71 @@
+//! Playlists: songs in the chains of an arena, of which all is said in lists of indexes.
+ghost use Rattle.std.specs.Prelude.{◌≡◌, ◌%◌, ◌^◌, ℕ, List, ◌∷◌, ◌++◌, map as list_map, IsSome, IfSome, IfOk, OnSome, OnErr, IfNone};
+ghost use Rattle.std.specs.List.{sum};
+ghost use Rattle.triple_arena.specs.Content.{get};
+ghost use Rattle.triple_arena_chain.specs.Chains.{Off, IsLinear, IsRing};
+ghost use Rattle.triple_arena_chain.specs.Links.{ends_in};
+ghost use Rattle.triple_arena_chain.specs.Lists.{Chain, members, IsChainOf};
+ghost use Rattle.triple_arena_chain.specs.Walks.{IsWalkFrom};
+ghost use Rattle.triple_arena_user.specs.Playlists.{length_at};
+
+use triple_arena::{Advancer, ArenaSlot, NonZeroInxGenericStack, Ptr};
+use triple_arena_chain::{ChainArena, LinkInsertKind, LinkNoGen};
+use triple_arena_ptr::ChainInsertionError;
+
+/// Adds a song directly after the one at `p`, if there is room.
+pub fn add_after<P: Ptr, T: Drop, S: NonZeroInxGenericStack<ArenaSlot<P, LinkNoGen<P, T>>> + Drop>(
+    songs: &mut ChainArena<P, T, S>,
+    p: P,
+    song: T,
+) -> Result<P, ChainInsertionError>
+    ensures linear { IfOk result (λ q. (before after : List ℕ)
+        → IsLinear (ends_in P.Inx.number songs.old) (before ++ P.index p ∷ after)
+        → IsLinear (ends_in P.Inx.number songs.new) (before ++ (P.index p ∷ P.index q ∷ after))) }
+    ensures ring { IfOk result (λ q. (after : List ℕ)
+        → IsRing (ends_in P.Inx.number songs.old) (P.index p ∷ after)
+        → IsRing (ends_in P.Inx.number songs.new) (P.index p ∷ P.index q ∷ after)) }
+    ensures others { (c : Chain) → IsChainOf (ends_in P.Inx.number songs.old) c
+        → Off (members c) (P.index p) → IsChainOf (ends_in P.Inx.number songs.new) c }
+    ensures err { OnErr result (songs.new ≡ songs.old) }
+{
+    // The interlinks agree.
+    let _ = songs.len();
+    songs.insert_within_capacity(LinkInsertKind::NextTo(p), song)
+}
+
+/// Turns the song at `p` and its next, at `q`, round, where `p` is the next of `before` and `q` has a next. Else it
+/// answers `None`.
+pub fn reverse_pair<
+    P: Ptr,
+    T: Drop,
+    S: NonZeroInxGenericStack<ArenaSlot<P, LinkNoGen<P, T>>> + Drop,
+>(songs: &mut ChainArena<P, T, S>, before: P, p: P, q: P) -> Option<()>
+    ensures linear { OnSome result ((front rest : List ℕ)
+        → IsLinear (ends_in P.Inx.number songs.old) (front ++ (P.index before ∷ P.index p ∷ P.index q ∷ rest))
+        → IsLinear (ends_in P.Inx.number songs.new) (front ++ (P.index before ∷ P.index q ∷ P.index p ∷ rest))) }
+    ensures others { (c : Chain) → IsChainOf (ends_in P.Inx.number songs.old) c
+        → Off (members c) (P.index before) → Off (members c) (P.index p) → Off (members c) (P.index q)
+        → IsChainOf (ends_in P.Inx.number songs.new) c }
+{
+    songs.exchange_next(before, p)?;
+    songs.exchange_next(q, p)
+}
+
+/// How long it plays from the song at `p` on: to the end of its chain and then backwards from the song before it, or
+/// once round a ring. Past the greatest number it goes on from 0.
+pub fn play_from<P: Ptr, S: NonZeroInxGenericStack<ArenaSlot<P, LinkNoGen<P, u64>>> + Drop>(
+    songs: &ChainArena<P, u64, S>,
+    p: P,
+) -> Option<u64>
+    ensures { IfSome result (λ total. (walk : List ℕ) × IsWalkFrom (ends_in P.Inx.number songs.now) (P.index p) walk
+        × (total ≡ sum (list_map (length_at songs.now) walk) % 2 ^ 64)) }
+{
+    let mut player = songs.advancer_chain(p)?;
+    let mut total = 0u64;
+    while let Some(q) = player.advance(songs) {
+        if let Some(length) = songs.get(q) {
+            total = total.wrapping_add(*length);
+        }
+    }
+    Some(total)
+}
