@@ -33,8 +33,9 @@ pub fn add_after<P: Ptr, T: Drop, S: NonZeroInxGenericStack<ArenaSlot<P, LinkNoG
     songs.insert_within_capacity(LinkInsertKind::NextTo(p), song)
 }
 
-/// Turns the song at `p` and its next, at `q`, round, where `p` is the next of `before` and `q` has a next. Else it
-/// answers `None`.
+/// Turns the song at `p` and its next, at `q`, round, in a linear chain where `before` is in front of them and `q` has a
+/// next: `before, p, q` is `before, q, p` then. Ask `are_neighbors` first where that is not known: the two exchanges that
+/// it makes are made, or answer `None`, one by one.
 pub fn reverse_pair<
     P: Ptr,
     T: Drop,
