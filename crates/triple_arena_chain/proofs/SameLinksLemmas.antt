@@ -9,7 +9,7 @@ use Rattle.triple_arena.specs.Recasting.{slots_recasted, content_recasted}
 use Rattle.triple_arena_chain.specs.declared.link.IndexLink.{IndexLink}
 use Rattle.triple_arena_chain.specs.LinkRecasting.{link_items, link_recasted}
 use Rattle.triple_arena_chain.specs.Links.{entry_ends, ends_in, IsChained}
-use Rattle.triple_arena_chain.proofs.InsertionLemmas.{IsAgreed-same}
+use Rattle.triple_arena_chain.specs.ChainLaws.{IsAgreed-same}
 
 module _ {I T : Type 0} (number : I → ℕ) where
   -- the same interlinks, in an arena that is well-formed

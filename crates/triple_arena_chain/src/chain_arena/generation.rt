@@ -32,7 +32,7 @@ impl<P: Ptr, T: Drop, S: NonZeroInxGenericStack<ArenaSlot<P, LinkNoGen<P, T>>> +
 
     /// Steps the counter once, as a removal does, and says whether the generations started again.
     pub fn inc_generation(&mut self) -> InvalidationOption<()>
-        ensures value { self.new ≡ stepped P.Gen.last self.old }
+        ensures exact { self.new ≡ stepped P.Gen.last self.old }
         ensures overflow { overflowed result ≡ next_wraps P.Gen.last self.old.counter }
         ensures formed { IsChained P.Inx.number self.new }
     {
