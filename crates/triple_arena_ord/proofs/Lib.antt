@@ -16,3 +16,5 @@ pub mod NameLemmas
 pub mod SeekShapes
 pub mod SortedLemmas
 pub mod SeekLemmas
+pub mod GapLemmas
+pub mod LeafLemmas

@@ -4,6 +4,8 @@ use Rattle.std.specs.Option.{option_map}
 use Rattle.triple_arena.specs.Content.{Content}
 use Rattle.triple_arena_chain.specs.declared.link.IndexLink.{IndexLink}
 use Rattle.triple_arena_chain.specs.Links.{values_in}
+use Rattle.triple_arena_ord.specs.declared.knots.Side.{Side}
+use Rattle.triple_arena_ord.specs.declared.knots.Side.TheVariants.{Left, Right}
 use Rattle.triple_arena_ord.specs.declared.knots.TreeLinks.{TreeLinks}
 use Rattle.triple_arena_ord.specs.declared.node.IndexNode.{IndexNode}
 use Rattle.triple_arena_ord.specs.Knot.{Knot}
@@ -30,6 +32,15 @@ module _ {I : Type 0} (number : I → ℕ) where
   -- the node at each index, as the tree sees it
   abbrev pub knots_in : {T : Type 0} → Content (IndexLink I (IndexNode I T)) → Store
   knots_in c i = option_map (λ entry. knot_of entry.1) (values_in c i)
+
+  -- the neighbours of one more link directly before or after another
+  abbrev pub prev_for : {T : Type 0} → Side → IndexLink I (IndexNode I T) → ℕ → Option ℕ
+  prev_for Left l h = option_map number l.prev
+  prev_for Right l h = Some h
+
+  abbrev pub next_for : {T : Type 0} → Side → IndexLink I (IndexNode I T) → ℕ → Option ℕ
+  next_for Left l h = Some h
+  next_for Right l h = option_map number l.next
 
 module _ {I T : Type 0} where
   -- an entry with its item alone
