@@ -1,6 +1,8 @@
 //! The examples at work.
 
-use arena_examples::{Moved, Node, Scene, Scheduler, Task, compress_and_follow, compress_with_table};
+use arena_examples::{
+    Moved, Node, Scene, Scheduler, Task, compress_and_follow, compress_with_table,
+};
 use std::alloc::Global;
 use std::process::Abort;
 use std::test::Fail;

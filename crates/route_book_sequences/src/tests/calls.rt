@@ -2,8 +2,8 @@
 
 use super::rows::REQUESTS;
 use super::streams::Page;
-use route_book::{Counts, Placed, Refusal, RoomError, RouteBook, RunFault, Shown, Watched, Word};
 use refusing_allocator::RefusingAllocator;
+use route_book::{Counts, Placed, Refusal, RoomError, RouteBook, RunFault, Shown, Watched, Word};
 use std::alloc::Allocator;
 use std::io;
 use std::io::{ErrorKind, Write};

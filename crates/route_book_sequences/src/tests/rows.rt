@@ -1,8 +1,8 @@
 //! Inputs and the text that answers them.
 
 use super::streams::{Page, Pieces};
-use route_book::{Counts, RouteBook, Watched, run};
 use refusing_allocator::RefusingAllocator;
+use route_book::{Counts, RouteBook, Watched, run};
 use std::process::Abort;
 use std::test::Fail;
 

@@ -3,8 +3,8 @@
 use super::calls::seven;
 use super::rows::REQUESTS;
 use super::streams::{Page, Pieces};
-use route_book::{Counts, RouteBook, Watched, Word, run};
 use refusing_allocator::RefusingAllocator;
+use route_book::{Counts, RouteBook, Watched, Word, run};
 use std::alloc::Allocator;
 use std::process::Abort;
 use std::test::Fail;

@@ -2,12 +2,12 @@
 ghost use Rattle.std.specs.Prelude.{◌≡◌, [], IsSome, Some, None, drop, if◌then◌else◌};
 ghost use Rattle.triple_arena_ptr.specs.Recast.{renamed};
 
+use std::num::NonZeroUsize;
+use std::test::Fail;
 use triple_arena_ptr::{
     Advancer, InvalidationOption, InvalidationResult, P0, Ptr, PtrGen, PtrInx, Recast, Recaster,
     nzusize_iter,
 };
-use std::num::NonZeroUsize;
-use std::test::Fail;
 
 // The items that generic code finds after a recast.
 fn recast_items<I, T: Recast<I>, R: Recaster<Item = I>>(

@@ -3,11 +3,11 @@ ghost use Rattle.std.specs.Prelude.{◌≡◌, ◌<◌, ◌^◌, ◌↔◌, fals
 ghost use Rattle.triple_arena_ptr.specs.Generation.{next_generation};
 ghost use Rattle.triple_arena_ptr.specs.Pointer.{pointer_text};
 
-use triple_arena_ptr::{P0, P1, P4, P5, Ptr, PtrGen, PtrInx, PtrNoGen};
 use std::alloc::{AllocError, Global};
 use std::num::NonZeroUsize;
 use std::process::Abort;
 use std::test::Fail;
+use triple_arena_ptr::{P0, P1, P4, P5, Ptr, PtrGen, PtrInx, PtrNoGen};
 
 // The pointers are equal where they are one, and only there.
 fn is_same<P: Ptr>(p: P, q: P) -> bool

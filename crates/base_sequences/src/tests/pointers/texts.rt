@@ -1,16 +1,16 @@
 //! Texts, as a person reads them.
 ghost use Rattle.std.specs.Prelude.{codes};
 
-use triple_arena_ptr::{
-    ChainInsertionError, DirectInsertionError, GetDisjointMutError, MaxCapacityReductionError,
-    NotWithinCapacityError, OrdInsertionError, P0, P1, P2, P3, P4, P5, Pointer, Ptr, PtrKind,
-    PtrNoGen, Q2, ReallocationError,
-};
 use std::alloc::Global;
 use std::fmt::Display;
 use std::num::{NonZeroU8, NonZeroU16, NonZeroU32, NonZeroU64, NonZeroU128, NonZeroUsize};
 use std::process::Abort;
 use std::test::Fail;
+use triple_arena_ptr::{
+    ChainInsertionError, DirectInsertionError, GetDisjointMutError, MaxCapacityReductionError,
+    NotWithinCapacityError, OrdInsertionError, P0, P1, P2, P3, P4, P5, Pointer, Ptr, PtrKind,
+    PtrNoGen, Q2, ReallocationError,
+};
 
 // A pointer writes this text by `{:?}` and by `{}`, and the formatter's answer is no error.
 fn shows<P: Ptr + Display>(

@@ -1,12 +1,12 @@
 //! Capacities with ample memory.
-use triple_arena_stack::{
-    NonZeroInxArray, NonZeroInxBoxedSlice, NonZeroInxGenericStack, NonZeroInxLimitedVec,
-    NonZeroInxVec, SetMaxCapacity,
-};
 use std::alloc::Global;
 use std::process::Abort;
 use std::test::Fail;
 use triple_arena_ptr::{MaxCapacityReductionError, NotWithinCapacityError, ReallocationError};
+use triple_arena_stack::{
+    NonZeroInxArray, NonZeroInxBoxedSlice, NonZeroInxGenericStack, NonZeroInxLimitedVec,
+    NonZeroInxVec, SetMaxCapacity,
+};
 
 // Pushes one item for each of `capacities`, which are those after each push.
 fn pushes<S: NonZeroInxGenericStack<u64>>(rt: &impl Abort, stack: &mut S, capacities: &[usize]) {

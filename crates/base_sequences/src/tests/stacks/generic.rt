@@ -4,17 +4,17 @@ ghost use Rattle.std.specs.Int.NonZero.{non_zero_usize_get};
 ghost use Rattle.triple_arena_stack.specs.Room.{limited};
 ghost use Rattle.triple_arena_stack.specs.Stack.{item_at, with_item};
 
-use triple_arena_stack::{
-    NonZeroInxArray, NonZeroInxBoxedSlice, NonZeroInxGenericStack, NonZeroInxGenericStackEntries,
-    NonZeroInxGenericStackPushEntryTrait, NonZeroInxLimitedStack, NonZeroInxLimitedVec,
-    NonZeroInxVec, SetMaxCapacity, get_disjoint_mut,
-};
 use std::alloc::Global;
 use std::mem;
 use std::num::NonZeroUsize;
 use std::process::Abort;
 use std::test::Fail;
 use triple_arena_ptr::GetDisjointMutError;
+use triple_arena_stack::{
+    NonZeroInxArray, NonZeroInxBoxedSlice, NonZeroInxGenericStack, NonZeroInxGenericStackEntries,
+    NonZeroInxGenericStackPushEntryTrait, NonZeroInxLimitedStack, NonZeroInxLimitedVec,
+    NonZeroInxVec, SetMaxCapacity, get_disjoint_mut,
+};
 
 // Writes `x` at `i`, and says whether there was an item.
 fn write_at<T: Drop, S: NonZeroInxGenericStack<T>>(stack: &mut S, i: NonZeroUsize, x: T) -> bool

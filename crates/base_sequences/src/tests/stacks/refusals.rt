@@ -1,14 +1,14 @@
 //! Each call that can take memory, with each of its requests refused in turn.
-use triple_arena_stack::{
-    NonZeroInxBoxedSlice, NonZeroInxGenericStack, NonZeroInxGenericStackEntries,
-    NonZeroInxGenericStackPushEntryTrait, NonZeroInxLimitedVec, NonZeroInxVec,
-};
 use refusing_allocator::RefusingAllocator;
 use std::alloc::Global;
 use std::num::NonZeroUsize;
 use std::process::Abort;
 use std::test::Fail;
 use triple_arena_ptr::ReallocationError;
+use triple_arena_stack::{
+    NonZeroInxBoxedSlice, NonZeroInxGenericStack, NonZeroInxGenericStackEntries,
+    NonZeroInxGenericStackPushEntryTrait, NonZeroInxLimitedVec, NonZeroInxVec,
+};
 
 type Heap = RefusingAllocator<Global>;
 

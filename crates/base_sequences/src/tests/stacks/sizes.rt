@@ -1,12 +1,12 @@
 //! With ample memory every size is had: no stack refuses itself.
 use super::refusals::{push_by_entry, push_by_reallocating_entry};
+use std::alloc::Global;
+use std::process::Abort;
+use std::test::Fail;
 use triple_arena_stack::{
     NonZeroInxBoxedSlice, NonZeroInxGenericStack, NonZeroInxGenericStackEntries,
     NonZeroInxLimitedVec, NonZeroInxVec,
 };
-use std::alloc::Global;
-use std::process::Abort;
-use std::test::Fail;
 
 const SIZES: usize = 5_000;
 
