@@ -1,16 +1,14 @@
 -- One index takes another's place.
-use Rattle.std.proofs.Common.{◌≡◌, ◌≢◌, ℕ, suc, zero, ◌+◌, ◌-◌, ◌<◌, ◌≤◌, List, [], Option, Some, None, refl, sym, ap, ◌∙◌, subst, arith, inl, inr, ◌⊎◌}
-use Rattle.std.proofs.lemmas.Bool.{cases_eq}
-use Rattle.std.specs.Option.{IsSome, IfSome}
+use Rattle.std.proofs.Common.{◌≡◌, ℕ, ◌+◌, ◌<◌, ◌≤◌, Option, Some, sym, ap, ◌∙◌, subst, arith}
+use Rattle.std.specs.Option.{IsSome}
 use Rattle.triple_arena_ord.specs.Knot.{Knot}
-use Rattle.triple_arena_ord.specs.declared.knots.Side.{Side}
-use Rattle.triple_arena_ord.specs.declared.knots.Side.TheVariants.{Left, Right}
+use Rattle.triple_arena_ord.specs.declared.knots.Side.TheVariants.{Left}
 use Rattle.triple_arena_ord.specs.Store.{Store, Written, Reparented, Relinked}
-use Rattle.triple_arena_ord.specs.Tree.{Tree, leaf, node, walk, rank_of, IsRanked, Fits}
-use Rattle.triple_arena_ord.specs.Shape.{make, knot, root_of, Context, top, under, plug, holder, Represents, Hangs, Stands, one, count, count_round, IsDistinct}
+use Rattle.triple_arena_ord.specs.Tree.{node}
+use Rattle.triple_arena_ord.specs.Shape.{knot, root_of, plug, holder, Stands, one, count, count_round}
 use Rattle.triple_arena_ord.specs.Repair.{Exchange}
-use Rattle.triple_arena_ord.proofs.Frames.{one-same, one-other, Represents-keep, Hangs-keep, plug-count, plug-opens, plug-closes, write-elsewhere, Represents-reparent, reparent-elsewhere, relink-elsewhere, Hangs-relink}
-use Rattle.triple_arena_ord.proofs.Spots.{is_some, if_some, root-lives, holder-lives, write-lives, reparent-lives}
+use Rattle.triple_arena_ord.proofs.Frames.{Represents-keep, Hangs-keep, plug-count, plug-opens, plug-closes, Represents-reparent, reparent-elsewhere, relink-elsewhere, Hangs-relink}
+use Rattle.triple_arena_ord.proofs.Spots.{is_some, root-lives, holder-lives}
 
 pub exchanged : (n n1 n2 n3 n4 : Store) (root new_root : Option ℕ) (old new : ℕ) (h : Exchange n root old new)
     → Written n n1 new (knot Left (holder h.context) (root_of h.left) h.rank (root_of h.right))

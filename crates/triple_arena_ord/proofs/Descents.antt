@@ -1,17 +1,16 @@
 -- A search goes down.
-use Rattle.std.proofs.Common.{◌≡◌, ◌≢◌, ℕ, suc, zero, ◌+◌, ◌-◌, ◌^◌, ◌<◌, ◌≤◌, List, [], length, append-nil, ◌∷◌, ◌++◌, Option, Some, None, refl, sym, ap, ◌∙◌, subst, arith, rules, inl, inr, ◌⊎◌, append_assoc}
-use Rattle.std.specs.Option.{IsSome, IfSome}
+use Rattle.std.proofs.Common.{◌≡◌, ℕ, ◌+◌, ◌<◌, ◌≤◌, List, [], append-nil, ◌∷◌, ◌++◌, Option, Some, None, refl, sym, ap, ◌∙◌, subst, arith, append_assoc}
+use Rattle.std.specs.Option.{IsSome}
 use Rattle.std.specs.declared.cmp.Ordering.{Ordering}
 use Rattle.std.specs.declared.cmp.Ordering.TheVariants.{Less, Equal, Greater}
 use Rattle.triple_arena_ord.specs.Knot.{Knot}
-use Rattle.triple_arena_ord.specs.declared.knots.Side.{Side}
 use Rattle.triple_arena_ord.specs.declared.knots.Side.TheVariants.{Left, Right}
 use Rattle.triple_arena_ord.specs.Store.{Store, rank_in, rank_or_zero, rank_or_link}
-use Rattle.triple_arena_ord.specs.Tree.{Tree, leaf, node, walk, size, rank_of, IsRanked, Fits}
-use Rattle.triple_arena_ord.specs.Shape.{make, knot, root_of, Context, top, under, plug, holder, Represents, Stands, one, count, count_round}
+use Rattle.triple_arena_ord.specs.Tree.{Tree, leaf, node, walk, rank_of, IsRanked}
+use Rattle.triple_arena_ord.specs.Shape.{knot, root_of, Context, top, under, plug, holder, Represents, Stands, count, count_round}
 use Rattle.triple_arena_ord.specs.Search.{AllIn, Before, IsParted, Places, IsAnswer}
-use Rattle.triple_arena_ord.proofs.Frames.{one-same, plug-count, root-counted, holder-counted}
-use Rattle.triple_arena_ord.proofs.Spots.{is_some, root-lives}
+use Rattle.triple_arena_ord.proofs.Frames.{one-same, plug-count, root-counted}
+use Rattle.triple_arena_ord.proofs.Spots.{root-lives}
 
 -- the indexes before a hole, and those after it
 abbrev pub before : Context → List ℕ

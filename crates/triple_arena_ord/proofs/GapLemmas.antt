@@ -1,5 +1,5 @@
 -- Where a linear chain is cut, and the neighbours of one of its indexes.
-use Rattle.std.proofs.Common.{◌≡◌, ℕ, List, [], ◌∷◌, ◌++◌, Option, Some, None, IsSome, refl, sym, ap, ◌∙◌, subst, inr, ◌⊎◌}
+use Rattle.std.proofs.Common.{◌≡◌, ℕ, List, [], ◌∷◌, ◌++◌, Option, Some, None, IsSome, refl, sym, ap, subst, inr, ◌⊎◌}
 use Rattle.triple_arena_chain.specs.Chains.{Ends, Stands, IsLinear, first_or, last_or, IsGap, next_in, prev_in, prev_at}
 use Rattle.triple_arena_chain.specs.ChainLaws.{Stands-front, Stands-back, last_or-append}
 

@@ -7,23 +7,23 @@ use Rattle.triple_arena.specs.Entries.{with_entry}
 use Rattle.triple_arena_chain.specs.declared.link.IndexLink.{IndexLink}
 use Rattle.triple_arena_chain.specs.Chains.{Ends, IsLinear, IsGap, first_or, last_or}
 use Rattle.triple_arena_chain.specs.Links.{ends_in, entry_ends, values_in, valued}
-use Rattle.triple_arena_chain.specs.Lists.{Chain, Linear, IsPutIn}
+use Rattle.triple_arena_chain.specs.Lists.{Linear, IsPutIn}
 use Rattle.triple_arena_chain.specs.ListLaws.{chain_where}
 use Rattle.triple_arena_ord.specs.declared.knots.Side.{Side}
 use Rattle.triple_arena_ord.specs.declared.knots.Side.TheVariants.{Left, Right}
 use Rattle.triple_arena_ord.specs.declared.node.IndexNode.{IndexNode}
 use Rattle.triple_arena_ord.specs.Knot.{Knot}
-use Rattle.triple_arena_ord.specs.Store.{Store, child_of}
+use Rattle.triple_arena_ord.specs.Store.{child_of}
 use Rattle.triple_arena_ord.specs.Node.{knots_in, items_in, knot_of, itemed, rest, prev_for, next_for}
 use Rattle.triple_arena_ord.specs.Tree.{Tree, leaf, node, walk, IsRanked}
-use Rattle.triple_arena_ord.specs.Shape.{make, knot, root_of, Context, top, under, plug, holder, Represents, Stands, IsDistinct, one, count, count_round}
+use Rattle.triple_arena_ord.specs.Shape.{make, knot, root_of, Context, top, under, plug, holder, Stands, IsDistinct, one, count}
 use Rattle.triple_arena_ord.specs.Repair.{Gap, filled, Restored}
-use Rattle.triple_arena_ord.specs.Ordered.{Ordered, IsOrdered, StandsBeside, beside, tree_in, order_in}
+use Rattle.triple_arena_ord.specs.Ordered.{Ordered, IsOrdered, StandsBeside, tree_in, order_in}
 use Rattle.triple_arena_ord.proofs.Frames.{one-same, one-other, Represents-keep, make-count, plug-count, plug-opens, count-same, IsDistinct-walk}
 use Rattle.triple_arena_ord.proofs.Descents.{before, after, plug-walk_is, rest_leaf}
 use Rattle.triple_arena_ord.proofs.Unique.{tree_is}
 use Rattle.triple_arena_ord.proofs.SeekShapes.{counted-lives}
-use Rattle.triple_arena_ord.proofs.RestLemmas.{Rested, rested}
+use Rattle.triple_arena_ord.proofs.RestLemmas.{rested}
 use Rattle.triple_arena_ord.proofs.GapLemmas.{linear_gap, linear_ends, last_snoc}
 
 -- where an index stands in a tree

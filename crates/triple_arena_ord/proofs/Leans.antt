@@ -1,12 +1,12 @@
 -- The turns that end a repair after an insertion.
-use Rattle.std.proofs.Common.{◌≡◌, ◌≢◌, ℕ, suc, zero, ◌+◌, ◌-◌, ◌<◌, ◌≤◌, List, Option, Some, None, refl, sym, ap, ◌∙◌, subst, arith, rules, inl, inr, ◌⊎◌}
-use Rattle.std.specs.Option.{IsSome, IfSome}
+use Rattle.std.proofs.Common.{◌≡◌, ◌≢◌, ℕ, ◌+◌, ◌-◌, ◌<◌, ◌≤◌, List, Option, Some, None, refl, sym, ap, ◌∙◌, subst, arith}
+use Rattle.std.specs.Option.{IfSome}
 use Rattle.triple_arena_ord.specs.Knot.{Knot}
 use Rattle.triple_arena_ord.specs.declared.knots.Side.{Side}
 use Rattle.triple_arena_ord.specs.declared.knots.Side.TheVariants.{Left, Right}
 use Rattle.triple_arena_ord.specs.Store.{Store, other_side, child_of}
 use Rattle.triple_arena_ord.specs.Tree.{Tree, leaf, node, walk, rank_of, IsRanked, Fits}
-use Rattle.triple_arena_ord.specs.Shape.{make, knot, root_of, Context, top, under, plug, holder, Represents, Stands, IsDistinct}
+use Rattle.triple_arena_ord.specs.Shape.{make, root_of, Context, top, under, plug, Stands, IsDistinct}
 use Rattle.triple_arena_ord.specs.Repair.{Spot, turned, IsRankedRound, Restored, Leaning}
 use Rattle.triple_arena_ord.proofs.Frames.{make-rank, make-walk, plug-walk, IsDistinct-walk}
 use Rattle.triple_arena_ord.proofs.TurnLemmas.{turn-walk}

@@ -18,3 +18,4 @@ pub mod SortedLemmas
 pub mod SeekLemmas
 pub mod GapLemmas
 pub mod LeafLemmas
+pub mod EndLemmas

@@ -1,5 +1,5 @@
 -- The steps of a repair after a removal.
-use Rattle.std.proofs.Common.{◌≡◌, ◌≢◌, ℕ, suc, zero, ◌+◌, ◌-◌, ◌^◌, ◌<◌, ◌≤◌, List, length, Option, Some, None, refl, sym, ap, ◌∙◌, subst, arith, rules, inl, inr, ◌⊎◌}
+use Rattle.std.proofs.Common.{◌≡◌, ◌≢◌, ℕ, ◌+◌, ◌-◌, ◌^◌, ◌<◌, ◌≤◌, List, length, Option, Some, None, refl, sym, ap, ◌∙◌, subst, arith, inl, inr}
 use Rattle.std.proofs.Common.{max, Bool, false, IsTrue, ◌↔◌}
 use Rattle.std.proofs.lemmas.Bool.{cases_lt, false≢true}
 use Rattle.std.specs.Option.{IsSome, IfSome}
@@ -7,8 +7,8 @@ use Rattle.triple_arena_ord.specs.Knot.{Knot}
 use Rattle.triple_arena_ord.specs.declared.knots.Side.{Side}
 use Rattle.triple_arena_ord.specs.declared.knots.Side.TheVariants.{Left, Right}
 use Rattle.triple_arena_ord.specs.Store.{Store, other_side, child_of, Written, with_rank, rank_in, rank_or_zero, ahead}
-use Rattle.triple_arena_ord.specs.Tree.{Tree, leaf, node, walk, rank_of, IsRanked, Fits}
-use Rattle.triple_arena_ord.specs.Shape.{make, knot, root_of, Context, top, under, plug, holder, Represents, Hangs, Stands, IsDistinct, one, count, count_round}
+use Rattle.triple_arena_ord.specs.Tree.{Tree, node, walk, rank_of, IsRanked, Fits}
+use Rattle.triple_arena_ord.specs.Shape.{make, knot, root_of, Context, top, under, plug, holder, Represents, Hangs, Stands, IsDistinct, one}
 use Rattle.triple_arena_ord.specs.Repair.{Spot, IsRankedRound, Restored, Broken, Nearly, Pending, Short}
 use Rattle.triple_arena_ord.proofs.Frames.{one-same, make-count, plug-count, make-rank, make-root, make-walk, plug-opens, plug-walk, IsDistinct-walk}
 use Rattle.triple_arena_ord.proofs.Spots.{is_some, if_some, root-lives, spotted, knot_rank, knot_parent, rank_read, write-lives}

@@ -1,5 +1,5 @@
 -- A search by key over the nodes of an arena.
-use Rattle.std.proofs.Common.{◌≡◌, ◌≢◌, ℕ, zero, suc, ◌+◌, ◌*◌, ◌^◌, ◌<◌, ◌≤◌, ◌==◌, List, [], ◌∷◌, ◌++◌, length, Option, Some, None, IsSome, refl, sym, ap, ◌∙◌, subst, arith, inl, inr}
+use Rattle.std.proofs.Common.{◌≡◌, ◌≢◌, ℕ, ◌+◌, ◌*◌, ◌^◌, ◌<◌, ◌≤◌, ◌∷◌, Option, Some, None, IsSome, refl, sym, ap, ◌∙◌, subst, arith, inl, inr}
 use Rattle.std.specs.Option.{option_map}
 use Rattle.std.proofs.lemmas.Bool.{cases_eq, cases_lt, eq-eqb}
 use Rattle.std.specs.Cmp.{IsTotalOrder}
@@ -9,18 +9,17 @@ use Rattle.triple_arena.specs.Entries.{value_if}
 use Rattle.triple_arena_chain.specs.Links.{values_in}
 use Rattle.triple_arena_ord.specs.Knot.{Knot}
 use Rattle.triple_arena_ord.specs.declared.node.IndexNode.{IndexNode}
-use Rattle.triple_arena_ord.specs.Node.{knots_in, items_in, knot_of, itemed}
+use Rattle.triple_arena_ord.specs.Node.{knots_in, knot_of, itemed}
 use Rattle.counted_search.specs.Searches.{fair}
 use Rattle.counted_search.specs.SearchLaws.{fair-greatest}
-use Rattle.triple_arena_ord.specs.Tree.{Tree, leaf, node, walk, rank_of, size, IsRanked}
-use Rattle.triple_arena_ord.specs.Shape.{root_of, count, one}
-use Rattle.triple_arena_ord.specs.Search.{AllIn, Before, IsParted, Places, IsAnswer}
-use Rattle.triple_arena_ord.specs.Ordered.{Ordered, IsOrdered, IsAscending, tree_in, order_in, entry_in, size_in, asked_of, asked_at, listed}
+use Rattle.triple_arena_ord.specs.Tree.{Tree, leaf, node, walk, rank_of, size}
+use Rattle.triple_arena_ord.specs.Shape.{count}
+use Rattle.triple_arena_ord.specs.Search.{AllIn, Before, IsParted, IsAnswer}
+use Rattle.triple_arena_ord.specs.Ordered.{Ordered, IsOrdered, IsAscending, tree_in, order_in, entry_in, size_in, asked_of, asked_at}
 use Rattle.triple_arena_ord.proofs.Bound.{size_bound}
 use Rattle.triple_arena_ord.proofs.Climbs.{size-walk}
 use Rattle.triple_arena_ord.proofs.Descents.{Descent, Here, descent_begins, step_down, AllIn-front, AllIn-back, AllIn-append, AllIn-map, parted-after, parted-before}
 use Rattle.triple_arena_ord.proofs.Frames.{one-other, one-same}
-use Rattle.triple_arena_ord.proofs.Spots.{is_some, root-lives}
 use Rattle.triple_arena_ord.proofs.SeekShapes.{counted-lives}
 use Rattle.triple_arena_ord.proofs.SortedLemmas.{parted_from}
 

@@ -1,9 +1,9 @@
 -- What a tree counts lives.
-use Rattle.std.proofs.Common.{◌≡◌, ℕ, ◌+◌, ◌<◌, Option, Some, None, IsSome, refl, sym, ap, ◌∙◌, subst, arith, inl, inr}
+use Rattle.std.proofs.Common.{ℕ, ◌<◌, Option, Some, IsSome, sym, subst, arith, inl, inr}
 use Rattle.std.proofs.lemmas.Bool.{cases_eq, cases_lt}
 use Rattle.triple_arena_ord.specs.Store.{Store}
 use Rattle.triple_arena_ord.specs.Tree.{Tree, leaf, node}
-use Rattle.triple_arena_ord.specs.Shape.{Represents, count, one}
+use Rattle.triple_arena_ord.specs.Shape.{Represents, count}
 use Rattle.triple_arena_ord.proofs.Frames.{one-other}
 use Rattle.triple_arena_ord.proofs.Spots.{is_some}
 

@@ -1,5 +1,5 @@
 -- A sorted list parts at a key.
-use Rattle.std.proofs.Common.{◌≡◌, ◌≢◌, ℕ, zero, suc, ◌+◌, ◌<◌, ◌≤◌, List, [], ◌∷◌, ◌++◌, length, get_or, filter_map, Option, Some, None, IsSome, refl, sym, ap, ◌∙◌, subst, arith, rules, false, true, inl, inr}
+use Rattle.std.proofs.Common.{◌≡◌, ℕ, suc, ◌+◌, List, [], ◌∷◌, get_or, filter_map, Option, Some, None, IsSome, refl, sym, ap, ◌∙◌, subst, arith, false, true}
 use Rattle.std.specs.Option.{option_map}
 use Rattle.std.specs.Cmp.{IsTotalOrder}
 use Rattle.std.specs.Ordering.{is_lt, ordering_reverse}

@@ -1,5 +1,5 @@
 -- What the code of a turn reads.
-use Rattle.std.proofs.Common.{◌≡◌, ◌≢◌, ℕ, suc, zero, ◌+◌, ◌<◌, ◌≤◌, List, Option, Some, None, refl, sym, ap, ◌∙◌, subst, arith, rules, inl, inr, ◌⊎◌}
+use Rattle.std.proofs.Common.{◌≡◌, ◌≢◌, ℕ, Option, Some, None, refl, sym, ap, ◌∙◌, subst, arith, rules, inl, inr, ◌⊎◌}
 use Rattle.std.specs.Option.{IsSome, IfSome}
 use Rattle.std.proofs.lemmas.Bool.{cases_eq, false≢true}
 use Rattle.triple_arena_ord.specs.Knot.{Knot}
@@ -7,7 +7,7 @@ use Rattle.triple_arena_ord.specs.declared.knots.Side.{Side}
 use Rattle.triple_arena_ord.specs.declared.knots.Side.TheVariants.{Left, Right}
 use Rattle.triple_arena_ord.specs.Store.{Store, other_side, child_of, Written, Reparented, Relinked, with_parent, with_child}
 use Rattle.triple_arena_ord.specs.Tree.{Tree, leaf, node, rank_of}
-use Rattle.triple_arena_ord.specs.Shape.{make, knot, root_of, Context, top, under, plug, holder, Represents, Hangs, Stands, one, count, count_round, IsDistinct}
+use Rattle.triple_arena_ord.specs.Shape.{make, knot, root_of, Context, top, under, holder, Represents, Hangs, Stands}
 use Rattle.triple_arena_ord.specs.Repair.{Spot, turned}
 use Rattle.triple_arena_ord.proofs.Frames.{one-same, make-count, make-root, make-opens, plug-count, plug-opens, root-counted}
 use Rattle.triple_arena_ord.proofs.TurnLemmas.{turned as turned_stands}

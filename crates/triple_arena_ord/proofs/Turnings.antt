@@ -1,10 +1,9 @@
 -- One turn or two that restore the rules.
-use Rattle.std.proofs.Common.{◌≡◌, ◌≢◌, ℕ, suc, zero, ◌+◌, ◌-◌, ◌<◌, ◌≤◌, List, Option, Some, None, refl, sym, ap, ◌∙◌, subst, arith, rules, inl, inr, ◌⊎◌}
-use Rattle.triple_arena_ord.specs.declared.knots.Side.{Side}
+use Rattle.std.proofs.Common.{◌≡◌, ℕ, ◌+◌, ◌-◌, ◌<◌, ◌≤◌, List, Option, Some, sym, ap, ◌∙◌, subst, arith}
 use Rattle.triple_arena_ord.specs.Store.{Store, other_side}
-use Rattle.triple_arena_ord.specs.Tree.{Tree, leaf, node, walk, rank_of, IsRanked, Fits}
-use Rattle.triple_arena_ord.specs.Shape.{make, root_of, Context, top, under, plug, Stands, IsDistinct}
-use Rattle.triple_arena_ord.specs.Repair.{Spot, turned, IsRankedRound, Restored, Short}
+use Rattle.triple_arena_ord.specs.Tree.{walk, rank_of, IsRanked, Fits}
+use Rattle.triple_arena_ord.specs.Shape.{make, root_of, under, plug, Stands, IsDistinct}
+use Rattle.triple_arena_ord.specs.Repair.{Spot, IsRankedRound, Restored, Short}
 use Rattle.triple_arena_ord.proofs.Frames.{make-rank, make-walk}
 use Rattle.triple_arena_ord.proofs.TurnLemmas.{turn-walk}
 use Rattle.triple_arena_ord.proofs.Leans.{Turns, make-ranked, make-ranked-opens, restored, flip, open_tree, turned-distinct}

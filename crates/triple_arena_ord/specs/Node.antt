@@ -1,5 +1,5 @@
 -- The nodes in the links of a chain arena.
-use Rattle.std.specs.Prelude.{ℕ, map, Option, Some, None}
+use Rattle.std.specs.Prelude.{ℕ, map, Option, Some}
 use Rattle.std.specs.Option.{option_map}
 use Rattle.triple_arena.specs.Content.{Content}
 use Rattle.triple_arena_chain.specs.declared.link.IndexLink.{IndexLink}

@@ -7,6 +7,7 @@ mod inserted;
 mod item;
 mod kind;
 mod knots;
+mod leaf;
 mod looks;
 mod node;
 mod ord_arena;

@@ -1,13 +1,19 @@
 //! The ordered arena.
-ghost use Rattle.std.specs.Prelude.{◌≡◌, ◌≤◌};
-ghost use Rattle.triple_arena.specs.Content.{live_count, empty};
+ghost use Rattle.std.specs.Prelude.{◌≡◌, ℕ, [], ◌∷◌, ◌<◌, ◌↔◌, Some, None, IsSome, IsOk, IfOk, OnErr};
+ghost use Rattle.std.specs.Option.{option_map};
+ghost use Rattle.triple_arena.specs.Content.{live_count, arena_capacity, empty};
+ghost use Rattle.triple_arena.specs.Entries.{with_entry};
 ghost use Rattle.triple_arena.specs.ArenaRoom.{room_of};
 ghost use Rattle.triple_arena_ptr.specs.Generation.{second_generation};
-ghost use Rattle.triple_arena_ord.specs.Ordered.{IsOrdered, size_in};
+ghost use Rattle.triple_arena_ord.specs.Ordered.{IsOrdered, StandsBeside, size_in, order_in, entry_in};
+ghost use Rattle.triple_arena_ord.specs.Store.{child_of};
+ghost use Rattle.triple_arena_ord.specs.Node.{knots_in};
 
-use crate::SimpleOrdArenaNode;
+use crate::knots::Side;
+use crate::leaf::{insert_leaf, moved};
+use crate::{IndexNode, SimpleOrdArenaNode};
 use std::marker::Model;
-use triple_arena::{ArenaSlot, NonZeroInxGenericStack, Ptr};
+use triple_arena::{ArenaSlot, NonZeroInxGenericStack, NotWithinCapacityError, Ptr};
 use triple_arena_chain::{ChainArena, LinkNoGen};
 
 /// Items in one list, each with a pointer, and a search tree over them. An insertion that searches puts an item where its key
@@ -68,5 +74,58 @@ impl<
         ensures ordered { IsOrdered P.Inx.number self.now }
     {
         self.chains.len()
+    }
+
+    // A new entry directly before or after that of `holder`, which has no child on this side.
+    pub(crate) fn insert_beside(
+        &mut self,
+        holder: P::Inx,
+        side: Side,
+        t: T,
+    ) -> Result<P, NotWithinCapacityError>
+        requires lives { IsSome (knots_in P.Inx.number self.old.chains (P.Inx.number holder)) }
+        requires free { option_map (λ v. child_of side v) (knots_in P.Inx.number self.old.chains (P.Inx.number holder)) ≡ Some None }
+        ensures variant { IsOk result ↔ (live_count self.old.chains < arena_capacity self.old.chains) }
+        ensures order { IfOk result (λ p. StandsBeside side (order_in P.Inx.number self.old) (order_in P.Inx.number self.new) (P.Inx.number holder) (P.index p)) }
+        ensures entries { IfOk result (λ p. (k : ℕ) → entry_in self.new k ≡ with_entry (entry_in self.old) (P.index p) (P.generation p, t) k) }
+        ensures generation { IfOk result (λ p. P.generation p ≡ self.old.chains.counter) }
+        ensures counter { self.new.chains.counter ≡ self.old.chains.counter }
+        ensures room { self.new.chains.room ≡ self.old.chains.room }
+        ensures err { OnErr result (self.new ≡ self.old) }
+    {
+        if self.chains.len() >= self.chains.capacity() {
+            return Err(NotWithinCapacityError);
+        }
+        let p = insert_leaf(&mut self.chains, &mut self.root, holder, side, t);
+        let inx = p.inx();
+        self.first = moved(side, Side::Left, self.first, holder, inx);
+        self.last = moved(side, Side::Right, self.last, holder, inx);
+        Ok(p)
+    }
+
+    // The first entry, where there is none.
+    pub(crate) fn insert_first(&mut self, t: T) -> Result<P, NotWithinCapacityError>
+        requires { self.old.root ≡ None }
+        ensures variant { IsOk result ↔ (live_count self.old.chains < arena_capacity self.old.chains) }
+        ensures order { IfOk result (λ p. order_in P.Inx.number self.new ≡ P.index p ∷ []) }
+        ensures entries { IfOk result (λ p. (k : ℕ) → entry_in self.new k ≡ with_entry (entry_in self.old) (P.index p) (P.generation p, t) k) }
+        ensures generation { IfOk result (λ p. P.generation p ≡ self.old.chains.counter) }
+        ensures counter { self.new.chains.counter ≡ self.old.chains.counter }
+        ensures room { self.new.chains.room ≡ self.old.chains.room }
+        ensures err { OnErr result (self.new ≡ self.old) }
+    {
+        let node: SimpleOrdArenaNode<P, T> = IndexNode {
+            t,
+            p_back: None,
+            p_tree0: None,
+            p_tree1: None,
+            rank: 1,
+        };
+        let p = self.chains.insert_in_gap_within_capacity(None, None, node)?;
+        let inx = p.inx();
+        self.root = Some(inx);
+        self.first = Some(inx);
+        self.last = Some(inx);
+        Ok(p)
     }
 }

@@ -1,4 +1,3 @@
-use Rattle.std.proofs.Common.{◌≡◌, Some}
 use Rattle.triple_arena_ord.proofs.Spots.{reparent-lives}
 use Rattle.triple_arena_ord.specs.Node.{knots_in}
 use Rattle.triple_arena_ord.proofs.NameLemmas.{if_live, if_live_from}

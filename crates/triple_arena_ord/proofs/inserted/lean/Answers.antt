@@ -1,8 +1,7 @@
-use Rattle.std.proofs.Common.{rules, ◌≡◌, ◌≢◌, ℕ, ◌+◌, ◌<◌, ◌≤◌, List, ◌-◌, Fits, w8, Some, None, refl, sym, ◌∙◌, ap, arith, subst}
+use Rattle.std.proofs.Common.{◌-◌, sym, ◌∙◌, ap, arith}
 use Rattle.std.specs.Option.{option_map}
 use Rattle.triple_arena_ord.proofs.NameLemmas.{not_some, if_live}
 use Rattle.triple_arena_ord.specs.Node.{knots_in}
-use Rattle.triple_arena_ord.specs.Repair.{Leaning, Spot, Restored}
 use Rattle.triple_arena_ord.proofs.Spots.{spot_low, spot_parent, spot_high, spot_child}
 use Rattle.triple_arena_ord.proofs.Leans.{lean_spot, lean_reads, lean_once, lean_twice, root-some}
 use Rattle.triple_arena_ord.proofs.inserted.lean.Goals as goal

@@ -1,9 +1,7 @@
-use Rattle.std.proofs.Common.{rules, ◌≡◌, ◌≢◌, ℕ, ◌+◌, ◌<◌, ◌≤◌, List, ◌-◌, Fits, w8, Some, None, refl, sym, ◌∙◌, ap, arith, subst}
+use Rattle.std.proofs.Common.{◌∙◌, ap, arith}
 use Rattle.std.specs.Option.{option_map}
 use Rattle.triple_arena_ord.proofs.NameLemmas.{if_live_from}
 use Rattle.triple_arena_ord.specs.Node.{knots_in}
-use Rattle.triple_arena_ord.specs.Store.{rank_in}
-use Rattle.triple_arena_ord.specs.Repair.{Leaning, Grown, Restored}
 use Rattle.triple_arena_ord.proofs.Spots.{rank_read}
 use Rattle.triple_arena_ord.proofs.Climbs.{grown_under, grown_ends, grown_lives, parent_lives, sibling_lives, climb_reads, climb_write, climb_small, climb_ends, climb_leans, climb_up, climb_ranks, climb_falls}
 use Rattle.triple_arena_ord.proofs.inserted.repair_inserted.Goals as goal

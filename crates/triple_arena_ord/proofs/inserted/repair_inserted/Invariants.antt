@@ -1,4 +1,4 @@
-use Rattle.std.proofs.Common.{◌≡◌, ℕ, ◌+◌, ◌<◌, ◌≤◌, List, ◌-◌}
+use Rattle.std.proofs.Common.{◌≡◌, ℕ, List, ◌-◌}
 use Rattle.triple_arena_ord.specs.Node.{knots_in, rest}
 use Rattle.triple_arena_ord.specs.Store.{rank_in}
 use Rattle.std.specs.Option.{option_map}

@@ -1,4 +1,4 @@
-use Rattle.std.proofs.Common.{rules, ◌≡◌, refl, ap}
+use Rattle.std.proofs.Common.{refl}
 use Rattle.triple_arena_ord.proofs.RestLemmas.{rest-write}
 use Rattle.triple_arena_ord.proofs.WriteLemmas.{written}
 use Rattle.triple_arena_ord.proofs.knots.write.Goals as goal

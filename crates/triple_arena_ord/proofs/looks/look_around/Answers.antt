@@ -1,9 +1,8 @@
-use Rattle.std.proofs.Common.{◌≡◌, ◌∙◌, sym, ap, Some, None}
+use Rattle.std.proofs.Common.{◌∙◌, sym, ap}
 use Rattle.std.specs.Option.{option_map}
 use Rattle.triple_arena_ord.proofs.NameLemmas.{not_some, if_live}
-use Rattle.triple_arena_ord.specs.Node.{knots_in, rest, named}
-use Rattle.triple_arena_ord.specs.Store.{other_side, child_of}
-use Rattle.triple_arena_ord.specs.Repair.{Spot, IsAround}
+use Rattle.triple_arena_ord.specs.Node.{knots_in, named}
+use Rattle.triple_arena_ord.specs.Store.{child_of}
 use Rattle.triple_arena_ord.proofs.Spots.{spotted, reads, rank_read, spot_low, spot_parent, spot_high, spot_child, spot_far}
 use Rattle.triple_arena_ord.proofs.looks.look_around.Goals as goal
 

@@ -1,4 +1,4 @@
-use Rattle.std.proofs.Common.{◌≡◌, ◌∙◌, sym, ap, Some, None, option_map, refl}
+use Rattle.std.proofs.Common.{◌≡◌, ◌∙◌, sym, ap, Some, option_map}
 use Rattle.triple_arena_ord.specs.Store.{other_side, child_of, with_child}
 use Rattle.triple_arena_ord.specs.Node.{knots_in, named}
 use Rattle.triple_arena_ord.proofs.NameLemmas.{not_some, if_live}

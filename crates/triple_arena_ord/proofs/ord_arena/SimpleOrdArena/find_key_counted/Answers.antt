@@ -1,5 +1,5 @@
-use Rattle.std.proofs.Common.{rules, ◌≡◌, ◌≢◌, ℕ, ◌+◌, Option, Some, None, refl, sym, ap, ◌∙◌, option_map, arith, subst}
-use Rattle.std.specs.declared.cmp.Ordering.TheVariants.{Less, Equal, Greater}
+use Rattle.std.proofs.Common.{◌≡◌, Some, option_map, subst}
+use Rattle.std.specs.declared.cmp.Ordering.TheVariants.{Equal}
 use Rattle.triple_arena.specs.Entries.{value_if}
 use Rattle.triple_arena_ord.specs.Ordered.{entry_in}
 use Rattle.triple_arena_ord.proofs.SeekLemmas.{few, found_at, found_lives, absent, none_not, some_not}

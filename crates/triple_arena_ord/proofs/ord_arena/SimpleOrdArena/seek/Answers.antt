@@ -1,7 +1,6 @@
-use Rattle.std.proofs.Common.{rules, ◌≡◌, ℕ, ◌+◌, Some, None, refl, sym, ap, ◌∙◌, option_map, arith}
+use Rattle.std.proofs.Common.{◌+◌, refl, sym, ap, ◌∙◌, option_map, arith}
 use Rattle.triple_arena_ord.specs.Node.{knots_in}
-use Rattle.triple_arena_ord.specs.Ordered.{Ordered, tree_in, asked_at}
-use Rattle.triple_arena_ord.proofs.Descents.{falls_down, descent_ends, descent_lives}
+use Rattle.triple_arena_ord.proofs.Descents.{falls_down, descent_ends}
 use Rattle.triple_arena_ord.proofs.SeekLemmas.{seek_begins, seek_step}
 use Rattle.triple_arena_ord.proofs.ord_arena.SimpleOrdArena.seek.Goals as goal
 

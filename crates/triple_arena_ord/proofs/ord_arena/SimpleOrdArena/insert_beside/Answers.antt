@@ -1,0 +1,17 @@
+use Rattle.std.proofs.Common.{sym, ◌∙◌, subst}
+use Rattle.std.specs.Option.{option_map}
+use Rattle.triple_arena_ord.specs.Ordered.{Ordered, StandsBeside, order_in}
+use Rattle.triple_arena_ord.proofs.EndLemmas.{first_moved, last_moved}
+use Rattle.triple_arena_ord.proofs.ord_arena.SimpleOrdArena.insert_beside.Goals as goal
+
+pub invariant_of-self : goal.invariant_of-self
+invariant_of-self g c =
+    let number = g.P.Inx.PtrInx.number in
+    let o : Ordered g.row.P-Inx.Denot g.row.T.Denot = record { chains = c.self.inside.chains; root = option_map number c.self.inside.root } in
+    let p : Ordered g.row.P-Inx.Denot g.row.T.Denot = record { chains = c.insert_leaf-p.new.chains; root = option_map number c.insert_leaf-p.new.root } in
+    let s : StandsBeside c.args.side (order_in number o) (order_in number p) (number c.args.holder) (number c.inx-inx.result) =
+    subst (λ z. StandsBeside c.args.side (order_in number o) (order_in number p) (number c.args.holder) z) (sym c.inx-inx.ensures) c.insert_leaf-p.ensures.order in (
+      c.insert_leaf-p.ensures.ordered,
+      c.moved-self-inside.ensures ∙ first_moved number o p c.self.invariant.0 c.args.side (number c.args.holder) (number c.inx-inx.result) s _ c.self.invariant.1,
+      c.moved-self-inside-2.ensures ∙ last_moved number o p c.self.invariant.0 c.args.side (number c.args.holder) (number c.inx-inx.result) s _ c.self.invariant.2,
+    )

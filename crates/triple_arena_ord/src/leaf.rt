@@ -1,0 +1,105 @@
+//! A new entry beside another.
+ghost use Rattle.std.specs.Prelude.{◌≡◌, ℕ, ◌<◌, Some, IsSome};
+ghost use Rattle.std.specs.Option.{option_map};
+ghost use Rattle.triple_arena.specs.Content.{entry_at, live_count, arena_capacity, next_index};
+ghost use Rattle.triple_arena.specs.Entries.{with_entry};
+ghost use Rattle.triple_arena_ord.specs.Store.{child_of};
+ghost use Rattle.triple_arena_ord.specs.Node.{knots_in, items_in, prev_for, next_for};
+ghost use Rattle.triple_arena_ord.specs.Ordered.{IsOrdered, StandsBeside, order_in, moved, replaced};
+
+use crate::inserted::bring_in;
+use crate::knots::Side;
+use crate::{IndexNode, SimpleOrdArenaNode};
+use triple_arena::{ArenaSlot, NonZeroInxGenericStack, Ptr, PtrInx};
+use triple_arena_chain::{ChainArena, LinkNoGen};
+
+// A new entry directly before or after that of `holder`, which has no child on this side.
+pub(crate) fn insert_leaf<
+    P: Ptr,
+    T: Drop,
+    S: NonZeroInxGenericStack<ArenaSlot<P, LinkNoGen<P, SimpleOrdArenaNode<P, T>>>> + Drop,
+>(
+    chains: &mut ChainArena<P, SimpleOrdArenaNode<P, T>, S>,
+    root: &mut Option<P::Inx>,
+    holder: P::Inx,
+    side: Side,
+    t: T,
+) -> P
+    requires ordered { IsOrdered P.Inx.number (record { chains = chains.old; root = option_map P.Inx.number root.old }) }
+    requires room { live_count chains.old < arena_capacity chains.old }
+    requires lives { IsSome (knots_in P.Inx.number chains.old (P.Inx.number holder)) }
+    requires free { option_map (λ v. child_of side v) (knots_in P.Inx.number chains.old (P.Inx.number holder)) ≡ Some None }
+    ensures ordered { IsOrdered P.Inx.number (record { chains = chains.new; root = option_map P.Inx.number root.new }) }
+    ensures order { StandsBeside side (order_in P.Inx.number (record { chains = chains.old; root = option_map P.Inx.number root.old }))
+        (order_in P.Inx.number (record { chains = chains.new; root = option_map P.Inx.number root.new })) (P.Inx.number holder) (P.index result) }
+    ensures entries { (k : ℕ) → items_in chains.new k ≡ with_entry (items_in chains.old) (P.index result) (P.generation result, t) k }
+    ensures index { P.index result ≡ next_index chains.old }
+    ensures generation { P.generation result ≡ chains.old.counter }
+    ensures counter { chains.new.counter ≡ chains.old.counter }
+    ensures room { chains.new.room ≡ chains.old.room }
+{
+    let _capacity = chains.capacity();
+    let (prev, next) = neighbours_beside(chains, holder, side);
+    let node: SimpleOrdArenaNode<P, T> = IndexNode {
+        t,
+        p_back: None,
+        p_tree0: None,
+        p_tree1: None,
+        rank: 1,
+    };
+    match chains.insert_in_gap_within_capacity(prev, next, node) {
+        Ok(p) => {
+            bring_in(chains, root, holder, side, p.inx());
+            p
+        }
+        Err(_) => unreachable!(),
+    }
+}
+
+// The neighbours of one more link directly before or after that of `holder`.
+fn neighbours_beside<
+    P: Ptr,
+    T: Drop,
+    S: NonZeroInxGenericStack<ArenaSlot<P, LinkNoGen<P, SimpleOrdArenaNode<P, T>>>> + Drop,
+>(
+    chains: &ChainArena<P, SimpleOrdArenaNode<P, T>, S>,
+    holder: P::Inx,
+    side: Side,
+) -> (Option<P::Inx>, Option<P::Inx>)
+    requires { IsSome (knots_in P.Inx.number chains.now (P.Inx.number holder)) }
+    ensures prev { option_map (λ e. prev_for P.Inx.number side e.1 (P.Inx.number holder)) (entry_at chains.now (P.Inx.number holder)) ≡ Some (option_map P.Inx.number result.0) }
+    ensures next { option_map (λ e. next_for P.Inx.number side e.1 (P.Inx.number holder)) (entry_at chains.now (P.Inx.number holder)) ≡ Some (option_map P.Inx.number result.1) }
+{
+    match chains.get_inx_link_no_gen(holder) {
+        Some((_, link)) => match side {
+            Side::Left => (link.prev(), Some(holder)),
+            Side::Right => (Some(holder), link.next()),
+        },
+        None => unreachable!(),
+    }
+}
+
+// What an end of the list is after one more index stands beside another.
+pub(crate) fn moved<I: PtrInx>(side: Side, end: Side, link: Option<I>, from: I, to: I) -> Option<I>
+    ensures { option_map I.number result ≡ moved side end (option_map I.number link) (I.number from) (I.number to) }
+{
+    match side {
+        Side::Left => match end {
+            Side::Left => replaced(link, from, to),
+            Side::Right => link,
+        },
+        Side::Right => match end {
+            Side::Left => link,
+            Side::Right => replaced(link, from, to),
+        },
+    }
+}
+
+fn replaced<I: PtrInx>(link: Option<I>, from: I, to: I) -> Option<I>
+    ensures { option_map I.number result ≡ replaced (option_map I.number link) (I.number from) (I.number to) }
+{
+    match link {
+        Some(i) => { if i == from { Some(to) } else { Some(i) } }
+        None => None,
+    }
+}
