@@ -14,6 +14,7 @@ pub(crate) mod drain;
 pub(crate) mod entry;
 mod entry_insert;
 mod exchange;
+mod from_arena;
 mod gap;
 mod generation;
 mod growth;
