@@ -22,6 +22,7 @@ pub(crate) mod index_drain;
 mod indexing;
 mod insertion;
 mod interlinks;
+pub(crate) mod iter_chain;
 pub(crate) mod iterators;
 mod max_capacity;
 mod neighbors;
