@@ -11,7 +11,7 @@ use Rattle.triple_arena.specs.Changes.{IsNew}
 use Rattle.triple_arena.specs.Entries.{counter_wraps, generation_at, look_up, revalued, IsOneOf}
 use Rattle.triple_arena.specs.Compression.{entry_of_listed, generation_of, generation_given, index_of, pointer_of}
 use Rattle.triple_arena.specs.Transfer.{steps_wrap}
-use Rattle.triple_arena.specs.Steps.{Step, insert, remove, invalidate, clear, drain, inc_generation, compress, exchange, write, reallocate, keep, counts, AreNew, Finds, given, all_given, reached, Takes, Happens}
+use Rattle.triple_arena.specs.Steps.{Step, insert, remove, invalidate, clear, drain, inc_generation, compress, exchange, write, reallocate, give_up_copy, keep, counts, AreNew, Finds, given, all_given, reached, Takes, Happens}
 
 -- the generation of an entry, if there is one
 abbrev generation : {T : Type 0} → Option (ℕ × T) → Option ℕ
@@ -187,12 +187,13 @@ module _ {S T : Type 0} (entry_of : S → ℕ → Option (ℕ × T)) (live_of : 
         (λ p one. absurd one) tt;
   }
 
-  cleared_step : {c : ℕ} {old new : S} → counter_of old ≡ Some c → counter_wraps (Some greatest) (counter_of old) ≡ false
-      → Takes entry_of live_of counter_of room_of listed (Some greatest) clear old new → Stepped c [] old new
-  cleared_step {c} {old} {new} is wraps took = record {
+  -- no entry, and the counter stepped once
+  emptied_step : {c : ℕ} {old new : S} → counter_of old ≡ Some c → counter_wraps (Some greatest) (counter_of old) ≡ false
+      → ((j : ℕ) → entry_of new j ≡ None) → counter_of new ≡ option_map (next_generation (Some greatest)) (counter_of old) → Stepped c [] old new
+  emptied_step {c} {old} {new} is wraps none after = record {
     c' = c + 1;
-    is = stepped_to is wraps took.counter;
-    effect = steps entry_of (λ p f. absurd (absent (took.entries p.0) f)) (λ p one. absurd one) tt;
+    is = stepped_to is wraps after;
+    effect = steps entry_of (λ p f. absurd (absent (none p.0) f)) (λ p one. absurd one) tt;
   }
 
   -- the counter alone
@@ -366,13 +367,14 @@ module _ {S T : Type 0} (entry_of : S → ℕ → Option (ℕ × T)) (live_of : 
   step_of (insert i g t) old new is took wraps = inserted_step i g t is took
   step_of (remove i) old new is took wraps = removed_step i is (one_step (counter_of old) wraps) took
   step_of (invalidate i g) old new is took wraps = invalidated_step i g is (one_step (counter_of old) wraps) took
-  step_of clear old new is took wraps = cleared_step is (one_step (counter_of old) wraps) took
+  step_of clear old new is took wraps = emptied_step is (one_step (counter_of old) wraps) took.entries took.counter
   step_of drain old new is took wraps = drained_step is wraps took
   step_of inc_generation old new is took wraps = counted_step is (one_step (counter_of old) wraps) took
   step_of compress old new is took wraps = compressed_step is (one_step (counter_of old) wraps) took
   step_of (exchange i j) old new is took wraps = exchanged_step i j is took
   step_of (write i t) old new is took wraps = written_step i t is took
   step_of (reallocate n) old new is took wraps = same_counter is took.counter (λ j. ap generation (took.entries j))
+  step_of (give_up_copy n) old new is took wraps = emptied_step is (one_step (counter_of old) wraps) took.entries took.counter
   step_of keep old new is took wraps = same_counter is took.1 took.0
 
   -- the counter is past the first generation, and the generations of all entries lie between the two

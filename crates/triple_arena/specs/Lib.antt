@@ -2,6 +2,7 @@ pub mod ArenaRoom
 pub mod Slot
 pub mod SlotState
 pub mod Steps
+pub mod StepsLaws
 pub mod Entries
 pub mod Changes
 pub mod Content

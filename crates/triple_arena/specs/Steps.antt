@@ -3,15 +3,16 @@ use Rattle.std.specs.Prelude.{◌≡◌, ℕ, false, List, [], ◌∷◌, ◌++�
 use Rattle.std.specs.Option.{option_map}
 use Rattle.triple_arena_ptr.specs.Generation.{next_generation}
 use Rattle.triple_arena_stack.specs.Room.{Room}
+use Rattle.triple_arena.specs.ArenaRoom.{room_with}
 use Rattle.triple_arena.specs.Compression.{pointer_of}
 use Rattle.triple_arena.specs.Entries.{generation_at, with_value_at, IsOneOf}
 use Rattle.triple_arena.specs.Transfer.{steps_wrap, IsGivenUp}
-use Rattle.triple_arena.specs.Changes.{IsInserted, IsRemoved, IsInvalidated, IsCleared, IsStepped, IsCompressed, IsExchanged, IsReallocated}
+use Rattle.triple_arena.specs.Changes.{IsNew, IsInserted, IsRemoved, IsInvalidated, IsCleared, IsStepped, IsCompressed, IsExchanged, IsReallocated}
 
 -- an entry stored at an index under a generation; the entry at an index removed; its pointer ended, and one with this
 -- generation given in its place; all entries removed at once; each of them taken out, by a drain or by a transfer from here; the
 -- counter stepped alone; the entries moved to the first indexes; the values at two indexes exchanged; a value written; room made;
--- and whatever leaves the generation at each index, and the counter. The last is one step for many calls, since what else they
+-- a copy to here given up where its map refused, so that room for it was made and all entries were removed at once; and whatever leaves the generation at each index, and the counter. The last is one step for many calls, since what else they
 -- change matters to no pointer: a recast, the free slots put in order or taken from the end, a limit, a place that is let go
 pub data Step (T : Type 0) : Type 0 where
   insert : ℕ → ℕ → T → Step T
@@ -24,6 +25,7 @@ pub data Step (T : Type 0) : Type 0 where
   exchange : ℕ → ℕ → Step T
   write : ℕ → T → Step T
   reallocate : ℕ → Step T
+  give_up_copy : ℕ → Step T
   keep : Step T
 
 -- how often it steps the counter, where so many are live
@@ -34,6 +36,7 @@ counts clear live = 1
 counts drain live = live
 counts inc_generation live = 1
 counts compress live = 1
+counts (give_up_copy n) live = 1
 counts _ live = 0
 
 -- none of these comes twice
@@ -81,6 +84,8 @@ module _ {S T : Type 0} (entry_of : S → ℕ → Option (ℕ × T)) (live_of : 
       IsSome (entry_of old i) × IsSome (entry_of old j) × IsExchanged entry_of live_of counter_of room_of i j old new
   Takes (write i t) old new = ((j : ℕ) → entry_of new j ≡ with_value_at (entry_of old) i t j) × (counter_of new ≡ counter_of old)
   Takes (reallocate n) old new = IsReallocated entry_of live_of counter_of room_of n old new
+  Takes (give_up_copy n) old new =
+      IsNew entry_of live_of counter_of room_of (option_map (next_generation last) (counter_of old)) (room_with n (room_of old)) new
   Takes keep old new = ((j : ℕ) → generation_at (entry_of new) j ≡ generation_at (entry_of old) j) × (counter_of new ≡ counter_of old)
 
   -- the steps of a history are taken one after another, and none starts the generations again

@@ -1,5 +1,5 @@
 //! Insertion at a pointer of the caller's choice.
-ghost use Rattle.std.specs.Prelude.{◌≡◌, ◌<◌, ◌↔◌, IsOk, IfOk, IsErrOf, IsSome};
+ghost use Rattle.std.specs.Prelude.{◌≡◌, ℕ, ◌<◌, ◌↔◌, IsOk, IfOk, IsErrOf, IsSome};
 ghost use Rattle.std.specs.Borrow.{sem, RestsIfErr};
 ghost use Rattle.triple_arena.specs.DirectEntry.{entry_arena, entry_lender, entry_index, entry_generation};
 ghost use Rattle.triple_arena.specs.DirectContent.{DirectContent, entry_at, arena_capacity, IsPlace};
@@ -44,4 +44,9 @@ pub trait ArenaDirectInsertTrait<P: Ptr, T: Drop>: ArenaTrait<P, T> {
             ↔ IsSome (entry_at (content self.old) (P.index p)) }
         ensures* err { sem 𝓛 (RestsIfErr Self.row self.entry entry_lender result
             (λ a. a ≡ self.old)) };
+
+    // What stands in it is what stands in the arena, in the same room.
+    ghost content_entries: { (s : Self) (i : ℕ) → entry_at (content s) i ≡ Self.entry_at s i };
+
+    ghost content_room: { (s : Self) → (content s).room ≡ Self.room s };
 }

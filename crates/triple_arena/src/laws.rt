@@ -12,12 +12,13 @@ ghost use Rattle.std.specs.List.{FoldsTo};
 ghost use Rattle.std.specs.Option.{option_map};
 ghost use Rattle.triple_arena.specs.Changes.{IsNew};
 ghost use Rattle.triple_arena.specs.Entries.{generation_at, IsOneOf};
-ghost use Rattle.triple_arena.specs.Steps.{Step, write, keep, AreNew, Finds, Takes, Happens, all_given, reached};
+ghost use Rattle.triple_arena.specs.Steps.{Step, drain, write, give_up_copy, keep, AreNew, Finds, Takes, Happens, all_given, reached};
 ghost use Rattle.triple_arena.specs.Walk.{Walk, IsAhead, GoInOrder, given_by, pointers_ahead};
 ghost use Rattle.triple_arena.specs.Compression.{live_values, pointer_of, IsCompact};
-ghost use Rattle.triple_arena.specs.Content.{Content, entry_at, live_count, some_counter, without_free_end, canonicalized, with_limit, grown_if_full};
+ghost use Rattle.triple_arena.specs.Content.{Content, entry_at, live_count, some_counter, without_free_end, canonicalized, with_limit, grown_if_full, cleared, reallocated};
 ghost use Rattle.triple_arena.specs.Recasting.{content_recasted};
 ghost use Rattle.triple_arena.specs.DirectContent.{DirectContent, live_entries as live_entries_of};
+ghost use Rattle.triple_arena.specs.Drains.{drained};
 ghost use Rattle.triple_arena.specs.LiveEntries.{live_entries};
 ghost use Rattle.triple_arena.specs.Recaster.{IsRecaster, IsRenaming};
 
@@ -71,6 +72,16 @@ pub fn what_keeps_pointers_is_a_step<I, P: Ptr, T: Drop>()
         (λ c. c.room) live_entries P.Gen.last keep arena (with_limit P.Inx.greatest arena max) }
     ensures growth { (arena : Content T) → Takes entry_at live_count some_counter (λ c. c.room)
         live_entries P.Gen.last keep arena (grown_if_full arena) }
+{}
+
+/// What a drain of an `Arena` leaves, however far it went, is a step of a history, and so is what a transfer from here
+/// leaves; and what is left of a copy to here whose map refused.
+pub fn what_takes_all_is_a_step<P: Ptr, T: Drop>()
+    ensures drain { (arena : Content T) → Takes entry_at live_count some_counter (λ c. c.room)
+        live_entries P.Gen.last drain arena (drained P.Gen.last arena) }
+    ensures refused_copy { (arena : Content T) (n : ℕ) → Takes entry_at live_count some_counter
+        (λ c. c.room) live_entries P.Gen.last (give_up_copy n) arena
+        (cleared P.Gen.last (reallocated arena n)) }
 {}
 
 /// Over an arena that stays as it is, an advancer gives the pointers ahead of it in turn, one a call, and then nothing.

@@ -1,3 +1,4 @@
 mod DocumentLemmas
 pub mod MirrorLemmas
 pub mod PlaylistLemmas
+pub mod ReuseLemmas

@@ -2,3 +2,4 @@ pub mod Node
 pub mod Nodes
 pub mod Documents
 pub mod Playlists
+pub mod Histories

@@ -1,6 +1,6 @@
 //! A place for an entry at a pointer of the caller's choice.
 ghost use Rattle.triple_arena.specs.Changes.{IsDirectlyInserted};
-ghost use Rattle.std.specs.Prelude.{◌≡◌};
+ghost use Rattle.std.specs.Prelude.{◌≡◌, refl};
 ghost use Rattle.triple_arena.specs.DirectEntry.{entry_arena, entry_index, entry_generation};
 ghost use Rattle.triple_arena.specs.DirectContent.{entry_at, live_count, no_counter, inserted, IsPlace, IsWellFormed};
 
@@ -69,4 +69,8 @@ impl<P: Ptr, T: Drop, S: NonZeroInxGenericStack<DirectSlot<P, T>> + Drop> ArenaD
             generation: p.generation(),
         })
     }
+
+    ghost content_entries = { λ d i. refl };
+
+    ghost content_room = { λ d. refl };
 }

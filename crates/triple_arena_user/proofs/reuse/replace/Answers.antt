@@ -1,0 +1,11 @@
+use Rattle.triple_arena_user.proofs.ReuseLemmas.{where_valid, never_given, ended}
+use Rattle.triple_arena_user.proofs.reuse.replace.Goals as goal
+
+pub returns-in-Ok-clause-never_given : goal.returns-in-Ok-clause-never_given
+returns-in-Ok-clause-never_given g c history reached stays =
+    never_given _ _ _ _ _ _ history reached stays (where_valid _ c.in_default.not-InvalidPtr c.remove.ensures.removed) c.in-Ok.ensures.inserted c.pointers_are_given_once.ensures
+
+pub returns-in-Ok-clause-ended : goal.returns-in-Ok-clause-ended
+returns-in-Ok-clause-ended g c history later reached stays one happens some =
+    ended _ _ _ _ _ _ history reached stays (where_valid _ c.in_default.not-InvalidPtr c.remove.ensures.removed) c.in-Ok.ensures.inserted
+    c.ended_pointers_find_nothing.ensures _ one later happens
