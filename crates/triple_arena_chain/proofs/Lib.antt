@@ -1,4 +1,5 @@
 pub mod AgreedLemmas
+pub mod FromArenaLemmas
 pub mod PlaceLemmas
 pub mod TakeOutLemmas
 pub mod ExchangeLemmas
@@ -15,6 +16,7 @@ pub mod WalkLemmas
 pub mod ReversalLemmas
 pub mod RemovalLemmas
 pub mod LawLemmas
+pub mod IterChainLemmas
 pub mod TakenWalkLemmas
 pub mod DrainLemmas
 pub mod SameLinksLemmas

@@ -14,6 +14,7 @@ pub mod InsertionListLaws
 pub mod InsertEntry
 pub mod Walks
 pub mod WalkLaws
+pub mod IterChains
 pub mod Drains
 pub mod DrainLaws
 pub mod Listed

@@ -16,6 +16,7 @@ mod ptr_link;
 pub mod chain_iterators {
     pub use crate::chain_arena::drain::ChainDrain;
     pub use crate::chain_arena::index_drain::Drain;
+    pub use crate::chain_arena::iter_chain::IterChain;
     pub use crate::chain_arena::iterators::{Iter, Vals};
     pub use crate::chain_arena::walk::ChainPtrAdvancer;
     pub use triple_arena::arena_iterators::PtrAdvancer;

@@ -121,3 +121,19 @@ impl<P: Ptr, T: Drop, S: NonZeroInxGenericStack<ArenaSlot<P, LinkNoGen<P, T>>>> 
         }
     }
 }
+
+impl<'a, P: Ptr, T: Drop, S: NonZeroInxGenericStack<ArenaSlot<P, LinkNoGen<P, T>>>> IntoIterator
+    for &'a ChainArena<P, T, S>
+where
+    P::Inx: 'a,
+{
+    type Item = (P, &'a T);
+
+    type IntoIter = Iter<'a, P, T>;
+
+    ghost into_iter_gives = { λ chains it. it ≡ listed_values chains.now };
+
+    fn into_iter(self) -> Iter<'a, P, T> {
+        self.iter()
+    }
+}

@@ -1,0 +1,22 @@
+-- A step of an iterator over a chain.
+use Rattle.std.proofs.Common.{◌≡◌, ℕ, List, [], ◌∷◌, Option, Some, None, IsSome, refl, sym, ap, ◌∙◌}
+use Rattle.triple_arena.specs.Content.{Content, entry_at, get}
+use Rattle.triple_arena_chain.specs.declared.link.IndexLink.{IndexLink}
+use Rattle.triple_arena_chain.specs.IterChains.{link_and, links_along}
+use Rattle.triple_arena_chain.specs.Links.{ends_in, values_in}
+use Rattle.triple_arena_chain.specs.Walks.{ChainWalk, ChainSteps, left_over, IsEnding}
+use Rattle.triple_arena_chain.specs.WalkLaws.{left-after, left-none}
+use Rattle.triple_arena_chain.proofs.RemovalLemmas.{entry_seen}
+
+module _ {I T : Type 0} (number : I → ℕ) (c : Content (IndexLink I T)) where
+  -- the link that is given, and those that are left
+  pub link_given : (w on : ChainWalk) (i g : ℕ) (l : IndexLink I T) → IsEnding number c w → ChainSteps (ends_in number c) (values_in c) w (Some (i, g)) on
+      → get c i g ≡ Some l → links_along (entry_at c) (left_over number c w) ≡ (i, (g, l)) ∷ links_along (entry_at c) (left_over number c on)
+  link_given w on i g l ends step is =
+      let left = (left-after number c w (i, g) on ends step).0 in
+      ap (links_along (entry_at c)) left ∙ ap (λ o. link_and i o (links_along (entry_at c) (left_over number c on))) (entry_seen g (entry_at c i) l is)
+
+  -- where none is given none is left
+  pub none_given : (w on : ChainWalk) → IsEnding number c w → ChainSteps (ends_in number c) (values_in c) w None on
+      → links_along (entry_at c) (left_over number c w) ≡ []
+  none_given w on ends step = ap (links_along (entry_at c)) (left-none number c w on ends step)

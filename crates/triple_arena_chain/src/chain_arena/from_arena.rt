@@ -1,0 +1,106 @@
+//! Arenas of links that become chain arenas.
+ghost use Rattle.std.specs.Prelude.{◌≡◌, ◌↔◌, ℕ, Some, IsTrue, IsOk, IsSome, IfOk, IfErr, IfNone, OnSome};
+ghost use Rattle.std.specs.Option.{option_map};
+ghost use Rattle.triple_arena_chain.specs.Chains.{IsAgreed, next_at, prev_at};
+ghost use Rattle.triple_arena_chain.specs.Links.{ends_in};
+
+use crate::{ChainArena, LinkNoGen};
+use std::mem;
+use triple_arena::{Advancer, Arena, ArenaSlot, ArenaTrait, NonZeroInxGenericStack, Ptr};
+
+// Whether there is no link at `at`, or one whose previous link is at `i`.
+fn goes_back<P: Ptr, T: Drop, S: NonZeroInxGenericStack<ArenaSlot<P, LinkNoGen<P, T>>> + Drop>(
+    arena: &Arena<P, LinkNoGen<P, T>, S>,
+    at: Option<P::Inx>,
+    i: P::Inx,
+) -> bool
+    ensures { IsTrue result ↔ ((q : ℕ) → option_map P.Inx.number at ≡ Some q
+        → prev_at (ends_in P.Inx.number arena.now) q ≡ Some (P.Inx.number i)) }
+{
+    let Some(at) = at else {
+        return true;
+    };
+    match arena.get_inx(at) {
+        Some((_, link)) => match link.prev {
+            Some(prev) => prev == i,
+            None => false,
+        },
+        None => false,
+    }
+}
+
+// Whether there is no link at `at`, or one whose next is at `i`.
+fn goes_on<P: Ptr, T: Drop, S: NonZeroInxGenericStack<ArenaSlot<P, LinkNoGen<P, T>>> + Drop>(
+    arena: &Arena<P, LinkNoGen<P, T>, S>,
+    at: Option<P::Inx>,
+    i: P::Inx,
+) -> bool
+    ensures { IsTrue result ↔ ((p : ℕ) → option_map P.Inx.number at ≡ Some p
+        → next_at (ends_in P.Inx.number arena.now) p ≡ Some (P.Inx.number i)) }
+{
+    let Some(at) = at else {
+        return true;
+    };
+    match arena.get_inx(at) {
+        Some((_, link)) => match link.next {
+            Some(next) => next == i,
+            None => false,
+        },
+        None => false,
+    }
+}
+
+impl<P: Ptr, T: Drop, S: NonZeroInxGenericStack<ArenaSlot<P, LinkNoGen<P, T>>> + Drop> ChainArena<
+    P,
+    T,
+    S,
+> {
+    /// Whether the interlinks of these links agree both ways: what a link names as its next is live and names it as its
+    /// previous link, and what it names as its previous link is live and names it as its next.
+    pub fn interlinks_agree(arena: &Arena<P, LinkNoGen<P, T>, S>) -> bool
+        ensures { IsTrue result ↔ IsAgreed (ends_in P.Inx.number arena.now) }
+    {
+        let mut links = arena.advancer();
+        while let Some(p) = links.advance(arena) {
+            if let Some(link) = arena.get(p) {
+                if !goes_back(arena, link.next, p.inx()) || !goes_on(arena, link.prev, p.inx()) {
+                    return false;
+                }
+            }
+        }
+        true
+    }
+
+    /// The chain arena of these links, or the arena back where `interlinks_agree` refuses it.
+    pub fn from_arena(
+        arena: Arena<P, LinkNoGen<P, T>, S>,
+    ) -> Result<Self, Arena<P, LinkNoGen<P, T>, S>>
+        ensures variant { IsOk result ↔ IsAgreed (ends_in P.Inx.number arena) }
+        ensures ok { IfOk result (λ chains. chains ≡ arena) }
+        ensures err { IfErr result (λ refused. refused ≡ arena) }
+    {
+        // The arena is well-formed.
+        let _ = arena.len();
+        if Self::interlinks_agree(&arena) {
+            Ok(ChainArena { arena })
+        } else {
+            Err(arena)
+        }
+    }
+
+    /// Exchanges the links of this arena and those of `arena`, where `interlinks_agree` accepts them. Else it answers
+    /// `None`, and both stay as they are.
+    pub fn exchange_arena(&mut self, arena: &mut Arena<P, LinkNoGen<P, T>, S>) -> Option<()>
+        ensures variant { IsSome result ↔ IsAgreed (ends_in P.Inx.number arena.old) }
+        ensures some { OnSome result ((self.new ≡ arena.old) × (arena.new ≡ self.old)) }
+        ensures none { IfNone result ((self.new ≡ self.old) × (arena.new ≡ arena.old)) }
+    {
+        // Both are well-formed.
+        let _ = (self.has_room(), arena.len());
+        if !Self::interlinks_agree(arena) {
+            return None;
+        }
+        mem::swap(&mut self.arena, arena);
+        Some(())
+    }
+}
