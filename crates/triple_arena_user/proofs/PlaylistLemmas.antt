@@ -1,24 +1,33 @@
 -- What the calls of a playlist make of its lists.
-use Rattle.std.proofs.Common.{◌≡◌, ℕ, List, ◌∷◌, ◌++◌, Option, Some, None, IsSome, IfSome, Result, Ok, Err, IsOk, IfOk, OnErr, OnSome, refl, sym, ap, subst, ◌∙◌, ◌+◌, ◌%◌, ◌^◌, ◌<◌, length, map, arith, inl, inr}
+use Rattle.std.proofs.Common.{◌≡◌, ℕ, List, ◌∷◌, ◌++◌, Option, Some, None, IsSome, IfSome, Result, Ok, Err, IsOk, IfOk, OnErr, OnSome, refl, sym, ap, subst, ◌∙◌, ◌+◌, ◌%◌, ◌^◌, ◌<◌, length, map, arith, true≢false, inl, inr}
 use Rattle.std.specs.List.{sum}
 use Rattle.std.proofs.lemmas.List.Sums.{sum_by-cons}
 use Rattle.std.proofs.lemmas.Bool.Decides.{eqb_tells}
-use Rattle.triple_arena.specs.Entries.{value_if}
+use Rattle.triple_arena.specs.Entries.{value_if, with_entry}
 use Rattle.triple_arena_chain.specs.Walks.{ChainWalk, ChainSteps, left_over, IsEnding}
 use Rattle.triple_arena_chain.specs.WalkLaws.{left-after, left-none}
 use Rattle.triple_arena_user.specs.Playlists.{length_of, length_at}
 use Rattle.triple_arena.specs.Content.{Content}
 use Rattle.triple_arena_chain.specs.declared.kind.InsertKind.TheVariants.{NextTo}
 use Rattle.triple_arena_chain.specs.declared.link.IndexLink.{IndexLink}
+use Rattle.triple_arena_chain.specs.declared.place.Place.{Place}
 use Rattle.triple_arena_chain.specs.Chains.{Off, IsLinear, IsRing}
 use Rattle.triple_arena_chain.specs.InsertionListLaws.{linear-put_after, ring-put_after, others-put_after, linear-reversed}
 use Rattle.triple_arena_chain.specs.KindLaws.{put-next_to}
 use Rattle.triple_arena_chain.specs.Links.{ends_in, values_in, place_among, IsChained, IsPlaced}
 use Rattle.triple_arena_chain.specs.Lists.{Chain, members, IsChainOf, IsExchanged}
 
+module _ {I T : Type 0} (number : I → ℕ) (c d : Content (IndexLink I T)) (i g : ℕ) (t : T) where
+  -- the value that was placed
+  values_placed : (o : Option (Place ℕ)) → IsSome o → IfSome o (λ place. IsPlaced number place i g t c d)
+      → (k : ℕ) → values_in d k ≡ with_entry (values_in c) i (g, t) k
+  values_placed None there placed = absurd (true≢false (sym there))
+  values_placed (Some place) there placed = placed.values
+
 module _ {P E I T : Type 0} (index generation : P → ℕ) (number : I → ℕ) (c d : Content (IndexLink I T)) (p : P) (t : T) where
   -- what an insertion directly after `p` makes of the lists
   pub record Added (r : Result P E) : Type 0 where
+    pub song : IfOk r (λ q. (j : ℕ) → values_in d j ≡ with_entry (values_in c) (index q) (generation q, t) j)
     pub linear : IfOk r (λ q. (before after : List ℕ) → IsLinear (ends_in number c) (before ++ index p ∷ after)
         → IsLinear (ends_in number d) (before ++ (index p ∷ index q ∷ after)))
     pub ring : IfOk r (λ q. (after : List ℕ) → IsRing (ends_in number c) (index p ∷ after) → IsRing (ends_in number d) (index p ∷ index q ∷ after))
@@ -28,12 +37,13 @@ module _ {P E I T : Type 0} (index generation : P → ℕ) (number : I → ℕ) 
       → IfOk r (λ q. IfSome (place_among index generation number c (NextTo p)) (λ place. IsPlaced number place (index q) (generation q) t c d))
       → OnErr r (d ≡ c) → Added r
   added (Err e) chained there placed same =
-      record { linear = tt; ring = tt; others = λ l chain off. subst (λ x. IsChainOf (ends_in number x) l) (sym same) chain }
+      record { song = tt; linear = tt; ring = tt; others = λ l chain off. subst (λ x. IsChainOf (ends_in number x) l) (sym same) chain }
   added (Ok q) chained there placed same =
       let old = ends_in number c in
       let new = ends_in number d in
       let put = put-next_to index generation number c d p (index q) (generation q) t (there refl) placed in
       record {
+        song = values_placed number c d (index q) (generation q) t (place_among index generation number c (NextTo p)) (there refl) placed;
         linear = linear-put_after old new (index p) (index q) put;
         ring = ring-put_after old new (index p) (index q) put;
         others = others-put_after old new (index p) (index q) put chained.agreed;

@@ -1,9 +1,10 @@
 //! Playlists: songs in the chains of an arena, of which all is said in lists of indexes.
-ghost use Rattle.std.specs.Prelude.{◌≡◌, ◌%◌, ◌^◌, ℕ, List, ◌∷◌, ◌++◌, map as list_map, IsSome, IfSome, IfOk, OnSome, OnErr, IfNone};
+ghost use Rattle.std.specs.Prelude.{◌≡◌, ◌<◌, ◌≤◌, ◌↔◌, ◌%◌, ◌^◌, ℕ, List, ◌∷◌, ◌++◌, map as list_map, None, IsSome, IfSome, IsOk, IfOk, OnSome, OnErr, IsErrOf};
 ghost use Rattle.std.specs.List.{sum};
-ghost use Rattle.triple_arena.specs.Content.{get};
+ghost use Rattle.triple_arena.specs.Content.{get, live_count, arena_capacity};
+ghost use Rattle.triple_arena.specs.Entries.{with_entry};
 ghost use Rattle.triple_arena_chain.specs.Chains.{Off, IsLinear, IsRing};
-ghost use Rattle.triple_arena_chain.specs.Links.{ends_in};
+ghost use Rattle.triple_arena_chain.specs.Links.{ends_in, values_in};
 ghost use Rattle.triple_arena_chain.specs.Lists.{Chain, members, IsChainOf};
 ghost use Rattle.triple_arena_chain.specs.Walks.{IsWalkFrom};
 ghost use Rattle.triple_arena_user.specs.Playlists.{length_at};
@@ -12,12 +13,22 @@ use triple_arena::{Advancer, ArenaSlot, NonZeroInxGenericStack, Ptr};
 use triple_arena_chain::{ChainArena, LinkInsertKind, LinkNoGen};
 use triple_arena_ptr::ChainInsertionError;
 
-/// Adds a song directly after the one at `p`, if there is room.
+/// Adds a song directly after the one at `p`, if there is room. It answers `FailedLinkRequirement` where `p` is invalid,
+/// and else `NotWithinCapacity` where there is no room; all songs stay as they are then, and this one is dropped.
 pub fn add_after<P: Ptr, T: Drop, S: NonZeroInxGenericStack<ArenaSlot<P, LinkNoGen<P, T>>> + Drop>(
     songs: &mut ChainArena<P, T, S>,
     p: P,
     song: T,
 ) -> Result<P, ChainInsertionError>
+    ensures invalid { IsErrOf result ChainInsertionError.FailedLinkRequirement
+        ↔ (get songs.old (P.index p) (P.generation p) ≡ None) }
+    ensures full { IsErrOf result ChainInsertionError.NotWithinCapacity
+        ↔ (IsSome (get songs.old (P.index p) (P.generation p))
+        × (arena_capacity songs.old ≤ live_count songs.old)) }
+    ensures variant { IsOk result ↔ (IsSome (get songs.old (P.index p) (P.generation p))
+        × (live_count songs.old < arena_capacity songs.old)) }
+    ensures song { IfOk result (λ q. (j : ℕ) → values_in songs.new j
+        ≡ with_entry (values_in songs.old) (P.index q) (P.generation q, song) j) }
     ensures linear { IfOk result (λ q. (before after : List ℕ)
         → IsLinear (ends_in P.Inx.number songs.old) (before ++ P.index p ∷ after)
         → IsLinear (ends_in P.Inx.number songs.new) (before ++ (P.index p ∷ P.index q ∷ after))) }
@@ -58,7 +69,8 @@ pub fn play_from<P: Ptr, S: NonZeroInxGenericStack<ArenaSlot<P, LinkNoGen<P, u64
     songs: &ChainArena<P, u64, S>,
     p: P,
 ) -> Option<u64>
-    ensures { IfSome result (λ total. (walk : List ℕ) × IsWalkFrom (ends_in P.Inx.number songs.now) (P.index p) walk
+    ensures variant { IsSome result ↔ IsSome (get songs.now (P.index p) (P.generation p)) }
+    ensures total { IfSome result (λ total. (walk : List ℕ) × IsWalkFrom (ends_in P.Inx.number songs.now) (P.index p) walk
         × (total ≡ sum (list_map (length_at songs.now) walk) % 2 ^ 64)) }
 {
     let mut player = songs.advancer_chain(p)?;

@@ -18,3 +18,6 @@ returns-clause-ring g c = (lists g c).ring
 
 pub returns-clause-others : goal.returns-clause-others
 returns-clause-others g c = (lists g c).others
+
+pub returns-clause-song : goal.returns-clause-song
+returns-clause-song g c = (lists g c).song

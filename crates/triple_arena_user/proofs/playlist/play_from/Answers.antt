@@ -28,8 +28,8 @@ loop-q-preserved-in-Some-get g c =
     c.in-Some-get.length.now c.loop-q.invariant.ends given value in
     record { ends = h.ends; total = adds c.loop-q.total c.in-Some-get.length.now _ _ _ h.sums c.loop-q.invariant.total }
 
-pub returns : goal.returns
-returns g c =
+pub returns-clause-total : goal.returns-clause-total
+returns-clause-total g c =
     let number = g.P.Inx.PtrInx.number in
     let along = c.in_ok-player.ensures.along in
     let given : ChainSteps (ends_in number c.args.songs.now) (values_in c.args.songs.now) c.loop-q.player None c.advance.new.self = search rules in
