@@ -20,3 +20,4 @@ pub mod DrainLemmas
 pub mod SameLinksLemmas
 pub mod ListedLemmas
 pub mod IndexDrainLemmas
+pub mod LinkCopyLemmas
