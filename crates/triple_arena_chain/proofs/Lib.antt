@@ -22,3 +22,4 @@ pub mod DrainLemmas
 pub mod SameLinksLemmas
 pub mod ListedLemmas
 pub mod IndexDrainLemmas
+pub mod LinkCopyLemmas

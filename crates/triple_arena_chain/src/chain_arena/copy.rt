@@ -1,9 +1,15 @@
-//! An arena as a copy of a chain arena.
-ghost use Rattle.std.specs.Prelude.{◌≡◌, ◌≤◌, ◌↔◌, IsOk, OnOk, IsErrOf};
+//! A chain arena as a copy of another one, and an arena as a copy of a chain arena.
+ghost use Rattle.std.specs.Prelude.{◌≡◌, ◌<◌, ◌≤◌, ◌↔◌, ◌⊎◌, IsTrue, IsOk, IfOk, OnOk, IsErrOf};
+ghost use Rattle.triple_arena_ptr.specs.Generation.{second_generation};
 ghost use Rattle.triple_arena_stack.specs.Room.{capacity as capacity_of, IsBeyond};
-ghost use Rattle.triple_arena.specs.Content.{entry_at, live_count, some_counter};
-ghost use Rattle.triple_arena.specs.Copy.{last_listed, NeverRefuses, IsMappedCopy, IsRefusedCopy, IsCopy, IsUnmadeCopy};
+ghost use Rattle.triple_arena.specs.ArenaRoom.{room_of};
+ghost use Rattle.triple_arena.specs.Content.{entry_at, live_count, some_counter, empty, reallocated, cleared};
+ghost use Rattle.triple_arena.specs.Copy.{last_listed, copied, MayRefuse, NeverRefuses, IsMappedCopy, IsRefusedCopy, IsCopy, IsUnmadeCopy};
 ghost use Rattle.triple_arena.specs.LiveEntries.{live_entries};
+ghost use Rattle.triple_arena_chain.specs.Links.{ends_in, values_in, IsChained};
+ghost use Rattle.triple_arena_chain.specs.Listed.{listed_values};
+ghost use Rattle.triple_arena_chain.specs.Lists.{Chain, IsChainOf};
+ghost use Rattle.triple_arena_chain.specs.Values.{room_in};
 
 use crate::{ChainArena, LinkNoGen};
 use triple_arena::{
@@ -44,5 +50,73 @@ impl<P: Ptr, T: Drop, S: NonZeroInxGenericStack<ArenaSlot<P, LinkNoGen<P, T>>> +
         ensures formed { A.is_formed target.new }
     {
         target.clone_from_with(&self.arena, map)
+    }
+}
+
+impl<P: Ptr, T: Clone, S: NonZeroInxGenericStack<ArenaSlot<P, LinkNoGen<P, T>>> + Drop> ChainArena<
+    P,
+    T,
+    S,
+> {
+    /// A new arena with the same pointers and interlinks, clones of the values and the same counter, where the smallest
+    /// free index is the next one to be taken. It has room for the last live index. A clone of a value must equal it.
+    ///
+    /// It answers `BeyondMaxCapacity` where no new arena of this type has so much room, and `AllocError` where the
+    /// memory or the clone of a value was refused.
+    pub fn clone(&self, alloc: S::Alloc) -> Result<Self, ReallocationError>
+        requires { (x y : T) → T.is_clone x y → y ≡ x }
+        ensures exact { IfOk result (λ c. c ≡ copied (empty (second_generation P.Gen.last)
+            (room_of P.Inx.greatest (S.room_at (last_listed (live_entries self.now)))))
+            (some_counter self.now) (live_entries self.now)) }
+        ensures succeeds { last_listed (live_entries self.now)
+            ≤ capacity_of (room_of P.Inx.greatest (S.room_at 0))
+            → ((x : T) → T.is_infallible x) → IsOk result }
+        ensures beyond { IsErrOf result ReallocationError.BeyondMaxCapacity
+            ↔ IsBeyond (room_of P.Inx.greatest
+            (S.room_at (last_listed (live_entries self.now)))).limit
+            (last_listed (live_entries self.now)) }
+        ensures unmade { IsErrOf result ReallocationError.AllocError
+            → (IsTrue S.takes_memory × (capacity_of (room_of P.Inx.greatest (S.room_at 0))
+            < last_listed (live_entries self.now)))
+            ⊎ MayRefuse T.is_infallible (listed_values self.now) }
+        ensures lists { IfOk result (λ c. (chain : Chain) → IsChainOf (ends_in P.Inx.number self.now) chain
+            → IsChainOf (ends_in P.Inx.number c) chain) }
+        ensures formed { IfOk result (λ c. IsChained P.Inx.number c) }
+    {
+        match self.arena.clone(alloc) {
+            Ok(arena) => Ok(ChainArena { arena }),
+            Err(error) => Err(error),
+        }
+    }
+
+    /// Makes this arena a clone of `source`: with its pointers, interlinks and counter, and with clones of the values. A
+    /// clone of a value must equal it. What the arena held is dropped, and the smallest free index is the next one to
+    /// be taken.
+    ///
+    /// No memory is taken where the last live index of `source` is within the capacity, which then stays. Else the
+    /// arena first grows to exactly that index.
+    ///
+    /// It answers `BeyondMaxCapacity` where the last live index of `source` is past the greatest capacity, and
+    /// `AllocError` where the memory was refused; the arena is then as it was. It also answers `AllocError` where the
+    /// clone of a value was refused; the arena is then grown to that index and cleared.
+    pub fn clone_from(&mut self, source: &Self) -> Result<(), ReallocationError>
+        requires { (x y : T) → T.is_clone x y → y ≡ x }
+        ensures exact { OnOk result (self.new ≡ copied self.old (some_counter source.now)
+            (live_entries source.now)) }
+        ensures succeeds { last_listed (live_entries source.now) ≤ capacity_of (room_in self.old)
+            → ((x : T) → T.is_infallible x) → IsOk result }
+        ensures beyond { IsErrOf result ReallocationError.BeyondMaxCapacity
+            ↔ IsBeyond (room_in self.old).limit (last_listed (live_entries source.now)) }
+        ensures kept { IsErrOf result ReallocationError.BeyondMaxCapacity → self.new ≡ self.old }
+        ensures unmade { IsErrOf result ReallocationError.AllocError
+            → IsUnmadeCopy values_in live_count some_counter room_in S.takes_memory P.Gen.last
+            (last_listed (live_entries source.now))
+            (λ c. cleared P.Gen.last (reallocated c (last_listed (live_entries source.now))))
+            (MayRefuse T.is_infallible (listed_values source.now)) self.old self.new }
+        ensures lists { OnOk result ((chain : Chain) → IsChainOf (ends_in P.Inx.number source.now) chain
+            → IsChainOf (ends_in P.Inx.number self.new) chain) }
+        ensures formed { IsChained P.Inx.number self.new }
+    {
+        self.arena.clone_from(&source.arena)
     }
 }
