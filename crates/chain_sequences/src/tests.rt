@@ -1,1 +1,5 @@
+mod iterators;
+mod loops;
+mod refusals;
 mod rows;
+mod texts;

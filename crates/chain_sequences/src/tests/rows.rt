@@ -3,7 +3,7 @@ use std::alloc::Global;
 use std::process::Abort;
 use std::test::Fail;
 use triple_arena::{
-    Advancer, ArenaSlot, InvalidationOption, NonZeroInxArray, NonZeroInxGenericStack,
+    Advancer, ArenaSlot, ArenaTrait, InvalidationOption, NonZeroInxArray, NonZeroInxGenericStack,
     NonZeroInxVec, P0, P1, P5, Ptr,
 };
 use triple_arena_chain::{ChainArena, LinkInsertKind, LinkNoGen};
