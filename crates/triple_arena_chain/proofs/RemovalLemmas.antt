@@ -9,7 +9,7 @@ use Rattle.triple_arena.specs.RemovalLaws.{entry-removed, live-removed, counter-
 use Rattle.triple_arena_chain.specs.declared.link.IndexLink.{IndexLink}
 use Rattle.triple_arena_chain.specs.Chains.{Ends, with_next_if, dropped, bridged, taken_from, next_in, prev_in}
 use Rattle.triple_arena_chain.specs.declared.place.Place.TheVariants.{Between}
-use Rattle.triple_arena_chain.specs.Links.{valued, values_in, entry_ends, ends_in, with_next_of, with_prev_of, bridged_over, AreNeighborsLive, IsKept, IsChained, IsTakenOut}
+use Rattle.triple_arena_chain.specs.Links.{valued, values_in, entry_ends, ends_in, with_next_of, with_prev_of, bridged_over, link_removed, link_removed_of, AreNeighborsLive, IsKept, IsChained, IsTakenOut}
 use Rattle.triple_arena_chain.specs.LinkLaws.{neighbor-with_next_of, entry-with_link, ends-with_next_of, ends-with_prev_of, values-with_next_of, values-with_prev_of, kept-with_next_of, kept-with_prev_of, formed-with_next_of, formed-with_prev_of}
 use Rattle.triple_arena_chain.specs.TakenLaws.{is_taken}
 use Rattle.triple_arena_chain.specs.ChainLaws.{IsAgreed-same}
@@ -201,3 +201,9 @@ module _ {T : Type 0} where
 
   pub entry_shows : (g : ℕ) (t : T) → value_if g (Some (g, t)) ≡ Some t
   entry_shows g t = rw (eq-eqb g g refl) refl
+
+module _ {I T : Type 0} (number : I → ℕ) where
+  -- a removal of the link that a pointer finds is the removal at its index
+  pub removed_by_link : (last : Option ℕ) (c d : Content (IndexLink I T)) (i g : ℕ) (l : IndexLink I T) → d ≡ removed last (bridged_over number c l) i
+      → Some l ≡ value_if g (entry_at c i) → d ≡ link_removed number last c i
+  removed_by_link last c d i g l is found = is ∙ sym (ap (link_removed_of number last c i) (entry_seen g (entry_at c i) l (sym found)))

@@ -1,8 +1,11 @@
 -- What leaves the interlinks leaves them agreed.
-use Rattle.std.specs.Prelude.{OnOk, OnErr}
-use Rattle.std.proofs.Common.{◌≡◌, ℕ, zero, suc, List, [], ◌∷◌, get_or, Option, Some, None, Result, Ok, Err, option_map, refl, sym, ap, subst, ◌∙◌}
+use Rattle.std.specs.Prelude.{OnOk, OnErr, IfSome, IfNone}
+use Rattle.std.proofs.Common.{◌≡◌, ℕ, zero, suc, List, [], ◌∷◌, get_or, Option, Some, None, Result, Ok, Err, option_map, inl, inr, refl, sym, ap, subst, ◌∙◌}
 use Rattle.triple_arena_ptr.specs.Recast.{recast_answer, where_ok}
-use Rattle.triple_arena.specs.Content.{Content, entry_at, with_limit, IsWellFormed}
+use Rattle.std.proofs.lemmas.Bool.Decides.{eqb_tells}
+use Rattle.triple_arena.specs.Changes.{IsInvalidated}
+use Rattle.triple_arena.specs.Entries.{with_generation_at}
+use Rattle.triple_arena.specs.Content.{Content, entry_at, live_count, some_counter, with_limit, IsWellFormed}
 use Rattle.triple_arena.specs.ContentLaws.{entry-same_slots}
 use Rattle.triple_arena.specs.LimitLaws.{entry-with_limit}
 use Rattle.triple_arena.specs.Recasting.{slots_recasted, content_recasted}
@@ -63,3 +66,26 @@ module _ {I T : Type 0} (number : I → ℕ) where
       → OnOk r (d ≡ with_limit greatest c max) → OnErr r (d ≡ c) → IsChained number d
   chained-limited greatest c d max (Ok x) chained formed set refused = chained-with_limit greatest c d max chained formed set
   chained-limited greatest c d max (Err e) chained formed set refused = subst (IsChained number) (sym refused) chained
+
+  -- another generation at an index
+  chained-regenerated : (c d : Content (IndexLink I T)) (i g : ℕ) → IsChained number c → IsWellFormed d
+      → ((j : ℕ) → entry_at d j ≡ with_generation_at (entry_at c) i g j) → IsChained number d
+  chained-regenerated c d i g chained formed at =
+      chained-same_ends number c d chained formed
+      (λ k.
+      ap (option_map (entry_ends number)) (at k)
+      ∙ elim (eqb_tells k i) [
+        | inl same ↦ rw same.0 (by_entry (entry_at c i) ∙ ap (ends_in number c) (sym same.1))
+        | inr other ↦ rw other.0 refl
+      ])
+    where
+      by_entry : (o : Option (ℕ × IndexLink I T)) → option_map (entry_ends number) (option_map (λ (e : ℕ × IndexLink I T). (let v : ℕ × IndexLink I T = (g, e.1) in v)) o)
+          ≡ option_map (entry_ends number) o
+      by_entry None = refl
+      by_entry (Some e) = refl
+
+  -- a pointer that ended, or was not found
+  pub invalidated_chained : {A : Type 0} (last : Option ℕ) (given : A → ℕ) (c d : Content (IndexLink I T)) (i : ℕ) (r : Option A) → IsChained number c → IsWellFormed d
+      → IfSome r (λ a. IsInvalidated entry_at live_count some_counter (λ s. s.room) last i (given a) c d) → IfNone r (d ≡ c) → IsChained number d
+  invalidated_chained last given c d i None chained formed ended same = subst (IsChained number) (sym same) chained
+  invalidated_chained last given c d i (Some a) chained formed ended same = chained-regenerated c d i (given a) chained formed ended.entries

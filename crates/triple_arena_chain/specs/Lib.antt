@@ -18,5 +18,6 @@ pub mod IterChains
 pub mod Drains
 pub mod DrainLaws
 pub mod Listed
+pub mod ListedLaws
 pub mod LinkRecasting
 pub mod IndexDrains

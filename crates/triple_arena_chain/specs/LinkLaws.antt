@@ -3,7 +3,7 @@ use Rattle.std.proofs.Common.{◌≡◌, ◌==◌, if◌then◌else◌, ℕ, tru
 use Rattle.std.specs.Option.{option_map}
 use Rattle.std.proofs.lemmas.Bool.Decides.{eqb_tells}
 use Rattle.triple_arena.specs.Entries.{with_value_at}
-use Rattle.triple_arena.specs.Content.{Content, entry_at, IsWellFormed}
+use Rattle.triple_arena.specs.Content.{Content, entry_at, live_count, some_counter, IsWellFormed}
 use Rattle.triple_arena.specs.ContentLaws.{formed-with_value, entry-with_value, live-with_value, slots-with_value, counter-with_value, free-with_value, room-with_value}
 use Rattle.triple_arena_chain.specs.declared.link.IndexLink.{IndexLink}
 use Rattle.triple_arena_chain.specs.Chains.{Ends, with_next_if, with_prev_if, renext, reprev}
@@ -201,6 +201,15 @@ module _ {I T : Type 0} where
 
   pub kept-with_value_in : (c : Content (IndexLink I T)) (i : ℕ) (t : T) → IsKept c (with_value_in c i t)
   kept-with_value_in c i t = kept-with_link c i (λ link. record link { t = t })
+
+  pub live-with_value_in : (c : Content (IndexLink I T)) (i : ℕ) (t : T) → live_count (with_value_in c i t) ≡ live_count c
+  live-with_value_in c i t = (kept-with_value_in c i t).live
+
+  pub counter-with_value_in : (c : Content (IndexLink I T)) (i : ℕ) (t : T) → some_counter (with_value_in c i t) ≡ some_counter c
+  counter-with_value_in c i t = ap Some (kept-with_value_in c i t).counter
+
+  pub room-with_value_in : (c : Content (IndexLink I T)) (i : ℕ) (t : T) → (with_value_in c i t).room ≡ c.room
+  room-with_value_in c i t = (kept-with_value_in c i t).room
 
   pub formed-with_value_in : (c : Content (IndexLink I T)) (i : ℕ) (t : T) → IsWellFormed c → IsWellFormed (with_value_in c i t)
   formed-with_value_in c i t formed = formed-with_link c i (λ link. record link { t = t }) formed

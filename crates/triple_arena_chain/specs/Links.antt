@@ -96,6 +96,15 @@ module _ {I T : Type 0} (number : I → ℕ) where
   abbrev pub bridged_over : Content (IndexLink I T) → IndexLink I T → Content (IndexLink I T)
   bridged_over c link = with_prev_of (with_next_of c link.prev link.next) link.next link.prev
 
+  -- the links without this one at an index, if there is one, whose neighbours are joined; the counter steps
+  abbrev pub link_removed_of : Option ℕ → Content (IndexLink I T) → ℕ → Option (ℕ × IndexLink I T) → Content (IndexLink I T)
+  link_removed_of last c i None = c
+  link_removed_of last c i (Some entry) = removed last (bridged_over c entry.1) i
+
+  -- the links without the one at an index
+  abbrev pub link_removed : Option ℕ → Content (IndexLink I T) → ℕ → Content (IndexLink I T)
+  link_removed last c i = link_removed_of last c i (entry_at c i)
+
   -- one link more at this place, under the next index and the counter; all others stay
   pub record IsPlaced (place : Place ℕ) (i g : ℕ) (t : T) (old new : Content (IndexLink I T)) : Type 0 where
     pub index : i ≡ next_index old

@@ -31,7 +31,6 @@ mod removal;
 mod requirement;
 mod text;
 pub(crate) mod walk;
-mod writing;
 
 use crate::LinkNoGen;
 use std::marker::Model;

@@ -5,7 +5,7 @@ ghost use Rattle.triple_arena.specs.ArenaRoom.{room_of};
 ghost use Rattle.triple_arena.specs.Content.{empty};
 
 use crate::{ChainArena, LinkNoGen};
-use triple_arena::{ArenaSlot, NonZeroInxArray, Ptr};
+use triple_arena::{ArenaSlot, ArenaTrait, NonZeroInxArray, Ptr};
 
 impl<P: Ptr, T: Drop, const LIMIT: usize> Default
     for ChainArena<P, T, NonZeroInxArray<ArenaSlot<P, LinkNoGen<P, T>>, LIMIT>> {

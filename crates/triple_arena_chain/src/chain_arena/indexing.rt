@@ -5,7 +5,7 @@ ghost use Rattle.triple_arena_chain.specs.Links.{values_in};
 
 use crate::{ChainArena, LinkNoGen};
 use std::ops::{Index, IndexMut};
-use triple_arena::{ArenaSlot, NonZeroInxGenericStack, Ptr};
+use triple_arena::{ArenaSlot, ArenaTrait, NonZeroInxGenericStack, Ptr};
 
 impl<P: Ptr, T: Drop, S: NonZeroInxGenericStack<ArenaSlot<P, LinkNoGen<P, T>>> + Drop> Index<P>
     for ChainArena<P, T, S> {

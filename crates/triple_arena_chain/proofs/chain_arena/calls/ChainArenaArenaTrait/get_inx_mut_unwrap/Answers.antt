@@ -1,5 +1,5 @@
 use Rattle.triple_arena_chain.proofs.LendLemmas.{chained-lent}
-use Rattle.triple_arena_chain.proofs.chain_arena.ChainArena.get_inx_mut_unwrap.Goals as goal
+use Rattle.triple_arena_chain.proofs.chain_arena.calls.ChainArenaArenaTrait.get_inx_mut_unwrap.Goals as goal
 
 pub invariant_of-self-lent : goal.invariant_of-self-lent
 invariant_of-self-lent g c w =
