@@ -19,5 +19,6 @@ pub mod Drains
 pub mod DrainLaws
 pub mod Listed
 pub mod ListedLaws
+pub mod Renaming
 pub mod LinkRecasting
 pub mod IndexDrains

@@ -6,7 +6,7 @@ ghost use Rattle.triple_arena_ord.specs.Knot.{Knot as Seen};
 ghost use Rattle.triple_arena_ord.specs.Node.{named, knots_in, rest};
 
 use crate::SimpleOrdArenaNode;
-use triple_arena::{ArenaSlot, NonZeroInxGenericStack, Ptr, PtrInx};
+use triple_arena::{ArenaSlot, ArenaTrait, NonZeroInxGenericStack, Ptr, PtrInx};
 use triple_arena_chain::{ChainArena, LinkNoGen};
 
 #[derive(Clone, Copy, Drop)]

@@ -13,7 +13,7 @@ use crate::knots::Side;
 use crate::leaf::{insert_leaf, moved};
 use crate::{IndexNode, SimpleOrdArenaNode};
 use std::marker::Model;
-use triple_arena::{ArenaSlot, NonZeroInxGenericStack, NotWithinCapacityError, Ptr};
+use triple_arena::{ArenaSlot, ArenaTrait, NonZeroInxGenericStack, NotWithinCapacityError, Ptr};
 use triple_arena_chain::{ChainArena, LinkNoGen};
 
 /// Items in one list, each with a pointer, and a search tree over them. An insertion that searches puts an item where its key

@@ -9,7 +9,7 @@ ghost use Rattle.triple_arena_ord.specs.Ordered.{IsOrdered, IsAscending, tree_in
 
 use crate::{SimpleOrdArena, SimpleOrdArenaNode, SimpleOrdItem};
 use std::cmp::Ordering;
-use triple_arena::{ArenaSlot, NonZeroInxGenericStack, Ptr};
+use triple_arena::{ArenaSlot, ArenaTrait, NonZeroInxGenericStack, Ptr};
 use triple_arena_chain::LinkNoGen;
 use triple_arena_ptr::Probes;
 

@@ -9,7 +9,7 @@ ghost use Rattle.triple_arena_chain.specs.Lists.{Chain, members, IsChainOf};
 ghost use Rattle.triple_arena_chain.specs.Walks.{IsWalkFrom};
 ghost use Rattle.triple_arena_user.specs.Playlists.{length_at};
 
-use triple_arena::{Advancer, ArenaSlot, NonZeroInxGenericStack, Ptr};
+use triple_arena::{Advancer, ArenaSlot, ArenaTrait, NonZeroInxGenericStack, Ptr};
 use triple_arena_chain::{ChainArena, LinkInsertKind, LinkNoGen};
 use triple_arena_ptr::ChainInsertionError;
 

@@ -1,14 +1,16 @@
 //! The calls of a `ChainArena` that every arena has, over the values of the links.
-ghost use Rattle.std.specs.Prelude.{true, ⊤, refl};
+ghost use Rattle.std.specs.Prelude.{true, refl};
 ghost use Rattle.triple_arena_ptr.specs.Generation.{second_generation};
 ghost use Rattle.triple_arena.specs.ArenaRoom.{room_of};
 ghost use Rattle.triple_arena.specs.Content.{some_counter, live_count as live_count_of, empty as empty_of, reallocated as reallocated_of, invalidated as invalidated_of, cleared as cleared_of};
 ghost use Rattle.triple_arena_chain.specs.Links.{values_in, with_value_in, link_removed, IsChained};
 ghost use Rattle.triple_arena_chain.specs.LinkLaws.{values-with_value_in, live-with_value_in, counter-with_value_in, room-with_value_in};
 ghost use Rattle.triple_arena_chain.specs.Listed.{listed_values};
+ghost use Rattle.triple_arena_chain.specs.Renaming.{IsCompacted};
 ghost use Rattle.triple_arena_chain.specs.ListedLaws.{value-listed, listed_values-increase, listed_values-length};
 ghost use Rattle.triple_arena_chain.specs.Values.{room_in};
 
+use crate::chain_arena::compression::compress_links;
 use crate::{ChainArena, LinkNoGen};
 use triple_arena::arena_iterators::PtrAdvancer;
 use triple_arena::{
@@ -52,7 +54,7 @@ impl<P: Ptr, T: Drop, S: NonZeroInxGenericStack<ArenaSlot<P, LinkNoGen<P, T>>> +
 
     ghost cleared = { cleared_of P.Gen.last };
 
-    ghost is_compressed = { λ c reset values new. ⊤ };
+    ghost is_compressed = { λ c reset values new. IsCompacted P.Inx.number P.Gen.last reset values c new };
 
     ghost walk = { λ a. a };
 
@@ -188,7 +190,7 @@ impl<P: Ptr, T: Drop, S: NonZeroInxGenericStack<ArenaSlot<P, LinkNoGen<P, T>>> +
         reset: bool,
         map: F,
     ) -> InvalidationOption<()> {
-        unreachable!()
+        compress_links(&mut self.arena, reset, map)
     }
 }
 
