@@ -19,5 +19,9 @@ pub mod TakenWalkLemmas
 pub mod DrainLemmas
 pub mod SameLinksLemmas
 pub mod ListedLemmas
+pub mod MappingLemmas
+pub mod RenamingLemmas
+pub mod PassLemmas
+pub mod CompactingLemmas
 pub mod IndexDrainLemmas
 pub mod LinkCopyLemmas

@@ -1,12 +1,11 @@
 -- The values of the links as one list: what a removal at the first live index does to it, and to what a drain leaves.
-use Rattle.std.proofs.Common.{◌≡◌, ◌≢◌, ℕ, zero, suc, ◌+◌, ◌<◌, ◌≤◌, List, [], ◌∷◌, length, map, get_or, Option, Some, None, IsSome, IfSome, true≢false, option_map, inl, inr, refl, sym, ap, subst, ◌∙◌, arith}
+use Rattle.std.proofs.Common.{◌≡◌, ◌≢◌, ℕ, zero, suc, ◌+◌, ◌<◌, List, [], ◌∷◌, length, map, get_or, Option, Some, None, option_map, refl, sym, ap, ◌∙◌, arith}
 use Rattle.std.proofs.lemmas.Bool.{eq-eqb, ne_eqb}
-use Rattle.std.proofs.lemmas.Bool.Decides.{eqb_tells}
 use Rattle.std.proofs.lemmas.List.{length-map}
 use Rattle.std.specs.Fn.{iterate}
 use Rattle.triple_arena_ptr.specs.Generation.{next_generation, next_wraps}
 use Rattle.triple_arena.specs.Changes.{IsRemoved}
-use Rattle.triple_arena.specs.Content.{Content, entry_at, live_count, some_counter}
+use Rattle.triple_arena.specs.Content.{Content, live_count, some_counter}
 use Rattle.triple_arena.specs.Drains.{removals, drained}
 use Rattle.triple_arena.specs.Entries.{without}
 use Rattle.triple_arena.specs.LiveEntries.{listed_from, live_entries, live_entries-length}
@@ -47,6 +46,10 @@ module _ {I T : Type 0} where
       let here : Some (valued f) ≡ Some (valued e) = same 0 in
       let is : valued f ≡ valued e = cc in
       ap (λ v. (n, v) ∷ listed (n + 1) ys) is ∙ ap (λ l. (n, valued e) ∷ l) (listed_same (n + 1) xs ys (λ k. same (suc k)))
+
+  -- the same values at the same indexes
+  pub values_listed : (c d : Content (IndexLink I T)) → ((j : ℕ) → values_in d j ≡ values_in c j) → listed_values d ≡ listed_values c
+  values_listed c d same = listed_same 1 c.slots d.slots (λ k. same (suc k))
 
   -- the first value, and the others once it is gone
   listed_first : (n k : ℕ) (e : ℕ × T) (xs ys : List (Option (ℕ × IndexLink I T))) → ((j : ℕ) → j < k → shown (get_or xs j None) ≡ None)

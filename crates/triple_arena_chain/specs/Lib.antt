@@ -17,5 +17,6 @@ pub mod WalkLaws
 pub mod Drains
 pub mod DrainLaws
 pub mod Listed
+pub mod Renaming
 pub mod LinkRecasting
 pub mod IndexDrains

@@ -1,0 +1,56 @@
+use Rattle.triple_arena_chain.proofs.CompactingLemmas.{AreMoved, alone, live, nexts_one, listed_old, listed_new, is_compacted, is_compressed}
+use Rattle.triple_arena_chain.proofs.chain_arena.compression.compress_links.Goals as goal
+
+-- the passes up to the last one
+ready : (g : _) (c : goal.After-join_nexts-arg-1 g)
+    → AreMoved g.P.Inx.PtrInx.number g.P.Gen.PtrGen.last c.args.reset c.args.arena.now c.number_links.new.arena c.forward_nexts.new.arena
+    c.compact_links-answer.new.arena
+ready g c =
+    record {
+      chained = c.requires.chained;
+      first = c.number_links.ensures.numbered;
+      second = c.forward_nexts.ensures.forwarded;
+      links = c.compact_links-answer.ensures.links;
+      compressed = c.compact_links-answer.ensures.compressed;
+      exact = c.compact_links-answer.ensures.exact;
+    }
+
+pub join_nexts-requires-clause-alone : goal.join_nexts-requires-clause-alone
+join_nexts-requires-clause-alone g c = alone _ _ _ _ _ _ _ (ready g c)
+
+pub join_nexts-requires-clause-live : goal.join_nexts-requires-clause-live
+join_nexts-requires-clause-live g c = live _ _ _ _ _ _ _ (ready g c)
+
+pub join_nexts-requires-clause-apart : goal.join_nexts-requires-clause-apart
+join_nexts-requires-clause-apart g c = nexts_one _ _ _ _ _ _ _ (ready g c)
+
+moved : (g : _) (c : goal.After-join_nexts g)
+    → AreMoved g.P.Inx.PtrInx.number g.P.Gen.PtrGen.last c.args.reset c.args.arena.now c.number_links.new.arena c.forward_nexts.new.arena
+    c.compact_links-answer.new.arena
+moved g c =
+    record {
+      chained = c.requires.chained;
+      first = c.number_links.ensures.numbered;
+      second = c.forward_nexts.ensures.forwarded;
+      links = c.compact_links-answer.ensures.links;
+      compressed = c.compact_links-answer.ensures.compressed;
+      exact = c.compact_links-answer.ensures.exact;
+    }
+
+pub returns-clause-mapped : goal.returns-clause-mapped
+returns-clause-mapped g c =
+    let old = listed_old _ _ _ _ _ _ _ (moved g c) c.join_nexts.new.arena c.join_nexts.ensures.nexts
+    c.join_nexts.ensures.agreed c.join_nexts.ensures.values c.join_nexts.ensures.kept in
+    let new = listed_new _ _ _ _ _ _ _ (moved g c) c.join_nexts.new.arena c.join_nexts.ensures.nexts
+    c.join_nexts.ensures.agreed c.join_nexts.ensures.values c.join_nexts.ensures.kept in
+    rw (← old, new) c.compact_links-answer.ensures.mapped
+
+pub returns-clause-compressed : goal.returns-clause-compressed
+returns-clause-compressed g c =
+    is_compressed _ _ _ _ _ _ _ (moved g c) c.join_nexts.new.arena c.join_nexts.ensures.nexts
+    c.join_nexts.ensures.agreed c.join_nexts.ensures.values c.join_nexts.ensures.kept
+
+pub returns-clause-exact : goal.returns-clause-exact
+returns-clause-exact g c =
+    is_compacted _ _ _ _ _ _ _ (moved g c) c.join_nexts.new.arena c.join_nexts.ensures.nexts
+    c.join_nexts.ensures.agreed c.join_nexts.ensures.values c.join_nexts.ensures.kept

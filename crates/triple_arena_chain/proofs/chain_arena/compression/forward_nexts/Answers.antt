@@ -1,0 +1,40 @@
+use Rattle.std.proofs.Common.{◌≡◌, ◌≤◌, Some, option_map, sym, subst, ◌∙◌}
+use Rattle.triple_arena_chain.specs.Chains.{next_at}
+use Rattle.triple_arena.specs.Walk.{past}
+use Rattle.triple_arena_chain.specs.Links.{ends_in}
+use Rattle.triple_arena_chain.specs.Renaming.{forwarded}
+use Rattle.triple_arena_chain.proofs.PassLemmas.{IsPassed, passed_by, next_unchanged, live_as, begun, free_forwarded, forwarded_one}
+use Rattle.triple_arena_chain.proofs.chain_arena.compression.forward_nexts.Goals as goal
+
+pub loop-p-init : goal.loop-p-init
+loop-p-init g c =
+    record {
+      rises = c.advancer-advancer.ensures.rises;
+      reaches = c.advancer-advancer.ensures.high;
+      passed =
+          begun g.P.Inx.PtrInx.number _ c.args.arena.now (free_forwarded g.P.Inx.PtrInx.number c.args.arena.now) _ c.advancer-advancer.ensures.low
+          c.len.ensures.formed;
+    }
+
+pub loop-p-preserved : goal.loop-p-preserved
+loop-p-preserved g c =
+    let after : c.advance.new.self ≡ past c.loop-p.advancer (g.P.Ptr.index c.in-Some.p) = (c.in-Some.ensures).given.1 in
+    let rises = c.loop-p.invariant.rises in
+    let next = passed_by c.loop-p.advancer c.advance.new.self (g.P.Ptr.index c.in-Some.p) rises after in
+    let same =
+    live_as c.loop-p.arena c.set_next.new.arena
+    (next_unchanged g.P.Inx.PtrInx.number c.loop-p.arena c.set_next.new.arena (Some c.inx-i.result) c.prev_there-renamed.result c.set_next.ensures) in
+    record {
+      rises = next.rises;
+      reaches = λ j some. subst (λ h. j ≤ h) (sym next.high) (c.loop-p.invariant.reaches j (sym (same j) ∙ some));
+      passed =
+          subst
+          (λ n. IsPassed g.P.Inx.PtrInx.number (forwarded (ends_in g.P.Inx.PtrInx.number c.args.arena.now)) n c.args.arena.now c.set_next.new.arena)
+          (sym next.low)
+          (forwarded_one g.P.Inx.PtrInx.number c.args.arena.now c.loop-p.arena c.set_next.new.arena c.loop-p.advancer (g.P.Ptr.index c.in-Some.p)
+          (g.P.Ptr.generation c.in-Some.p) c.inx-i.result c.next_there-next.result c.prev_there-renamed.result c.loop-p.invariant.passed rises
+          (c.in-Some.ensures).given.0 c.inx-i.ensures
+          (subst (λ n. option_map g.P.Inx.PtrInx.number c.next_there-next.result ≡ next_at (ends_in g.P.Inx.PtrInx.number c.loop-p.arena) n) c.inx-i.ensures
+          c.next_there-next.ensures)
+          c.prev_there-renamed.ensures c.set_next.ensures);
+    }

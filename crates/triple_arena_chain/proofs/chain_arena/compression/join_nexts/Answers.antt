@@ -1,0 +1,42 @@
+use Rattle.std.proofs.Common.{◌≡◌, ◌≤◌, Some, option_map, sym, subst, ◌∙◌}
+use Rattle.triple_arena.specs.Walk.{past}
+use Rattle.triple_arena_chain.specs.Chains.{next_at}
+use Rattle.triple_arena_chain.specs.Links.{ends_in}
+use Rattle.triple_arena_chain.proofs.PassLemmas.{IsJoined, passed_by, unchanged, live_as, joined_none, next_live, joined_one}
+use Rattle.triple_arena_chain.proofs.chain_arena.compression.join_nexts.Goals as goal
+
+pub loop-p-init : goal.loop-p-init
+loop-p-init g c =
+    record {
+      rises = c.advancer-advancer.ensures.rises;
+      reaches = c.advancer-advancer.ensures.high;
+      joined = joined_none g.P.Inx.PtrInx.number c.args.arena.now _ c.advancer-advancer.ensures.low c.requires.alone c.len.ensures.formed;
+    }
+
+pub set_prev-requires : goal.set_prev-requires
+set_prev-requires g c =
+    next_live g.P.Inx.PtrInx.number c.args.arena.now c.loop-p.advancer.low c.loop-p.arena c.next_there-next.result _ c.loop-p.invariant.joined c.requires.live
+    c.next_there-next.ensures
+
+pub loop-p-preserved : goal.loop-p-preserved
+loop-p-preserved g c =
+    let after : c.advance.new.self ≡ past c.loop-p.advancer (g.P.Ptr.index c.in-Some.p) = (c.in-Some.ensures).given.1 in
+    let rises = c.loop-p.invariant.rises in
+    let next = passed_by c.loop-p.advancer c.advance.new.self (g.P.Ptr.index c.in-Some.p) rises after in
+    let same =
+    live_as c.loop-p.arena c.set_prev.new.arena
+    (unchanged g.P.Inx.PtrInx.number c.loop-p.arena c.set_prev.new.arena c.next_there-next.result (Some c.inx-i.result) c.set_prev.ensures) in
+    record {
+      rises = next.rises;
+      reaches = λ j some. subst (λ h. j ≤ h) (sym next.high) (c.loop-p.invariant.reaches j (sym (same j) ∙ some));
+      joined =
+          subst (λ n. IsJoined g.P.Inx.PtrInx.number c.args.arena.now n c.set_prev.new.arena) (sym next.low)
+          (joined_one g.P.Inx.PtrInx.number c.args.arena.now c.requires.apart c.loop-p.arena c.set_prev.new.arena c.loop-p.advancer
+          (g.P.Ptr.index c.in-Some.p) (g.P.Ptr.generation c.in-Some.p) c.inx-i.result c.loop-p.invariant.joined rises (c.in-Some.ensures).given.0
+          c.inx-i.ensures c.next_there-next.result
+          (subst (λ n. option_map g.P.Inx.PtrInx.number c.next_there-next.result ≡ next_at (ends_in g.P.Inx.PtrInx.number c.loop-p.arena) n) c.inx-i.ensures
+          c.next_there-next.ensures)
+          (next_live g.P.Inx.PtrInx.number c.args.arena.now c.loop-p.advancer.low c.loop-p.arena c.next_there-next.result _ c.loop-p.invariant.joined
+          c.requires.live c.next_there-next.ensures)
+          c.set_prev.ensures);
+    }

@@ -1,0 +1,21 @@
+use Rattle.std.specs.Prelude.{◌≡◌, ℕ, ◌+◌, ◌-◌, ◌≤◌, false, IsSome}
+use Rattle.triple_arena_ptr.specs.Index.{max_index_of}
+use Rattle.triple_arena.specs.Content.{entry_at}
+use Rattle.triple_arena_chain.specs.Links.{ends_in}
+use Rattle.triple_arena_chain.specs.Renaming.{rank, numbered}
+use Rattle.triple_arena_chain.proofs.PassLemmas.{IsPassed}
+use Rattle.triple_arena_chain.proofs.chain_arena.compression.number_links.Given as goal
+
+-- the links that are passed have their numbers, and so many are passed
+abbrev pub invariant-loop-p : goal.invariant-loop-p
+invariant-loop-p g l =
+    record {
+      rises : l.advancer.falls ≡ false;
+      reaches : (j : ℕ) → IsSome (entry_at l.arena j) → j ≤ l.advancer.high;
+      indexes : (j : ℕ) → IsSome (entry_at l.arena j) → j ≤ max_index_of g.P.Inx.PtrInx.greatest;
+      count : l.count ≡ rank (ends_in g.P.Inx.PtrInx.number l.fn.arena) l.advancer.low;
+      passed : IsPassed g.P.Inx.PtrInx.number (numbered (ends_in g.P.Inx.PtrInx.number l.fn.arena)) l.advancer.low l.fn.arena l.arena;
+    }
+
+abbrev pub decreases-loop-p : goal.decreases-loop-p
+decreases-loop-p g l = l.advancer.high + 1 - l.advancer.low

@@ -1,0 +1,51 @@
+//! Links that a map makes of other ones, where the map sees values alone.
+ghost use Rattle.std.specs.Prelude.{◌≡◌, None, map as list_map};
+ghost use Rattle.std.specs.List.{AllZip};
+ghost use Rattle.triple_arena_ptr.specs.InvalidationOption.{overflowed};
+ghost use Rattle.triple_arena.specs.Changes.{IsCompressed};
+ghost use Rattle.triple_arena.specs.Compression.{compression_wraps, generation_of, value_of, IsMapped};
+ghost use Rattle.triple_arena_chain.specs.Listed.{listed_value};
+ghost use Rattle.triple_arena_chain.specs.Renaming.{IsLeftWithNext};
+
+use crate::IndexLink;
+use triple_arena::{ArenaTrait, InvalidationOption, Ptr, PtrInx};
+
+// Moves the links to the first indexes, each with what `map` makes of its value, and forgets the previous indexes.
+pub(crate) fn compact_links<P, I, T, A, F>(
+    arena: &mut A,
+    reset: bool,
+    mut map: F,
+) -> InvalidationOption<()>
+where
+    P: Ptr,
+    I: PtrInx,
+    T: Drop,
+    A: ArenaTrait<P, IndexLink<I, T>>,
+    F: FnMut(P, T, P) -> T,
+    requires { F.IsAlwaysCallable map }
+    ensures mapped { IsMapped P.index P.generation F.step map (list_map listed_value (A.live_entries arena.old))
+        (list_map listed_value (A.live_entries arena.new)) }
+    ensures links { AllZip IsLeftWithNext (A.live_entries arena.old) (A.live_entries arena.new) }
+    ensures overflow { overflowed result ≡ compression_wraps P.Gen.last reset (A.counter arena.old)
+        (list_map generation_of (A.live_entries arena.old)) }
+    ensures compressed { IsCompressed A.entry_at A.live_count A.counter A.room P.Gen.last
+        A.live_entries reset arena.old arena.new }
+    ensures exact { A.is_compressed arena.old reset (list_map value_of (A.live_entries arena.new)) arena.new }
+    ensures formed { A.is_formed arena.new }
+{
+    arena.compress_with(
+        reset,
+        move |from, link, to| -> IndexLink<I, T>
+            requires { F.IsAlwaysCallable map }
+            ensures step { F.step map.entry from link.t to result.t map.exit }
+            ensures ends { (result.prev ≡ None) × (result.next ≡ link.next) }
+            ensures again { F.IsAlwaysCallable map.exit }
+        {
+            IndexLink {
+                prev: None,
+                next: link.next,
+                t: map(from, link.t, to),
+            }
+        },
+    )
+}
