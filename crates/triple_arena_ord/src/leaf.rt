@@ -10,7 +10,7 @@ ghost use Rattle.triple_arena_ord.specs.Ordered.{IsOrdered, StandsBeside, order_
 use crate::inserted::bring_in;
 use crate::knots::Side;
 use crate::{IndexNode, SimpleOrdArenaNode};
-use triple_arena::{ArenaSlot, NonZeroInxGenericStack, Ptr, PtrInx};
+use triple_arena::{ArenaSlot, ArenaTrait, NonZeroInxGenericStack, Ptr, PtrInx};
 use triple_arena_chain::{ChainArena, LinkNoGen};
 
 // A new entry directly before or after that of `holder`, which has no child on this side.
