@@ -1,4 +1,5 @@
 mod iterators;
+mod kinds;
 mod loops;
 mod refusals;
 mod rows;
