@@ -1,5 +1,5 @@
 -- What a removal at the start of a walk does to what is left of it, and to what a drain leaves.
-use Rattle.std.proofs.Common.{◌≡◌, ℕ, ◌-◌, ◌==◌, if◌then◌else◌, Bool, List, [], ◌∷◌, ◌++◌, length, Option, Some, None, IsSome, IfSome, OnSome, is_some, true, false, option_map, refl, sym, ap, subst, ◌∙◌, inl, inr, arith}
+use Rattle.std.proofs.Common.{◌≡◌, ℕ, ◌-◌, ◌==◌, if◌then◌else◌, Bool, List, [], ◌∷◌, ◌++◌, length, Option, Some, None, IsSome, IfSome, OnSome, is_some, true, false, true≢false, option_map, refl, sym, ap, subst, ◌∙◌, inl, inr, arith}
 use Rattle.std.proofs.lemmas.Bool.Decides.{eqb_tells}
 use Rattle.std.specs.Fn.{iterate}
 use Rattle.triple_arena_ptr.specs.Generation.{next_generation, next_wraps}
@@ -9,16 +9,17 @@ use Rattle.triple_arena.specs.Entries.{without, value_if}
 use Rattle.triple_arena.specs.Content.{Content, entry_at, get, removed}
 use Rattle.triple_arena.specs.RemovalLaws.{free-removed, slots-removed}
 use Rattle.triple_arena_chain.specs.declared.link.IndexLink.{IndexLink}
-use Rattle.triple_arena_chain.specs.Chains.{Ends, taken_out, first_or, last_or}
+use Rattle.triple_arena_chain.specs.Chains.{Ends, taken_out, first_or, last_or, On}
 use Rattle.triple_arena_chain.specs.ChainLaws.{Stands-back}
-use Rattle.triple_arena_chain.specs.ListLaws.{Stands-where}
+use Rattle.triple_arena_chain.specs.ListLaws.{Stands-where, chain_where, live_in, off_or_not}
+use Rattle.triple_arena_chain.specs.Lists.{members}
 use Rattle.triple_arena_chain.specs.Links.{values_in, link_ends, entry_ends, ends_in, IsChained, IsTakenOut}
-use Rattle.triple_arena_chain.specs.Drains.{IsWalk, dropped_all, next_or_prev, without_all, removed_all, IsDrained, IsRestDrained, IsStep, DrainKeeps, DrainKeepsAlong, drain_chains, IsLeft, indexes_of, DrainGoesAlong}
+use Rattle.triple_arena_chain.specs.Drains.{IsWalk, dropped_all, next_or_prev, without_all, removed_all, IsChainGone, IsDrained, IsRestDrained, IsStep, DrainKeeps, DrainKeepsAlong, drain_chains, IsLeft, indexes_of, DrainGoesAlong}
 use Rattle.triple_arena_chain.specs.Walks.{IsWalkFrom, along, around}
 use Rattle.triple_arena_chain.specs.declared.chain_arena.drain.ChainDrain.{ChainDrain}
 use Rattle.triple_arena_chain.specs.DrainLaws.{walk_of}
 use Rattle.triple_arena_chain.proofs.LawLemmas.{in_one_chain}
-use Rattle.triple_arena_chain.proofs.TakenWalkLemmas.{walk_goes_on, dropped_with}
+use Rattle.triple_arena_chain.proofs.TakenWalkLemmas.{walk_goes_on, gone_with, left_off, dropped_with}
 
 some_is : {A : Type 0} {a b : A} → Some a ≡ Some b → a ≡ b
 some_is h = cc
@@ -34,6 +35,18 @@ module _ (e f : ℕ → Option Ends) (same : (k : ℕ) → f k ≡ e k) where
   dropped_all-same : (xs : List ℕ) (k : ℕ) → dropped_all f xs k ≡ dropped_all e xs k
   dropped_all-same [] k = same k
   dropped_all-same (x ∷ xs) k = elim (eqb_tells k x) [ inl is ↦ rw is.0 refl | inr differs ↦ rw differs.0 (dropped_all-same xs k) ]
+
+module _ (e f : ℕ → Option Ends) where
+  -- what the chains are without the indexes of a walk
+  chain_gone : (walk : List ℕ) → ((k : ℕ) → f k ≡ dropped_all e walk k) → IsChainGone walk e f
+  chain_gone walk is =
+      record {
+        gone = λ c k chain on. off_or_not (members c) k (λ here. absurd (true≢false (sym (live_in f c k chain here) ∙ ap is_some (missing k on))));
+        others = λ c chain apart. chain_where e f c (λ k on. is k ∙ left_off e walk k (apart k on)) chain;
+      }
+    where
+      missing : (k : ℕ) → On walk k → f k ≡ None
+      missing k on = is k ∙ ap (λ l. dropped_all e l k) on.is ∙ gone_with e on.front on.back k
 
 module _ {T : Type 0} where
   without_all-same : (v w : ℕ → Option (ℕ × T)) → ((k : ℕ) → w k ≡ v k) → (xs : List ℕ) (k : ℕ) → without_all w xs k ≡ without_all v xs k
@@ -66,7 +79,7 @@ module _ {I T : Type 0} (number : I → ℕ) (last : Option ℕ) where
   pub nothing_left : (c : Content (IndexLink I T)) → IsRestDrained number last None c c
   nothing_left c walk is =
       subst (λ w. IsDrained number last w c c) (sym is)
-      (record { ends = λ k. refl; values = λ k. refl; live = omega arith; counter = refl; free = refl; slots = refl; room = refl })
+      (record { ends = λ k. refl; lists = chain_gone (ends_in number c) (ends_in number c) [] (λ k. refl); values = λ k. refl; live = omega arith; counter = refl; free = refl; slots = refl; room = refl })
 
   -- what is left of a walk whose first link was taken out
   pub record Advanced (i : ℕ) (next : Option ℕ) (c d : Content (IndexLink I T)) : Type 0 where
@@ -97,12 +110,15 @@ module _ {I T : Type 0} (number : I → ℕ) (last : Option ℕ) where
             let same = removed_all-same last on.rest (removed last c i) d taken.free taken.slots in
             let fewer = rest.live in
             let one = taken.live in
+            let ends : (k : ℕ) → ends_in number left k ≡ dropped_all e (i ∷ on.rest) k =
+            λ k.
+            rest.ends k
+            ∙ dropped_all-same (taken_out e i) (ends_in number d) taken.ends on.rest k
+            ∙ dropped_with e chained.agreed i (option_map number l.prev) (option_map number l.next) own on.rest k (subst (IsWalkFrom e i) on.is is) in
             subst (λ w. IsDrained number last w c left) (sym on.is)
             (record {
-              ends = λ k.
-                  rest.ends k
-                  ∙ dropped_all-same (taken_out e i) (ends_in number d) taken.ends on.rest k
-                  ∙ dropped_with e chained.agreed i (option_map number l.prev) (option_map number l.next) own on.rest k (subst (IsWalkFrom e i) on.is is);
+              ends = ends;
+              lists = chain_gone e (ends_in number left) (i ∷ on.rest) ends;
               values = λ k.
                   rest.values k
                   ∙ without_all-same (without (values_in c) i) (values_in d) taken.values on.rest k

@@ -21,6 +21,19 @@ Off-reverse (x ∷ xs) k off =
     let both : Off (reverse xs ++ x ∷ []) k = subst (λ l. Off l k) (reverse-append (x ∷ []) xs) off in
     ((Off-back (reverse xs) (x ∷ []) k both).0, Off-reverse xs k (Off-front (reverse xs) (x ∷ []) k both))
 
+-- what is dropped after it is dropped with it
+gone_all : (f : ℕ → Option Ends) (xs : List ℕ) (k : ℕ) → f k ≡ None → dropped_all f xs k ≡ None
+gone_all f [] k missing = missing
+gone_all f (x ∷ xs) k missing = elim (eqb_tells k x) [ inl same ↦ rw same.0 refl | inr differs ↦ rw differs.0 (gone_all f xs k missing) ]
+
+pub gone_with : (f : ℕ → Option Ends) (xs ys : List ℕ) (k : ℕ) → dropped_all f (xs ++ k ∷ ys) k ≡ None
+gone_with f [] ys k = rw (eq-eqb k k refl) refl
+gone_with f (x ∷ xs) ys k = elim (eqb_tells k x) [ inl same ↦ rw same.0 refl | inr differs ↦ rw differs.0 (gone_with f xs ys k) ]
+
+pub left_off : (f : ℕ → Option Ends) (xs : List ℕ) (k : ℕ) → Off xs k → dropped_all f xs k ≡ f k
+left_off f [] k off = refl
+left_off f (x ∷ xs) k off = rw (ne_eqb k x (λ same. off.0 (sym same))) (left_off f xs k off.1)
+
 module _ (e : ℕ → Option Ends) (agreed : IsAgreed e) (i : ℕ) (b n : Option ℕ) (at : e i ≡ Some (b, n)) where
   -- what the walk goes on with
   pub record Onward (walk : List ℕ) : Type 0 where
@@ -101,19 +114,6 @@ module _ (e : ℕ → Option Ends) (agreed : IsAgreed e) (i : ℕ) (b n : Option
       next_off : (xs : List ℕ) (j : ℕ) → first_or xs (Some i) ≡ Some j → Off xs k → i ≢ k → j ≢ k
       next_off [] j same off differs = let i_is : i ≡ j = cc in λ at_k. differs (i_is ∙ at_k)
       next_off (x ∷ xs) j same off differs = let x_is : x ≡ j = cc in λ at_k. off.0 (x_is ∙ at_k)
-
-  -- what is dropped after it is dropped with it
-  gone_all : (f : ℕ → Option Ends) (xs : List ℕ) (k : ℕ) → f k ≡ None → dropped_all f xs k ≡ None
-  gone_all f [] k missing = missing
-  gone_all f (x ∷ xs) k missing = elim (eqb_tells k x) [ inl same ↦ rw same.0 refl | inr differs ↦ rw differs.0 (gone_all f xs k missing) ]
-
-  gone_with : (f : ℕ → Option Ends) (xs ys : List ℕ) (k : ℕ) → dropped_all f (xs ++ k ∷ ys) k ≡ None
-  gone_with f [] ys k = rw (eq-eqb k k refl) refl
-  gone_with f (x ∷ xs) ys k = elim (eqb_tells k x) [ inl same ↦ rw same.0 refl | inr differs ↦ rw differs.0 (gone_with f xs ys k) ]
-
-  left_off : (f : ℕ → Option Ends) (xs : List ℕ) (k : ℕ) → Off xs k → dropped_all f xs k ≡ f k
-  left_off f [] k off = refl
-  left_off f (x ∷ xs) k off = rw (ne_eqb k x (λ same. off.0 (sym same))) (left_off f xs k off.1)
 
   pub dropped_with : (rest : List ℕ) (k : ℕ) → IsWalkFrom e i (i ∷ rest) → dropped_all (taken_out e i) rest k ≡ dropped_all e (i ∷ rest) k
   dropped_with rest k walk =

@@ -10,8 +10,9 @@ use Rattle.triple_arena_ptr.specs.declared.invalidation.InvalidationOption.{Inva
 use Rattle.triple_arena.specs.Content.{Content, entry_at, live_count, removed}
 use Rattle.triple_arena.specs.Entries.{without}
 use Rattle.triple_arena_chain.specs.declared.link.IndexLink.{IndexLink}
-use Rattle.triple_arena_chain.specs.Chains.{Ends, dropped}
+use Rattle.triple_arena_chain.specs.Chains.{Ends, Off, On, dropped}
 use Rattle.triple_arena_chain.specs.Links.{ends_in, values_in, IsTakenOut}
+use Rattle.triple_arena_chain.specs.Lists.{Chain, members, IsChainOf}
 use Rattle.triple_arena_chain.specs.Walks.{IsWalkFrom}
 use Rattle.triple_arena_chain.specs.declared.chain_arena.drain.ChainDrain.{ChainDrain}
 
@@ -24,6 +25,13 @@ IsWalk ends (Some i) walk = IsWalkFrom ends i walk
 abbrev pub dropped_all : (ℕ → Option Ends) → List ℕ → ℕ → Option Ends
 dropped_all ends [] = ends
 dropped_all ends (i ∷ is) = dropped (dropped_all ends is) i
+
+-- the links of this walk are gone
+pub record IsChainGone (walk : List ℕ) (old new : ℕ → Option Ends) : Type 0 where
+  -- no chain has one of them
+  pub gone : (c : Chain) (k : ℕ) → IsChainOf new c → On walk k → Off (members c) k
+  -- each chain that had none of them is as it was
+  pub others : (c : Chain) → IsChainOf old c → ((k : ℕ) → On (members c) k → Off walk k) → IsChainOf new c
 
 -- an index, but not this one
 abbrev pub but_not : ℕ → Option ℕ → Option ℕ
@@ -49,6 +57,7 @@ module _ {I T : Type 0} (number : I → ℕ) (last : Option ℕ) where
   -- the links at these indexes are gone, each by a removal in turn; all others stay with their interlinks
   pub record IsDrained (walk : List ℕ) (old new : Content (IndexLink I T)) : Type 0 where
     pub ends : (k : ℕ) → ends_in number new k ≡ dropped_all (ends_in number old) walk k
+    pub lists : IsChainGone walk (ends_in number old) (ends_in number new)
     pub values : (k : ℕ) → values_in new k ≡ without_all (values_in old) walk k
     pub live : live_count new + length walk ≡ live_count old
     pub counter : new.counter ≡ iterate (next_generation last) (length walk) old.counter

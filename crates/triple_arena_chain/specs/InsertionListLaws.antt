@@ -1,8 +1,8 @@
 -- What an insertion, and a removal before one, make of a chain that a caller knows as a list.
-use Rattle.std.proofs.Common.{◌≡◌, ℕ, List, [], ◌∷◌, ◌++◌, Option, Some, None, refl, sym, ap, subst, append_assoc}
-use Rattle.triple_arena_chain.specs.Chains.{Ends, next_in, next_at, prev_at, first_or, IsAgreed, Off, IsLinear, IsRing}
-use Rattle.triple_arena_chain.specs.ChainLaws.{last_or-append, Stands-back}
-use Rattle.triple_arena_chain.specs.Lists.{Chain, members, IsChainOf, IsOffIf, IsPutIn, IsTaken, IsExchanged}
+use Rattle.std.proofs.Common.{◌≡◌, ◌≢◌, ℕ, List, [], ◌∷◌, ◌++◌, Option, Some, None, refl, sym, ap, subst, ◌∙◌, append_assoc}
+use Rattle.triple_arena_chain.specs.Chains.{Ends, next_in, next_at, prev_at, first_or, IsAgreed, Off, Apart, IsLinear, IsRing}
+use Rattle.triple_arena_chain.specs.ChainLaws.{last_or-append, Off-append, Apart-taken, Stands-back}
+use Rattle.triple_arena_chain.specs.Lists.{Chain, Linear, members, IsChainOf, IsOffIf, IsAppended, IsSplit, IsPutIn, IsTaken, IsExchanged}
 use Rattle.triple_arena_chain.specs.ListLaws.{turned, off_or_not, on_differs, holds_prev, Apart-split}
 use Rattle.triple_arena_chain.specs.UniquenessLaws.{linear_apart}
 
@@ -50,3 +50,43 @@ module _ (old between new : ℕ → Option Ends) (o p q : ℕ) (first : IsExchan
       let there : IsLinear between ((before ++ o ∷ []) ++ q ∷ after) = subst (IsLinear between) (sym (append_assoc before (o ∷ []) (q ∷ after))) cut.0 in
       let back = (second.first off_p.0).taken_in (before ++ o ∷ []) after [] there cut.1 in
       subst (IsLinear new) (append_assoc before (o ∷ []) (q ∷ p ∷ after)) back
+
+  -- in a ring too
+  pub ring-reversed : (after : List ℕ) → IsRing old (o ∷ p ∷ q ∷ after) → IsRing new (o ∷ q ∷ p ∷ after)
+  ring-reversed after r =
+      let o_not_p : o ≢ p = λ same. r.apart.0.0 (sym same) in
+      let off_p = r.apart.1.0 in
+      let parts = (first.first o_not_p).parted [] (q ∷ after) r in
+      let there : IsRing between (q ∷ after ++ o ∷ []) = turned between (o ∷ []) q after parts.0 in
+      let off : Off (q ∷ after ++ o ∷ []) p = (off_p.0, Off-append after (o ∷ []) p off_p.1 (o_not_p, tt)) in
+      turned new (q ∷ p ∷ after) o [] ((second.first off_p.0).merged (after ++ o ∷ []) [] there parts.1 off)
+
+module _ (old between broken new : ℕ → Option Ends) (o p q : ℕ) (first : IsExchanged o p old between) (parted : IsSplit p p between broken) (joined : IsAppended q p broken new) where
+  -- where the second of the two is the end, the first one, once it was cut out, is appended behind it
+  pub linear-reversed_end : (before after : List ℕ) → next_at between q ≡ None → IsLinear old (before ++ (o ∷ p ∷ q ∷ after))
+      → IsLinear new (before ++ (o ∷ q ∷ p ∷ after))
+  linear-reversed_end before after end s = by after cut.0 there
+    where
+      once : Apart (before ++ (o ∷ p ∷ q ∷ after))
+      once = linear_apart old None (before ++ (o ∷ p ∷ q ∷ after)) s
+
+      cut : IsLinear between (before ++ o ∷ q ∷ after) × IsRing between (p ∷ [])
+      cut = (first.first (λ same. (Apart-split before (p ∷ q ∷ after) o once).1.0 (sym same))).cut_out before [] (q ∷ after) s
+
+      there : Off (before ++ (o ∷ q ∷ after)) p
+      there =
+          subst (λ l. Off l p) (append_assoc before (o ∷ []) (q ∷ after))
+          (Apart-taken (before ++ o ∷ []) (q ∷ after) p (subst Apart (sym (append_assoc before (o ∷ []) (p ∷ q ∷ after))) once)).1
+
+      by : (rest : List ℕ) → IsLinear between (before ++ (o ∷ q ∷ rest)) → Off (before ++ (o ∷ q ∷ rest)) p
+          → IsLinear new (before ++ (o ∷ q ∷ p ∷ rest))
+      by (x ∷ xs) t off =
+          let goes_on = ap next_in (Stands-back between None None before (o ∷ q ∷ x ∷ xs) t).1.0 in
+          absurd (let no : None ≡ Some x = sym end ∙ goes_on in cc)
+      by [] t off =
+          let same = append_assoc before (o ∷ []) (q ∷ []) in
+          let t' : IsLinear between ((before ++ o ∷ []) ++ q ∷ []) = subst (IsLinear between) (sym same) t in
+          let off' : Off ((before ++ o ∷ []) ++ q ∷ []) p = subst (λ l. Off l p) (sym same) off in
+          let rest = parted.others (Linear ((before ++ o ∷ []) ++ q ∷ [])) t' off' off' in
+          subst (IsLinear new) (append_assoc before (o ∷ []) (q ∷ p ∷ []))
+          (joined.appended (before ++ o ∷ []) [] rest (parted.opened [] cut.1) (λ is. (subst (λ l. Off l p) is off').0 refl))
