@@ -18,5 +18,6 @@ pub mod Drains
 pub mod DrainLaws
 pub mod Listed
 pub mod Renaming
+pub mod Copying
 pub mod LinkRecasting
 pub mod IndexDrains
