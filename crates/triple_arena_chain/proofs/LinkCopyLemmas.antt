@@ -1,6 +1,7 @@
 -- What copies of links are: their values, their interlinks, and what is left where none was made.
 use Rattle.std.specs.Prelude.{slice_get, Result, Ok, Err, OnOk, IsErrOf}
-use Rattle.std.proofs.Common.{◌≡◌, ℕ, Bool, List, map, Option, Some, None, option_map, refl, sym, ap, subst, ◌∙◌, inl, inr}
+use Rattle.std.proofs.Common.{◌≡◌, ℕ, Bool, List, [], ◌∷◌, map, Option, Some, None, eqb, true, false, option_map, refl, sym, ap, subst, ◌∙◌, inl, inr}
+use Rattle.std.proofs.lemmas.Bool.Decides.{eqb_tells}
 use Rattle.std.proofs.lemmas.Option.{slice_get-map}
 use Rattle.triple_arena_ptr.specs.declared.errors.ReallocationError.{ReallocationError}
 use Rattle.triple_arena_ptr.specs.declared.errors.ReallocationError.TheVariants.{BeyondMaxCapacity, AllocError}
@@ -9,9 +10,11 @@ use Rattle.triple_arena.specs.Changes.{IsNew}
 use Rattle.triple_arena.specs.Content.{Content, entry_at, live_count, some_counter, IsWellFormed}
 use Rattle.triple_arena.specs.Copy.{copied, IsUnmadeCopy}
 use Rattle.triple_arena.specs.CopyLaws.{entry-copied, live_entries-rise}
+use Rattle.triple_arena.specs.Entries.{look_up}
 use Rattle.triple_arena.specs.LiveEntries.{live_entries, entry-listed}
 use Rattle.triple_arena_chain.specs.declared.link.IndexLink.{IndexLink}
 use Rattle.triple_arena_chain.specs.Chains.{Ends}
+use Rattle.triple_arena_chain.specs.Copying.{IsLinkedCopy}
 use Rattle.triple_arena_chain.specs.ListLaws.{chain_where}
 use Rattle.triple_arena_chain.specs.Links.{valued, values_in, entry_ends, ends_in, IsChained}
 use Rattle.triple_arena_chain.specs.Lists.{Chain, IsChainOf}
@@ -26,7 +29,7 @@ module _ {I T : Type 0} where
   listed_as_value entries k e at = slice_get-map listed_value entries k ∙ ap (option_map listed_value) at
 
   -- no link, no value
-  values_new : (first : Option ℕ) (own : Room) (new : Content (IndexLink I T)) → IsNew entry_at live_count some_counter room_in first own new
+  pub values_new : (first : Option ℕ) (own : Room) (new : Content (IndexLink I T)) → IsNew entry_at live_count some_counter room_in first own new
       → IsNew values_in live_count some_counter room_in first own new
   values_new first own new fresh =
       record { entries = λ j. ap (option_map valued) (fresh.entries j); live = fresh.live; counter = fresh.counter; room = fresh.room }
@@ -58,8 +61,9 @@ module _ {I T : Type 0} (number : I → ℕ) where
       ap (λ e. ends_in number e k) is
       ∙ ap (option_map (entry_ends number)) (entry-copied c counter (live_entries source) (live_entries-rise source) k ∙ sym (entry-listed source k))
 
+module _ {I U T : Type 0} (number : I → ℕ) where
   -- whatever a copy answered, the interlinks agree
-  pub chained_after : (source old new : Content (IndexLink I T)) (emptied : Content (IndexLink I T) → Content (IndexLink I T)) (takes_memory : Bool)
+  pub chained_after : (source : Content (IndexLink I U)) (old new : Content (IndexLink I T)) (emptied : Content (IndexLink I T) → Content (IndexLink I T)) (takes_memory : Bool)
       (last_generation : Option ℕ) (last : ℕ) (refused : Type 0) (r : Result (Unit {0}) ReallocationError) → IsChained number source
       → IsChained number old → IsWellFormed new → OnOk r ((k : ℕ) → ends_in number new k ≡ ends_in number source k)
       → (IsErrOf r BeyondMaxCapacity → new ≡ old)
@@ -73,7 +77,7 @@ module _ {I T : Type 0} (number : I → ℕ) where
   chained_after source old new emptied takes_memory last_generation last refused (Err AllocError) chained before formed same kept unmade =
       elim (unmade refl) [
         | inl memory ↦ subst (IsChained number) (sym memory.2) before
-        | inr left ↦ chained-none new formed left.1.entries
+        | inr left ↦ chained-none number new formed left.1.entries
       ]
 
 -- what follows where there is an answer
@@ -84,3 +88,26 @@ on_ok (Err _) gives x = x
 -- the same interlinks make the same chains
 pub chains_where : (e f : ℕ → Option Ends) → ((k : ℕ) → f k ≡ e k) → (chain : Chain) → IsChainOf e chain → IsChainOf f chain
 chains_where e f same chain is = chain_where e f chain (λ k on. same k) is
+
+module _ {I U T : Type 0} (number : I → ℕ) where
+  -- links that are listed with the interlinks of others have them at each index
+  pub ends_linked : (source : Content (IndexLink I U)) (new : Content (IndexLink I T)) → IsLinkedCopy (live_entries source) (live_entries new) → (k : ℕ)
+      → ends_in number new k ≡ ends_in number source k
+  ends_linked source new same k =
+      ap (option_map (entry_ends number)) (entry-listed new k) ∙ by_lists (live_entries source) (live_entries new) same
+      ∙ sym (ap (option_map (entry_ends number)) (entry-listed source k))
+    where
+      by_lists : (xs : List (ℕ × (ℕ × IndexLink I U))) (ys : List (ℕ × (ℕ × IndexLink I T))) → IsLinkedCopy xs ys
+          → option_map (entry_ends number) (look_up ys k) ≡ option_map (entry_ends number) (look_up xs k)
+      by_lists [] [] zip = refl
+      by_lists [] (y ∷ ys) zip = absurd zip
+      by_lists (x ∷ xs) [] zip = absurd zip
+      by_lists (x ∷ xs) (y ∷ ys) zip =
+          elim (eqb_tells x.0 k) [
+            | inl here ↦
+                let there : eqb y.0 k ≡ true = ap (λ n. eqb n k) zip.0.0 ∙ here.0 in
+                rw (here.0, there) (ap (λ (o : Option I × Option I). (let e : Option Ends = Some (option_map number o.0, option_map number o.1) in e)) zip.0.1)
+            | inr other ↦
+                let elsewhere : eqb y.0 k ≡ false = ap (λ n. eqb n k) zip.0.0 ∙ other.0 in
+                rw (other.0, elsewhere) (by_lists xs ys zip.1)
+          ]

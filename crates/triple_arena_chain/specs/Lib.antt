@@ -20,5 +20,6 @@ pub mod DrainLaws
 pub mod Listed
 pub mod ListedLaws
 pub mod Renaming
+pub mod Copying
 pub mod LinkRecasting
 pub mod IndexDrains

@@ -10,6 +10,7 @@ mod calls;
 mod compression;
 mod connections;
 mod copy;
+mod copying;
 mod default;
 pub(crate) mod drain;
 pub(crate) mod entry;

@@ -1,5 +1,5 @@
 //! A chain arena as a copy of another one, and an arena as a copy of a chain arena.
-ghost use Rattle.std.specs.Prelude.{◌≡◌, ◌<◌, ◌≤◌, ◌↔◌, ◌⊎◌, IsTrue, IsOk, IfOk, OnOk, IsErrOf};
+ghost use Rattle.std.specs.Prelude.{◌≡◌, ℕ, ◌<◌, ◌≤◌, ◌↔◌, ◌⊎◌, IsTrue, IsOk, IfOk, OnOk, IsErrOf};
 ghost use Rattle.triple_arena_ptr.specs.Generation.{second_generation};
 ghost use Rattle.triple_arena_stack.specs.Room.{capacity as capacity_of, IsBeyond};
 ghost use Rattle.triple_arena.specs.ArenaRoom.{room_of};
@@ -11,9 +11,11 @@ ghost use Rattle.triple_arena_chain.specs.Listed.{listed_values};
 ghost use Rattle.triple_arena_chain.specs.Lists.{Chain, IsChainOf};
 ghost use Rattle.triple_arena_chain.specs.Values.{room_in};
 
+use crate::chain_arena::copying::copy_links;
 use crate::{ChainArena, LinkNoGen};
 use triple_arena::{
-    AllocError, ArenaCloneFromWith, ArenaSlot, NonZeroInxGenericStack, Ptr, ReallocationError,
+    AllocError, Arena, ArenaCloneFromWith, ArenaSlot, NonZeroInxGenericStack, Ptr,
+    ReallocationError,
 };
 
 impl<P: Ptr, T: Drop, S: NonZeroInxGenericStack<ArenaSlot<P, LinkNoGen<P, T>>> + Drop> ChainArena<
@@ -21,6 +23,61 @@ impl<P: Ptr, T: Drop, S: NonZeroInxGenericStack<ArenaSlot<P, LinkNoGen<P, T>>> +
     T,
     S,
 > {
+    /// Makes this arena a copy of `source`: with its pointers, its interlinks and its counter, each value what `map` makes
+    /// of the link there. `map` is called once for each link, in the order of the indexes, with the pointer and the link.
+    /// What the arena held is dropped, and the smallest free index is the next one to be taken.
+    ///
+    /// No memory is taken where the last live index of `source` is within the capacity, which then stays. Else the
+    /// arena first grows to exactly that index. It answers `BeyondMaxCapacity` where that is past the greatest
+    /// capacity, and `AllocError` where the memory was refused; the arena is then as it was, and `map` was not called.
+    ///
+    /// It also answers `AllocError` where `map` refused, and calls it no more. The arena then has room for the copy, no
+    /// link, and the counter that a removal of all at once leaves.
+    pub fn clone_from_with<U, R, F>(
+        &mut self,
+        source: &ChainArena<P, U, R>,
+        map: F,
+    ) -> Result<(), ReallocationError>
+    where
+        U: Drop,
+        R: NonZeroInxGenericStack<ArenaSlot<P, LinkNoGen<P, U>>> + Drop,
+        F: FnMut(P, &LinkNoGen<P, U>) -> Result<T, AllocError>,
+        requires { F.IsAlwaysCallable map }
+        ensures mapped { OnOk result (IsMappedCopy P.index P.generation F.step map
+            (live_entries source.now) (listed_values self.new)) }
+        ensures linked { OnOk result ((k : ℕ)
+            → ends_in P.Inx.number self.new k ≡ ends_in P.Inx.number source.now k) }
+        ensures lists { OnOk result ((chain : Chain) → IsChainOf (ends_in P.Inx.number source.now) chain
+            → IsChainOf (ends_in P.Inx.number self.new) chain) }
+        ensures copied { OnOk result (IsCopy values_in live_count some_counter room_in
+            (values_in source.now) (live_count source.now) (last_listed (live_entries source.now))
+            (some_counter source.now) self.old self.new) }
+        ensures exact { OnOk result (self.new
+            ≡ copied self.old (some_counter source.now) (live_entries self.new)) }
+        ensures succeeds { last_listed (live_entries source.now) ≤ capacity_of (room_in self.old)
+            → NeverRefuses F.step → IsOk result }
+        ensures beyond { IsErrOf result ReallocationError.BeyondMaxCapacity
+            ↔ IsBeyond (room_in self.old).limit (last_listed (live_entries source.now)) }
+        ensures kept { IsErrOf result ReallocationError.BeyondMaxCapacity → self.new ≡ self.old }
+        ensures unmade { IsErrOf result ReallocationError.AllocError
+            → IsUnmadeCopy values_in live_count some_counter room_in S.takes_memory
+            P.Gen.last (last_listed (live_entries source.now))
+            (λ c. cleared P.Gen.last (reallocated c (last_listed (live_entries source.now))))
+            (IsRefusedCopy P.index P.generation F.step map (live_entries source.now))
+            self.old self.new }
+        ensures formed { IsChained P.Inx.number self.new }
+    {
+        copy_links::<
+            P,
+            P::Inx,
+            U,
+            T,
+            Arena<P, LinkNoGen<P, U>, R>,
+            Arena<P, LinkNoGen<P, T>, S>,
+            F,
+        >(&mut self.arena, &source.arena, map)
+    }
+
     /// Makes `target` a copy of this arena: with its pointers, each value what `map` makes of the link there, and with its
     /// counter where `target` has one. It answers what `clone_from_with` of `target` does.
     pub fn clone_to_arena<U, A, F>(&self, target: &mut A, map: F) -> Result<(), ReallocationError>

@@ -1,0 +1,43 @@
+use Rattle.std.specs.Prelude.{OnOk}
+use Rattle.std.proofs.Common.{◌≡◌, ℕ, inl, inr}
+use Rattle.triple_arena.specs.Content.{cleared, reallocated}
+use Rattle.triple_arena.specs.Copy.{last_listed}
+use Rattle.triple_arena.specs.LiveEntries.{live_entries}
+use Rattle.triple_arena_chain.specs.Links.{ends_in, IsChained}
+use Rattle.triple_arena_chain.proofs.LinkCopyLemmas.{values_new, ends_linked, chained_after, on_ok, chains_where}
+use Rattle.triple_arena_chain.proofs.chain_arena.ChainArena.clone_from_with.Goals as goal
+
+same : (g : _) (c : goal.After-copy_links g) → OnOk c.copy_links.result ((k : ℕ)
+    → ends_in g.P.Inx.PtrInx.number c.copy_links.new.target k ≡ ends_in g.P.Inx.PtrInx.number c.source.inside.arena k)
+same g c = on_ok c.copy_links.result (ends_linked g.P.Inx.PtrInx.number c.source.inside.arena c.copy_links.new.target) c.copy_links.ensures.linked
+
+chained : (g : _) (c : goal.After-copy_links g) → IsChained g.P.Inx.PtrInx.number c.copy_links.new.target
+chained g c =
+    chained_after g.P.Inx.PtrInx.number c.source.inside.arena c.self.inside.arena c.copy_links.new.target
+    (λ d. cleared g.P.Gen.PtrGen.last (reallocated d (last_listed (live_entries c.source.inside.arena)))) g.S.NonZeroInxGenericStack.takes_memory
+    g.P.Gen.PtrGen.last (last_listed (live_entries c.source.inside.arena)) (Unit {0}) c.copy_links.result c.source.invariant c.self.invariant
+    c.copy_links.ensures.formed (same g c) c.copy_links.ensures.kept
+    (λ failed. elim (c.copy_links.ensures.unmade failed) [
+      | inl left ↦ inl (left.0, left.1, left.2)
+      | inr empty ↦ inr (tt, empty.1.0, empty.1.1)
+    ])
+
+pub invariant_of-self : goal.invariant_of-self
+invariant_of-self g c = chained g c
+
+pub returns-clause-linked : goal.returns-clause-linked
+returns-clause-linked g c = rw (← c.source.view_is) (same g c)
+
+pub returns-clause-lists : goal.returns-clause-lists
+returns-clause-lists g c = rw (← c.source.view_is) (on_ok c.copy_links.result (chains_where _ _) (same g c))
+
+pub returns-clause-unmade : goal.returns-clause-unmade
+returns-clause-unmade g c =
+    rw (← c.self.view_is, ← c.source.view_is)
+    (λ failed. elim (c.copy_links.ensures.unmade failed) [
+      | inl left ↦ inl (left.0, left.1, left.2)
+      | inr empty ↦ inr (empty.0, values_new _ _ _ empty.1.0, empty.1.1)
+    ])
+
+pub returns-clause-formed : goal.returns-clause-formed
+returns-clause-formed g c = chained g c
