@@ -1,3 +1,4 @@
+mod copies;
 mod iterators;
 mod kinds;
 mod loops;

@@ -139,7 +139,7 @@ fn neighbours<P: Ptr, S: NonZeroInxGenericStack<Slot<P>> + Drop>(
 }
 
 // The digits of the values of a walk from `p`.
-fn walk<P: Ptr, S: NonZeroInxGenericStack<Slot<P>> + Drop>(
+pub(crate) fn walk<P: Ptr, S: NonZeroInxGenericStack<Slot<P>> + Drop>(
     chains: &ChainArena<P, u64, S>,
     p: P,
 ) -> u64 {

@@ -158,6 +158,36 @@ fn copies<H: Allocator, S: NonZeroInxGenericStack<Slot> + Drop>(
     }
 }
 
+// A clone takes memory once, and so does an arena of one link that becomes a clone; where that is refused it stays.
+fn clones<H: Allocator + Copy, S: NonZeroInxGenericStack<Slot, Alloc = H> + Drop>(
+    rt: &impl Abort,
+    heap: &Heap,
+    alloc: H,
+    chains: &ChainArena<P0, u64, S>,
+) {
+    let had_refused = heap.has_refused();
+    match chains.clone(alloc) {
+        Ok(clone) => {
+            assert!(rt; heap.has_refused() == had_refused);
+            assert!(rt; clone.len() == chains.len());
+            assert!(rt; order(&clone) == order(chains));
+        }
+        Err(error) => {
+            assert!(rt; heap.has_refused() != had_refused);
+            assert!(rt; error == ReallocationError::AllocError);
+        }
+    }
+    let mut other = ChainArena::<P0, u64, S>::new(alloc);
+    let _ = other.insert_reallocating(LinkInsertKind::Disconnected, 77);
+    let was = seen(heap, &other);
+    let error = other.clone_from(chains).err();
+    if error == None {
+        assert!(rt; other.len() == chains.len());
+        assert!(rt; order(&other) == order(chains));
+    }
+    is_refused_with_the_heap(rt, heap, &other, &was, error.map(of_kind));
+}
+
 // All of them over one heap, which `alloc` is as an arena takes it.
 fn runs<H: Allocator + Copy, S: NonZeroInxGenericStack<Slot, Alloc = H> + Drop>(
     rt: &impl Abort,
@@ -174,17 +204,18 @@ fn runs<H: Allocator + Copy, S: NonZeroInxGenericStack<Slot, Alloc = H> + Drop>(
         grows(rt, heap, &mut chains, first);
     }
     copies(rt, heap, alloc, &chains);
+    clones(rt, heap, alloc, &chains);
 }
 
 #[test]
 fn each_request_in_turn(rt: HostRuntime) {
-    for nth in 1..8u64 {
+    for nth in 1..11u64 {
         let vector = RefusingAllocator::new(rt.alloc(), nth);
         runs::<&Heap, NonZeroInxVec<Slot, &Heap>>(&rt, &vector, &vector);
         let limited = RefusingAllocator::new(rt.alloc(), nth);
         runs::<&Heap, NonZeroInxLimitedVec<Slot, &Heap>>(&rt, &limited, &limited);
-        // The arena, its four growths, and the copy.
-        assert!(rt; vector.has_refused() == (nth <= 6));
-        assert!(rt; limited.has_refused() == (nth <= 6));
+        // The arena, its four growths, the copy, the clone, and another arena and its growth.
+        assert!(rt; vector.has_refused() == (nth <= 9));
+        assert!(rt; limited.has_refused() == (nth <= 9));
     }
 }
