@@ -1,10 +1,12 @@
 mod copies;
+mod copy_growth;
 mod copy_refusals;
 mod direct_growth;
+mod direct_slots;
 mod drains;
 mod places;
 mod recasters;
 mod rows;
 mod texts;
+mod transfer_growth;
 mod transfers;
-mod values;

@@ -1,20 +1,14 @@
-//! Copies whose map, clones or memory are refused.
+//! Copies whose map or clones are refused.
 ghost use Rattle.std.specs.Prelude.{◌≡◌};
 
-use crate::tests::copies::{at, fills, holds, index, insert};
-use crate::tests::places::put;
-use refusing_allocator::RefusingAllocator;
-use std::alloc::{AllocError, Allocator, Global};
+use crate::tests::copies::{fills, holds, index, insert};
+use std::alloc::{AllocError, Global};
 use std::cell::Cell;
 use std::process::Abort;
-use std::test::Fail;
 use triple_arena::{
-    ArenaCloneFromWith, ArenaCloneSource, ArenaInsertTrait, ArenaTrait, ArrayArena,
-    ArrayDirectArena, HeapArena, HeapDirectArena, P0, P1, P5, Ptr, PtrGen, PtrInx,
-    ReallocationError,
+    ArenaCloneFromWith, ArenaCloneSource, ArenaInsertTrait, ArenaTrait, HeapArena, HeapDirectArena,
+    P0, P1, P5, Ptr, PtrGen, PtrInx, ReallocationError,
 };
-
-type Heap = RefusingAllocator<Global>;
 
 // The map refuses its call after the first `calls`. Nothing is left then but the room.
 fn refuses_into<P: Ptr, S: ArenaCloneSource<P, u64>, A: ArenaCloneFromWith<P, u64>>(
@@ -179,132 +173,5 @@ fn the_clone_of_each_value_is_refused(rt: HostRuntime) {
         clones::<P5>(&rt, rt.alloc(), calls);
         clones_directly::<P0>(&rt, rt.alloc(), calls);
         clones_directly::<P5>(&rt, rt.alloc(), calls);
-    }
-}
-
-// The copy is refused exactly where the heap refused it the memory, and the arena is then as it was. What has room takes
-// no memory.
-fn grows<A: ArenaCloneFromWith<P0, u64>>(
-    rt: &impl Abort,
-    heap: &Heap,
-    source: &ArrayArena<P0, u64, 5>,
-    copy: &mut A,
-) {
-    let had_refused = heap.has_refused();
-    let capacity = copy.capacity();
-    let answer = copy.clone_from_with(source, |_, value| Ok(*value));
-    assert!(rt; answer.is_err() == (heap.has_refused() != had_refused));
-    match answer {
-        Ok(()) => {
-            holds(rt, copy, 20, 40);
-            let had_refused = heap.has_refused();
-            let again = copy.clone_from_with(source, |_, value| Ok(*value));
-            assert!(rt; again == Ok(()));
-            assert!(rt; heap.has_refused() == had_refused);
-        }
-        Err(error) => {
-            assert!(rt; error == ReallocationError::AllocError);
-            assert!(rt; copy.len() == 1);
-            assert!(rt; copy.capacity() == capacity);
-        }
-    }
-}
-
-// A clone is refused exactly where the heap refused it the memory, and so is one onto an arena without room.
-fn clones_an_arena<H: Allocator>(
-    rt: &impl Abort,
-    heap: &Heap,
-    source: &HeapArena<P0, u64, H>,
-    alloc: H,
-    other: H,
-) {
-    let had_refused = heap.has_refused();
-    let clone = source.clone(alloc);
-    assert!(rt; clone.is_err() == (heap.has_refused() != had_refused));
-    if let Ok(clone) = clone {
-        holds(rt, &clone, 20, 40);
-    }
-    let mut copy = HeapArena::<P0, u64, H>::new(other);
-    let had_refused = heap.has_refused();
-    let answer = copy.clone_from(source);
-    assert!(rt; answer.is_err() == (heap.has_refused() != had_refused));
-    if answer.is_ok() {
-        holds(rt, &copy, 20, 40);
-        assert!(rt; copy.clone_from(source) == Ok(()));
-    } else {
-        assert!(rt; copy.capacity() == 0);
-    }
-}
-
-fn clones_a_direct_arena<H: Allocator>(
-    rt: &impl Abort,
-    heap: &Heap,
-    source: &HeapDirectArena<P0, u64, H>,
-    alloc: H,
-    other: H,
-) {
-    let had_refused = heap.has_refused();
-    let clone = source.clone(alloc);
-    assert!(rt; clone.is_err() == (heap.has_refused() != had_refused));
-    if let Ok(clone) = clone {
-        holds(rt, &clone, 20, 40);
-    }
-    let mut copy = HeapDirectArena::<P0, u64, H>::new(other);
-    let had_refused = heap.has_refused();
-    let answer = copy.clone_from(source);
-    assert!(rt; answer.is_err() == (heap.has_refused() != had_refused));
-    if answer.is_ok() {
-        holds(rt, &copy, 20, 40);
-        assert!(rt; copy.clone_from(source) == Ok(()));
-    } else {
-        assert!(rt; copy.capacity() == 0);
-    }
-}
-
-// An arena with one entry and no more room, and what becomes of it. Each call takes memory at most once, from `heap`, which
-// `alloc` is as an arena takes it.
-fn runs<H: Allocator + Copy>(
-    rt: &impl Abort,
-    heap: &Heap,
-    alloc: H,
-    source: &ArrayArena<P0, u64, 5>,
-) {
-    if let Ok(mut copy) = HeapArena::<P0, u64, H>::with_min_capacity(alloc, 1) {
-        assert!(rt; copy.insert_within_capacity(77).is_ok());
-        grows(rt, heap, source, &mut copy);
-        if copy.len() == 2 {
-            clones_an_arena(rt, heap, &copy, alloc, alloc);
-        }
-    }
-}
-
-// The same of a direct arena.
-fn runs_directly<H: Allocator + Copy>(
-    rt: &impl Abort,
-    heap: &Heap,
-    alloc: H,
-    source: &ArrayArena<P0, u64, 5>,
-) {
-    if let Ok(mut mirror) = HeapDirectArena::<P0, u64, H>::with_min_capacity(alloc, 1) {
-        assert!(rt; put(&mut mirror, at(index(0)), 77) == Ok(()));
-        grows(rt, heap, source, &mut mirror);
-        if mirror.len() == 2 {
-            clones_a_direct_arena(rt, heap, &mirror, alloc, alloc);
-        }
-    }
-}
-
-#[test]
-fn each_request_in_turn(rt: HostRuntime) {
-    let mut source = ArrayArena::<P0, u64, 5>::new(());
-    fills(&rt, &mut source);
-    for nth in 1..6u64 {
-        let first = RefusingAllocator::new(rt.alloc(), nth);
-        runs(&rt, &first, &first, &source);
-        let second = RefusingAllocator::new(rt.alloc(), nth);
-        runs_directly(&rt, &second, &second, &source);
-        // The arena, its growth, a clone, and the growth of another one.
-        assert!(rt; first.has_refused() == (nth <= 4));
-        assert!(rt; second.has_refused() == (nth <= 4));
     }
 }

@@ -1,4 +1,4 @@
-//! Drains, taken whole and dropped early, and searches, at concrete arenas.
+//! Drains, taken whole and dropped early, at concrete arenas.
 use crate::tests::places::{at, put};
 use std::alloc::Global;
 use std::num::{NonZeroU8, NonZeroUsize};
@@ -9,7 +9,6 @@ use triple_arena::{
     HeapDirectArena, InvalidationOption, NonZeroInxGenericStack, P0, P1, P5, Ptr, PtrGen, PtrInx,
     ReallocationError,
 };
-use triple_arena_user::{find_equal, find_first, raise_each};
 
 // Four entries, with a free slot between them: 10, 30, 40 and 50 under these pointers.
 fn fill<P: Ptr, S: NonZeroInxGenericStack<ArenaSlot<P, u64>> + Drop>(
@@ -156,8 +155,6 @@ fn drains_direct(
 ) -> Result<(), DirectInsertionError> {
     let items = fill_direct(arena)?;
     let capacity = arena.capacity();
-    assert!(rt; find_equal(arena, &30) == Some(items[1].0));
-    assert!(rt; find_equal(arena, &31) == None);
     match items.split_at_checked(count) {
         Some((taken, _)) => take_direct(rt, arena, taken),
         None => panic!(rt; "there are not so many items"),
@@ -174,16 +171,5 @@ fn drains_a_direct_vector(rt: HostRuntime) -> Result<(), Fail> {
     for count in 0..4 {
         drains_direct(&rt, &mut arena, count)?;
     }
-    Ok(())
-}
-
-#[test]
-fn finds_the_first_value(rt: HostRuntime) -> Result<(), Fail> {
-    let mut arena = HeapArena::<P0, u64, Global>::new(rt.alloc());
-    let pointers = fill(&rt, &mut arena)?;
-    assert!(rt; (find_first(&arena, |value| *value > 10)) == Some(pointers.1));
-    assert!(rt; (find_first(&arena, |value| *value > 50)) == None);
-    raise_each(&mut arena, 1);
-    assert!(rt; (find_first(&arena, |value| *value == 51)) == Some(pointers.3));
     Ok(())
 }

@@ -28,3 +28,14 @@ pub(super) fn put<P: Ptr, T: Drop, S: NonZeroInxGenericStack<DirectSlot<P, T>> +
         Err(error) => Err(error),
     }
 }
+
+// Asks for a place that it does not use, and says whether there was one.
+pub(super) fn only_asks<P: Ptr, T: Drop, S: NonZeroInxGenericStack<DirectSlot<P, T>> + Drop>(
+    arena: &mut DirectArena<P, T, S>,
+    p: P,
+) -> bool {
+    match arena.direct_insert_within_capacity(p) {
+        Ok(_) => true,
+        Err(_) => false,
+    }
+}

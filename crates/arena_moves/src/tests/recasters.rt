@@ -9,9 +9,8 @@ use std::process::Abort;
 use std::test::Fail;
 use triple_arena::{
     ArenaInsertTrait, ArenaTrait, ArrayArena, ArrayDirectArena, DirectSlot, DisjointableArenaTrait,
-    NonZeroInxArray, NonZeroInxVec, P0, P1, P5, ReallocationError, Recast, compress_recaster,
+    NonZeroInxArray, NonZeroInxVec, P0, P1, ReallocationError, Recast, compress_recaster,
 };
-use triple_arena_user::tidy;
 
 type Heap = RefusingAllocator<Global>;
 
@@ -104,23 +103,6 @@ fn a_map_without_room_is_refused(rt: HostRuntime) -> Result<(), Fail> {
         (),
     )?;
     reads(&rt, &none, "{}");
-    Ok(())
-}
-
-#[test]
-fn a_document_is_tidied(rt: HostRuntime) -> Result<(), Fail> {
-    let mut nodes = ArrayArena::<P5, Option<P5>, 4>::new(());
-    let a = nodes.insert(None)?;
-    let b = nodes.insert(None)?;
-    let c = nodes.insert(Some(b))?;
-    nodes.insert(Some(c))?;
-    assert!(rt; nodes.remove(a).is_success());
-    tidy::<P5, Option<P5>, _, NonZeroInxArray<DirectSlot<P5, P5>, 4>>(&mut nodes, ())?;
-    reads(
-        &rt,
-        &nodes,
-        "{P5[1]: None, P5[2]: Some(P5[1]), P5[3]: Some(P5[2])}",
-    );
     Ok(())
 }
 

@@ -1,25 +1,21 @@
-//! Transfers at concrete arenas, and with each request for memory refused in turn.
+//! Transfers at concrete arenas.
 use crate::tests::copies::insert;
 use crate::tests::places::{at, put};
 use crate::tests::texts::reads;
-use refusing_allocator::RefusingAllocator;
-use std::alloc::{Allocator, Global};
 use std::num::{NonZeroU8, NonZeroU64};
 use std::process::Abort;
 use std::test::Fail;
 use triple_arena::{
-    ArenaInsertTrait, ArenaTrait, ArenaTransferTrait, ArrayArena, ArrayDirectArena, HeapArena,
-    HeapDirectArena, P0, P1, P5, Ptr, ReallocationError,
+    ArenaInsertTrait, ArenaTrait, ArenaTransferTrait, ArrayArena, ArrayDirectArena, P0, P1, P5,
+    Ptr, ReallocationError,
 };
 
-type Heap = RefusingAllocator<Global>;
-
-fn seventh() -> NonZeroU64 {
+pub(super) fn seventh() -> NonZeroU64 {
     NonZeroU64::MIN.saturating_add(6)
 }
 
 // Five values under a counter whose fourth step starts the generations again.
-fn five(rt: &impl Abort) -> ArrayArena<P1, u64, 5> {
+pub(super) fn five(rt: &impl Abort) -> ArrayArena<P1, u64, 5> {
     let mut source = ArrayArena::new(());
     for value in 0..5u64 {
         assert!(rt; source.insert(value).is_ok());
@@ -123,81 +119,5 @@ fn more_entries_than_the_target_can_have(rt: HostRuntime) -> Result<(), Fail> {
         "{P1[1](2): 0, P1[2](2): 1, P1[3](2): 2, P1[4](2): 3, P1[5](2): 4}",
     );
     assert!(rt; source.generation() == NonZeroU8::MIN.saturating_add(251));
-    Ok(())
-}
-
-// What a transfer into an arena with room for `capacity` entries answers, and leaves of both.
-fn is_moved_or_refused<A: ArenaTrait<P0, u64>>(
-    rt: &impl Abort,
-    refused: bool,
-    moved: Result<(), ReallocationError>,
-    target: &A,
-    capacity: usize,
-    source: &ArrayArena<P1, u64, 5>,
-) {
-    if refused {
-        assert!(rt; moved == Err(ReallocationError::AllocError));
-        assert!(rt; target.len() == 1);
-        assert!(rt; target.capacity() == capacity);
-        assert!(rt; source.len() == 5);
-        assert!(rt; source.generation() == NonZeroU8::MIN.saturating_add(251));
-    } else {
-        assert!(rt; moved == Ok(()));
-        assert!(rt; target.len() == 5);
-        assert!(rt; target.capacity() == 5);
-        assert!(rt; source.len() == 0);
-        assert!(rt; source.generation() == NonZeroU8::MIN.saturating_add(2));
-    }
-}
-
-fn into_an_arena<H: Allocator>(rt: &(impl Abort + Alloc), heap: &Heap, alloc: H) {
-    let Ok(mut target) = HeapArena::<P0, u64, H>::with_min_capacity(alloc, 2) else {
-        assert!(rt; heap.has_refused());
-        return;
-    };
-    assert!(rt; target.insert_within_capacity(77).is_ok());
-    let had_refused = heap.has_refused();
-    let mut source = five(rt);
-    let moved = target.transfer_reallocating(seventh(), &mut source, |_, item, _| item.allow());
-    let refused = heap.has_refused() != had_refused;
-    is_moved_or_refused(rt, refused, moved, &target, 2, &source);
-    if refused {
-        reads(rt, &target, "{P0[1](2): 77}");
-    } else {
-        // What has room takes no memory.
-        let mut again = five(rt);
-        let moved = target.transfer_reallocating(seventh(), &mut again, |_, item, _| item.allow());
-        assert!(rt; moved == Ok(()));
-        assert!(rt; target.capacity() == 5);
-    }
-}
-
-fn into_a_direct_arena<H: Allocator>(rt: &(impl Abort + Alloc), heap: &Heap, alloc: H) {
-    let Ok(mut target) = HeapDirectArena::<P0, u64, H>::with_min_capacity(alloc, 2) else {
-        assert!(rt; heap.has_refused());
-        return;
-    };
-    assert!(rt; put(&mut target, at(2, 7), 77) == Ok(()));
-    let had_refused = heap.has_refused();
-    let mut source = five(rt);
-    let moved = target.transfer_reallocating(seventh(), &mut source, |_, item, _| item.allow());
-    let refused = heap.has_refused() != had_refused;
-    is_moved_or_refused(rt, refused, moved, &target, 2, &source);
-    if refused {
-        reads(rt, &target, "{P0[2](7): 77}");
-    }
-}
-
-#[test]
-fn each_request_of_a_transfer(rt: HostRuntime) -> Result<(), Fail> {
-    for nth in 1..5u64 {
-        let first = RefusingAllocator::new(rt.alloc(), nth);
-        into_an_arena(&rt, &first, &first);
-        let second = RefusingAllocator::new(rt.alloc(), nth);
-        into_a_direct_arena(&rt, &second, &second);
-        // Room is taken once when the arena is made, and once for the entries.
-        assert!(rt; first.has_refused() == (nth <= 2));
-        assert!(rt; second.has_refused() == (nth <= 2));
-    }
     Ok(())
 }

@@ -1,11 +1,11 @@
-//! The callers of a compression, at a concrete arena.
-use crate::tests::places::{at, put};
+//! Values that are changed by a compression, and sums, at concrete arenas.
 use std::alloc::Global;
 use std::num::NonZeroUsize;
 use std::process::Abort;
 use std::test::Fail;
 use triple_arena::{
-    ArenaInsertTrait, ArenaTrait, ArrayDirectArena, HeapArena, InvalidationOption, P0,
+    ArenaCloneFromWith, ArenaInsertTrait, ArenaTrait, ArrayDirectArena, HeapArena,
+    InvalidationOption, P0,
 };
 use triple_arena_user::{direct_sum_of, map_values, raise, sum_of, sum_of_entries, sum_up};
 
@@ -18,7 +18,7 @@ fn holds(rt: &impl Abort, arena: &InVec, first: u64, second: u64) {
             Some((_, value)) => Some(*value),
             None => None,
         };
-        assert_eq!(rt; found, *wanted);
+        assert!(rt; found == *wanted);
     }
 }
 
@@ -53,8 +53,7 @@ fn sums_the_values(rt: HostRuntime) -> Result<(), Fail> {
     // No more values come than there are slots.
     assert!(rt; arena.iter().size_hint() == (0, Some(3)));
     let mut direct = ArrayDirectArena::<P0, u64, 4>::new(());
-    assert!(rt; put(&mut direct, at(3, 2), 30) == Ok(()));
-    assert!(rt; put(&mut direct, at(1, 2), 10) == Ok(()));
-    assert!(rt; direct_sum_of(&direct) == 40);
+    assert!(rt; direct.clone_from_with(&arena, |_, value| Ok(value.wrapping_add(1))) == Ok(()));
+    assert!(rt; direct_sum_of(&direct) == 24);
     Ok(())
 }

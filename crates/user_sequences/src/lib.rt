@@ -1,0 +1,5 @@
+//! The callers of `triple_arena_user` at concrete arenas: their answers, which are known beforehand.
+#![tactic(auto)]
+
+#[cfg(test)]
+mod tests;

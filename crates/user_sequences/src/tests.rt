@@ -1,0 +1,4 @@
+mod documents;
+mod playlists;
+mod searches;
+mod values;
