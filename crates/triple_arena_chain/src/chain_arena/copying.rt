@@ -7,7 +7,7 @@ ghost use Rattle.triple_arena.specs.ArenaRoom.{room_with};
 ghost use Rattle.triple_arena.specs.Changes.{IsNew};
 ghost use Rattle.triple_arena.specs.Content.{entry_at, live_count, some_counter, arena_capacity, cleared, reallocated, IsWellFormed};
 ghost use Rattle.triple_arena.specs.LiveEntries.{live_entries};
-ghost use Rattle.triple_arena.specs.Copy.{last_listed, copied as copied_of, NeverRefuses, IsMappedCopy, IsRefusedCopy, IsCopy};
+ghost use Rattle.triple_arena.specs.Copy.{last_listed, copied as copied_of, NeverRefuses, IsMappedCopy, IsRefusedCopy};
 ghost use Rattle.triple_arena_chain.specs.Copying.{IsCopyMade, IsLinkedCopy};
 ghost use Rattle.triple_arena_chain.specs.Links.{prev_next_of};
 ghost use Rattle.triple_arena_chain.specs.Listed.{listed_value};
