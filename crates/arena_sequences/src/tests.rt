@@ -2,7 +2,6 @@
 mod advancers;
 mod compress;
 mod entries;
-mod examples;
 mod refusals;
 mod sequences;
 mod writes;

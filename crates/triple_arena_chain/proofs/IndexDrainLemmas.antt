@@ -77,7 +77,7 @@ module _ {I T : Type 0} where
 
 module _ {T : Type 0} where
   -- a value that is found under a generation stands there
-  entry_of_value : (o : Option (ℕ × T)) (g : ℕ) (t : T) → Some t ≡ value_if g o → o ≡ Some (g, t)
+  pub entry_of_value : (o : Option (ℕ × T)) (g : ℕ) (t : T) → Some t ≡ value_if g o → o ≡ Some (g, t)
   entry_of_value None g t found = absurd (cc)
   entry_of_value (Some e) g t found =
       elim (eqb_tells e.0 g) [

@@ -82,11 +82,11 @@ module _ {I T : Type 0} where
   listed_first n (suc k) e (None ∷ xs) (Some y ∷ ys) lower found gone others = absurd (let none = others 0 (λ is. omega arith) in cc)
 
   -- where no index is live, no value is listed
-  none_listed : (c : Content (IndexLink I T)) → ((j : ℕ) → values_in c j ≡ None) → listed_values c ≡ []
+  pub none_listed : (c : Content (IndexLink I T)) → ((j : ℕ) → values_in c j ≡ None) → listed_values c ≡ []
   none_listed c none = listed_same 1 [] c.slots (λ k. none (suc k))
 
   -- the value at the first live index comes first, and then those that are left without it
-  value_taken : (old new : Content (IndexLink I T)) (i : ℕ) (e : ℕ × T) → ((j : ℕ) → j < i → values_in old j ≡ None) → values_in old i ≡ Some e
+  pub value_taken : (old new : Content (IndexLink I T)) (i : ℕ) (e : ℕ × T) → ((j : ℕ) → j < i → values_in old j ≡ None) → values_in old i ≡ Some e
       → ((j : ℕ) → values_in new j ≡ without (values_in old) i j) → listed_values old ≡ (i, e) ∷ listed_values new
   value_taken old new zero e lower found taken = absurd (cc)
   value_taken old new (suc k) e lower found taken =

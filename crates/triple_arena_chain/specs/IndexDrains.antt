@@ -5,10 +5,15 @@ use Rattle.std.specs.Iterator.{YieldsFirstBy, Yields}
 use Rattle.triple_arena_ptr.specs.declared.invalidation.InvalidationOption.{InvalidationOption}
 use Rattle.triple_arena.specs.Content.{Content, entry_at}
 use Rattle.triple_arena.specs.Drains.{removals, removal_of, drained}
-use Rattle.triple_arena.specs.Walk.{IsAhead}
+use Rattle.triple_arena.specs.Walk.{Walk, IsAhead}
 use Rattle.triple_arena_chain.specs.declared.chain_arena.index_drain.Drain.{Drain}
 use Rattle.triple_arena_chain.specs.declared.link.IndexLink.{IndexLink}
 use Rattle.triple_arena_chain.specs.Listed.{listed_values}
+
+module _ {I T : Type 0} where
+  -- each live index is ahead of a walk that rises
+  abbrev pub IsAllAhead : Content (IndexLink I T) → Walk → Type 0
+  IsAllAhead c w = (j : ℕ) → IsSome (entry_at c j) → (w.falls ≡ false) × IsAhead w j
 
 module _ {P T S Inx Gen Alloc : Type 0} where
   -- the links as the drain has them
@@ -19,9 +24,9 @@ module _ {P T S Inx Gen Alloc : Type 0} where
   abbrev pub drain_lender : Drain P T S Inx Gen Alloc → GName
   drain_lender d = d.chains.ghost_name
 
-  -- each live index is ahead of a walk that rises
+  -- each link is still to come
   abbrev pub DrainCanStep : Drain P T S Inx Gen Alloc → Type 0
-  DrainCanStep d = (j : ℕ) → IsSome (entry_at (drain_links d) j) → (d.walk.falls ≡ false) × IsAhead d.walk j
+  DrainCanStep d = IsAllAhead (drain_links d) d.walk
 
   module _ (last : Option ℕ) where
     -- the removals that are still to come

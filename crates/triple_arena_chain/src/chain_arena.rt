@@ -1,21 +1,20 @@
 //! Links in chains.
-ghost use Rattle.std.specs.Prelude.{◌≡◌, ◌<◌, ◌↔◌, IsTrue, option_copied};
-ghost use Rattle.std.specs.Option.{option_map};
-ghost use Rattle.triple_arena.specs.Content.{get, entry_at, live_count, arena_capacity};
+ghost use Rattle.std.specs.Prelude.{◌<◌, ◌↔◌, IsTrue};
+ghost use Rattle.triple_arena.specs.Content.{live_count, arena_capacity};
 ghost use Rattle.triple_arena_chain.specs.Links.{IsChained};
 
 mod advancer;
 mod backing;
 mod calls;
+pub(crate) mod capacity_drain;
+mod chain_calls;
 mod compression;
-mod connections;
 mod copy;
 mod copying;
 mod default;
 pub(crate) mod drain;
 pub(crate) mod entry;
 mod entry_insert;
-mod exchange;
 mod from_arena;
 mod gap;
 mod generation;
@@ -30,7 +29,6 @@ mod mapping;
 mod max_capacity;
 mod neighbors;
 mod recast;
-mod removal;
 mod requirement;
 mod text;
 pub(crate) mod walk;
@@ -63,21 +61,6 @@ impl<P: Ptr, T: Drop, S: NonZeroInxGenericStack<ArenaSlot<P, LinkNoGen<P, T>>> +
     T,
     S,
 > {
-    /// The link that `p` points to, if it is live.
-    pub fn get_link_no_gen(&self, p: P) -> Option<&LinkNoGen<P, T>>
-        ensures { option_copied result ≡ get self.now (P.index p) (P.generation p) }
-    {
-        self.arena.get(p)
-    }
-
-    /// The generation and the link at an index, if it is live.
-    pub fn get_inx_link_no_gen(&self, i: P::Inx) -> Option<(P::Gen, &LinkNoGen<P, T>)>
-        ensures { option_map (λ e. (P.Gen.number e.0, e.1.now)) result
-            ≡ entry_at self.now (P.Inx.number i) }
-    {
-        self.arena.get_inx(i)
-    }
-
     // Whether there is room for one link more. The interlinks agree.
     pub(crate) fn has_room(&self) -> bool
         ensures value { IsTrue result ↔ (live_count self.now < arena_capacity self.now) }

@@ -5,6 +5,7 @@
 #![tactic(auto)]
 
 mod chain_arena;
+mod chain_arena_trait;
 mod kind;
 pub mod laws;
 mod link;
@@ -14,6 +15,7 @@ mod ptr_link;
 
 /// The advancers, the iterators and the drains of `ChainArena`.
 pub mod chain_iterators {
+    pub use crate::chain_arena::capacity_drain::CapacityDrain;
     pub use crate::chain_arena::drain::ChainDrain;
     pub use crate::chain_arena::index_drain::Drain;
     pub use crate::chain_arena::iter_chain::IterChain;
@@ -34,6 +36,7 @@ pub mod chain_iterators {
 
 pub use chain_arena::ChainArena;
 pub use chain_arena::entry::ChainArenaInsertEntry;
+pub use chain_arena_trait::ChainArenaTrait;
 pub use kind::{InsertKind, LinkInsertKind};
 pub use link::{IndexLink, LinkNoGen};
 pub use ptr_link::Link;

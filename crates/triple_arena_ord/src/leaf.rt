@@ -11,7 +11,7 @@ use crate::inserted::bring_in;
 use crate::knots::Side;
 use crate::{IndexNode, SimpleOrdArenaNode};
 use triple_arena::{ArenaSlot, ArenaTrait, NonZeroInxGenericStack, Ptr, PtrInx};
-use triple_arena_chain::{ChainArena, LinkNoGen};
+use triple_arena_chain::{ChainArena, ChainArenaTrait, LinkNoGen};
 
 // A new entry directly before or after that of `holder`, which has no child on this side.
 pub(crate) fn insert_leaf<

@@ -2,3 +2,4 @@ mod DocumentLemmas
 pub mod MirrorLemmas
 pub mod PlaylistLemmas
 pub mod ReuseLemmas
+pub mod ReversalLemmas

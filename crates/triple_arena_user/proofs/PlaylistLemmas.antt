@@ -1,5 +1,5 @@
 -- What the calls of a playlist make of its lists.
-use Rattle.std.proofs.Common.{◌≡◌, ℕ, List, ◌∷◌, ◌++◌, Option, Some, None, IsSome, IfSome, Result, Ok, Err, IsOk, IfOk, OnErr, OnSome, refl, sym, ap, subst, ◌∙◌, ◌+◌, ◌%◌, ◌^◌, ◌<◌, length, map, arith, true≢false, inl, inr}
+use Rattle.std.proofs.Common.{◌≡◌, ℕ, List, ◌∷◌, ◌++◌, Option, Some, None, IsSome, IfSome, Result, Ok, Err, IsOk, IfOk, OnErr, refl, sym, ap, subst, ◌∙◌, ◌+◌, ◌%◌, ◌^◌, ◌<◌, length, map, arith, true≢false, inl, inr}
 use Rattle.std.specs.List.{sum}
 use Rattle.std.proofs.lemmas.List.Sums.{sum_by-cons}
 use Rattle.std.proofs.lemmas.Bool.Decides.{eqb_tells}
@@ -12,10 +12,10 @@ use Rattle.triple_arena_chain.specs.declared.kind.InsertKind.TheVariants.{NextTo
 use Rattle.triple_arena_chain.specs.declared.link.IndexLink.{IndexLink}
 use Rattle.triple_arena_chain.specs.declared.place.Place.{Place}
 use Rattle.triple_arena_chain.specs.Chains.{Off, IsLinear, IsRing}
-use Rattle.triple_arena_chain.specs.InsertionListLaws.{linear-put_after, ring-put_after, others-put_after, linear-reversed}
+use Rattle.triple_arena_chain.specs.InsertionListLaws.{linear-put_after, ring-put_after, others-put_after}
 use Rattle.triple_arena_chain.specs.KindLaws.{put-next_to}
 use Rattle.triple_arena_chain.specs.Links.{ends_in, values_in, place_among, IsChained, IsPlaced}
-use Rattle.triple_arena_chain.specs.Lists.{Chain, members, IsChainOf, IsExchanged}
+use Rattle.triple_arena_chain.specs.Lists.{Chain, members, IsChainOf}
 
 module _ {I T : Type 0} (number : I → ℕ) (c d : Content (IndexLink I T)) (i g : ℕ) (t : T) where
   -- the value that was placed
@@ -48,14 +48,6 @@ module _ {P E I T : Type 0} (index generation : P → ℕ) (number : I → ℕ) 
         ring = ring-put_after old new (index p) (index q) put;
         others = others-put_after old new (index p) (index q) put chained.agreed;
       }
-
-module _ {I T A : Type 0} (number : I → ℕ) (c m d : Content (IndexLink I T)) (o p q : ℕ) where
-  -- two exchanges of nexts, of which the second may not come about, turn two round
-  pub reversed : (r : Option A) → IsExchanged o p (ends_in number c) (ends_in number m) → OnSome r (IsExchanged q p (ends_in number m) (ends_in number d))
-      → OnSome r ((front rest : List ℕ) → IsLinear (ends_in number c) (front ++ (o ∷ p ∷ q ∷ rest))
-      → IsLinear (ends_in number d) (front ++ (o ∷ q ∷ p ∷ rest)))
-  reversed None first second = tt
-  reversed (Some a) first second = linear-reversed (ends_in number c) (ends_in number m) (ends_in number d) o p q first second
 
 seen : (g v : ℕ) (o : Option (ℕ × ℕ)) → value_if g o ≡ Some v → length_of o ≡ v
 seen g v None is = absurd (let no : None ≡ Some v = is in cc)

@@ -1,16 +1,16 @@
 //! Playlists: songs in the chains of an arena, of which all is said in lists of indexes.
-ghost use Rattle.std.specs.Prelude.{◌≡◌, ◌<◌, ◌≤◌, ◌↔◌, ◌%◌, ◌^◌, ℕ, List, ◌∷◌, ◌++◌, map as list_map, None, IsSome, IfSome, IsOk, IfOk, OnSome, OnErr, IsErrOf};
+ghost use Rattle.std.specs.Prelude.{◌≡◌, ◌<◌, ◌≤◌, ◌↔◌, ◌%◌, ◌^◌, ℕ, List, ◌∷◌, ◌++◌, map as list_map, None, Some, IsSome, IfSome, IfNone, IsOk, IfOk, OnSome, OnErr, IsErrOf};
 ghost use Rattle.std.specs.List.{sum};
 ghost use Rattle.triple_arena.specs.Content.{get, live_count, arena_capacity};
 ghost use Rattle.triple_arena.specs.Entries.{with_entry};
-ghost use Rattle.triple_arena_chain.specs.Chains.{Off, IsLinear, IsRing};
-ghost use Rattle.triple_arena_chain.specs.Links.{ends_in, values_in};
+ghost use Rattle.triple_arena_chain.specs.Chains.{Off, next_in, IsLinear, IsRing};
+ghost use Rattle.triple_arena_chain.specs.Links.{ends_in, ends_found, values_in};
 ghost use Rattle.triple_arena_chain.specs.Lists.{Chain, members, IsChainOf};
 ghost use Rattle.triple_arena_chain.specs.Walks.{IsWalkFrom};
 ghost use Rattle.triple_arena_user.specs.Playlists.{length_at};
 
 use triple_arena::{Advancer, ArenaSlot, ArenaTrait, NonZeroInxGenericStack, Ptr};
-use triple_arena_chain::{ChainArena, LinkInsertKind, LinkNoGen};
+use triple_arena_chain::{ChainArena, ChainArenaTrait, LinkInsertKind, LinkNoGen};
 use triple_arena_ptr::ChainInsertionError;
 
 /// Adds a song directly after the one at `p`, if there is room. It answers `FailedLinkRequirement` where `p` is invalid,
@@ -44,23 +44,41 @@ pub fn add_after<P: Ptr, T: Drop, S: NonZeroInxGenericStack<ArenaSlot<P, LinkNoG
     songs.insert_within_capacity(LinkInsertKind::NextTo(p), song)
 }
 
-/// Turns the song at `p` and its next, at `q`, round, in a linear chain where `before` is in front of them and `q` has a
-/// next: `before, p, q` is `before, q, p` then. Ask `are_neighbors` first where that is not known: the two exchanges that
-/// it makes are made, or answer `None`, one by one.
+/// Turns the song at `p`, which is the next of `before`, and its own next round: `before, p, q` is `before, q, p` then,
+/// also where `q` is the end of the list. It answers `None`, and changes nothing, where `p` is not the next of `before`,
+/// one of them is invalid, or `p` has no next.
 pub fn reverse_pair<
     P: Ptr,
     T: Drop,
     S: NonZeroInxGenericStack<ArenaSlot<P, LinkNoGen<P, T>>> + Drop,
->(songs: &mut ChainArena<P, T, S>, before: P, p: P, q: P) -> Option<()>
-    ensures linear { OnSome result ((front rest : List ℕ)
-        → IsLinear (ends_in P.Inx.number songs.old) (front ++ (P.index before ∷ P.index p ∷ P.index q ∷ rest))
-        → IsLinear (ends_in P.Inx.number songs.new) (front ++ (P.index before ∷ P.index q ∷ P.index p ∷ rest))) }
-    ensures others { (c : Chain) → IsChainOf (ends_in P.Inx.number songs.old) c
-        → Off (members c) (P.index before) → Off (members c) (P.index p) → Off (members c) (P.index q)
-        → IsChainOf (ends_in P.Inx.number songs.new) c }
+>(songs: &mut ChainArena<P, T, S>, before: P, p: P) -> Option<()>
+    ensures variant { IsSome result
+        ↔ ((next_in (ends_found P.Inx.number songs.old (P.index before) (P.generation before)) ≡ Some (P.index p))
+        × IsSome (next_in (ends_found P.Inx.number songs.old (P.index p) (P.generation p)))) }
+    ensures linear { OnSome result ((front rest : List ℕ) (q : ℕ)
+        → IsLinear (ends_in P.Inx.number songs.old) (front ++ (P.index before ∷ P.index p ∷ q ∷ rest))
+        → IsLinear (ends_in P.Inx.number songs.new) (front ++ (P.index before ∷ q ∷ P.index p ∷ rest))) }
+    ensures ring { OnSome result ((rest : List ℕ) (q : ℕ)
+        → IsRing (ends_in P.Inx.number songs.old) (P.index before ∷ P.index p ∷ q ∷ rest)
+        → IsRing (ends_in P.Inx.number songs.new) (P.index before ∷ q ∷ P.index p ∷ rest)) }
+    ensures others { OnSome result ((c : Chain) → IsChainOf (ends_in P.Inx.number songs.old) c
+        → Off (members c) (P.index p) → IsChainOf (ends_in P.Inx.number songs.new) c) }
+    ensures songs { OnSome result ((j : ℕ) → values_in songs.new j ≡ values_in songs.old j) }
+    ensures none { IfNone result (songs.new ≡ songs.old) }
 {
+    // The interlinks agree.
+    let _ = songs.len();
+    if !songs.are_neighbors(before, p) {
+        return None;
+    }
+    let q = songs.get_link(p)?.next()?;
     songs.exchange_next(before, p)?;
-    songs.exchange_next(q, p)
+    // It is a ring of one now.
+    if songs.exchange_next(q, p).is_some() {
+        return Some(());
+    }
+    songs.break_next(p)?;
+    songs.connect(q, p)
 }
 
 /// How long it plays from the song at `p` on: to the end of its chain and then backwards from the song before it, or

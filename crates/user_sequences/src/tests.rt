@@ -1,4 +1,5 @@
 mod documents;
+mod examples;
 mod playlists;
 mod searches;
 mod values;

@@ -10,7 +10,7 @@ use triple_arena::{
     ArenaSlot, ArenaTrait, NonZeroInxArray, NonZeroInxGenericStack, NonZeroInxVec, P0, P5, Ptr,
     PtrInx, ReallocationError,
 };
-use triple_arena_chain::{ChainArena, LinkInsertKind, LinkNoGen};
+use triple_arena_chain::{ChainArena, ChainArenaTrait, LinkInsertKind, LinkNoGen};
 use triple_arena_ptr::ChainInsertionError;
 
 type Slot<P> = ArenaSlot<P, LinkNoGen<P, u64>>;

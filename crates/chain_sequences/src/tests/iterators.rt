@@ -7,7 +7,7 @@ use triple_arena::{
     NonZeroInxGenericStack, NonZeroInxLimitedVec, NonZeroInxVec, P0, P5, Ptr, PtrGen,
     SetMaxCapacity,
 };
-use triple_arena_chain::{ChainArena, LinkInsertKind, LinkNoGen};
+use triple_arena_chain::{ChainArena, ChainArenaTrait, LinkInsertKind, LinkNoGen};
 use triple_arena_ptr::ChainInsertionError;
 
 type Slot<P> = ArenaSlot<P, LinkNoGen<P, u64>>;

@@ -7,7 +7,7 @@ use triple_arena::{
     Arena, ArenaInsertTrait, ArenaSlot, ArenaTrait, NonZeroInxArray, NonZeroInxGenericStack,
     NonZeroInxVec, P0, P1, P5, Ptr,
 };
-use triple_arena_chain::{ChainArena, IndexLink, LinkInsertKind, LinkNoGen};
+use triple_arena_chain::{ChainArena, ChainArenaTrait, IndexLink, LinkInsertKind, LinkNoGen};
 use triple_arena_ptr::{ChainInsertionError, ReallocationError};
 
 type Slot<P> = ArenaSlot<P, LinkNoGen<P, u64>>;

@@ -7,7 +7,7 @@ use triple_arena::{
     Advancer, ArenaInsertEntryTrait, ArenaSlot, ArenaTrait, HeapArena, NonZeroInxGenericStack,
     NonZeroInxLimitedVec, NonZeroInxVec, P0, Ptr, ReallocationError,
 };
-use triple_arena_chain::{ChainArena, LinkInsertKind, LinkNoGen};
+use triple_arena_chain::{ChainArena, ChainArenaTrait, LinkInsertKind, LinkNoGen};
 use triple_arena_ptr::ChainInsertionError;
 
 type Slot = ArenaSlot<P0, LinkNoGen<P0, u64>>;

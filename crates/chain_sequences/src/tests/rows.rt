@@ -6,7 +6,7 @@ use triple_arena::{
     Advancer, ArenaSlot, ArenaTrait, InvalidationOption, NonZeroInxArray, NonZeroInxGenericStack,
     NonZeroInxVec, P0, P1, P5, Ptr,
 };
-use triple_arena_chain::{ChainArena, LinkInsertKind, LinkNoGen};
+use triple_arena_chain::{ChainArena, ChainArenaTrait, LinkInsertKind, LinkNoGen};
 use triple_arena_ptr::ChainInsertionError;
 
 type Slot<P> = ArenaSlot<P, LinkNoGen<P, u64>>;

@@ -3,7 +3,7 @@ use std::fmt::{Debug, Display};
 use std::process::Abort;
 use std::test::Fail;
 use triple_arena::{ArenaSlot, NonZeroInxArray, P0};
-use triple_arena_chain::{ChainArena, Link, LinkInsertKind, LinkNoGen};
+use triple_arena_chain::{ChainArena, ChainArenaTrait, Link, LinkInsertKind, LinkNoGen};
 
 type Words<'a> = ChainArena<P0, &'a str, NonZeroInxArray<ArenaSlot<P0, LinkNoGen<P0, &'a str>>, 3>>;
 

@@ -11,7 +11,7 @@ ghost use Rattle.triple_arena_chain.specs.ListedLaws.{value-listed, listed_value
 ghost use Rattle.triple_arena_chain.specs.Values.{room_in};
 
 use crate::chain_arena::compression::compress_links;
-use crate::{ChainArena, LinkNoGen};
+use crate::{ChainArena, ChainArenaTrait, LinkNoGen};
 use triple_arena::arena_iterators::PtrAdvancer;
 use triple_arena::{
     Arena, ArenaSlot, ArenaTrait, CompactArenaTrait, InvalidationOption, InvalidationResult,

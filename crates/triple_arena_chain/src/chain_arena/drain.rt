@@ -8,7 +8,7 @@ ghost use Rattle.triple_arena_chain.specs.Kinds.{ends_by};
 ghost use Rattle.triple_arena_chain.specs.Links.{IsChained};
 ghost use Rattle.triple_arena_chain.specs.Drains.{next_or_prev, drain_chains, drain_lender, drain_at, IsRestDrained, IsStep, DrainCanStep, DrainLeaves, DrainSteps, DrainKeepsAlong, DrainGoesAlong};
 
-use crate::{ChainArena, LinkNoGen};
+use crate::{ChainArena, ChainArenaTrait, LinkNoGen};
 use triple_arena::{ArenaSlot, InvalidationOption, NonZeroInxGenericStack, Ptr, PtrInx};
 
 /// Takes the links of one chain out of an arena: from a link on to the end and then backwards from the link before it, or

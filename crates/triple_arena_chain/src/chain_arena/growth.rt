@@ -1,12 +1,11 @@
 //! Insertion of a link that makes room where there is none.
-ghost use Rattle.std.specs.Prelude.{◌≡◌, ◌<◌, Some, IsSome, IfOk, IfSome, OnOk, OnErr};
+ghost use Rattle.std.specs.Prelude.{◌≡◌, ◌<◌, Some, IfOk, OnOk, OnErr};
 ghost use Rattle.triple_arena_stack.specs.Push.{IsRefusal};
-ghost use Rattle.triple_arena_stack.specs.Room.{room_after};
 ghost use Rattle.triple_arena.specs.Content.{live_count, arena_capacity, next_index, grown_if_full};
 ghost use Rattle.triple_arena_chain.specs.Chains.{IsPlace};
 ghost use Rattle.triple_arena_chain.specs.InsertEntry.{IsLinkRefusal};
 ghost use Rattle.triple_arena_chain.specs.Kinds.{place_by};
-ghost use Rattle.triple_arena_chain.specs.Links.{ends_in, place_among, IsChained, IsPlaced};
+ghost use Rattle.triple_arena_chain.specs.Links.{ends_in, place_among, IsChained};
 
 use crate::place::Place;
 use crate::{ChainArena, LinkInsertKind, LinkNoGen};
@@ -38,6 +37,7 @@ impl<P: Ptr, T: Drop, S: NonZeroInxGenericStack<ArenaSlot<P, LinkNoGen<P, T>>> +
     }
 
     // The place that the kind asks for, with room for a link there, and the pointer of that link.
+    #[inline(always)]
     pub(crate) fn place_reallocating(
         &mut self,
         kind: LinkInsertKind<P>,
@@ -67,46 +67,5 @@ impl<P: Ptr, T: Drop, S: NonZeroInxGenericStack<ArenaSlot<P, LinkNoGen<P, T>>> +
             ),
             Err(ReallocationError::AllocError) => Err(ChainInsertionError::AllocError),
         }
-    }
-
-    /// Stores `t` in a link where the kind says. Where there is no room the arena grows: to room for 4 at first, then
-    /// for the double, and never past its greatest capacity.
-    ///
-    /// It answers `FailedLinkRequirement` where the links are not as the kind requires, and else `BeyondMaxCapacity`
-    /// where as many links are live as the greatest capacity, and `AllocError` where the memory was refused. The links
-    /// and the room stay as they are then, and `t` is dropped.
-    pub fn insert_reallocating(
-        &mut self,
-        kind: LinkInsertKind<P>,
-        t: T,
-    ) -> Result<P, ChainInsertionError>
-        ensures refusal { IsLinkRefusal (place_among P.index P.generation P.Inx.number self.old kind)
-            S.takes_memory (live_count self.old) self.old.room result }
-        ensures placed { IfOk result
-            (λ p. IfSome (place_among P.index P.generation P.Inx.number self.old kind)
-            (λ place. IsPlaced P.Inx.number place (P.index p) (P.generation p) t self.old self.new)) }
-        ensures formed { IsChained P.Inx.number self.new }
-        ensures room { OnOk result (self.new.room
-            ≡ room_after (live_count self.old) self.old.room) }
-        ensures err { OnErr result (self.new ≡ self.old) }
-    {
-        let (place, _) = self.place_reallocating(kind)?;
-        Ok(self.put(place, t))
-    }
-
-    /// The same as `insert_reallocating`, where the links are as the kind requires.
-    pub fn insert(&mut self, kind: LinkInsertKind<P>, t: T) -> Result<P, ChainInsertionError>
-        requires { IsSome (place_among P.index P.generation P.Inx.number self.old kind) }
-        ensures refusal { IsLinkRefusal (place_among P.index P.generation P.Inx.number self.old kind)
-            S.takes_memory (live_count self.old) self.old.room result }
-        ensures placed { IfOk result
-            (λ p. IfSome (place_among P.index P.generation P.Inx.number self.old kind)
-            (λ place. IsPlaced P.Inx.number place (P.index p) (P.generation p) t self.old self.new)) }
-        ensures formed { IsChained P.Inx.number self.new }
-        ensures room { OnOk result (self.new.room
-            ≡ room_after (live_count self.old) self.old.room) }
-        ensures err { OnErr result (self.new ≡ self.old) }
-    {
-        self.insert_reallocating(kind, t)
     }
 }

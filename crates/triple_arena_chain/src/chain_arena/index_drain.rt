@@ -11,7 +11,7 @@ ghost use Rattle.triple_arena_chain.specs.IndexDrains.{drain_links, drain_lender
 ghost use Rattle.triple_arena_chain.specs.Links.{values_in, IsChained};
 ghost use Rattle.triple_arena_chain.specs.Values.{room_in};
 
-use crate::{ChainArena, LinkNoGen};
+use crate::{ChainArena, ChainArenaTrait, LinkNoGen};
 use std::iter::FusedIterator;
 use triple_arena::arena_iterators::PtrAdvancer;
 use triple_arena::{

@@ -7,7 +7,7 @@ ghost use Rattle.triple_arena_chain.specs.Links.{ends_in};
 ghost use Rattle.triple_arena_chain.specs.Walks.{IsWalkFrom};
 
 use crate::chain_arena::walk::ChainPtrAdvancer;
-use crate::{ChainArena, LinkNoGen};
+use crate::{ChainArena, ChainArenaTrait, LinkNoGen};
 use std::marker::Model;
 use triple_arena::{Advancer, ArenaSlot, NonZeroInxGenericStack, Ptr};
 

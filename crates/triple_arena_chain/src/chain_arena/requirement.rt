@@ -1,5 +1,5 @@
 //! What an insertion's kind requires of the links.
-ghost use Rattle.std.specs.Prelude.{◌≡◌, ◌↔◌, IsSome, IsTrue};
+ghost use Rattle.std.specs.Prelude.{◌≡◌};
 ghost use Rattle.std.specs.Option.{option_map};
 ghost use Rattle.triple_arena.specs.Content.{get};
 ghost use Rattle.triple_arena_chain.specs.Links.{prev_next_of, ends_in, ends_found, place_among};
@@ -39,6 +39,7 @@ impl<P: Ptr, T: Drop, S: NonZeroInxGenericStack<ArenaSlot<P, LinkNoGen<P, T>>> +
     }
 
     // The place that the kind asks for, or `None` where its requirement is not met.
+    #[inline(always)]
     pub(crate) fn place(&self, kind: LinkInsertKind<P>) -> Option<Place<P::Inx>>
         ensures { option_map (place_by P.Inx.number) result
             ≡ place_among P.index P.generation P.Inx.number self.now kind }
@@ -67,13 +68,5 @@ impl<P: Ptr, T: Drop, S: NonZeroInxGenericStack<ArenaSlot<P, LinkNoGen<P, T>>> +
                 bridging(i, j, self.ends_at(i)?, self.ends_at(j)?)
             }
         }
-    }
-
-    /// Whether the links are as the kind requires.
-    pub fn meets(&self, kind: &LinkInsertKind<P>) -> bool
-        ensures { IsTrue result
-            ↔ IsSome (place_among P.index P.generation P.Inx.number self.now kind.now) }
-    {
-        self.place(*kind).is_some()
     }
 }

@@ -8,7 +8,7 @@ ghost use Rattle.triple_arena_chain.specs.Links.{ends_in, values_in};
 ghost use Rattle.triple_arena_chain.specs.Walks.{walk_from, left_to, past_index, IsWalkAlong, ChainSteps};
 
 use crate::chain_iterators::IterLinkNoGen;
-use crate::{ChainArena, LinkNoGen};
+use crate::{ChainArena, ChainArenaTrait, LinkNoGen};
 use std::marker::Model;
 use triple_arena::{Advancer, ArenaSlot, ArenaTrait, NonZeroInxGenericStack, Ptr};
 

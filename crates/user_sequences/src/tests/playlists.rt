@@ -1,7 +1,7 @@
 //! A playlist at a concrete chain arena.
 use std::test::Fail;
 use triple_arena::{ArenaSlot, NonZeroInxArray, P0};
-use triple_arena_chain::{ChainArena, LinkInsertKind, LinkNoGen};
+use triple_arena_chain::{ChainArena, ChainArenaTrait, LinkInsertKind, LinkNoGen};
 use triple_arena_user::{add_after, play_from, reverse_pair};
 
 type Songs = ChainArena<P0, u64, NonZeroInxArray<ArenaSlot<P0, LinkNoGen<P0, u64>>, 4>>;
@@ -15,10 +15,16 @@ fn songs_are_added_and_turned_round(rt: HostRuntime) -> Result<(), Fail> {
     let d = add_after(&mut songs, c, 4000)?;
     assert!(rt; add_after(&mut songs, d, 5).is_err());
     assert!(rt; play_from(&songs, b) == Some(4321));
-    assert!(rt; reverse_pair(&mut songs, a, b, c) == Some(()));
+    assert!(rt; reverse_pair(&mut songs, a, b) == Some(()));
     assert!(rt; songs.are_neighbors(a, c));
     assert!(rt; songs.are_neighbors(c, b));
     assert!(rt; songs.are_neighbors(b, d));
     assert!(rt; play_from(&songs, d) == Some(4321));
+    // The last two, and one that has no next.
+    assert!(rt; reverse_pair(&mut songs, c, b) == Some(()));
+    assert!(rt; songs.are_neighbors(c, d));
+    assert!(rt; songs.are_neighbors(d, b));
+    assert!(rt; reverse_pair(&mut songs, d, b).is_none());
+    assert!(rt; play_from(&songs, a) == Some(4321));
     Ok(())
 }

@@ -1,0 +1,220 @@
+//! usage: chains slab|list queue|turn|rotate|walk|iterate STEPS, with the operations of the Rattle program `chain_bench`, over a
+//! doubly linked list in a slab by hand, or over std's `LinkedList`.
+use std::collections::LinkedList;
+use std::env;
+use std::process::ExitCode;
+
+/// How many links there are before the steps.
+const LEN: usize = 4096;
+
+/// A linear congruential generator; its upper bits are the sequence.
+struct Sequence {
+    state: u64,
+}
+
+impl Sequence {
+    fn new() -> Self {
+        Sequence { state: 1 }
+    }
+
+    fn number(&mut self) -> u64 {
+        self.state = self
+            .state
+            .wrapping_mul(6364136223846793005)
+            .wrapping_add(1442695040888963407);
+        self.state
+    }
+}
+
+/// No link.
+const NONE: usize = usize::MAX;
+
+/// A link of a slab: a free one names the next free one, and has no value.
+struct Link {
+    prev: usize,
+    next: usize,
+    value: Option<u64>,
+}
+
+/// Doubly linked lists in a vector, with indexes by hand.
+struct Slab {
+    links: Vec<Link>,
+    free: usize,
+}
+
+impl Slab {
+    fn new() -> Self {
+        Slab {
+            links: Vec::new(),
+            free: NONE,
+        }
+    }
+
+    /// Puts a value after the link at `at`, or alone where it is `NONE`.
+    fn insert_after(&mut self, at: usize, value: u64) -> usize {
+        let next = if at == NONE { NONE } else { self.links[at].next };
+        let link = Link {
+            prev: at,
+            next,
+            value: Some(value),
+        };
+        let index = self.free;
+        let index = if index == NONE {
+            self.links.push(link);
+            self.links.len() - 1
+        } else {
+            let place = &mut self.links[index];
+            self.free = place.next;
+            *place = link;
+            index
+        };
+        if at != NONE {
+            self.links[at].next = index;
+        }
+        if next != NONE {
+            self.links[next].prev = index;
+        }
+        index
+    }
+
+    /// Takes the link at `at` out, and gives its next and its value.
+    fn remove(&mut self, at: usize) -> Option<(usize, u64)> {
+        let link = self.links.get_mut(at)?;
+        let value = link.value.take()?;
+        let (prev, next) = (link.prev, link.next);
+        link.next = self.free;
+        self.free = at;
+        if prev != NONE {
+            self.links[prev].next = next;
+        }
+        if next != NONE {
+            self.links[next].prev = prev;
+        }
+        Some((next, value))
+    }
+}
+
+/// A list in a slab, with its first and its last link.
+fn slab(sequence: &mut Sequence) -> (Slab, usize, usize) {
+    let mut slab = Slab::new();
+    let first = slab.insert_after(NONE, sequence.number());
+    let mut last = first;
+    for _ in 1..LEN {
+        last = slab.insert_after(last, sequence.number());
+    }
+    (slab, first, last)
+}
+
+fn in_slab(operation: &str, steps: usize) -> Option<u64> {
+    let mut sequence = Sequence::new();
+    let (mut slab, mut first, mut last) = slab(&mut sequence);
+    let mut sum = 0u64;
+    match operation {
+        "queue" => {
+            for _ in 0..steps {
+                last = slab.insert_after(last, sequence.number());
+                let Some((next, value)) = slab.remove(first) else {
+                    break;
+                };
+                first = next;
+                sum = sum.wrapping_mul(31).wrapping_add(value);
+            }
+        }
+        "turn" => {
+            for _ in 0..steps {
+                let Some((next, value)) = slab.remove(first) else {
+                    break;
+                };
+                first = next;
+                sum = sum.wrapping_mul(31).wrapping_add(value);
+                last = slab.insert_after(last, value);
+            }
+        }
+        "rotate" => {
+            slab.links[last].next = first;
+            slab.links[first].prev = last;
+            for _ in 0..steps {
+                let link = &slab.links[first];
+                let Some(value) = link.value else {
+                    break;
+                };
+                first = link.next;
+                sum = sum.wrapping_mul(31).wrapping_add(value);
+            }
+        }
+        "walk" | "iterate" => {
+            let mut at = first;
+            for _ in 0..steps {
+                if at == NONE {
+                    at = first;
+                }
+                let link = &slab.links[at];
+                let Some(value) = link.value else {
+                    break;
+                };
+                at = link.next;
+                sum = sum.wrapping_mul(31).wrapping_add(value);
+            }
+        }
+        _ => return None,
+    }
+    Some(sum)
+}
+
+fn in_list(operation: &str, steps: usize) -> Option<u64> {
+    let mut sequence = Sequence::new();
+    let mut list: LinkedList<u64> = (0..LEN).map(|_| sequence.number()).collect();
+    let mut sum = 0u64;
+    match operation {
+        "queue" => {
+            for _ in 0..steps {
+                list.push_back(sequence.number());
+                if let Some(value) = list.pop_front() {
+                    sum = sum.wrapping_mul(31).wrapping_add(value);
+                }
+            }
+        }
+        // A list has no ring: it is turned by its ends.
+        "turn" | "rotate" => {
+            for _ in 0..steps {
+                if let Some(value) = list.pop_front() {
+                    sum = sum.wrapping_mul(31).wrapping_add(value);
+                    list.push_back(value);
+                }
+            }
+        }
+        "walk" | "iterate" => {
+            let mut left = steps;
+            while left > 0 {
+                for value in list.iter().take(left) {
+                    left -= 1;
+                    sum = sum.wrapping_mul(31).wrapping_add(*value);
+                }
+            }
+        }
+        _ => return None,
+    }
+    Some(sum)
+}
+
+fn main() -> ExitCode {
+    let args: Vec<String> = env::args().collect();
+    let sum = match args.as_slice() {
+        [_, kind, operation, steps] => steps.parse().ok().and_then(|steps| match kind.as_str() {
+            "slab" => in_slab(operation, steps),
+            "list" => in_list(operation, steps),
+            _ => None,
+        }),
+        _ => None,
+    };
+    match sum {
+        Some(sum) => {
+            println!("{sum}");
+            ExitCode::SUCCESS
+        }
+        None => {
+            eprintln!("usage: chains slab|list queue|turn|rotate|walk|iterate STEPS");
+            ExitCode::from(2)
+        }
+    }
+}

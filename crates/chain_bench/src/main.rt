@@ -1,0 +1,197 @@
+//! `chain_bench OPERATION STEPS` runs an operation on links in chains, and prints a checksum, which the plain lists of
+//! `bench/plain/chains.rs` give too. `bench/chains` counts the instructions of both.
+#![tactic(auto)]
+
+use std::alloc::Global;
+use std::process::ExitCode;
+use std::{env, io};
+use triple_arena::{Advancer, ArenaSlot, ArenaTrait, P0, Ptr};
+use triple_arena_chain::{ChainArena, ChainArenaTrait, LinkInsertKind, LinkNoGen};
+use triple_arena_ptr::ChainInsertionError;
+use triple_arena_stack::NonZeroInxVec;
+
+type Chains = ChainArena<P0, u64, NonZeroInxVec<ArenaSlot<P0, LinkNoGen<P0, u64>>, Global>>;
+
+// How many links there are before the steps.
+const LEN: usize = 4096;
+
+// A linear congruential generator; its upper bits are the sequence.
+#[derive(Drop)]
+struct Sequence {
+    state: u64,
+}
+
+impl Sequence {
+    fn new() -> Self {
+        Sequence { state: 1 }
+    }
+
+    fn number(&mut self) -> u64 {
+        self.state = self
+            .state
+            .wrapping_mul(6364136223846793005)
+            .wrapping_add(1442695040888963407);
+        self.state
+    }
+}
+
+// A linear chain, with its first and its last link.
+fn filled(alloc: Global, sequence: &mut Sequence) -> Result<(Chains, P0, P0), ChainInsertionError> {
+    let mut chains = Chains::new(alloc);
+    let first = chains.insert_reallocating(LinkInsertKind::Disconnected, sequence.number())?;
+    let mut last = first;
+    for _ in 1..LEN {
+        last = chains.insert_reallocating(LinkInsertKind::NextTo(last), sequence.number())?;
+    }
+    Ok((chains, first, last))
+}
+
+// Each step puts a number at the end and takes one from the start.
+fn queue(alloc: Global, steps: usize) -> Result<u64, ChainInsertionError> {
+    let mut sequence = Sequence::new();
+    let (mut chains, first, last) = filled(alloc, &mut sequence)?;
+    let mut first = Some(first.inx());
+    let mut last = last.inx();
+    let mut sum = 0u64;
+    for _ in 0..steps {
+        let number = sequence.number();
+        last = chains
+            .insert_reallocating(LinkInsertKind::NextToInx(last), number)?
+            .inx();
+        let Some(i) = first else {
+            break;
+        };
+        if let Some((_, link)) = chains.remove_inx_link_no_gen(i).allow() {
+            first = link.next();
+            sum = sum.wrapping_mul(31).wrapping_add(link.t);
+        }
+    }
+    Ok(sum)
+}
+
+// Each step goes to the next link of a ring, and reads it.
+fn rotate(alloc: Global, steps: usize) -> Result<u64, ChainInsertionError> {
+    let mut sequence = Sequence::new();
+    let (mut chains, first, last) = filled(alloc, &mut sequence)?;
+    let _ = chains.connect(last, first);
+    let mut at = Some(first.inx());
+    let mut sum = 0u64;
+    for _ in 0..steps {
+        let Some(i) = at else {
+            break;
+        };
+        if let Some((_, link)) = chains.get_inx_link_no_gen(i) {
+            at = link.next();
+            sum = sum.wrapping_mul(31).wrapping_add(link.t);
+        }
+    }
+    Ok(sum)
+}
+
+// A walk along the chain by an advancer and a read of each link, again and again.
+fn walk(alloc: Global, steps: usize) -> Result<u64, ChainInsertionError> {
+    let mut sequence = Sequence::new();
+    let (chains, first, _) = filled(alloc, &mut sequence)?;
+    let mut sum = 0u64;
+    let mut left = steps;
+    for _ in 0..steps / LEN + 1 {
+        let Some(mut links) = chains.advancer_chain(first) else {
+            break;
+        };
+        for _ in 0..LEN {
+            if left == 0 {
+                break;
+            }
+            left -= 1;
+            let Some(p) = links.advance(&chains) else {
+                break;
+            };
+            if let Some(number) = chains.get(p) {
+                sum = sum.wrapping_mul(31).wrapping_add(*number);
+            }
+        }
+    }
+    Ok(sum)
+}
+
+// The same by an iterator.
+fn iterate(alloc: Global, steps: usize) -> Result<u64, ChainInsertionError> {
+    let mut sequence = Sequence::new();
+    let (chains, first, _) = filled(alloc, &mut sequence)?;
+    let mut sum = 0u64;
+    let mut left = steps;
+    for _ in 0..steps / LEN + 1 {
+        let Some(mut links) = chains.iter_chain(first) else {
+            break;
+        };
+        for _ in 0..LEN {
+            if left == 0 {
+                break;
+            }
+            left -= 1;
+            let Some((_, link)) = links.next() else {
+                break;
+            };
+            sum = sum.wrapping_mul(31).wrapping_add(link.t);
+        }
+    }
+    Ok(sum)
+}
+
+// Each step takes the first link out and puts it at the end.
+fn turn(alloc: Global, steps: usize) -> Result<u64, ChainInsertionError> {
+    let mut sequence = Sequence::new();
+    let (mut chains, first, last) = filled(alloc, &mut sequence)?;
+    let mut first = Some(first.inx());
+    let mut last = last.inx();
+    let mut sum = 0u64;
+    for _ in 0..steps {
+        let Some(i) = first else {
+            break;
+        };
+        if let Some((_, link)) = chains.remove_inx_link_no_gen(i).allow() {
+            first = link.next();
+            sum = sum.wrapping_mul(31).wrapping_add(link.t);
+            last = chains
+                .insert_reallocating(LinkInsertKind::NextToInx(last), link.t)?
+                .inx();
+        }
+    }
+    Ok(sum)
+}
+
+fn run(operation: &str, alloc: Global, steps: usize) -> Option<Result<u64, ChainInsertionError>> {
+    match operation {
+        "queue" => Some(queue(alloc, steps)),
+        "turn" => Some(turn(alloc, steps)),
+        "rotate" => Some(rotate(alloc, steps)),
+        "walk" => Some(walk(alloc, steps)),
+        "iterate" => Some(iterate(alloc, steps)),
+        _ => None,
+    }
+}
+
+fn main(rt: HostRuntime) -> io::Result<ExitCode> {
+    let mut args = env::args(&rt)?;
+    args.next();
+    let operation = args.next();
+    let steps = args.next().and_then(|word| word.parse::<usize>().ok());
+    let sum = match (operation, steps) {
+        (Some(operation), Some(steps)) => run(operation.as_str(), rt.alloc(), steps),
+        _ => None,
+    };
+    match sum {
+        Some(Ok(sum)) => {
+            println!(rt; "{sum}")?;
+            Ok(ExitCode::SUCCESS)
+        }
+        Some(Err(refused)) => {
+            eprintln!(rt; "{refused}")?;
+            Ok(ExitCode::FAILURE)
+        }
+        None => {
+            eprintln!(rt; "usage: chain_bench queue|turn|rotate|walk|iterate STEPS")?;
+            Ok(ExitCode::from(2))
+        }
+    }
+}

@@ -1,0 +1,53 @@
+use Rattle.std.proofs.Common.{rules, ◌≡◌, Some, refl, ap}
+use Rattle.triple_arena_ptr.specs.InvalidationOption.{value_of}
+use Rattle.triple_arena_ptr.specs.InvalidationResult.{answer_of}
+use Rattle.triple_arena.specs.Content.{entry_at}
+use Rattle.triple_arena_chain.specs.Links.{with_next_of}
+use Rattle.triple_arena_chain.proofs.RemovalLemmas.{neighbors_live, neighbor_live_after, removed_by, Removed}
+use Rattle.triple_arena_chain.proofs.chain_arena.chain_calls.ChainArenaChainArenaTrait.remove_inx_link_no_gen.Given.{Over}
+use Rattle.triple_arena_chain.proofs.chain_arena.chain_calls.ChainArenaChainArenaTrait.remove_inx_link_no_gen.Goals as goal
+
+pub set_next-requires : goal.set_next-requires
+set_next-requires g c =
+    let number = g.P.Inx.PtrInx.number in
+    let at : entry_at c.args.self.now (number c.args.i) ≡ Some (g.P.Gen.PtrGen.number c.in-Some.field-0-0, c.in-Some.link.now) = search rules in
+    let live = (neighbors_live number c.args.self.now (number c.args.i) (g.P.Gen.PtrGen.number c.in-Some.field-0-0) c.in-Some.link.now c.has_room.ensures.chained at).0 in
+    search rules
+
+pub set_prev-requires : goal.set_prev-requires
+set_prev-requires g c =
+    let number = g.P.Inx.PtrInx.number in
+    let at : entry_at c.args.self.now (number c.args.i) ≡ Some (g.P.Gen.PtrGen.number c.in-Some.field-0-0, c.in-Some.link.now) = search rules in
+    let first : c.set_next.new.arena ≡ with_next_of number c.args.self.now c.in-Some.link.now.prev c.in-Some.link.now.next = search rules in
+    neighbor_live_after number c.args.self.now c.set_next.new.arena (number c.args.i) (g.P.Gen.PtrGen.number c.in-Some.field-0-0) c.in-Some.link.now
+    c.has_room.ensures.chained at first
+
+done : (g : Over) (c : goal.After-remove_inx g)
+    → Removed g.P.Inx.PtrInx.number (λ a. (g.P.Gen.PtrGen.number (value_of a).0, (value_of a).1)) (answer_of c.remove_inx.result) (λ a. (value_of a).1) (λ o. o) g.P.Gen.PtrGen.last
+    (g.P.Inx.PtrInx.number c.args.i) c.args.self.now c.remove_inx.new.self
+done g c =
+    let number = g.P.Inx.PtrInx.number in
+    let at : entry_at c.args.self.now (number c.args.i) ≡ Some (g.P.Gen.PtrGen.number c.in-Some.field-0-0, c.in-Some.link.now) = search rules in
+    let first : c.set_next.new.arena ≡ with_next_of number c.args.self.now c.in-Some.link.now.prev c.in-Some.link.now.next = search rules in
+    removed_by number (λ a. (g.P.Gen.PtrGen.number (value_of a).0, (value_of a).1)) (answer_of c.remove_inx.result) (λ a. (value_of a).1) (λ o. o) g.P.Gen.PtrGen.last c.args.self.now
+    c.set_next.new.arena c.set_prev.new.arena c.remove_inx.new.self (number c.args.i) (g.P.Gen.PtrGen.number c.in-Some.field-0-0) c.in-Some.link.now
+    (g.P.Gen.PtrGen.number c.in-Some.field-0-0, c.in-Some.link.now) c.has_room.ensures.chained at refl first c.set_prev.ensures
+    c.remove_inx.ensures.value c.remove_inx.ensures.exact (λ a is. ap (λ v. v.1) is)
+
+pub invariant_of-self : goal.invariant_of-self
+invariant_of-self g c = (done g c).chained
+
+pub returns-in-Some-clause-value : goal.returns-in-Some-clause-value
+returns-in-Some-clause-value g c = (done g c).value
+
+pub returns-in-Some-clause-taken : goal.returns-in-Some-clause-taken
+returns-in-Some-clause-taken g c = (done g c).taken
+
+pub returns-in-Some-clause-invalid : goal.returns-in-Some-clause-invalid
+returns-in-Some-clause-invalid g c = (done g c).none
+
+pub returns-in-Some-clause-exact : goal.returns-in-Some-clause-exact
+returns-in-Some-clause-exact g c = (done g c).exact
+
+pub returns-in-Some-clause-formed : goal.returns-in-Some-clause-formed
+returns-in-Some-clause-formed g c = (done g c).chained

@@ -1,0 +1,61 @@
+use Rattle.std.proofs.Common.{rules, ◌≡◌, Some}
+use Rattle.triple_arena_ptr.specs.InvalidationOption.{value_of}
+use Rattle.triple_arena_ptr.specs.InvalidationResult.{answer_of}
+use Rattle.triple_arena.specs.Content.{get, entry_at}
+use Rattle.triple_arena.specs.Entries.{value_if}
+use Rattle.triple_arena_chain.specs.Links.{with_next_of}
+use Rattle.triple_arena_chain.proofs.RemovalLemmas.{entry_seen, entry_shows, neighbors_live, neighbor_live_after, removed_by, Removed}
+use Rattle.triple_arena_chain.proofs.chain_arena.chain_calls.ChainArenaChainArenaTrait.remove_link_no_gen.Given.{Over}
+use Rattle.triple_arena_chain.proofs.chain_arena.chain_calls.ChainArenaChainArenaTrait.remove_link_no_gen.Goals as goal
+
+pub set_next-requires : goal.set_next-requires
+set_next-requires g c =
+    let number = g.P.Inx.PtrInx.number in
+    let p = g.P.Ptr.index c.args.p in
+    let gp = g.P.Ptr.generation c.args.p in
+    let is : get c.args.self.now p gp ≡ Some c.in-Some.link.now = search rules in
+    let at = entry_seen gp (entry_at c.args.self.now p) c.in-Some.link.now is in
+    let live = (neighbors_live number c.args.self.now p gp c.in-Some.link.now c.has_room.ensures.chained at).0 in
+    search rules
+
+pub set_prev-requires : goal.set_prev-requires
+set_prev-requires g c =
+    let number = g.P.Inx.PtrInx.number in
+    let p = g.P.Ptr.index c.args.p in
+    let gp = g.P.Ptr.generation c.args.p in
+    let is : get c.args.self.now p gp ≡ Some c.in-Some.link.now = search rules in
+    let at = entry_seen gp (entry_at c.args.self.now p) c.in-Some.link.now is in
+    let first : c.set_next.new.arena ≡ with_next_of number c.args.self.now c.in-Some.link.now.prev c.in-Some.link.now.next = search rules in
+    neighbor_live_after number c.args.self.now c.set_next.new.arena p gp c.in-Some.link.now c.has_room.ensures.chained at first
+
+done : (g : Over) (c : goal.After-remove g)
+    → Removed g.P.Inx.PtrInx.number value_of (answer_of c.remove.result) value_of (value_if (g.P.Ptr.generation c.args.p)) g.P.Gen.PtrGen.last
+    (g.P.Ptr.index c.args.p) c.args.self.now c.remove.new.self
+done g c =
+    let number = g.P.Inx.PtrInx.number in
+    let p = g.P.Ptr.index c.args.p in
+    let gp = g.P.Ptr.generation c.args.p in
+    let is : get c.args.self.now p gp ≡ Some c.in-Some.link.now = search rules in
+    let at = entry_seen gp (entry_at c.args.self.now p) c.in-Some.link.now is in
+    let first : c.set_next.new.arena ≡ with_next_of number c.args.self.now c.in-Some.link.now.prev c.in-Some.link.now.next = search rules in
+    removed_by number value_of (answer_of c.remove.result) value_of (value_if gp) g.P.Gen.PtrGen.last c.args.self.now c.set_next.new.arena c.set_prev.new.arena
+    c.remove.new.self p gp c.in-Some.link.now c.in-Some.link.now c.has_room.ensures.chained at (entry_shows gp c.in-Some.link.now) first c.set_prev.ensures
+    c.remove.ensures.value c.remove.ensures.exact (λ a is. is)
+
+pub invariant_of-self : goal.invariant_of-self
+invariant_of-self g c = (done g c).chained
+
+pub returns-in-Some-clause-value : goal.returns-in-Some-clause-value
+returns-in-Some-clause-value g c = (done g c).value
+
+pub returns-in-Some-clause-taken : goal.returns-in-Some-clause-taken
+returns-in-Some-clause-taken g c = (done g c).taken
+
+pub returns-in-Some-clause-invalid : goal.returns-in-Some-clause-invalid
+returns-in-Some-clause-invalid g c = (done g c).none
+
+pub returns-in-Some-clause-exact : goal.returns-in-Some-clause-exact
+returns-in-Some-clause-exact g c = (done g c).exact
+
+pub returns-in-Some-clause-formed : goal.returns-in-Some-clause-formed
+returns-in-Some-clause-formed g c = (done g c).chained

@@ -1,0 +1,169 @@
+//! The calls of a `ChainArena` on its links.
+ghost use Rattle.std.specs.Prelude.{refl};
+
+use crate::chain_arena::interlinks::{set_next, set_prev};
+use crate::{ChainArena, ChainArenaTrait, Link, LinkInsertKind, LinkNoGen};
+use triple_arena::{
+    ArenaSlot, ArenaTrait, InvalidationResult, NonZeroInxGenericStack, Ptr, PtrInx,
+};
+use triple_arena_ptr::ChainInsertionError;
+
+impl<
+    P: Ptr,
+    T: Drop,
+    S: NonZeroInxGenericStack<ArenaSlot<P, LinkNoGen<P, T>>> + Drop,
+> ChainArenaTrait<P, T> for ChainArena<P, T, S> {
+    ghost links = { λ a. a };
+
+    ghost links_entries = { λ c i. refl };
+
+    ghost links_live = { λ c. refl };
+
+    ghost links_counter = { λ c. refl };
+
+    ghost links_room = { λ c. refl };
+
+    ghost links_chained = { λ c chained. chained };
+
+    fn get_link_no_gen(&self, p: P) -> Option<&LinkNoGen<P, T>> {
+        self.arena.get(p)
+    }
+
+    fn get_inx_link_no_gen(&self, i: P::Inx) -> Option<(P::Gen, &LinkNoGen<P, T>)> {
+        self.arena.get_inx(i)
+    }
+
+    fn get_link(&self, p: P) -> Option<Link<P, &T>> {
+        // The interlinks agree.
+        let _ = self.has_room();
+        match self.arena.get(p) {
+            Some(link) => Some(Link::new(
+                (self.ptr_at(link.prev), self.ptr_at(link.next)),
+                &link.t,
+            )),
+            None => None,
+        }
+    }
+
+    fn are_neighbors(&self, p: P, q: P) -> bool {
+        match self.ends_of(p) {
+            Some((_, Some(next))) => next == q.inx() && self.arena.contains(q),
+            _ => false,
+        }
+    }
+
+    fn are_neighbors_inx(&self, i: P::Inx, j: P::Inx) -> bool {
+        match self.ends_at(i) {
+            Some((_, Some(next))) => next == j,
+            _ => false,
+        }
+    }
+
+    fn meets(&self, kind: &LinkInsertKind<P>) -> bool {
+        self.place(*kind).is_some()
+    }
+
+    #[inline(always)]
+    fn insert_lent_within_capacity(
+        &mut self,
+        kind: &LinkInsertKind<P>,
+        t: T,
+    ) -> Result<P, ChainInsertionError> {
+        // The interlinks agree.
+        let _ = self.has_room();
+        let Some(place) = self.place(*kind) else {
+            return Err(ChainInsertionError::FailedLinkRequirement);
+        };
+        if self.has_room() {
+            Ok(self.put(place, t))
+        } else {
+            Err(ChainInsertionError::NotWithinCapacity)
+        }
+    }
+
+    #[inline(always)]
+    fn insert_lent_reallocating(
+        &mut self,
+        kind: &LinkInsertKind<P>,
+        t: T,
+    ) -> Result<P, ChainInsertionError> {
+        let (place, _) = self.place_reallocating(*kind)?;
+        Ok(self.put(place, t))
+    }
+
+    fn connect(&mut self, p: P, q: P) -> Option<()> {
+        // The interlinks agree.
+        let _ = self.has_room();
+        self.place(LinkInsertKind::Bridge(p, q))?;
+        let i = p.inx();
+        let j = q.inx();
+        set_next(&mut self.arena, Some(i), Some(j));
+        set_prev(&mut self.arena, Some(j), Some(i));
+        Some(())
+    }
+
+    fn break_next(&mut self, p: P) -> Option<()> {
+        // The interlinks agree.
+        let _ = self.has_room();
+        let next = self.ends_of(p)?.1?;
+        set_next(&mut self.arena, Some(p.inx()), None);
+        set_prev(&mut self.arena, Some(next), None);
+        Some(())
+    }
+
+    fn break_prev(&mut self, p: P) -> Option<()> {
+        // The interlinks agree.
+        let _ = self.has_room();
+        let prev = self.ends_of(p)?.0?;
+        set_next(&mut self.arena, Some(prev), None);
+        set_prev(&mut self.arena, Some(p.inx()), None);
+        Some(())
+    }
+
+    fn exchange_next(&mut self, p: P, q: P) -> Option<()> {
+        // The interlinks agree.
+        let _ = self.has_room();
+        let next_of_p = self.ends_of(p)?.1?;
+        let next_of_q = self.ends_of(q)?.1?;
+        let i = p.inx();
+        let j = q.inx();
+        set_next(&mut self.arena, Some(i), Some(next_of_q));
+        set_next(&mut self.arena, Some(j), Some(next_of_p));
+        set_prev(&mut self.arena, Some(next_of_q), Some(i));
+        set_prev(&mut self.arena, Some(next_of_p), Some(j));
+        Some(())
+    }
+
+    fn remove_link_no_gen(&mut self, p: P) -> InvalidationResult<LinkNoGen<P, T>> {
+        // The interlinks agree.
+        let _ = self.has_room();
+        match self.arena.get(p) {
+            Some(link) => {
+                let prev = link.prev;
+                let next = link.next;
+                set_next(&mut self.arena, prev, next);
+                set_prev(&mut self.arena, next, prev);
+                self.arena.remove(p)
+            }
+            None => InvalidationResult::InvalidPtr,
+        }
+    }
+
+    fn remove_inx_link_no_gen(
+        &mut self,
+        i: P::Inx,
+    ) -> InvalidationResult<(P::Gen, LinkNoGen<P, T>)> {
+        // The interlinks agree.
+        let _ = self.has_room();
+        match self.arena.get_inx(i) {
+            Some((_, link)) => {
+                let before = link.prev;
+                let after = link.next;
+                set_next(&mut self.arena, before, after);
+                set_prev(&mut self.arena, after, before);
+                self.arena.remove_inx(i)
+            }
+            None => InvalidationResult::InvalidPtr,
+        }
+    }
+}

@@ -1,0 +1,269 @@
+//! What every chain arena does with its links.
+ghost use Rattle.std.specs.Prelude.{◌≡◌, ◌<◌, ◌≤◌, ◌↔◌, ℕ, None, Some, IsSome, IsOk, IsTrue, IfOk, IfSome, IfNone, OnOk, OnErr, OnSome, IsErrOf, option_copied};
+ghost use Rattle.std.specs.Option.{option_map};
+ghost use Rattle.triple_arena_ptr.specs.Generation.{next_wraps};
+ghost use Rattle.triple_arena_ptr.specs.InvalidationOption.{value_of, overflowed};
+ghost use Rattle.triple_arena_ptr.specs.InvalidationResult.{answer_of};
+ghost use Rattle.triple_arena_stack.specs.Room.{room_after};
+ghost use Rattle.triple_arena.specs.Content.{Content, get, entry_at, live_count, arena_capacity, some_counter, removed};
+ghost use Rattle.triple_arena.specs.Entries.{value_if};
+ghost use Rattle.triple_arena_chain.specs.declared.kind.InsertKind.TheVariants.{Bridge};
+ghost use Rattle.triple_arena_chain.specs.declared.link.IndexLink.{IndexLink};
+ghost use Rattle.triple_arena_chain.specs.Chains.{next_in, prev_in, next_at, prev_at, linked, unlinked, exchanged};
+ghost use Rattle.triple_arena_chain.specs.InsertEntry.{IsLinkRefusal};
+ghost use Rattle.triple_arena_chain.specs.Links.{ends_in, ends_found, values_in, place_among, bridged_over, IsChained, IsPlaced, IsRelinked, IsTakenOut};
+ghost use Rattle.triple_arena_chain.specs.Lists.{IsAppended, IsSplit, IsExchanged};
+ghost use Rattle.triple_arena_chain.specs.Values.{IsLivePtr};
+
+use crate::{Link, LinkInsertKind, LinkNoGen};
+use triple_arena::{ArenaTrait, InvalidationResult, Ptr};
+use triple_arena_ptr::ChainInsertionError;
+
+/// The arenas whose entries are links in chains: each link is in one list or ring, once. What is said of a call is said of the
+/// links, and of the lists that they stand in.
+///
+/// `ArenaTrait` has the calls on the values of the links.
+pub trait ChainArenaTrait<P: Ptr, T: Drop>: ArenaTrait<P, T> {
+    // The links as the words on chains ask for them.
+    ghost links: { Self → Content (IndexLink P.Inx T) };
+
+    /// The link that `p` points to, if it is live.
+    fn get_link_no_gen(&self, p: P) -> Option<&LinkNoGen<P, T>>
+        ensures { option_copied result ≡ get (links self.now) (P.index p) (P.generation p) };
+
+    /// The generation and the link at an index, if it is live.
+    fn get_inx_link_no_gen(&self, i: P::Inx) -> Option<(P::Gen, &LinkNoGen<P, T>)>
+        ensures { option_map (λ e. (P.Gen.number e.0, e.1.now)) result
+            ≡ entry_at (links self.now) (P.Inx.number i) };
+
+    /// The link that `p` points to, if it is live, with whole pointers to its neighbours.
+    fn get_link(&self, p: P) -> Option<Link<P, &T>>
+        ensures value { option_map (λ l. l.t.now) result
+            ≡ value_if (P.generation p) (values_in (links self.now) (P.index p)) }
+        ensures interlinks { option_map (λ l. (option_map P.index l.prev, option_map P.index l.next)) result
+            ≡ ends_found P.Inx.number (links self.now) (P.index p) (P.generation p) }
+        ensures live { IfSome result (λ l. IsLivePtr P.index P.generation (links self.now) l.prev
+            × IsLivePtr P.index P.generation (links self.now) l.next) };
+
+    /// Whether `q` is the next of `p`, where both are valid.
+    fn are_neighbors(&self, p: P, q: P) -> bool
+        ensures { IsTrue result
+            ↔ ((next_in (ends_found P.Inx.number (links self.now) (P.index p) (P.generation p)) ≡ Some (P.index q))
+            × IsSome (get (links self.now) (P.index q) (P.generation q))) };
+
+    /// Whether the link at `j` is the next of the one at `i`.
+    fn are_neighbors_inx(&self, i: P::Inx, j: P::Inx) -> bool
+        ensures { IsTrue result
+            ↔ (next_at (ends_in P.Inx.number (links self.now)) (P.Inx.number i) ≡ Some (P.Inx.number j)) };
+
+    /// Whether the links are as the kind requires.
+    fn meets(&self, kind: &LinkInsertKind<P>) -> bool
+        ensures { IsTrue result
+            ↔ IsSome (place_among P.index P.generation P.Inx.number (links self.now) kind.now) };
+
+    // What `insert_within_capacity` does, with the kind lent: an implementation cannot take it by value today.
+    fn insert_lent_within_capacity(
+        &mut self,
+        kind: &LinkInsertKind<P>,
+        t: T,
+    ) -> Result<P, ChainInsertionError>
+        ensures failed { IsErrOf result ChainInsertionError.FailedLinkRequirement
+            ↔ (place_among P.index P.generation P.Inx.number (links self.old) kind.now ≡ None) }
+        ensures variant { IsOk result
+            ↔ (IsSome (place_among P.index P.generation P.Inx.number (links self.old) kind.now)
+            × (live_count (links self.old) < arena_capacity (links self.old))) }
+        ensures full { IsErrOf result ChainInsertionError.NotWithinCapacity
+            ↔ (IsSome (place_among P.index P.generation P.Inx.number (links self.old) kind.now)
+            × (arena_capacity (links self.old) ≤ live_count (links self.old))) }
+        ensures placed { IfOk result
+            (λ p. IfSome (place_among P.index P.generation P.Inx.number (links self.old) kind.now)
+            (λ place. IsPlaced P.Inx.number place (P.index p) (P.generation p) t (links self.old) (links self.new))) }
+        ensures formed { IsChained P.Inx.number (links self.new) }
+        ensures room { (links self.new).room ≡ (links self.old).room }
+        ensures err { OnErr result (self.new ≡ self.old) };
+
+    // What `insert_reallocating` does, with the kind lent.
+    fn insert_lent_reallocating(
+        &mut self,
+        kind: &LinkInsertKind<P>,
+        t: T,
+    ) -> Result<P, ChainInsertionError>
+        ensures refusal { IsLinkRefusal (place_among P.index P.generation P.Inx.number (links self.old) kind.now)
+            Self.takes_memory (live_count (links self.old)) (links self.old).room result }
+        ensures placed { IfOk result
+            (λ p. IfSome (place_among P.index P.generation P.Inx.number (links self.old) kind.now)
+            (λ place. IsPlaced P.Inx.number place (P.index p) (P.generation p) t (links self.old) (links self.new))) }
+        ensures formed { IsChained P.Inx.number (links self.new) }
+        ensures room { OnOk result ((links self.new).room
+            ≡ room_after (live_count (links self.old)) (links self.old).room) }
+        ensures err { OnErr result (self.new ≡ self.old) };
+
+    /// Makes `q` the next of `p`, where `p` is valid without a next and `q` is valid without a previous link. Else it
+    /// answers `None` and changes nothing. The end and the start of one linear chain make a ring, also where `p` is
+    /// `q`.
+    fn connect(&mut self, p: P, q: P) -> Option<()>
+        ensures variant { IsSome result
+            ↔ IsSome (place_among P.index P.generation P.Inx.number (links self.old) (Bridge p q)) }
+        ensures relinked { OnSome result (IsRelinked P.Inx.number
+            (linked (ends_in P.Inx.number (links self.old)) (P.index p) (P.index q)) (links self.old) (links self.new)) }
+        ensures lists { OnSome result (IsAppended (P.index p) (P.index q)
+            (ends_in P.Inx.number (links self.old)) (ends_in P.Inx.number (links self.new))) }
+        ensures formed { IsChained P.Inx.number (links self.new) }
+        ensures none { IfNone result (self.new ≡ self.old) };
+
+    /// Parts `p` from its next. It answers `None`, and changes nothing, where `p` is invalid or has no next.
+    fn break_next(&mut self, p: P) -> Option<()>
+        ensures variant { IsSome result
+            ↔ IsSome (next_in (ends_found P.Inx.number (links self.old) (P.index p) (P.generation p))) }
+        ensures relinked { OnSome result ((q : ℕ)
+            → next_at (ends_in P.Inx.number (links self.old)) (P.index p) ≡ Some q
+            → IsRelinked P.Inx.number (unlinked (ends_in P.Inx.number (links self.old)) (P.index p) q)
+            (links self.old) (links self.new)) }
+        ensures lists { OnSome result ((q : ℕ)
+            → next_at (ends_in P.Inx.number (links self.old)) (P.index p) ≡ Some q
+            → IsSplit (P.index p) q (ends_in P.Inx.number (links self.old)) (ends_in P.Inx.number (links self.new))) }
+        ensures formed { IsChained P.Inx.number (links self.new) }
+        ensures none { IfNone result (self.new ≡ self.old) };
+
+    /// Parts `p` from its previous link. It answers `None`, and changes nothing, where `p` is invalid or has none.
+    fn break_prev(&mut self, p: P) -> Option<()>
+        ensures variant { IsSome result
+            ↔ IsSome (prev_in (ends_found P.Inx.number (links self.old) (P.index p) (P.generation p))) }
+        ensures relinked { OnSome result ((q : ℕ)
+            → prev_at (ends_in P.Inx.number (links self.old)) (P.index p) ≡ Some q
+            → IsRelinked P.Inx.number (unlinked (ends_in P.Inx.number (links self.old)) q (P.index p))
+            (links self.old) (links self.new)) }
+        ensures lists { OnSome result ((q : ℕ)
+            → prev_at (ends_in P.Inx.number (links self.old)) (P.index p) ≡ Some q
+            → IsSplit q (P.index p) (ends_in P.Inx.number (links self.old)) (ends_in P.Inx.number (links self.new))) }
+        ensures formed { IsChained P.Inx.number (links self.new) }
+        ensures none { IfNone result (self.new ≡ self.old) };
+
+    /// Gives `p` the next of `q`, and `q` that of `p`. It answers `None`, and changes nothing, where one of them is
+    /// invalid or has no next.
+    ///
+    /// Two links of one ring make two rings of it, and two links of two rings one. Where `q` is the next of `p`, it
+    /// becomes a ring of one. Where `p` is `q` nothing changes.
+    fn exchange_next(&mut self, p: P, q: P) -> Option<()>
+        ensures variant { IsSome result
+            ↔ (IsSome (next_in (ends_found P.Inx.number (links self.old) (P.index p) (P.generation p)))
+            × IsSome (next_in (ends_found P.Inx.number (links self.old) (P.index q) (P.generation q)))) }
+        ensures relinked { OnSome result ((s t : ℕ)
+            → next_at (ends_in P.Inx.number (links self.old)) (P.index p) ≡ Some s
+            → next_at (ends_in P.Inx.number (links self.old)) (P.index q) ≡ Some t
+            → IsRelinked P.Inx.number
+            (exchanged (ends_in P.Inx.number (links self.old)) (P.index p) (P.index q) s t)
+            (links self.old) (links self.new)) }
+        ensures lists { OnSome result (IsExchanged (P.index p) (P.index q)
+            (ends_in P.Inx.number (links self.old)) (ends_in P.Inx.number (links self.new))) }
+        ensures formed { IsChained P.Inx.number (links self.new) }
+        ensures none { IfNone result (self.new ≡ self.old) };
+
+    /// Removes the link that `p` points to, joins its neighbours, and steps the counter. The link is given back with the
+    /// interlinks that it had. It answers `InvalidPtr`, and changes nothing, where `p` points to none.
+    fn remove_link_no_gen(&mut self, p: P) -> InvalidationResult<LinkNoGen<P, T>>
+        ensures value { option_map value_of (answer_of result)
+            ≡ get (links self.old) (P.index p) (P.generation p) }
+        ensures overflow { IfSome (answer_of result)
+            (λ a. overflowed a ≡ next_wraps P.Gen.last (links self.old).counter) }
+        ensures taken { OnSome (answer_of result) (IsTakenOut P.Inx.number P.Gen.last
+            (P.index p) (links self.old) (links self.new)) }
+        ensures exact { IfSome (answer_of result) (λ a. links self.new ≡ removed P.Gen.last
+            (bridged_over P.Inx.number (links self.old) (value_of a)) (P.index p)) }
+        ensures formed { IsChained P.Inx.number (links self.new) }
+        ensures invalid { IfNone (answer_of result) (self.new ≡ self.old) };
+
+    /// Removes the link at an index in the same way. It answers `InvalidPtr`, and changes nothing, where the index is not
+    /// live.
+    fn remove_inx_link_no_gen(&mut self, i: P::Inx) -> InvalidationResult<(P::Gen, LinkNoGen<P, T>)>
+        ensures value { option_map (λ a. (P.Gen.number (value_of a).0, (value_of a).1))
+            (answer_of result) ≡ entry_at (links self.old) (P.Inx.number i) }
+        ensures overflow { IfSome (answer_of result)
+            (λ a. overflowed a ≡ next_wraps P.Gen.last (links self.old).counter) }
+        ensures taken { OnSome (answer_of result) (IsTakenOut P.Inx.number P.Gen.last
+            (P.Inx.number i) (links self.old) (links self.new)) }
+        ensures exact { IfSome (answer_of result) (λ a. links self.new ≡ removed P.Gen.last
+            (bridged_over P.Inx.number (links self.old) (value_of a).1) (P.Inx.number i)) }
+        ensures formed { IsChained P.Inx.number (links self.new) }
+        ensures invalid { IfNone (answer_of result) (self.new ≡ self.old) };
+
+    // The values of the links are the arena's, and so are the counter and the room.
+    ghost links_entries: { (s : Self) (i : ℕ) → values_in (links s) i ≡ Self.entry_at s i };
+
+    ghost links_live: { (s : Self) → live_count (links s) ≡ Self.live_count s };
+
+    ghost links_counter: { (s : Self) → some_counter (links s) ≡ Self.counter s };
+
+    ghost links_room: { (s : Self) → (links s).room ≡ Self.room s };
+
+    ghost links_chained: { (s : Self) → Self.is_formed s → IsChained P.Inx.number (links s) };
+
+    /// Stores `t` in a link where the kind says, if there is room. It answers `FailedLinkRequirement` where the links
+    /// are not as the kind requires, and else `NotWithinCapacity` where there is no room. The links stay as they are
+    /// then, and `t` is dropped.
+    #[inline(always)]
+    final fn insert_within_capacity(
+        &mut self,
+        kind: LinkInsertKind<P>,
+        t: T,
+    ) -> Result<P, ChainInsertionError>
+        ensures failed { IsErrOf result ChainInsertionError.FailedLinkRequirement
+            ↔ (place_among P.index P.generation P.Inx.number (links self.old) kind ≡ None) }
+        ensures variant { IsOk result
+            ↔ (IsSome (place_among P.index P.generation P.Inx.number (links self.old) kind)
+            × (live_count (links self.old) < arena_capacity (links self.old))) }
+        ensures full { IsErrOf result ChainInsertionError.NotWithinCapacity
+            ↔ (IsSome (place_among P.index P.generation P.Inx.number (links self.old) kind)
+            × (arena_capacity (links self.old) ≤ live_count (links self.old))) }
+        ensures placed { IfOk result
+            (λ p. IfSome (place_among P.index P.generation P.Inx.number (links self.old) kind)
+            (λ place. IsPlaced P.Inx.number place (P.index p) (P.generation p) t (links self.old) (links self.new))) }
+        ensures formed { IsChained P.Inx.number (links self.new) }
+        ensures room { (links self.new).room ≡ (links self.old).room }
+        ensures err { OnErr result (self.new ≡ self.old) }
+    {
+        self.insert_lent_within_capacity(&kind, t)
+    }
+
+    /// Stores `t` in a link where the kind says. Where there is no room the arena grows: to room for 4 at first, then
+    /// for the double, and never past its greatest capacity.
+    ///
+    /// It answers `FailedLinkRequirement` where the links are not as the kind requires, and else `BeyondMaxCapacity`
+    /// where as many links are live as the greatest capacity, and `AllocError` where the memory was refused. The links
+    /// and the room stay as they are then, and `t` is dropped.
+    #[inline(always)]
+    final fn insert_reallocating(
+        &mut self,
+        kind: LinkInsertKind<P>,
+        t: T,
+    ) -> Result<P, ChainInsertionError>
+        ensures refusal { IsLinkRefusal (place_among P.index P.generation P.Inx.number (links self.old) kind)
+            Self.takes_memory (live_count (links self.old)) (links self.old).room result }
+        ensures placed { IfOk result
+            (λ p. IfSome (place_among P.index P.generation P.Inx.number (links self.old) kind)
+            (λ place. IsPlaced P.Inx.number place (P.index p) (P.generation p) t (links self.old) (links self.new))) }
+        ensures formed { IsChained P.Inx.number (links self.new) }
+        ensures room { OnOk result ((links self.new).room
+            ≡ room_after (live_count (links self.old)) (links self.old).room) }
+        ensures err { OnErr result (self.new ≡ self.old) }
+    {
+        self.insert_lent_reallocating(&kind, t)
+    }
+
+    /// The same as `insert_reallocating`, where the links are as the kind requires.
+    #[inline(always)]
+    final fn insert(&mut self, kind: LinkInsertKind<P>, t: T) -> Result<P, ChainInsertionError>
+        requires { IsSome (place_among P.index P.generation P.Inx.number (links self.old) kind) }
+        ensures refusal { IsLinkRefusal (place_among P.index P.generation P.Inx.number (links self.old) kind)
+            Self.takes_memory (live_count (links self.old)) (links self.old).room result }
+        ensures placed { IfOk result
+            (λ p. IfSome (place_among P.index P.generation P.Inx.number (links self.old) kind)
+            (λ place. IsPlaced P.Inx.number place (P.index p) (P.generation p) t (links self.old) (links self.new))) }
+        ensures formed { IsChained P.Inx.number (links self.new) }
+        ensures room { OnOk result ((links self.new).room
+            ≡ room_after (live_count (links self.old)) (links self.old).room) }
+        ensures err { OnErr result (self.new ≡ self.old) }
+    {
+        self.insert_reallocating(kind, t)
+    }
+}

@@ -1,0 +1,250 @@
+-- What becomes of the lists of a playlist where a song and its next are turned round.
+use Rattle.std.proofs.Common.{◌≡◌, ℕ, List, [], ◌∷◌, ◌++◌, Option, Some, None, IsSome, OnSome, is_some, option_map, refl, sym, ap, subst, ◌∙◌, true, false, true≢false, inl, inr}
+use Rattle.std.proofs.lemmas.Bool.Decides.{eqb_tells}
+use Rattle.triple_arena.specs.Content.{Content, entry_at}
+use Rattle.triple_arena.specs.Entries.{generation_at, value_if}
+use Rattle.triple_arena_chain.specs.declared.kind.InsertKind.TheVariants.{Bridge}
+use Rattle.triple_arena_chain.specs.declared.link.IndexLink.{IndexLink}
+use Rattle.triple_arena_chain.specs.Chains.{Ends, next_in, prev_in, next_at, prev_at, first_or, Off, IsLinear, IsRing, renext, reprev, with_next, with_prev, linked, unlinked, exchanged}
+use Rattle.triple_arena_chain.specs.ChainLaws.{Stands-back}
+use Rattle.triple_arena_chain.specs.InsertionListLaws.{linear-reversed, ring-reversed, linear-reversed_end}
+use Rattle.triple_arena_chain.specs.Kinds.{at_bridge}
+use Rattle.triple_arena_chain.specs.ListLaws.{off_or_not, on_differs, holds_next, holds_prev, live_next_in}
+use Rattle.triple_arena_chain.specs.Links.{valued, values_in, link_ends, entry_ends, ends_in, ends_found, place_among, IsChained, IsRelinked}
+use Rattle.triple_arena_chain.specs.Lists.{Chain, members, IsChainOf, IsAppended, IsSplit, IsExchanged}
+
+module _ (f : ℕ → Option Ends) where
+  next-with_prev : (i : ℕ) (v : Option ℕ) (k : ℕ) → next_at (with_prev f i v) k ≡ next_at f k
+  next-with_prev i v k = elim (eqb_tells k i) [ inl is ↦ rw is.0 (by (f k)) | inr other ↦ rw other.0 refl ]
+    where
+      by : (o : Option Ends) → next_in (reprev v o) ≡ next_in o
+      by None = refl
+      by (Some w) = refl
+
+  next-with_next : (i : ℕ) (v : Option ℕ) → IsSome (f i) → next_at (with_next f i v) i ≡ v
+  next-with_next i v live = elim (eqb_tells i i) [ inl is ↦ rw is.0 (by (f i) live) | inr other ↦ absurd (other.1 refl) ]
+    where
+      by : (o : Option Ends) → IsSome o → next_in (renext v o) ≡ v
+      by None some = absurd (true≢false (sym some))
+      by (Some w) some = refl
+
+  live-with_next : (i : ℕ) (v : Option ℕ) (k : ℕ) → IsSome (f k) → IsSome (with_next f i v k)
+  live-with_next i v k live = elim (eqb_tells k i) [ inl is ↦ rw is.0 (by (f k) live) | inr other ↦ rw other.0 live ]
+    where
+      by : (o : Option Ends) → IsSome o → IsSome (renext v o)
+      by None some = some
+      by (Some w) some = refl
+
+  -- one that is parted from itself has no previous one
+  parted_alone : (i : ℕ) → prev_at (unlinked f i i) i ≡ None
+  parted_alone i = elim (eqb_tells i i) [ inl is ↦ rw is.0 (by (f i)) | inr other ↦ absurd (other.1 refl) ]
+    where
+      by : (o : Option Ends) → prev_in (reprev None (renext None o)) ≡ None
+      by None = refl
+      by (Some w) = refl
+
+  parted_live : (i : ℕ) → IsSome (f i) → IsSome (unlinked f i i i)
+  parted_live i live = elim (eqb_tells i i) [ inl is ↦ rw is.0 (by (f i) live) | inr other ↦ absurd (other.1 refl) ]
+    where
+      by : (o : Option Ends) → IsSome o → IsSome (reprev None (renext None o))
+      by None some = some
+      by (Some w) some = refl
+
+  parted_other : (i k : ℕ) → (k ≡ i → ⊥) → unlinked f i i k ≡ f k
+  parted_other i k differs = elim (eqb_tells k i) [ inl is ↦ absurd (differs is.1) | inr other ↦ rw other.0 refl ]
+
+-- an exchange of the nexts of a link and of the next one leaves this one a ring of one
+own_next : (e : ℕ → Option Ends) (o p q : ℕ) → IsSome (e p) → next_at (exchanged e o p p q) p ≡ Some p
+own_next e o p q live =
+    next-with_prev (with_prev (with_next (with_next e o (Some q)) p (Some p)) q (Some o)) p (Some p) p
+    ∙ next-with_prev (with_next (with_next e o (Some q)) p (Some p)) q (Some o) p
+    ∙ next-with_next (with_next e o (Some q)) p (Some p) (live-with_next e o (Some q) p live)
+
+bridges : (p q : ℕ) (o n : Option Ends) → IsSome o → next_in o ≡ None → IsSome n → prev_in n ≡ None → IsSome (at_bridge p q o n)
+bridges p q None n there end there' start = absurd (true≢false (sym there))
+bridges p q (Some v) None there end there' start = absurd (true≢false (sym there'))
+bridges p q (Some v) (Some w) there end there' start = rw (end, start) refl
+
+pub on_some : {A B : Type 0} (r : Option A) → IsSome r → OnSome r B → B
+on_some None there on = absurd (true≢false (sym there))
+on_some (Some a) there on = on
+
+some_next : (o : Option Ends) → IsSome (next_in o) → (s : ℕ) × (next_in o ≡ Some s)
+some_next o there = by (next_in o) refl there
+  where
+    by : (n : Option ℕ) → next_in o ≡ n → IsSome n → (s : ℕ) × (next_in o ≡ Some s)
+    by None is some = absurd (true≢false (sym some))
+    by (Some s) is some = (s, is)
+
+module _ {I T : Type 0} (number : I → ℕ) (c : Content (IndexLink I T)) (i g : ℕ) where
+  -- what is found at a pointer has its generation
+  generation_of : IsSome (ends_found number c i g) → generation_at (values_in c) i ≡ Some g
+  generation_of there = by (entry_at c i) there
+    where
+      by : (o : Option (ℕ × IndexLink I T)) → IsSome (option_map (link_ends number) (value_if g o)) → option_map (λ v. v.0) (option_map valued o) ≡ Some g
+      by None some = absurd (true≢false (sym some))
+      by (Some e) some = elim (eqb_tells e.0 g) [ inl is ↦ ap Some is.1 | inr other ↦ absurd (let no : false ≡ true = rw other.0 at some in cc) ]
+
+  -- and what has this generation is found
+  finds : generation_at (values_in c) i ≡ Some g → ends_found number c i g ≡ ends_in number c i
+  finds is = by (entry_at c i) is
+    where
+      by : (o : Option (ℕ × IndexLink I T)) → option_map (λ v. v.0) (option_map valued o) ≡ Some g
+          → option_map (link_ends number) (value_if g o) ≡ option_map (entry_ends number) o
+      by None none = refl
+      by (Some e) some =
+          let at : e.0 ≡ g = cc in
+          elim (eqb_tells e.0 g) [ inl same ↦ rw same.0 refl | inr other ↦ absurd (other.1 at) ]
+
+  next_found : (n : ℕ) → next_in (ends_found number c i g) ≡ Some n → next_at (ends_in number c) i ≡ Some n
+  next_found n is = ap next_in (sym (finds (generation_of (live_next_in (ends_found number c i g) n is)))) ∙ is
+
+module _ {I T : Type 0} (number : I → ℕ) (c : Content (IndexLink I T)) (o p : ℕ) where
+  -- what it makes of the lists
+  pub record Reversed (d : Content (IndexLink I T)) : Type 0 where
+    pub linear : (front rest : List ℕ) (q : ℕ) → IsLinear (ends_in number c) (front ++ (o ∷ p ∷ q ∷ rest))
+        → IsLinear (ends_in number d) (front ++ (o ∷ q ∷ p ∷ rest))
+    pub ring : (rest : List ℕ) (q : ℕ) → IsRing (ends_in number c) (o ∷ p ∷ q ∷ rest) → IsRing (ends_in number d) (o ∷ q ∷ p ∷ rest)
+    pub others : (l : Chain) → IsChainOf (ends_in number c) l → Off (members l) p → IsChainOf (ends_in number d) l
+    pub values : (k : ℕ) → values_in d k ≡ values_in c k
+
+module _ {I T : Type 0} (number : I → ℕ) (c m : Content (IndexLink I T)) (o p q go g h : ℕ) (chained : IsChained number c)
+    (to_p : next_in (ends_found number c o go) ≡ Some p) (to_q : next_in (ends_found number c p g) ≡ Some q)
+    (at_q : generation_at (values_in c) q ≡ Some h)
+    (relinked : (s t : ℕ) → next_at (ends_in number c) o ≡ Some s → next_at (ends_in number c) p ≡ Some t
+    → IsRelinked number (exchanged (ends_in number c) o p s t) c m)
+    (first : IsExchanged o p (ends_in number c) (ends_in number m)) where
+  next_o : next_at (ends_in number c) o ≡ Some p
+  next_o = next_found number c o go p to_p
+
+  next_p : next_at (ends_in number c) p ≡ Some q
+  next_p = next_found number c p g q to_q
+
+  once : IsRelinked number (exchanged (ends_in number c) o p p q) c m
+  once = relinked p q next_o next_p
+
+  own : next_at (ends_in number m) p ≡ Some p
+  own = ap next_in (once.ends p) ∙ own_next (ends_in number c) o p q (live_next_in (ends_in number c p) q next_p)
+
+  at_p : generation_at (values_in m) p ≡ Some g
+  at_p = ap (option_map (λ v. v.0)) (once.values p) ∙ generation_of number c p g (live_next_in (ends_found number c p g) q to_q)
+
+  -- after the first exchange the first of the two is its own next
+  pub still_next : next_in (ends_found number m p g) ≡ Some p
+  still_next = ap next_in (finds number m p g at_p) ∙ own
+
+  found_q : ends_found number m q h ≡ ends_in number m q
+  found_q = finds number m q h (ap (option_map (λ v. v.0)) (once.values q) ∙ at_q)
+
+  off_o : (l : Chain) → IsChainOf (ends_in number c) l → Off (members l) p → Off (members l) o
+  off_o l chain off = off_or_not (members l) o (λ on. on_differs (members l) p p (holds_next (ends_in number c) l o p chain on next_o) off refl)
+
+  off_q : (l : Chain) → IsChainOf (ends_in number c) l → Off (members l) p → Off (members l) q
+  off_q l chain off =
+      off_or_not (members l) q
+      (λ on. on_differs (members l) p p (holds_prev (ends_in number c) l q p chain on (chained.agreed.forward p q next_p)) off refl)
+
+  linear_of : (n : ℕ → Option Ends) → ((front rest : List ℕ) → IsLinear (ends_in number c) (front ++ (o ∷ p ∷ q ∷ rest)) → IsLinear n (front ++ (o ∷ q ∷ p ∷ rest)))
+      → (front rest : List ℕ) (x : ℕ) → IsLinear (ends_in number c) (front ++ (o ∷ p ∷ x ∷ rest)) → IsLinear n (front ++ (o ∷ x ∷ p ∷ rest))
+  linear_of n turns front rest x s =
+      let both : Some q ≡ Some x = sym next_p ∙ ap next_in (Stands-back (ends_in number c) None None front (o ∷ p ∷ x ∷ rest) s).1.0 in
+      let same : q ≡ x = cc in
+      subst (λ y. IsLinear (ends_in number c) (front ++ (o ∷ p ∷ y ∷ rest)) → IsLinear n (front ++ (o ∷ y ∷ p ∷ rest))) same (turns front rest) s
+
+  ring_of : (n : ℕ → Option Ends) → ((rest : List ℕ) → IsRing (ends_in number c) (o ∷ p ∷ q ∷ rest) → IsRing n (o ∷ q ∷ p ∷ rest))
+      → (rest : List ℕ) (x : ℕ) → IsRing (ends_in number c) (o ∷ p ∷ x ∷ rest) → IsRing n (o ∷ x ∷ p ∷ rest)
+  ring_of n turns rest x r =
+      let both : Some q ≡ Some x = sym next_p ∙ ap next_in r.stands.1.0 in
+      let same : q ≡ x = cc in
+      subst (λ y. IsRing (ends_in number c) (o ∷ p ∷ y ∷ rest) → IsRing n (o ∷ y ∷ p ∷ rest)) same (turns rest) r
+
+  -- where the second one has a next it is put in again by another exchange
+  pub exchanged_back : (d : Content (IndexLink I T)) → IsSome (next_in (ends_found number m q h))
+      → ((s t : ℕ) → next_at (ends_in number m) q ≡ Some s → next_at (ends_in number m) p ≡ Some t
+      → IsRelinked number (exchanged (ends_in number m) q p s t) m d)
+      → IsExchanged q p (ends_in number m) (ends_in number d) → Reversed number c o p d
+  exchanged_back d there again second =
+      let s = some_next (ends_found number m q h) there in
+      let twice = again s.0 p (ap next_in (sym found_q) ∙ s.1) own in
+      let old = ends_in number c in
+      let between = ends_in number m in
+      let new = ends_in number d in
+      record {
+        linear = linear_of new (linear-reversed old between new o p q first second);
+        ring = ring_of new (ring-reversed old between new o p q first second);
+        others = λ l chain off. second.others l (first.others l chain (off_o l chain off) off) (off_q l chain off) off;
+        values = λ k. twice.values k ∙ once.values k;
+      }
+
+  -- where no exchange came about the second one is the end
+  pub is_end : {A : Type 0} (r : Option A) → (IsSome (next_in (ends_found number m q h)) × IsSome (next_in (ends_found number m p g)) → IsSome r) → r ≡ None
+      → next_in (ends_found number m q h) ≡ None
+  is_end r variant none = by (next_in (ends_found number m q h)) refl
+    where
+      by : (x : Option ℕ) → next_in (ends_found number m q h) ≡ x → x ≡ None
+      by None is = refl
+      by (Some s) is = absurd (true≢false (sym (variant (ap is_some is, ap is_some still_next)) ∙ ap is_some none))
+
+  module _ (b : Content (IndexLink I T)) (end : next_in (ends_found number m q h) ≡ None)
+      (breaks : (s : ℕ) → next_at (ends_in number m) p ≡ Some s → IsRelinked number (unlinked (ends_in number m) p s) m b) where
+    ends : next_at (ends_in number m) q ≡ None
+    ends = ap next_in (sym found_q) ∙ end
+
+    differs : q ≡ p → ⊥
+    differs same = let no : None ≡ Some p = sym ends ∙ ap (next_at (ends_in number m)) same ∙ own in absurd (cc)
+
+    open_q : ends_in number b q ≡ ends_in number m q
+    open_q = (breaks p own).ends q ∙ parted_other (ends_in number m) p q differs
+
+    -- else it is the end, behind which the first one fits
+    pub fits : {P : Type 0} (index generation : P → ℕ) (first second : P) → index first ≡ p → generation first ≡ g → index second ≡ q
+        → generation second ≡ h → IsSome (place_among index generation number b (Bridge second first))
+    fits index generation first second first_is gen_is second_is gen_is' =
+        rw (first_is, gen_is, second_is, gen_is')
+        (let before : generation_at (values_in b) q ≡ Some h =
+        ap (option_map (λ v. v.0)) ((breaks p own).values q ∙ once.values q) ∙ at_q in
+        let after : generation_at (values_in b) p ≡ Some g = ap (option_map (λ v. v.0)) ((breaks p own).values p) ∙ at_p in
+        let q_is = finds number b q h before in
+        let p_is = finds number b p g after in
+        let out = ap next_in (q_is ∙ open_q) ∙ ends in
+        let into = ap prev_in (p_is ∙ (breaks p own).ends p) ∙ parted_alone (ends_in number m) p in
+        bridges q p (ends_found number b q h) (ends_found number b p g) (live_q q_is before) out (live_p p_is) into)
+      where
+        live_at : (x : Option (ℕ × IndexLink I T)) (k : ℕ) → option_map (λ v. v.0) (option_map valued x) ≡ Some k → IsSome (option_map (entry_ends number) x)
+        live_at None k is = absurd (let no : None ≡ Some k = is in cc)
+        live_at (Some e) k is = refl
+
+        live_q : ends_found number b q h ≡ ends_in number b q → generation_at (values_in b) q ≡ Some h → IsSome (ends_found number b q h)
+        live_q is at = subst IsSome (sym is) (live_at (entry_at b q) h at)
+
+        live_p : ends_found number b p g ≡ ends_in number b p → IsSome (ends_found number b p g)
+        live_p is =
+            subst IsSome (sym (is ∙ (breaks p own).ends p)) (parted_live (ends_in number m) p (live_next_in (ends_in number m p) p own))
+
+    -- and is appended
+    pub appended_back : (d : Content (IndexLink I T))
+        → ((s : ℕ) → next_at (ends_in number m) p ≡ Some s → IsSplit p s (ends_in number m) (ends_in number b))
+        → IsRelinked number (linked (ends_in number b) q p) b d → IsAppended q p (ends_in number b) (ends_in number d) → Reversed number c o p d
+    appended_back d splits joined appended =
+        let old = ends_in number c in
+        let between = ends_in number m in
+        let broken = ends_in number b in
+        let new = ends_in number d in
+        let parted = splits p own in
+        record {
+          linear = linear_of new (λ front rest. linear-reversed_end old between broken new o p q first parted appended front rest ends);
+          ring = ring_of new (λ rest r. absurd (no_ring rest r));
+          others = λ l chain off.
+              appended.others l (parted.others l (first.others l chain (off_o l chain off) off) off off) (off_q l chain off) off;
+          values = λ k. joined.values k ∙ (breaks p own).values k ∙ once.values k;
+        }
+      where
+        -- a ring has no end
+        no_ring : (rest : List ℕ) → IsRing (ends_in number c) (o ∷ p ∷ q ∷ rest) → ⊥
+        no_ring rest r =
+            let parts = (first.first (λ same. r.apart.0.0 (sym same))).parted [] (q ∷ rest) r in
+            by rest (sym (ap next_in parts.0.stands.1.0) ∙ ends)
+          where
+            by : (xs : List ℕ) → first_or xs (Some o) ≡ None → ⊥
+            by [] is = let no : Some o ≡ None = is in absurd (cc)
+            by (x ∷ xs) is = let no : Some x ≡ None = is in absurd (cc)
