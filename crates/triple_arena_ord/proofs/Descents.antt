@@ -7,9 +7,9 @@ use Rattle.triple_arena_ord.specs.Knot.{Knot}
 use Rattle.triple_arena_ord.specs.declared.knots.Side.TheVariants.{Left, Right}
 use Rattle.triple_arena_ord.specs.Store.{Store, rank_in, rank_or_zero, rank_or_link}
 use Rattle.triple_arena_ord.specs.Tree.{Tree, leaf, node, walk, rank_of, IsRanked}
-use Rattle.triple_arena_ord.specs.Shape.{knot, root_of, Context, top, under, plug, holder, Represents, Stands, count, count_round}
-use Rattle.triple_arena_ord.specs.Search.{AllIn, Before, IsParted, Places, IsAnswer}
-use Rattle.triple_arena_ord.proofs.Frames.{one-same, plug-count, root-counted}
+use Rattle.triple_arena_ord.specs.Shape.{knot, root_of, Context, top, under, plug, holder, Represents, Hangs, Stands, count, count_round}
+use Rattle.triple_arena_ord.specs.Search.{AllIn, Before, IsParted, Places, IsAnswer, IsFreeAt}
+use Rattle.triple_arena_ord.proofs.Frames.{one-same, plug-count, plug-opens, root-counted}
 use Rattle.triple_arena_ord.proofs.Spots.{root-lives}
 
 -- the indexes before a hole, and those after it
@@ -127,6 +127,23 @@ descent_ends n f whole link place asked e h =
       asked = h.answered;
       parted = λ i d u s. let o = h.parted s in subst (λ t. Places f (walk t) i d) is (place_places f h.context i d (sym h.place_is ∙ u) o.0 o.1);
     }
+
+-- what was asked last has no child where the hole is
+place_free : (n : Store) (root : Option ℕ) (c : Context) → Hangs n root c None → (i : ℕ) (d : Ordering) → last_of c ≡ Some (i, d) → IsFreeAt d (n i)
+place_free n root top h i d e = absurd (cc)
+place_free n root (under c Left x k far) h i d e =
+    let p = some_pair x i Less d e in
+    subst (λ d. IsFreeAt d (n i)) p.1 (subst (λ j. IsFreeAt Less (n j)) p.0 (rw (h.0) refl))
+place_free n root (under c Right x k far) h i d e =
+    let p = some_pair x i Greater d e in
+    subst (λ d. IsFreeAt d (n i)) p.1 (subst (λ j. IsFreeAt Greater (n j)) p.0 (rw (h.0) refl))
+
+pub descent_free : (n : Store) (f : ℕ → Ordering) (root : Option ℕ) (whole : Tree) (link : Option ℕ) (place : Option (ℕ × Ordering)) (asked : ℕ) → Stands n root whole
+    → link ≡ None → Descent n f whole link place asked → (i : ℕ) (d : Ordering) → place ≡ Some (i, d) → IsFreeAt d (n i)
+descent_free n f root whole link place asked stands e h i d at =
+    let nil : h.rest ≡ leaf = rest_leaf h.rest (sym h.link_is ∙ e) in
+    let is : whole ≡ plug h.context leaf = sym h.is ∙ ap (λ t. plug h.context t) nil in
+    place_free n root h.context (plug-opens n root h.context leaf (subst (Stands n root) is stands)).0 i d (sym h.place_is ∙ at)
 
 -- one step down
 pub record Here (n : Store) (f : ℕ → Ordering) (whole : Tree) (i : ℕ) (v : Knot) (asked : ℕ) : Type 0 where

@@ -1,5 +1,5 @@
 -- A search by key over the nodes of an arena.
-use Rattle.std.proofs.Common.{◌≡◌, ◌≢◌, ℕ, ◌+◌, ◌*◌, ◌^◌, ◌<◌, ◌≤◌, ◌∷◌, Option, Some, None, IsSome, refl, sym, ap, ◌∙◌, subst, arith, inl, inr}
+use Rattle.std.proofs.Common.{◌≡◌, ◌≢◌, ℕ, ◌+◌, ◌*◌, ◌^◌, ◌<◌, ◌≤◌, ◌∷◌, Option, Some, None, IsSome, IfSome, refl, sym, ap, ◌∙◌, subst, arith, inl, inr}
 use Rattle.std.specs.Option.{option_map}
 use Rattle.std.proofs.lemmas.Bool.{cases_eq, cases_lt, eq-eqb}
 use Rattle.std.specs.Cmp.{IsTotalOrder}
@@ -14,12 +14,13 @@ use Rattle.counted_search.specs.Searches.{fair}
 use Rattle.counted_search.specs.SearchLaws.{fair-greatest}
 use Rattle.triple_arena_ord.specs.Tree.{Tree, leaf, node, walk, rank_of, size}
 use Rattle.triple_arena_ord.specs.Shape.{count}
-use Rattle.triple_arena_ord.specs.Search.{AllIn, Before, IsParted, IsAnswer}
+use Rattle.triple_arena_ord.specs.Search.{AllIn, Before, IsParted, IsAnswer, IsFreeAt}
 use Rattle.triple_arena_ord.specs.Ordered.{Ordered, IsOrdered, IsAscending, tree_in, order_in, entry_in, size_in, asked_of, asked_at}
 use Rattle.triple_arena_ord.proofs.Bound.{size_bound}
 use Rattle.triple_arena_ord.proofs.Climbs.{size-walk}
-use Rattle.triple_arena_ord.proofs.Descents.{Descent, Here, descent_begins, step_down, AllIn-front, AllIn-back, AllIn-append, AllIn-map, parted-after, parted-before}
+use Rattle.triple_arena_ord.proofs.Descents.{Descent, Here, descent_begins, descent_free, step_down, AllIn-front, AllIn-back, AllIn-append, AllIn-map, parted-after, parted-before}
 use Rattle.triple_arena_ord.proofs.Frames.{one-other, one-same}
+use Rattle.triple_arena_ord.proofs.NameLemmas.{if_answered}
 use Rattle.triple_arena_ord.proofs.SeekShapes.{counted-lives}
 use Rattle.triple_arena_ord.proofs.SortedLemmas.{parted_from}
 
@@ -102,6 +103,14 @@ module _ {I K T : Type 0} (number : I → ℕ) (cmp : K → K → Ordering) (key
         here = step_down (knots_in number o.chains) (asked_at cmp key k o) (tree_in number o) link place asked i (knot_of number v) link_is (node_knot (values_in o.chains i) v e) d;
         is = node_asked (values_in o.chains i) v e;
       }
+
+  -- a search that ends beside a gap ends where a child is missing
+  pub seek_ends : (o inside : Ordered I T) → inside ≡ o → IsOrdered number inside → (r : Option (I × Ordering)) (link : Option ℕ) (asked : ℕ) → link ≡ None
+      → Descent (knots_in number o.chains) (asked_at cmp key k o) (tree_in number o) link (option_map (λ a. (number a.0, a.1)) r) asked → IfSome r (λ a. IsFreeAt a.1 (knots_in number o.chains (number a.0)))
+  seek_ends o inside same is r link asked at d =
+      let it : IsOrdered number o = subst (IsOrdered number) same is in
+      if_answered number (λ i d. IsFreeAt d (knots_in number o.chains i)) r
+      (descent_free (knots_in number o.chains) (asked_at cmp key k o) o.root (tree_in number o) link (option_map (λ a. (number a.0, a.1)) r) asked it.whole.stands at d)
 
   -- the entry that was found
   pub found : (o inside : Ordered I T) → inside ≡ o → (i g : ℕ) (u : IndexNode I T) → Some (g, u) ≡ values_in inside.chains i → asked_at cmp key k o i ≡ Equal

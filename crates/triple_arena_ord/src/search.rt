@@ -1,10 +1,11 @@
 //! Searches by key.
-ghost use Rattle.std.specs.Prelude.{◌≡◌, ◌≢◌, ℕ, ◌+◌, ◌≤◌, Some, None};
+ghost use Rattle.std.specs.Prelude.{◌≡◌, ◌≢◌, ℕ, ◌+◌, ◌≤◌, Some, None, IfSome};
 ghost use Rattle.std.specs.Option.{option_map};
 ghost use Rattle.counted_search.specs.Searches.{fair};
 ghost use Rattle.triple_arena.specs.Entries.{value_if};
 ghost use Rattle.triple_arena_ord.specs.Tree.{rank_of};
-ghost use Rattle.triple_arena_ord.specs.Search.{IsAnswer};
+ghost use Rattle.triple_arena_ord.specs.Node.{knots_in};
+ghost use Rattle.triple_arena_ord.specs.Search.{IsAnswer, IsFreeAt};
 ghost use Rattle.triple_arena_ord.specs.Ordered.{IsOrdered, IsAscending, tree_in, entry_in, size_in, asked_at};
 
 use crate::{SimpleOrdArena, SimpleOrdArenaNode, SimpleOrdItem};
@@ -22,6 +23,7 @@ impl<
     pub(crate) fn seek(&self, k: &T::Key, probes: &mut Probes) -> Option<(P::Inx, Ordering)>
         ensures answer { IsAnswer (asked_at T.Key.cmp T.key_of k.now self.now)
             (tree_in P.Inx.number self.now) (option_map (λ a. (P.Inx.number a.0, a.1)) result) }
+        ensures free { IfSome result (λ a. IsFreeAt a.1 (knots_in P.Inx.number self.now.chains (P.Inx.number a.0))) }
         ensures rises { probes.old ≤ probes.new }
         ensures ticks { probes.new ≤ probes.old + rank_of (tree_in P.Inx.number self.now) }
         ensures ordered { IsOrdered P.Inx.number self.now }

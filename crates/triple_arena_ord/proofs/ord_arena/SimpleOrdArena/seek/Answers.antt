@@ -1,7 +1,7 @@
 use Rattle.std.proofs.Common.{◌+◌, refl, sym, ap, ◌∙◌, option_map, arith}
 use Rattle.triple_arena_ord.specs.Node.{knots_in}
-use Rattle.triple_arena_ord.proofs.Descents.{falls_down, descent_ends}
-use Rattle.triple_arena_ord.proofs.SeekLemmas.{seek_begins, seek_step}
+use Rattle.triple_arena_ord.proofs.Descents.{falls_down, descent_ends, descent_lives}
+use Rattle.triple_arena_ord.proofs.SeekLemmas.{seek_begins, seek_step, seek_ends}
 use Rattle.triple_arena_ord.proofs.ord_arena.SimpleOrdArena.seek.Goals as goal
 
 pub down-init : goal.down-init
@@ -46,3 +46,9 @@ down-preserved g c =
 
 pub returns-clause-answer : goal.returns-clause-answer
 returns-clause-answer g c = descent_ends _ _ _ _ _ _ (ap (option_map g.P.Inx.PtrInx.number) c.in_default.is) c.down.invariant.1.1
+
+pub returns-clause-free : goal.returns-clause-free
+returns-clause-free g c = seek_ends g.P.Inx.PtrInx.number g.T.Key.Ord.cmp g.T.SimpleOrdItem.key_of c.args.k.now c.args.self.now _ c.self.view_is c.self.invariant.0 c.before.down.place _ _ (ap (option_map g.P.Inx.PtrInx.number) c.in_default.is) c.down.invariant.1.1
+
+pub returns-in-Equal-clause-free : goal.returns-in-Equal-clause-free
+returns-in-Equal-clause-free g c = (descent_lives _ _ _ _ _ _ (g.P.Inx.PtrInx.number c.in-Some.i) (ap (option_map g.P.Inx.PtrInx.number) c.in-Some.is) c.down.invariant.1.1).1
