@@ -19,3 +19,4 @@ pub mod SeekLemmas
 pub mod GapLemmas
 pub mod LeafLemmas
 pub mod EndLemmas
+pub mod InsertLemmas

@@ -184,11 +184,15 @@ module _ {I K T : Type 0} (number : I → ℕ) (cmp : K → K → Ordering) (key
       let gone : IsSome (option_map bare_item None) = subst (λ e. IsSome (option_map itemed e)) none lives in
       absurd (cc)
 
+  -- a sorted list parts at a key
+  pub parts_at : IsTotalOrder cmp → (o : Ordered I T) → IsOrdered number o → IsAscending number cmp key o → IsParted (asked_at cmp key k o) (order_in number o)
+  parts_at total o is ascending =
+      parted_from total key (entry_in o) k (order_in number o) (counted-all (λ i. IsSome (entry_in o i)) (tree_in number o) (λ j h. lives-entry o is j h)) ascending
+
   pub absent : IsTotalOrder cmp → (o : Ordered I T) → IsOrdered number o → (a : Option (ℕ × Ordering)) → IsAnswer (asked_at cmp key k o) (tree_in number o) a → ((i : ℕ) (d : Ordering) → a ≡ Some (i, d) → d ≢ Equal)
       → IsAscending number cmp key o → (j : ℕ) → option_map (λ e. cmp k (key e.1)) (entry_in o j) ≢ Some Equal
   absent total o is a answer not ascending j e =
       let f = asked_at cmp key k o in
-      let parted : IsParted f (order_in number o) = parted_from total key (entry_in o) k (order_in number o) (counted-all (λ i. IsSome (entry_in o i)) (tree_in number o) (λ j h. lives-entry o is j h)) ascending in
-      let none = unequal f (tree_in number o) a answer not parted in
+      let none = unequal f (tree_in number o) a answer not (parts_at total o is ascending) in
       let q = asked-equal (entry_in o j) e in
       all-counted (λ y. f y ≢ Equal) (tree_in number o) none j (is.all j (item-some (values_in o.chains j) q.0)) q.1

@@ -9,3 +9,4 @@ pub mod Search
 pub mod Kinds
 pub mod Pairs
 pub mod Ordered
+pub mod Inserted

@@ -3,6 +3,7 @@
 #![tactic(auto)]
 
 mod edges;
+mod insert;
 mod inserted;
 mod item;
 mod kind;

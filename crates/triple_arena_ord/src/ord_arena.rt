@@ -1,7 +1,7 @@
 //! The ordered arena.
 ghost use Rattle.std.specs.Prelude.{◌≡◌, ℕ, [], ◌∷◌, ◌<◌, ◌↔◌, Some, None, IsSome, IsOk, IfOk, OnErr};
 ghost use Rattle.std.specs.Option.{option_map};
-ghost use Rattle.triple_arena.specs.Content.{live_count, arena_capacity, empty};
+ghost use Rattle.triple_arena.specs.Content.{live_count, arena_capacity, next_index, empty};
 ghost use Rattle.triple_arena.specs.Entries.{with_entry};
 ghost use Rattle.triple_arena.specs.ArenaRoom.{room_of};
 ghost use Rattle.triple_arena_ptr.specs.Generation.{second_generation};
@@ -88,6 +88,7 @@ impl<
         ensures variant { IsOk result ↔ (live_count self.old.chains < arena_capacity self.old.chains) }
         ensures order { IfOk result (λ p. StandsBeside side (order_in P.Inx.number self.old) (order_in P.Inx.number self.new) (P.Inx.number holder) (P.index p)) }
         ensures entries { IfOk result (λ p. (k : ℕ) → entry_in self.new k ≡ with_entry (entry_in self.old) (P.index p) (P.generation p, t) k) }
+        ensures index { IfOk result (λ p. P.index p ≡ next_index self.old.chains) }
         ensures generation { IfOk result (λ p. P.generation p ≡ self.old.chains.counter) }
         ensures counter { self.new.chains.counter ≡ self.old.chains.counter }
         ensures room { self.new.chains.room ≡ self.old.chains.room }
@@ -109,6 +110,7 @@ impl<
         ensures variant { IsOk result ↔ (live_count self.old.chains < arena_capacity self.old.chains) }
         ensures order { IfOk result (λ p. order_in P.Inx.number self.new ≡ P.index p ∷ []) }
         ensures entries { IfOk result (λ p. (k : ℕ) → entry_in self.new k ≡ with_entry (entry_in self.old) (P.index p) (P.generation p, t) k) }
+        ensures index { IfOk result (λ p. P.index p ≡ next_index self.old.chains) }
         ensures generation { IfOk result (λ p. P.generation p ≡ self.old.chains.counter) }
         ensures counter { self.new.chains.counter ≡ self.old.chains.counter }
         ensures room { self.new.chains.room ≡ self.old.chains.room }

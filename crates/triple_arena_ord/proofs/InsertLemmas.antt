@@ -1,0 +1,179 @@
+-- An item is replaced, and one is put in where its key belongs.
+use Rattle.std.proofs.Common.{◌≡◌, ◌≢◌, ℕ, ◌<◌, List, [], ◌∷◌, ◌++◌, length, append_assoc, Option, Some, None, IsSome, Result, Ok, Err, refl, sym, ap, ◌∙◌, subst, inl, inr}
+use Rattle.std.specs.Option.{option_map}
+use Rattle.std.proofs.lemmas.Bool.Decides.{eqb_tells}
+use Rattle.std.specs.Cmp.{IsTotalOrder}
+use Rattle.std.specs.declared.cmp.Ordering.{Ordering}
+use Rattle.std.specs.declared.cmp.Ordering.TheVariants.{Less, Equal, Greater}
+use Rattle.triple_arena.specs.Content.{Content}
+use Rattle.triple_arena_ptr.specs.declared.errors.OrdInsertionError.{OrdInsertionError}
+use Rattle.triple_arena_chain.specs.declared.link.IndexLink.{IndexLink}
+use Rattle.triple_arena_chain.specs.Chains.{IsLinear, Off, Apart}
+use Rattle.triple_arena_chain.specs.ChainLaws.{Off-not_on}
+use Rattle.triple_arena_chain.specs.Links.{ends_in, values_in, with_value_in}
+use Rattle.triple_arena_chain.specs.LinkLaws.{values-with_value_in, ends-with_value_in, kept-with_value_in}
+use Rattle.triple_arena_chain.specs.Lists.{Linear}
+use Rattle.triple_arena_chain.specs.ListLaws.{chain_where}
+use Rattle.triple_arena_chain.specs.UniquenessLaws.{linear_apart}
+use Rattle.triple_arena_ord.specs.declared.node.IndexNode.{IndexNode}
+use Rattle.triple_arena_ord.specs.declared.knots.Side.TheVariants.{Left, Right}
+use Rattle.triple_arena_ord.specs.Knot.{Knot}
+use Rattle.triple_arena_ord.specs.Node.{knots_in, knot_of, itemed}
+use Rattle.triple_arena_ord.specs.Tree.{Tree, walk, IsRanked}
+use Rattle.triple_arena_ord.specs.Shape.{Stands, IsDistinct, count}
+use Rattle.triple_arena_ord.specs.Search.{AllIn, Before, IsParted, Places, IsAnswer}
+use Rattle.triple_arena_ord.specs.Ordered.{Ordered, IsOrdered, IsAscending, StandsBeside, tree_in, order_in, entry_in, asked_of, asked_at}
+use Rattle.triple_arena_ord.specs.Inserted.{StandsAt, IsRenewed, IsReplaced, IsInsertedAt, IsPlacedByKey, IsInserted}
+use Rattle.triple_arena_ord.proofs.Frames.{Represents-keep}
+use Rattle.triple_arena_ord.proofs.Descents.{AllIn-append, AllIn-map, parted-after, parted-before}
+use Rattle.triple_arena_ord.proofs.Unique.{tree_is}
+use Rattle.triple_arena_ord.proofs.SeekLemmas.{parts_at, absent}
+
+-- an index stands at one place of a list that has each index once
+split_same : (xs : List ℕ) (h : ℕ) (ys us vs : List ℕ) → Apart (xs ++ h ∷ ys) → xs ++ h ∷ ys ≡ us ++ h ∷ vs → (xs ≡ us) × (ys ≡ vs)
+split_same [] h ys [] vs apart e = let z : ys ≡ vs = cc in (refl, z)
+split_same [] h ys (u ∷ us) vs apart e =
+    let tail : ys ≡ us ++ h ∷ vs = cc in
+    absurd (Off-not_on us vs h (subst (λ z. Off z h) tail apart.0))
+split_same (x ∷ xs) h ys [] vs apart e =
+    let head : x ≡ h = cc in
+    absurd (Off-not_on xs ys h (subst (λ z. Off (xs ++ h ∷ ys) z) head apart.0))
+split_same (x ∷ xs) h ys (u ∷ us) vs apart e =
+    let head : x ≡ u = cc in
+    let tail : xs ++ h ∷ ys ≡ us ++ h ∷ vs = cc in
+    let rest = split_same xs h ys us vs apart.1 tail in
+    (ap (λ z. z ∷ xs) head ∙ ap (λ z. u ∷ z) rest.0, rest.1)
+
+module _ {I T : Type 0} (number : I → ℕ) where
+  abbrev knot_at : ℕ × IndexNode I T → Knot
+  knot_at entry = knot_of number entry.1
+
+  renewed : (c : Content (IndexLink I (IndexNode I T))) (i g : ℕ) (u v : IndexNode I T) → values_in c i ≡ Some (g, u) → knot_of number v ≡ knot_of number u
+      → IsRenewed number i g v.t u.t c (with_value_in c i v)
+  renewed c i g u v at same = record {
+    was = ap (option_map itemed) at;
+    items = λ k. ap (option_map itemed) (values-with_value_in c i v k) ∙ elim (eqb_tells k i) [
+      | inl e ↦ rw (e.0, at) refl
+      | inr d ↦ rw d.0 refl
+    ];
+    knots = λ k. ap (option_map knot_at) (values-with_value_in c i v k) ∙ elim (eqb_tells k i) [
+      | inl e ↦ rw (e.0, at) (ap Some same ∙ sym (ap (knots_in number c) e.1 ∙ ap (option_map knot_at) at))
+      | inr d ↦ rw d.0 refl
+    ];
+    ends = ends-with_value_in number c i v;
+    kept = kept-with_value_in c i v;
+  }
+
+  same_node : (e : Option (ℕ × IndexNode I T)) (g : ℕ) (u w : IndexNode I T) → e ≡ Some (g, u) → option_map (λ e. e.1) e ≡ Some w → e ≡ Some (g, w)
+  same_node e g u w at is =
+      let q : Some u ≡ Some w = sym (ap (option_map (λ e. e.1)) at) ∙ is in
+      let z : u ≡ w = cc q in
+      at ∙ ap (λ z. Some (g, z)) z
+
+  -- another item in the node that was read
+  pub renewed_at : (c : Content (IndexLink I (IndexNode I T))) (i g : ℕ) (u w : IndexNode I T) (t d old : T) (p_index p_gen : ℕ)
+      → values_in c i ≡ Some (g, u) → option_map (λ e. e.1) (values_in c i) ≡ Some w → old ≡ w.t → d ≡ t → p_index ≡ i → p_gen ≡ g
+      → IsRenewed number p_index p_gen t old c (with_value_in c i (record w { t = d }))
+  renewed_at c i g u w t d old p_index p_gen at is old_is d_is index_is gen_is =
+      rw (old_is, d_is, index_is, gen_is) (renewed c i g w (record w { t = t }) (same_node (values_in c i) g u w at is) refl)
+
+  -- the list is the same, and as it must be
+  pub record Reordered (o p : Ordered I T) : Type 0 where
+    pub ordered : IsOrdered number p
+    pub order : order_in number p ≡ order_in number o
+
+  pub renewed_ordered : (o p : Ordered I T) (i g : ℕ) (t u : T) → p.root ≡ o.root → IsRenewed number i g t u o.chains p.chains → IsOrdered number o → Reordered o p
+  renewed_ordered o p i g t u root r is =
+      let n = knots_in number p.chains in
+      let tree = tree_in number o in
+      let stands : Stands n p.root tree = (root ∙ is.whole.stands.0, Represents-keep (knots_in number o.chains) n None tree (λ j c. r.knots j) is.whole.stands.1) in
+      let same : tree_in number p ≡ tree = tree_is n p.root tree stands is.whole.ranked in
+      let order : order_in number p ≡ order_in number o = ap walk same in
+      let linear = chain_where (ends_in number o.chains) (ends_in number p.chains) (Linear (order_in number o)) (λ i on. r.ends i) is.linear in
+      record {
+        ordered = record {
+          whole = record {
+            stands = subst (Stands n p.root) (sym same) stands;
+            distinct = subst IsDistinct (sym same) is.whole.distinct;
+            ranked = subst IsRanked (sym same) is.whole.ranked;
+          };
+          linear = subst (IsLinear (ends_in number p.chains)) (sym order) linear;
+          all = λ i lives. subst (λ t. 0 < count i t) (sym same) (is.all i (subst IsSome (r.knots i) lives));
+          counted = ap length order ∙ is.counted ∙ sym r.kept.live;
+        };
+        order = order;
+      }
+
+  pub replaced : (o inside p : Ordered I T) → inside ≡ o → (i g : ℕ) (t u : T) → p.root ≡ inside.root → IsRenewed number i g t u inside.chains p.chains → IsOrdered number inside
+      → IsReplaced number i g t u o p
+  replaced o inside p same i g t u root r is =
+      let q = renewed_ordered inside p i g t u root r is in
+      subst (λ z. IsReplaced number i g t u z p) same (record { was = r.was; order = q.order; entries = r.items; kept = r.kept })
+
+  module _ {K : Type 0} (cmp : K → K → Ordering) (key : T → K) (total : IsTotalOrder cmp) where
+    -- where a search ended is where the key belongs
+    by_key : (o p : Ordered I T) (k : K) (n : ℕ) (place : Option (ℕ × Ordering)) → IsOrdered number o → IsAnswer (asked_at cmp key k o) (tree_in number o) place
+        → StandsAt place (order_in number o) (order_in number p) n → IsPlacedByKey number cmp key k n o p
+    by_key o p k n None is answer s = record { before = []; after = []; was = s.0; is = s.1; greater = λ a. tt; less = λ a. tt }
+    by_key o p k n (Some a) is answer s = by a.1 refl s
+      where
+        f : ℕ → Ordering
+        f = asked_at cmp key k o
+
+        h : ℕ
+        h = a.0
+
+        apart : Apart (order_in number o)
+        apart = linear_apart (ends_in number o.chains) None (order_in number o) is.linear
+
+        by : (d : Ordering) → a.1 ≡ d → StandsAt (Some (h, d)) (order_in number o) (order_in number p) n → IsPlacedByKey number cmp key k n o p
+        by Less e s =
+            let at : ◌≡◌ {A = Option (ℕ × Ordering)} (Some a) (Some (h, Less)) = ap (λ d. Some (h, d)) e in
+            let here : f h ≡ Less = answer.asked h Less at in
+            record {
+              before = s.before;
+              after = h ∷ s.after;
+              was = s.was;
+              is = s.is;
+              greater = λ ascending.
+                  let places = answer.parted h Less at (parts_at number cmp key k total o is ascending) in
+                  let split = split_same s.before h s.after places.before places.after (subst Apart s.was apart) (sym s.was ∙ places.is) in
+                  subst (AllIn (λ j. f j ≡ Greater)) (sym split.0) (places.less refl);
+              less = λ ascending.
+                  let parted = subst (IsParted f) s.was (parts_at number cmp key k total o is ascending) in
+                  (here, AllIn-map (λ y. Before (f h) (f y)) (λ y. f y ≡ Less) (λ y z. z.less here) s.after (parted-after f s.before h s.after parted));
+            }
+        by Equal e s = absurd s
+        by Greater e s =
+            let at : ◌≡◌ {A = Option (ℕ × Ordering)} (Some a) (Some (h, Greater)) = ap (λ d. Some (h, d)) e in
+            let here : f h ≡ Greater = answer.asked h Greater at in
+            record {
+              before = s.before ++ h ∷ [];
+              after = s.after;
+              was = s.was ∙ sym (append_assoc s.before (h ∷ []) s.after);
+              is = s.is ∙ sym (append_assoc s.before (h ∷ []) (n ∷ s.after));
+              greater = λ ascending.
+                  let parted = subst (IsParted f) s.was (parts_at number cmp key k total o is ascending) in
+                  AllIn-append (λ y. f y ≡ Greater) s.before (h ∷ [])
+                  (AllIn-map (λ y. Before (f y) (f h)) (λ y. f y ≡ Greater) (λ y z. z.greater here) s.before (parted-before f s.before h s.after parted)) (here, tt);
+              less = λ ascending.
+                  let places = answer.parted h Greater at (parts_at number cmp key k total o is ascending) in
+                  let split = split_same s.before h s.after places.before places.after (subst Apart s.was apart) (sym s.was ∙ places.is) in
+                  subst (AllIn (λ j. f j ≡ Less)) (sym split.1) (places.greater refl);
+            }
+
+    module _ {P : Type 0} (index generation : P → ℕ) where
+      -- an insertion where the search for its key ended
+      pub inserted_by_key : (o p : Ordered I T) (t : T) (k : K) → k ≡ key t → (place : Option (ℕ × Ordering)) (result : Result (P × Option T) OrdInsertionError) → IsOrdered number o
+          → IsAnswer (asked_at cmp key k o) (tree_in number o) place → IsInsertedAt number index generation place t result o p → IsInserted number cmp key index generation t result o p
+      inserted_by_key o p t k k_is place result is found put =
+          let answer : IsAnswer (asked_at cmp key (key t) o) (tree_in number o) place = subst (λ z. IsAnswer (asked_at cmp key z o) (tree_in number o) place) k_is found in
+          record {
+            replaced = λ q u e.
+                let r = put.replaced q u e in
+                (sym (ap (asked_of cmp key (key t)) r.1.was) ∙ answer.asked (index q) Equal r.0, r.1);
+            added = λ q e. let r = put.added q e in (by_key o p (key t) (index q) place is answer r.0, r.1);
+            refused = λ error e. (put.refused error e).1;
+            absent = λ error e ascending j.
+                absent number cmp key (key t) total o is place answer (λ i d at same. (put.refused error e).0 i (at ∙ ap (λ z. Some (i, z)) same)) ascending j;
+          }

@@ -1,0 +1,107 @@
+//! Insertions.
+ghost use Rattle.std.specs.Prelude.{◌≡◌, None, Ok, Err, IsSome, IfSome};
+ghost use Rattle.std.specs.Option.{option_map};
+ghost use Rattle.triple_arena_ord.specs.Node.{knots_in};
+ghost use Rattle.triple_arena_ord.specs.Search.{IsFreeAt};
+ghost use Rattle.triple_arena_ord.specs.Inserted.{IsRenewed, IsReplaced, IsInsertedAt, IsInserted};
+
+use crate::knots::Side;
+use crate::{SimpleOrdArena, SimpleOrdArenaNode, SimpleOrdItem};
+use std::cmp::Ordering;
+use std::mem;
+use triple_arena::{ArenaSlot, ArenaTrait, NonZeroInxGenericStack, NotWithinCapacityError, Ptr};
+use triple_arena_chain::{ChainArena, LinkNoGen};
+use triple_arena_ptr::{OrdInsertionError, Probes};
+
+// Another item in a node, and the one that it had.
+fn renew<
+    P: Ptr,
+    T: Drop,
+    S: NonZeroInxGenericStack<ArenaSlot<P, LinkNoGen<P, SimpleOrdArenaNode<P, T>>>> + Drop,
+>(chains: &mut ChainArena<P, SimpleOrdArenaNode<P, T>, S>, i: P::Inx, t: T) -> (P, T)
+    requires { IsSome (knots_in P.Inx.number chains.old (P.Inx.number i)) }
+    ensures index { P.index result.0 ≡ P.Inx.number i }
+    ensures renewed { IsRenewed P.Inx.number (P.index result.0) (P.generation result.0) t result.1 chains.old chains.new }
+{
+    match chains.get_inx(i) {
+        Some(entry) => {
+            let generation = entry.0;
+            let node = chains.get_inx_mut_unwrap(i);
+            let old = mem::replace(&mut node.t, t);
+            (P::_from_raw(i, generation), old)
+        }
+        None => unreachable!(),
+    }
+}
+
+// What an insertion of a new entry answers.
+fn answer<P: Drop, T: Drop>(
+    inserted: Result<P, NotWithinCapacityError>,
+) -> Result<(P, Option<T>), OrdInsertionError>
+    ensures ok { (p : P) → inserted ≡ Ok p → result ≡ Ok (p, None) }
+    ensures err { (e : NotWithinCapacityError) → inserted ≡ Err e → result ≡ Err OrdInsertionError.NotWithinCapacity }
+{
+    match inserted {
+        Ok(p) => Ok((p, None)),
+        Err(_) => Err(OrdInsertionError::NotWithinCapacity),
+    }
+}
+
+impl<
+    P: Ptr,
+    T: Drop,
+    S: NonZeroInxGenericStack<ArenaSlot<P, LinkNoGen<P, SimpleOrdArenaNode<P, T>>>> + Drop,
+> SimpleOrdArena<P, T, S> {
+    // Another item at an index, and the one that stood there.
+    pub(crate) fn replace_item(&mut self, i: P::Inx, t: T) -> (P, T)
+        requires { IsSome (knots_in P.Inx.number self.old.chains (P.Inx.number i)) }
+        ensures index { P.index result.0 ≡ P.Inx.number i }
+        ensures replaced { IsReplaced P.Inx.number (P.index result.0) (P.generation result.0) t result.1 self.old self.new }
+    {
+        renew(&mut self.chains, i, t)
+    }
+
+    // An insertion where a search ended.
+    pub(crate) fn insert_at_within_capacity(
+        &mut self,
+        place: Option<(P::Inx, Ordering)>,
+        t: T,
+    ) -> Result<(P, Option<T>), OrdInsertionError>
+        requires free { IfSome place (λ a. IsFreeAt a.1 (knots_in P.Inx.number self.old.chains (P.Inx.number a.0))) }
+        requires empty { place ≡ None → self.old.root ≡ None }
+        ensures inserted { IsInsertedAt P.Inx.number P.index P.generation (option_map (λ a. (P.Inx.number a.0, a.1)) place)
+            t result self.old self.new }
+        ensures counter { self.new.chains.counter ≡ self.old.chains.counter }
+        ensures room { self.new.chains.room ≡ self.old.chains.room }
+    {
+        match place {
+            None => answer(self.insert_first(t)),
+            Some((i, direction)) => match direction {
+                Ordering::Less => answer(self.insert_beside(i, Side::Left, t)),
+                Ordering::Equal => {
+                    let (p, old) = self.replace_item(i, t);
+                    Ok((p, Some(old)))
+                }
+                Ordering::Greater => answer(self.insert_beside(i, Side::Right, t)),
+            },
+        }
+    }
+}
+
+impl<
+    P: Ptr,
+    T: SimpleOrdItem + Drop,
+    S: NonZeroInxGenericStack<ArenaSlot<P, LinkNoGen<P, SimpleOrdArenaNode<P, T>>>> + Drop,
+> SimpleOrdArena<P, T, S> {
+    /// Puts an item in where its key belongs. Where an entry with an equal key is found its item is replaced, and answered,
+    /// whether or not there is room. Else there is a new entry; `NotWithinCapacity`, where there is no room for it, changes
+    /// nothing.
+    pub fn insert_within_capacity(&mut self, t: T) -> Result<(P, Option<T>), OrdInsertionError>
+        ensures inserted { IsInserted P.Inx.number T.Key.cmp T.key_of P.index P.generation t result self.old self.new }
+        ensures counter { self.new.chains.counter ≡ self.old.chains.counter }
+        ensures room { self.new.chains.room ≡ self.old.chains.room }
+    {
+        let place = self.seek(t.key(), &mut Probes::new());
+        self.insert_at_within_capacity(place, t)
+    }
+}
