@@ -1,5 +1,5 @@
 -- An item is replaced, and one is put in where its key belongs.
-use Rattle.std.proofs.Common.{◌≡◌, ◌≢◌, ℕ, ◌<◌, List, [], ◌∷◌, ◌++◌, length, append_assoc, Option, Some, None, IsSome, Result, Ok, Err, refl, sym, ap, ◌∙◌, subst, inl, inr}
+use Rattle.std.proofs.Common.{◌≡◌, ◌≢◌, ℕ, ◌+◌, ◌<◌, List, [], ◌∷◌, ◌++◌, length, append_assoc, length-append, Option, Some, None, IsSome, Result, Ok, Err, arith, refl, sym, ap, ◌∙◌, subst, inl, inr}
 use Rattle.std.specs.Option.{option_map}
 use Rattle.std.proofs.lemmas.Bool.Decides.{eqb_tells}
 use Rattle.std.specs.Cmp.{IsTotalOrder}
@@ -22,7 +22,7 @@ use Rattle.triple_arena_ord.specs.Node.{knots_in, knot_of, itemed}
 use Rattle.triple_arena_ord.specs.Tree.{Tree, walk, IsRanked}
 use Rattle.triple_arena_ord.specs.Shape.{Stands, IsDistinct, count}
 use Rattle.triple_arena_ord.specs.Search.{AllIn, Before, IsParted, Places, IsAnswer}
-use Rattle.triple_arena_ord.specs.Ordered.{Ordered, IsOrdered, IsAscending, StandsBeside, tree_in, order_in, entry_in, asked_of, asked_at}
+use Rattle.triple_arena_ord.specs.Ordered.{Ordered, IsOrdered, IsAscending, StandsBeside, tree_in, order_in, entry_in, size_in, asked_of, asked_at}
 use Rattle.triple_arena_ord.specs.Inserted.{StandsAt, IsRenewed, IsReplaced, IsInsertedAt, IsPlacedByKey, IsInserted}
 use Rattle.triple_arena_ord.proofs.Frames.{Represents-keep}
 use Rattle.triple_arena_ord.proofs.Descents.{AllIn-append, AllIn-map, parted-after, parted-before}
@@ -162,17 +162,31 @@ module _ {I T : Type 0} (number : I → ℕ) where
                   subst (AllIn (λ j. f j ≡ Less)) (sym split.1) (places.greater refl);
             }
 
+    -- the list is one longer
+    grows : (o p : Ordered I T) {k : K} (n : ℕ) → IsOrdered number o → IsOrdered number p → IsPlacedByKey number cmp key k n o p → size_in p ≡ size_in o + 1
+    grows o p n is new_is s =
+        let old_length : length (order_in number o) ≡ length (s.before ++ s.after) = ap length s.was in
+        let new_length : length (order_in number p) ≡ length (s.before ++ n ∷ s.after) = ap length s.is in
+        let l1 = length-append s.before (n ∷ s.after) in
+        let l2 = length-append s.before s.after in
+        let old_count : length (order_in number o) ≡ size_in o = is.counted in
+        let new_count : length (order_in number p) ≡ size_in p = new_is.counted in
+        omega arith
+
     module _ {P : Type 0} (index generation : P → ℕ) where
       -- an insertion where the search for its key ended
       pub inserted_by_key : (o p : Ordered I T) (t : T) (k : K) → k ≡ key t → (place : Option (ℕ × Ordering)) (result : Result (P × Option T) OrdInsertionError) → IsOrdered number o
-          → IsAnswer (asked_at cmp key k o) (tree_in number o) place → IsInsertedAt number index generation place t result o p → IsInserted number cmp key index generation t result o p
-      inserted_by_key o p t k k_is place result is found put =
+          → IsOrdered number p → IsAnswer (asked_at cmp key k o) (tree_in number o) place → IsInsertedAt number index generation place t result o p → IsInserted number cmp key index generation t result o p
+      inserted_by_key o p t k k_is place result is new_is found put =
           let answer : IsAnswer (asked_at cmp key (key t) o) (tree_in number o) place = subst (λ z. IsAnswer (asked_at cmp key z o) (tree_in number o) place) k_is found in
           record {
             replaced = λ q u e.
                 let r = put.replaced q u e in
                 (sym (ap (asked_of cmp key (key t)) r.1.was) ∙ answer.asked (index q) Equal r.0, r.1);
             added = λ q e. let r = put.added q e in (by_key o p (key t) (index q) place is answer r.0, r.1);
+            grown = λ q e.
+                let r = put.added q e in
+                grows o p (index q) is new_is (by_key o p (key t) (index q) place is answer r.0);
             refused = λ error e. (put.refused error e).1;
             absent = λ error e ascending j.
                 absent number cmp key (key t) total o is place answer (λ i d at same. (put.refused error e).0 i (at ∙ ap (λ z. Some (i, z)) same)) ascending j;

@@ -20,3 +20,4 @@ pub mod GapLemmas
 pub mod LeafLemmas
 pub mod EndLemmas
 pub mod InsertLemmas
+pub mod AscendingLemmas

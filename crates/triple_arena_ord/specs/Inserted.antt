@@ -1,5 +1,5 @@
 -- What an insertion does.
-use Rattle.std.specs.Prelude.{◌≡◌, ◌≢◌, ℕ, ◌<◌, ◌≤◌, List, [], ◌∷◌, ◌++◌, Option, Some, None, Result, Ok, Err}
+use Rattle.std.specs.Prelude.{◌≡◌, ◌≢◌, ℕ, ◌+◌, ◌<◌, ◌≤◌, List, [], ◌∷◌, ◌++◌, Option, Some, None, Result, Ok, Err}
 use Rattle.std.specs.Option.{option_map}
 use Rattle.std.specs.declared.cmp.Ordering.{Ordering}
 use Rattle.std.specs.declared.cmp.Ordering.TheVariants.{Less, Equal, Greater}
@@ -13,7 +13,7 @@ use Rattle.triple_arena_ord.specs.declared.knots.Side.TheVariants.{Left, Right}
 use Rattle.triple_arena_ord.specs.declared.node.IndexNode.{IndexNode}
 use Rattle.triple_arena_ord.specs.Node.{knots_in, items_in}
 use Rattle.triple_arena_ord.specs.Search.{AllIn}
-use Rattle.triple_arena_ord.specs.Ordered.{Ordered, IsAscending, StandsBeside, order_in, entry_in, asked_at}
+use Rattle.triple_arena_ord.specs.Ordered.{Ordered, IsAscending, StandsBeside, order_in, entry_in, size_in, asked_at}
 
 -- one more index stands where a search ended: before or after the index that was asked last, or alone
 abbrev pub StandsAt : Option (ℕ × Ordering) → List ℕ → List ℕ → ℕ → Type 0
@@ -58,7 +58,8 @@ module _ {I T : Type 0} (number : I → ℕ) where
     -- an insertion where a search ended, whose last answer tells whether an item is replaced
     pub record IsInsertedAt (place : Option (ℕ × Ordering)) (t : T) (result : Result (P × Option T) OrdInsertionError) (old new : Ordered I T) : Type 0 where
       pub replaced : (p : P) (u : T) → result ≡ Ok (p, Some u) → (place ≡ Some (index p, Equal)) × IsReplaced (index p) (generation p) t u old new
-      pub added : (p : P) → result ≡ Ok (p, None) → StandsAt place (order_in number old) (order_in number new) (index p) × IsAdded (index p) (generation p) t old new
+      pub added : (p : P) → result ≡ Ok (p, None)
+          → StandsAt place (order_in number old) (order_in number new) (index p) × IsAdded (index p) (generation p) t old new
       pub refused : (error : OrdInsertionError) → result ≡ Err error → ((i : ℕ) → place ≢ Some (i, Equal)) × IsRefused error old new
 
   module _ {K : Type 0} (cmp : K → K → Ordering) (key : T → K) where
@@ -77,6 +78,7 @@ module _ {I T : Type 0} (number : I → ℕ) where
       pub record IsInserted (t : T) (result : Result (P × Option T) OrdInsertionError) (old new : Ordered I T) : Type 0 where
         pub replaced : (p : P) (u : T) → result ≡ Ok (p, Some u) → (cmp (key t) (key u) ≡ Equal) × IsReplaced (index p) (generation p) t u old new
         pub added : (p : P) → result ≡ Ok (p, None) → IsPlacedByKey (key t) (index p) old new × IsAdded (index p) (generation p) t old new
+        pub grown : (p : P) → result ≡ Ok (p, None) → size_in new ≡ size_in old + 1
         pub refused : (error : OrdInsertionError) → result ≡ Err error → IsRefused error old new
         pub absent : (error : OrdInsertionError) → result ≡ Err error → IsAscending number cmp key old
             → (i : ℕ) → option_map (λ e. cmp (key t) (key e.1)) (entry_in old i) ≢ Some Equal

@@ -3,6 +3,7 @@ ghost use Rattle.std.specs.Prelude.{◌≡◌, None, Ok, Err, IsSome, IfSome};
 ghost use Rattle.std.specs.Option.{option_map};
 ghost use Rattle.triple_arena_ord.specs.Node.{knots_in};
 ghost use Rattle.triple_arena_ord.specs.Search.{IsFreeAt};
+ghost use Rattle.triple_arena_ord.specs.Ordered.{IsOrdered, IsAscending};
 ghost use Rattle.triple_arena_ord.specs.Inserted.{IsRenewed, IsReplaced, IsInsertedAt, IsInserted};
 
 use crate::knots::Side;
@@ -57,6 +58,7 @@ impl<
         requires { IsSome (knots_in P.Inx.number self.old.chains (P.Inx.number i)) }
         ensures index { P.index result.0 ≡ P.Inx.number i }
         ensures replaced { IsReplaced P.Inx.number (P.index result.0) (P.generation result.0) t result.1 self.old self.new }
+        ensures ordered { IsOrdered P.Inx.number self.new }
     {
         renew(&mut self.chains, i, t)
     }
@@ -73,6 +75,7 @@ impl<
             t result self.old self.new }
         ensures counter { self.new.chains.counter ≡ self.old.chains.counter }
         ensures room { self.new.chains.room ≡ self.old.chains.room }
+        ensures ordered { IsOrdered P.Inx.number self.new }
     {
         match place {
             None => answer(self.insert_first(t)),
@@ -95,11 +98,13 @@ impl<
 > SimpleOrdArena<P, T, S> {
     /// Puts an item in where its key belongs. Where an entry with an equal key is found its item is replaced, and answered,
     /// whether or not there is room. Else there is a new entry; `NotWithinCapacity`, where there is no room for it, changes
-    /// nothing.
+    /// nothing. A list whose keys ascend still does.
     pub fn insert_within_capacity(&mut self, t: T) -> Result<(P, Option<T>), OrdInsertionError>
         ensures inserted { IsInserted P.Inx.number T.Key.cmp T.key_of P.index P.generation t result self.old self.new }
+        ensures ascending { IsAscending P.Inx.number T.Key.cmp T.key_of self.old → IsAscending P.Inx.number T.Key.cmp T.key_of self.new }
         ensures counter { self.new.chains.counter ≡ self.old.chains.counter }
         ensures room { self.new.chains.room ≡ self.old.chains.room }
+        ensures ordered { IsOrdered P.Inx.number self.new }
     {
         let place = self.seek(t.key(), &mut Probes::new());
         self.insert_at_within_capacity(place, t)

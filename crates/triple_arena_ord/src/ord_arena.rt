@@ -92,6 +92,7 @@ impl<
         ensures generation { IfOk result (λ p. P.generation p ≡ self.old.chains.counter) }
         ensures counter { self.new.chains.counter ≡ self.old.chains.counter }
         ensures room { self.new.chains.room ≡ self.old.chains.room }
+        ensures ordered { IsOrdered P.Inx.number self.new }
         ensures err { OnErr result (self.new ≡ self.old) }
     {
         if self.chains.len() >= self.chains.capacity() {
@@ -114,6 +115,7 @@ impl<
         ensures generation { IfOk result (λ p. P.generation p ≡ self.old.chains.counter) }
         ensures counter { self.new.chains.counter ≡ self.old.chains.counter }
         ensures room { self.new.chains.room ≡ self.old.chains.room }
+        ensures ordered { IsOrdered P.Inx.number self.new }
         ensures err { OnErr result (self.new ≡ self.old) }
     {
         let node: SimpleOrdArenaNode<P, T> = IndexNode {

@@ -19,3 +19,11 @@ returns-clause-replaced g c =
     let o : Ordered g.row.P-Inx.Denot g.row.T.Denot = record { chains = c.self.inside.chains; root = option_map number c.self.inside.root } in
     let p : Ordered g.row.P-Inx.Denot g.row.T.Denot = record { chains = c.renew.new.chains; root = option_map number c.self.inside.root } in
     replaced number c.args.self.now o p c.self.view_is _ _ _ _ refl c.renew.ensures.renewed c.self.invariant.0
+
+pub returns-clause-ordered : goal.returns-clause-ordered
+returns-clause-ordered g c =
+    let number = g.P.Inx.PtrInx.number in
+    let o : Ordered g.row.P-Inx.Denot g.row.T.Denot = record { chains = c.self.inside.chains; root = option_map number c.self.inside.root } in
+    let p : Ordered g.row.P-Inx.Denot g.row.T.Denot = record { chains = c.renew.new.chains; root = option_map number c.self.inside.root } in
+    let r = renewed_ordered number o p _ _ _ _ refl c.renew.ensures.renewed c.self.invariant.0 in
+    r.ordered

@@ -1,0 +1,183 @@
+-- A list whose keys ascend still does after an insertion by key.
+use Rattle.std.proofs.Common.{◌≡◌, ◌≢◌, ◌==◌, ℕ, zero, suc, ◌+◌, ◌<◌, ◌≤◌, List, [], ◌∷◌, ◌++◌, length, get_or, filter_map, Option, Some, None, Result, Ok, Err, arith, refl, sym, ap, ◌∙◌, subst, false, inl, inr}
+use Rattle.std.specs.Option.{option_map}
+use Rattle.std.proofs.lemmas.Bool.{eq-eqb, ne_eqb}
+use Rattle.std.proofs.lemmas.Bool.Decides.{eqb_tells}
+use Rattle.std.specs.Cmp.{IsTotalOrder}
+use Rattle.std.specs.Ordering.{is_lt, ordering_reverse}
+use Rattle.std.specs.List.{cons_option}
+use Rattle.std.specs.List.Sorted.{IsSorted}
+use Rattle.std.specs.declared.cmp.Ordering.{Ordering}
+use Rattle.std.specs.declared.cmp.Ordering.TheVariants.{Less, Equal, Greater}
+use Rattle.std.proofs.lemmas.Cmp.{alike_right}
+use Rattle.std.proofs.lemmas.List.Elements.{filter_map-append}
+use Rattle.triple_arena.specs.Entries.{with_entry}
+use Rattle.triple_arena_ptr.specs.declared.errors.OrdInsertionError.{OrdInsertionError}
+use Rattle.triple_arena_chain.specs.Chains.{Off, Apart}
+use Rattle.triple_arena_chain.specs.ChainLaws.{Apart-taken, Off-front, Off-back}
+use Rattle.triple_arena_chain.specs.Links.{ends_in}
+use Rattle.triple_arena_chain.specs.UniquenessLaws.{linear_apart}
+use Rattle.triple_arena_ord.specs.Search.{AllIn}
+use Rattle.triple_arena_ord.specs.Ordered.{Ordered, IsOrdered, IsAscending, order_in, entry_in, asked_of}
+use Rattle.triple_arena_ord.specs.Inserted.{IsInserted}
+
+module _ {X : Type 0} (R : X → X → Ordering) where
+  abbrev AllOf : (X → Type 0) → List X → Type 0
+  AllOf Q [] = Unit {0}
+  AllOf Q (x ∷ xs) = Q x × AllOf Q xs
+
+  first : (x y : X) (xs : List X) → IsSorted R (x ∷ y ∷ xs) → is_lt (R y x) ≡ false
+  first x y xs s = s 0 x (omega arith) (omega arith)
+
+  tail : (x : X) (xs : List X) → IsSorted R (x ∷ xs) → IsSorted R xs
+  tail x xs s k d low high =
+      let up : suc k + 1 ≡ suc (k + 1) = omega arith in
+      subst (λ z. is_lt (R (get_or (x ∷ xs) z d) (get_or xs k d)) ≡ false) up (s (suc k) d (omega arith) (omega arith))
+
+  single : (x : X) → IsSorted R (x ∷ [])
+  single x k d low high = absurd (omega arith)
+
+  cons : (x y : X) (xs : List X) → is_lt (R y x) ≡ false → IsSorted R (y ∷ xs) → IsSorted R (x ∷ y ∷ xs)
+  cons x y xs h s zero d low high = h
+  cons x y xs h s (suc k) d low high =
+      let down : suc (k + 1) ≡ suc k + 1 = omega arith in
+      subst (λ z. is_lt (R (get_or (x ∷ y ∷ xs) z d) (get_or (y ∷ xs) k d)) ≡ false) down (s k d (omega arith) (omega arith))
+
+  -- one more element between those that are not greater and those that are not less
+  put : (xs : List X) (x : X) (ys : List X) → IsSorted R (xs ++ ys) → AllOf (λ z. is_lt (R x z) ≡ false) xs → AllOf (λ z. is_lt (R z x) ≡ false) ys → IsSorted R (xs ++ x ∷ ys)
+  put [] x [] s low high = single x
+  put [] x (y ∷ ys) s low high = cons x y ys high.0 s
+  put (a ∷ []) x ys s low high = cons a x ys low.0 (put [] x ys (tail a ys s) tt high)
+  put (a ∷ b ∷ xs) x ys s low high = cons a b (xs ++ x ∷ ys) (first a b (xs ++ ys) s) (put (b ∷ xs) x ys (tail a (b ∷ xs ++ ys) s) low.1 high)
+
+  -- two elements that no third tells apart
+  record Alike (x y : X) : Type 0 where
+    pub left : (z : X) → R x z ≡ R y z
+    pub right : (z : X) → R z x ≡ R z y
+
+  abbrev Pairs : List X → List X → Type 0
+  Pairs [] [] = Unit {0}
+  Pairs [] (y ∷ ys) = ⊥
+  Pairs (x ∷ xs) [] = ⊥
+  Pairs (x ∷ xs) (y ∷ ys) = Alike x y × Pairs xs ys
+
+  carried : (xs ys : List X) → Pairs xs ys → IsSorted R xs → IsSorted R ys
+  carried [] [] p s = s
+  carried [] (y ∷ ys) p s = absurd p
+  carried (x ∷ xs) [] p s = absurd p
+  carried (x ∷ []) (y ∷ []) p s = single y
+  carried (x ∷ []) (y ∷ z ∷ ys) p s = absurd p.1
+  carried (x ∷ a ∷ xs) (y ∷ []) p s = absurd p.1
+  carried (x ∷ a ∷ xs) (y ∷ b ∷ ys) p s =
+      let h : R a x ≡ R b y = p.1.0.left x ∙ p.0.right b in
+      cons y b ys (ap is_lt (sym h) ∙ first x a xs s) (carried (a ∷ xs) (b ∷ ys) p.1 (tail x (a ∷ xs) s))
+
+module _ {K T : Type 0} (R : K → K → Ordering) (key : T → K) (total : IsTotalOrder R) where
+  abbrev below : ℕ × (ℕ × T) → ℕ × (ℕ × T) → Ordering
+  below x y = R (key x.1.1) (key y.1.1)
+
+  abbrev listed_of : (ℕ → Option (ℕ × T)) → List ℕ → List (ℕ × (ℕ × T))
+  listed_of entry w = filter_map (λ i. option_map (λ e. (i, e)) (entry i)) w
+
+  listed-same : (a b : ℕ → Option (ℕ × T)) → ((k : ℕ) → a k ≡ b k) → (xs : List ℕ) → listed_of a xs ≡ listed_of b xs
+  listed-same a b h [] = refl
+  listed-same a b h (x ∷ xs) = rw (h x, listed-same a b h xs) refl
+
+  listed-other : (entry : ℕ → Option (ℕ × T)) (n : ℕ) (e : ℕ × T) (xs : List ℕ) → Off xs n → listed_of (with_entry entry n e) xs ≡ listed_of entry xs
+  listed-other entry n e [] off = refl
+  listed-other entry n e (x ∷ xs) off = by (entry x) refl (listed-other entry n e xs off.1)
+    where
+      other : with_entry entry n e x ≡ entry x
+      other = rw (ne_eqb x n (off.0)) refl
+
+      by : (o : Option (ℕ × T)) → entry x ≡ o → listed_of (with_entry entry n e) xs ≡ listed_of entry xs → listed_of (with_entry entry n e) (x ∷ xs) ≡ listed_of entry (x ∷ xs)
+      by None at rest = rw (other, at) rest
+      by (Some o) at rest = rw (other, at) (ap (λ l. (x, o) ∷ l) rest)
+
+  -- what is asked of each index holds of each that is listed
+  listed-all : (entry : ℕ → Option (ℕ × T)) (k : K) (d : Ordering) (Q : ℕ × (ℕ × T) → Type 0) → ((z : ℕ × (ℕ × T)) → R k (key z.1.1) ≡ d → Q z)
+      → (xs : List ℕ) → AllIn (λ j. asked_of R key k (entry j) ≡ d) xs → AllOf below Q (listed_of entry xs)
+  listed-all entry k d Q f [] all = tt
+  listed-all entry k d Q f (x ∷ xs) all = by (entry x) refl (listed-all entry k d Q f xs all.1)
+    where
+      by : (o : Option (ℕ × T)) → entry x ≡ o → AllOf below Q (listed_of entry xs) → AllOf below Q (listed_of entry (x ∷ xs))
+      by None at rest = rw at rest
+      by (Some o) at rest =
+          let here : R k (key o.1) ≡ d = sym (ap (asked_of R key k) at) ∙ all.0 in
+          rw at (f (x, o) here, rest)
+
+  not_below : (x y : K) → R x y ≡ Less → is_lt (R y x) ≡ false
+  not_below x y e = let back : R y x ≡ Greater = total.antisymm y x ∙ ap ordering_reverse e in ap is_lt back
+
+  not_above : (x y : K) → R x y ≡ Greater → is_lt (R x y) ≡ false
+  not_above x y e = ap is_lt e
+
+  -- one more entry between the lesser and the greater ones
+  added : (entry new : ℕ → Option (ℕ × T)) (n g : ℕ) (t : T) (xs ys : List ℕ) → ((k : ℕ) → new k ≡ with_entry entry n (g, t) k) → Apart (xs ++ n ∷ ys)
+      → IsSorted below (listed_of entry (xs ++ ys))
+      → AllIn (λ j. asked_of R key (key t) (entry j) ≡ Greater) xs → AllIn (λ j. asked_of R key (key t) (entry j) ≡ Less) ys
+      → IsSorted below (listed_of new (xs ++ n ∷ ys))
+  added entry new n g t xs ys is apart s low high =
+      let off = (Apart-taken xs ys n apart).1 in
+      let e : ℕ × T = (g, t) in
+      let x : ℕ × (ℕ × T) = (n, e) in
+      let h : ℕ → Option (ℕ × (ℕ × T)) = λ i. option_map (λ e. (i, e)) (entry i) in
+      let w : ℕ → Option (ℕ × (ℕ × T)) = λ i. option_map (λ e. (i, e)) (with_entry entry n e i) in
+      let here : listed_of (with_entry entry n e) (n ∷ ys) ≡ x ∷ listed_of entry ys = rw (eq-eqb n n refl) (ap (λ l. x ∷ l) (listed-other entry n e ys (Off-back xs ys n off))) in
+      let front : listed_of (with_entry entry n e) xs ≡ listed_of entry xs = listed-other entry n e xs (Off-front xs ys n off) in
+      let split : listed_of new (xs ++ n ∷ ys) ≡ listed_of (with_entry entry n e) xs ++ listed_of (with_entry entry n e) (n ∷ ys) =
+      listed-same new (with_entry entry n e) is (xs ++ n ∷ ys) ∙ filter_map-append w xs (n ∷ ys) in
+      let whole : listed_of new (xs ++ n ∷ ys) ≡ listed_of entry xs ++ x ∷ listed_of entry ys =
+      split ∙ ap (λ l. l ++ listed_of (with_entry entry n e) (n ∷ ys)) front ∙ ap (λ l. listed_of entry xs ++ l) here in
+      let sorted = put below (listed_of entry xs) x (listed_of entry ys) (subst (IsSorted below) (filter_map-append h xs ys) s)
+      (listed-all entry (key t) Greater (λ z. is_lt (below x z) ≡ false) (λ z e. not_above (key t) (key z.1.1) e) xs low)
+      (listed-all entry (key t) Less (λ z. is_lt (below z x) ≡ false) (λ z e. not_below (key t) (key z.1.1) e) ys high) in
+      subst (IsSorted below) (sym whole) sorted
+
+  alike : (x g : ℕ) (t u : T) → R (key t) (key u) ≡ Equal → Alike below (x, (g, u)) (x, (g, t))
+  alike x g t u e =
+      let right : (k : K) → R k (key u) ≡ R k (key t) = λ k. sym (alike_right total (key t) (key u) k e) in
+      record {
+        left = λ z. total.antisymm (key u) (key z.1.1) ∙ ap ordering_reverse (right (key z.1.1)) ∙ sym (total.antisymm (key t) (key z.1.1));
+        right = λ z. right (key z.1.1);
+      }
+
+  -- an item with an equal key in the place of another
+  paired : (entry : ℕ → Option (ℕ × T)) (i g : ℕ) (t u : T) → entry i ≡ Some (g, u) → R (key t) (key u) ≡ Equal
+      → (w : List ℕ) → Pairs below (listed_of entry w) (listed_of (with_entry entry i (g, t)) w)
+  paired entry i g t u was e [] = tt
+  paired entry i g t u was e (x ∷ xs) =
+      let rest = paired entry i g t u was e xs in
+      elim (eqb_tells x i) [
+        | inl same ↦ let at : entry x ≡ Some (g, u) = ap entry same.1 ∙ was in rw (same.0, at) (alike x g t u e, rest)
+        | inr other ↦ rw other.0 (by (entry x) refl rest)
+      ]
+    where
+      by : (o : Option (ℕ × T)) → entry x ≡ o → Pairs below (listed_of entry xs) (listed_of (with_entry entry i (g, t)) xs)
+          → Pairs below (filter_map (λ i. option_map (λ e. (i, e)) (entry i)) (x ∷ xs)) (cons_option (option_map (λ e. (x, e)) (entry x)) (listed_of (with_entry entry i (g, t)) xs))
+      by None at rest = rw at rest
+      by (Some o) at rest = rw at (record { left = λ z. refl; right = λ z. refl }, rest)
+
+  module _ {I P : Type 0} (number : I → ℕ) (index generation : P → ℕ) where
+    pub stays_ascending : (o p : Ordered I T) (t : T) (result : Result (P × Option T) OrdInsertionError) → IsOrdered number p
+        → IsInserted number R key index generation t result o p → IsAscending number R key o → IsAscending number R key p
+    stays_ascending o p t result new_is put ascending = by result refl
+      where
+        by : (r : Result (P × Option T) OrdInsertionError) → result ≡ r → IsAscending number R key p
+        by (Err e) at = subst (IsAscending number R key) (sym (put.refused e at).same) ascending
+        by (Ok a) at = answered a.1 refl
+          where
+            answered : (u : Option T) → a.1 ≡ u → IsAscending number R key p
+            answered (Some u) e =
+                let r = put.replaced a.0 u (at ∙ ap (λ z. Ok (a.0, z)) e) in
+                let entries = listed-same (entry_in p) (with_entry (entry_in o) (index a.0) (generation a.0, t)) r.1.entries (order_in number o) in
+                let sorted = carried below (listed_of (entry_in o) (order_in number o)) (listed_of (with_entry (entry_in o) (index a.0) (generation a.0, t)) (order_in number o))
+                (paired (entry_in o) (index a.0) (generation a.0) t u r.1.was r.0 (order_in number o)) ascending in
+                subst (λ w. IsSorted below (listed_of (entry_in p) w)) (sym r.1.order) (subst (IsSorted below) (sym entries) sorted)
+            answered None e =
+                let r = put.added a.0 (at ∙ ap (λ z. Ok (a.0, z)) e) in
+                let apart : Apart (order_in number p) = linear_apart (ends_in number p.chains) None (order_in number p) new_is.linear in
+                let s = r.0 in
+                let sorted = added (entry_in o) (entry_in p) (index a.0) (generation a.0) t s.before s.after r.1.entries (subst Apart s.is apart)
+                (subst (λ w. IsSorted below (listed_of (entry_in o) w)) s.was ascending) (s.greater ascending) (s.less ascending) in
+                subst (λ w. IsSorted below (listed_of (entry_in p) w)) (sym s.is) sorted
