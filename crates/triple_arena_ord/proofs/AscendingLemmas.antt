@@ -1,5 +1,6 @@
 -- A list whose keys ascend still does after an insertion by key.
-use Rattle.std.proofs.Common.{◌≡◌, ◌≢◌, ◌==◌, ℕ, zero, suc, ◌+◌, ◌<◌, ◌≤◌, List, [], ◌∷◌, ◌++◌, length, get_or, filter_map, Option, Some, None, Result, Ok, Err, arith, refl, sym, ap, ◌∙◌, subst, false, inl, inr}
+use Rattle.std.proofs.Common.{◌≡◌, ℕ, zero, suc, ◌+◌, List, [], ◌∷◌, ◌++◌, get_or, filter_map, Option, Some}
+use Rattle.std.proofs.Common.{None, Result, Ok, Err, arith, refl, sym, ap, ◌∙◌, subst, false, inl, inr}
 use Rattle.std.specs.Option.{option_map}
 use Rattle.std.proofs.lemmas.Bool.{eq-eqb, ne_eqb}
 use Rattle.std.proofs.lemmas.Bool.Decides.{eqb_tells}
@@ -44,7 +45,8 @@ module _ {X : Type 0} (R : X → X → Ordering) where
       subst (λ z. is_lt (R (get_or (x ∷ y ∷ xs) z d) (get_or (y ∷ xs) k d)) ≡ false) down (s k d (omega arith) (omega arith))
 
   -- one more element between those that are not greater and those that are not less
-  put : (xs : List X) (x : X) (ys : List X) → IsSorted R (xs ++ ys) → AllOf (λ z. is_lt (R x z) ≡ false) xs → AllOf (λ z. is_lt (R z x) ≡ false) ys → IsSorted R (xs ++ x ∷ ys)
+  put : (xs : List X) (x : X) (ys : List X) → IsSorted R (xs ++ ys)
+      → AllOf (λ z. is_lt (R x z) ≡ false) xs → AllOf (λ z. is_lt (R z x) ≡ false) ys → IsSorted R (xs ++ x ∷ ys)
   put [] x [] s low high = single x
   put [] x (y ∷ ys) s low high = cons x y ys high.0 s
   put (a ∷ []) x ys s low high = cons a x ys low.0 (put [] x ys (tail a ys s) tt high)
@@ -90,7 +92,8 @@ module _ {K T : Type 0} (R : K → K → Ordering) (key : T → K) (total : IsTo
       other : with_entry entry n e x ≡ entry x
       other = rw (ne_eqb x n (off.0)) refl
 
-      by : (o : Option (ℕ × T)) → entry x ≡ o → listed_of (with_entry entry n e) xs ≡ listed_of entry xs → listed_of (with_entry entry n e) (x ∷ xs) ≡ listed_of entry (x ∷ xs)
+      by : (o : Option (ℕ × T)) → entry x ≡ o → listed_of (with_entry entry n e) xs ≡ listed_of entry xs
+          → listed_of (with_entry entry n e) (x ∷ xs) ≡ listed_of entry (x ∷ xs)
       by None at rest = rw (other, at) rest
       by (Some o) at rest = rw (other, at) (ap (λ l. (x, o) ∷ l) rest)
 
@@ -123,7 +126,8 @@ module _ {K T : Type 0} (R : K → K → Ordering) (key : T → K) (total : IsTo
       let x : ℕ × (ℕ × T) = (n, e) in
       let h : ℕ → Option (ℕ × (ℕ × T)) = λ i. option_map (λ e. (i, e)) (entry i) in
       let w : ℕ → Option (ℕ × (ℕ × T)) = λ i. option_map (λ e. (i, e)) (with_entry entry n e i) in
-      let here : listed_of (with_entry entry n e) (n ∷ ys) ≡ x ∷ listed_of entry ys = rw (eq-eqb n n refl) (ap (λ l. x ∷ l) (listed-other entry n e ys (Off-back xs ys n off))) in
+      let here : listed_of (with_entry entry n e) (n ∷ ys) ≡ x ∷ listed_of entry ys =
+      rw (eq-eqb n n refl) (ap (λ l. x ∷ l) (listed-other entry n e ys (Off-back xs ys n off))) in
       let front : listed_of (with_entry entry n e) xs ≡ listed_of entry xs = listed-other entry n e xs (Off-front xs ys n off) in
       let split : listed_of new (xs ++ n ∷ ys) ≡ listed_of (with_entry entry n e) xs ++ listed_of (with_entry entry n e) (n ∷ ys) =
       listed-same new (with_entry entry n e) is (xs ++ n ∷ ys) ∙ filter_map-append w xs (n ∷ ys) in
@@ -154,7 +158,8 @@ module _ {K T : Type 0} (R : K → K → Ordering) (key : T → K) (total : IsTo
       ]
     where
       by : (o : Option (ℕ × T)) → entry x ≡ o → Pairs below (listed_of entry xs) (listed_of (with_entry entry i (g, t)) xs)
-          → Pairs below (filter_map (λ i. option_map (λ e. (i, e)) (entry i)) (x ∷ xs)) (cons_option (option_map (λ e. (x, e)) (entry x)) (listed_of (with_entry entry i (g, t)) xs))
+          → Pairs below (filter_map (λ i. option_map (λ e. (i, e)) (entry i)) (x ∷ xs))
+          (cons_option (option_map (λ e. (x, e)) (entry x)) (listed_of (with_entry entry i (g, t)) xs))
       by None at rest = rw at rest
       by (Some o) at rest = rw at (record { left = λ z. refl; right = λ z. refl }, rest)
 
@@ -171,7 +176,8 @@ module _ {K T : Type 0} (R : K → K → Ordering) (key : T → K) (total : IsTo
             answered (Some u) e =
                 let r = put.replaced a.0 u (at ∙ ap (λ z. Ok (a.0, z)) e) in
                 let entries = listed-same (entry_in p) (with_entry (entry_in o) (index a.0) (generation a.0, t)) r.1.entries (order_in number o) in
-                let sorted = carried below (listed_of (entry_in o) (order_in number o)) (listed_of (with_entry (entry_in o) (index a.0) (generation a.0, t)) (order_in number o))
+                let sorted = carried below (listed_of (entry_in o) (order_in number o))
+                (listed_of (with_entry (entry_in o) (index a.0) (generation a.0, t)) (order_in number o))
                 (paired (entry_in o) (index a.0) (generation a.0) t u r.1.was r.0 (order_in number o)) ascending in
                 subst (λ w. IsSorted below (listed_of (entry_in p) w)) (sym r.1.order) (subst (IsSorted below) (sym entries) sorted)
             answered None e =

@@ -1,5 +1,6 @@
 -- An item is replaced, and one is put in where its key belongs.
-use Rattle.std.proofs.Common.{◌≡◌, ◌≢◌, ℕ, ◌+◌, ◌<◌, List, [], ◌∷◌, ◌++◌, length, append_assoc, length-append, Option, Some, None, IsSome, Result, Ok, Err, arith, refl, sym, ap, ◌∙◌, subst, inl, inr}
+use Rattle.std.proofs.Common.{◌≡◌, ℕ, ◌+◌, ◌<◌, List, [], ◌∷◌, ◌++◌, length, append_assoc, length-append, Option}
+use Rattle.std.proofs.Common.{Some, None, IsSome, Result, arith, refl, sym, ap, ◌∙◌, subst, inl, inr}
 use Rattle.std.specs.Option.{option_map}
 use Rattle.std.proofs.lemmas.Bool.Decides.{eqb_tells}
 use Rattle.std.specs.Cmp.{IsTotalOrder}
@@ -16,13 +17,12 @@ use Rattle.triple_arena_chain.specs.Lists.{Linear}
 use Rattle.triple_arena_chain.specs.ListLaws.{chain_where}
 use Rattle.triple_arena_chain.specs.UniquenessLaws.{linear_apart}
 use Rattle.triple_arena_ord.specs.declared.node.IndexNode.{IndexNode}
-use Rattle.triple_arena_ord.specs.declared.knots.Side.TheVariants.{Left, Right}
 use Rattle.triple_arena_ord.specs.Knot.{Knot}
 use Rattle.triple_arena_ord.specs.Node.{knots_in, knot_of, itemed}
-use Rattle.triple_arena_ord.specs.Tree.{Tree, walk, IsRanked}
+use Rattle.triple_arena_ord.specs.Tree.{walk, IsRanked}
 use Rattle.triple_arena_ord.specs.Shape.{Stands, IsDistinct, count}
-use Rattle.triple_arena_ord.specs.Search.{AllIn, Before, IsParted, Places, IsAnswer}
-use Rattle.triple_arena_ord.specs.Ordered.{Ordered, IsOrdered, IsAscending, StandsBeside, tree_in, order_in, entry_in, size_in, asked_of, asked_at}
+use Rattle.triple_arena_ord.specs.Search.{AllIn, Before, IsParted, IsAnswer}
+use Rattle.triple_arena_ord.specs.Ordered.{Ordered, IsOrdered, tree_in, order_in, size_in, asked_of, asked_at}
 use Rattle.triple_arena_ord.specs.Inserted.{StandsAt, IsRenewed, IsReplaced, IsInsertedAt, IsPlacedByKey, IsInserted}
 use Rattle.triple_arena_ord.proofs.Frames.{Represents-keep}
 use Rattle.triple_arena_ord.proofs.Descents.{AllIn-append, AllIn-map, parted-after, parted-before}
@@ -82,11 +82,13 @@ module _ {I T : Type 0} (number : I → ℕ) where
     pub ordered : IsOrdered number p
     pub order : order_in number p ≡ order_in number o
 
-  pub renewed_ordered : (o p : Ordered I T) (i g : ℕ) (t u : T) → p.root ≡ o.root → IsRenewed number i g t u o.chains p.chains → IsOrdered number o → Reordered o p
+  pub renewed_ordered : (o p : Ordered I T) (i g : ℕ) (t u : T) → p.root ≡ o.root → IsRenewed number i g t u o.chains p.chains
+      → IsOrdered number o → Reordered o p
   renewed_ordered o p i g t u root r is =
       let n = knots_in number p.chains in
       let tree = tree_in number o in
-      let stands : Stands n p.root tree = (root ∙ is.whole.stands.0, Represents-keep (knots_in number o.chains) n None tree (λ j c. r.knots j) is.whole.stands.1) in
+      let stands : Stands n p.root tree =
+      (root ∙ is.whole.stands.0, Represents-keep (knots_in number o.chains) n None tree (λ j c. r.knots j) is.whole.stands.1) in
       let same : tree_in number p ≡ tree = tree_is n p.root tree stands is.whole.ranked in
       let order : order_in number p ≡ order_in number o = ap walk same in
       let linear = chain_where (ends_in number o.chains) (ends_in number p.chains) (Linear (order_in number o)) (λ i on. r.ends i) is.linear in
@@ -104,7 +106,8 @@ module _ {I T : Type 0} (number : I → ℕ) where
         order = order;
       }
 
-  pub replaced : (o inside p : Ordered I T) → inside ≡ o → (i g : ℕ) (t u : T) → p.root ≡ inside.root → IsRenewed number i g t u inside.chains p.chains → IsOrdered number inside
+  pub replaced : (o inside p : Ordered I T) → inside ≡ o → (i g : ℕ) (t u : T) → p.root ≡ inside.root
+      → IsRenewed number i g t u inside.chains p.chains → IsOrdered number inside
       → IsReplaced number i g t u o p
   replaced o inside p same i g t u root r is =
       let q = renewed_ordered inside p i g t u root r is in
@@ -155,7 +158,8 @@ module _ {I T : Type 0} (number : I → ℕ) where
               greater = λ ascending.
                   let parted = subst (IsParted f) s.was (parts_at number cmp key k total o is ascending) in
                   AllIn-append (λ y. f y ≡ Greater) s.before (h ∷ [])
-                  (AllIn-map (λ y. Before (f y) (f h)) (λ y. f y ≡ Greater) (λ y z. z.greater here) s.before (parted-before f s.before h s.after parted)) (here, tt);
+                  (AllIn-map (λ y. Before (f y) (f h)) (λ y. f y ≡ Greater) (λ y z. z.greater here) s.before
+                  (parted-before f s.before h s.after parted)) (here, tt);
               less = λ ascending.
                   let places = answer.parted h Greater at (parts_at number cmp key k total o is ascending) in
                   let split = split_same s.before h s.after places.before places.after (subst Apart s.was apart) (sym s.was ∙ places.is) in
@@ -175,10 +179,13 @@ module _ {I T : Type 0} (number : I → ℕ) where
 
     module _ {P : Type 0} (index generation : P → ℕ) where
       -- an insertion where the search for its key ended
-      pub inserted_by_key : (o p : Ordered I T) (t : T) (k : K) → k ≡ key t → (place : Option (ℕ × Ordering)) (result : Result (P × Option T) OrdInsertionError) → IsOrdered number o
-          → IsOrdered number p → IsAnswer (asked_at cmp key k o) (tree_in number o) place → IsInsertedAt number index generation place t result o p → IsInserted number cmp key index generation t result o p
+      pub inserted_by_key : (o p : Ordered I T) (t : T) (k : K) → k ≡ key t → (place : Option (ℕ × Ordering))
+          → (result : Result (P × Option T) OrdInsertionError) → IsOrdered number o
+          → IsOrdered number p → IsAnswer (asked_at cmp key k o) (tree_in number o) place
+          → IsInsertedAt number index generation place t result o p → IsInserted number cmp key index generation t result o p
       inserted_by_key o p t k k_is place result is new_is found put =
-          let answer : IsAnswer (asked_at cmp key (key t) o) (tree_in number o) place = subst (λ z. IsAnswer (asked_at cmp key z o) (tree_in number o) place) k_is found in
+          let answer : IsAnswer (asked_at cmp key (key t) o) (tree_in number o) place =
+          subst (λ z. IsAnswer (asked_at cmp key z o) (tree_in number o) place) k_is found in
           record {
             replaced = λ q u e.
                 let r = put.replaced q u e in

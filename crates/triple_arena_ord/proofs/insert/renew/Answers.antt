@@ -1,6 +1,5 @@
-use Rattle.std.proofs.Common.{◌≡◌, Some, sym, ap, ◌∙◌}
+use Rattle.std.proofs.Common.{sym, ap, ◌∙◌}
 use Rattle.std.specs.Option.{option_map}
-use Rattle.triple_arena_chain.specs.Links.{values_in}
 use Rattle.triple_arena_ord.proofs.InsertLemmas.{renewed_at}
 use Rattle.triple_arena_ord.proofs.insert.renew.Goals as goal
 
@@ -9,4 +8,5 @@ returns-clause-renewed g c =
     let number = g.P.Inx.PtrInx.number in
     renewed_at number c.args.chains.now (number c.args.i) _ _ _ _ _ _ _ _
     (sym c.get_inx.ensures ∙ ap (option_map (λ e. (g.P.Gen.PtrGen.number e.0, e.1.now))) c.in-Some.is)
-    c.get_inx_mut_unwrap-node.ensures.value c.replace-old.ensures.value c.replace-old.ensures.after c._from_raw.ensures.has_index c._from_raw.ensures.has_generation
+    c.get_inx_mut_unwrap-node.ensures.value c.replace-old.ensures.value c.replace-old.ensures.after
+    c._from_raw.ensures.has_index c._from_raw.ensures.has_generation
