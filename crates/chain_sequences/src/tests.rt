@@ -1,7 +1,9 @@
+mod compressions;
 mod copies;
 mod iterators;
 mod kinds;
 mod loops;
+mod maps;
 mod refusals;
 mod rows;
 mod texts;

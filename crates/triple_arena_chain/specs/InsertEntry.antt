@@ -1,5 +1,5 @@
 -- What an insertion answers where it makes room, and what a contract sees of an insertion's entry.
-use Rattle.std.specs.Prelude.{◌≡◌, ◌<◌, ◌↔◌, ℕ, Bool, IsTrue, Option, Some, None, IsSome, Result, IsOk, IsErrOf}
+use Rattle.std.specs.Prelude.{◌≡◌, ◌<◌, ◌≤◌, ◌↔◌, ℕ, Bool, IsTrue, Option, Some, None, IsSome, Result, IsOk, IsErrOf}
 use Rattle.std.specs.Borrow.{GName}
 use Rattle.triple_arena_ptr.specs.declared.errors.ChainInsertionError.{ChainInsertionError}
 use Rattle.triple_arena_ptr.specs.declared.errors.ChainInsertionError.TheVariants.{FailedLinkRequirement, NotWithinCapacity, BeyondMaxCapacity, AllocError}
@@ -12,8 +12,14 @@ use Rattle.triple_arena_chain.specs.Chains.{IsPlace}
 use Rattle.triple_arena_chain.specs.Kinds.{place_by}
 use Rattle.triple_arena_chain.specs.Links.{ends_in}
 
--- which error comes where a link is to stand at the place that is asked for, if there is one, among so many links in this
--- room, and when none does
+-- which error comes where a link is to stand at the place that is asked for, if there is one, among so many links within this
+-- capacity, and when none does
+pub record IsLinkAnswer {A : Type 0} (asked : Option (Place ℕ)) (len capacity : ℕ) (result : Result A ChainInsertionError) : Type 0 where
+  pub failed : IsErrOf result FailedLinkRequirement ↔ (asked ≡ None)
+  pub succeeds : IsOk result ↔ (IsSome asked × (len < capacity))
+  pub full : IsErrOf result NotWithinCapacity ↔ (IsSome asked × (capacity ≤ len))
+
+-- the same where the arena grows in this room
 pub record IsLinkRefusal {A : Type 0} (asked : Option (Place ℕ)) (takes_memory : Bool) (len : ℕ) (room : Room) (result : Result A ChainInsertionError) : Type 0 where
   pub failed : IsErrOf result FailedLinkRequirement ↔ (asked ≡ None)
   pub succeeds : IsSome asked → len < capacity room → IsOk result

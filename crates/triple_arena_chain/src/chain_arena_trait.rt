@@ -1,5 +1,5 @@
 //! What every chain arena does with its links.
-ghost use Rattle.std.specs.Prelude.{◌≡◌, ◌<◌, ◌≤◌, ◌↔◌, ℕ, None, Some, IsSome, IsOk, IsTrue, IfOk, IfSome, IfNone, OnOk, OnErr, OnSome, IsErrOf, option_copied};
+ghost use Rattle.std.specs.Prelude.{◌≡◌, ◌<◌, ◌↔◌, ℕ, None, Some, IsSome, IsTrue, IfOk, IfSome, IfNone, OnOk, OnErr, OnSome, option_copied};
 ghost use Rattle.std.specs.Option.{option_map};
 ghost use Rattle.triple_arena_ptr.specs.Generation.{next_wraps};
 ghost use Rattle.triple_arena_ptr.specs.InvalidationOption.{value_of, overflowed};
@@ -10,7 +10,7 @@ ghost use Rattle.triple_arena.specs.Entries.{value_if};
 ghost use Rattle.triple_arena_chain.specs.declared.kind.InsertKind.TheVariants.{Bridge};
 ghost use Rattle.triple_arena_chain.specs.declared.link.IndexLink.{IndexLink};
 ghost use Rattle.triple_arena_chain.specs.Chains.{next_in, prev_in, next_at, prev_at, linked, unlinked, exchanged};
-ghost use Rattle.triple_arena_chain.specs.InsertEntry.{IsLinkRefusal};
+ghost use Rattle.triple_arena_chain.specs.InsertEntry.{IsLinkAnswer, IsLinkRefusal};
 ghost use Rattle.triple_arena_chain.specs.Links.{ends_in, ends_found, values_in, place_among, bridged_over, IsChained, IsPlaced, IsRelinked, IsTakenOut};
 ghost use Rattle.triple_arena_chain.specs.Lists.{IsAppended, IsSplit, IsExchanged};
 ghost use Rattle.triple_arena_chain.specs.Values.{IsLivePtr};
@@ -67,14 +67,8 @@ pub trait ChainArenaTrait<P: Ptr, T: Drop>: ArenaTrait<P, T> {
         kind: &LinkInsertKind<P>,
         t: T,
     ) -> Result<P, ChainInsertionError>
-        ensures failed { IsErrOf result ChainInsertionError.FailedLinkRequirement
-            ↔ (place_among P.index P.generation P.Inx.number (links self.old) kind.now ≡ None) }
-        ensures variant { IsOk result
-            ↔ (IsSome (place_among P.index P.generation P.Inx.number (links self.old) kind.now)
-            × (live_count (links self.old) < arena_capacity (links self.old))) }
-        ensures full { IsErrOf result ChainInsertionError.NotWithinCapacity
-            ↔ (IsSome (place_among P.index P.generation P.Inx.number (links self.old) kind.now)
-            × (arena_capacity (links self.old) ≤ live_count (links self.old))) }
+        ensures answer { IsLinkAnswer (place_among P.index P.generation P.Inx.number (links self.old) kind.now)
+            (live_count (links self.old)) (arena_capacity (links self.old)) result }
         ensures placed { IfOk result
             (λ p. IfSome (place_among P.index P.generation P.Inx.number (links self.old) kind.now)
             (λ place. IsPlaced P.Inx.number place (P.index p) (P.generation p) t (links self.old) (links self.new))) }
@@ -207,14 +201,8 @@ pub trait ChainArenaTrait<P: Ptr, T: Drop>: ArenaTrait<P, T> {
         kind: LinkInsertKind<P>,
         t: T,
     ) -> Result<P, ChainInsertionError>
-        ensures failed { IsErrOf result ChainInsertionError.FailedLinkRequirement
-            ↔ (place_among P.index P.generation P.Inx.number (links self.old) kind ≡ None) }
-        ensures variant { IsOk result
-            ↔ (IsSome (place_among P.index P.generation P.Inx.number (links self.old) kind)
-            × (live_count (links self.old) < arena_capacity (links self.old))) }
-        ensures full { IsErrOf result ChainInsertionError.NotWithinCapacity
-            ↔ (IsSome (place_among P.index P.generation P.Inx.number (links self.old) kind)
-            × (arena_capacity (links self.old) ≤ live_count (links self.old))) }
+        ensures answer { IsLinkAnswer (place_among P.index P.generation P.Inx.number (links self.old) kind)
+            (live_count (links self.old)) (arena_capacity (links self.old)) result }
         ensures placed { IfOk result
             (λ p. IfSome (place_among P.index P.generation P.Inx.number (links self.old) kind)
             (λ place. IsPlaced P.Inx.number place (P.index p) (P.generation p) t (links self.old) (links self.new))) }

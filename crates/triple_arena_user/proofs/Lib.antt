@@ -1,5 +1,6 @@
 mod DocumentLemmas
 pub mod MirrorLemmas
+pub mod MoveLemmas
 pub mod PlaylistLemmas
 pub mod ReuseLemmas
 pub mod ReversalLemmas

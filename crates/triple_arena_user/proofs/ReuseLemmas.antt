@@ -1,6 +1,7 @@
 -- A removal and an insertion after whatever was done with an arena before.
-use Rattle.std.proofs.Common.{◌≡◌, ℕ, false, List, [], ◌∷◌, ◌++◌, append-nil, Option, Some, None, refl, sym, ap, subst, ◌∙◌}
+use Rattle.std.proofs.Common.{◌≡◌, ℕ, false, List, [], ◌∷◌, ◌++◌, append-nil, Option, Some, None, refl, sym, ap, subst, ◌∙◌, inl, inr}
 use Rattle.std.proofs.lemmas.Bool.{eq-eqb}
+use Rattle.std.proofs.lemmas.Bool.Decides.{eqb_tells}
 use Rattle.std.specs.Option.{option_map}
 use Rattle.std.specs.Prelude.{OnSome}
 use Rattle.triple_arena_ptr.specs.InvalidationResult.{answer_of}
@@ -8,7 +9,7 @@ use Rattle.triple_arena_ptr.specs.declared.invalidation.InvalidationResult.{Inva
 use Rattle.triple_arena_ptr.specs.declared.invalidation.InvalidationResult.TheVariants.{Success, GenerationOverflow, InvalidPtr}
 use Rattle.triple_arena_stack.specs.Room.{Room}
 use Rattle.triple_arena.specs.Changes.{IsNew, IsInserted, IsRemoved}
-use Rattle.triple_arena.specs.Entries.{counter_wraps, IsOneOf}
+use Rattle.triple_arena.specs.Entries.{with_entry, without, counter_wraps, IsOneOf}
 use Rattle.triple_arena.specs.Steps.{Step, insert, remove, AreNew, Finds, Happens, all_given, reached}
 use Rattle.triple_arena.specs.StepsLaws.{last_is_new, reached-append, given-append, happens-append}
 use Rattle.triple_arena_user.specs.Histories.{IsReached}
@@ -18,6 +19,11 @@ pub where_valid : {T X : Type 0} (r : InvalidationResult T) → (r ≡ InvalidPt
 where_valid (Success t) valid x = x
 where_valid (GenerationOverflow t) valid x = x
 where_valid InvalidPtr valid x = absurd (valid refl)
+
+-- one entry is taken out, and one is put in
+pub put_over : {T : Type 0} (old mid new : ℕ → Option (ℕ × T)) (i j : ℕ) (entry : ℕ × T) → ((k : ℕ) → mid k ≡ without old i k)
+    → ((k : ℕ) → new k ≡ with_entry mid j entry k) → (k : ℕ) → new k ≡ with_entry (without old i) j entry k
+put_over old mid new i j entry out put k = put k ∙ elim (eqb_tells k j) [ inl is ↦ rw is.0 refl | inr other ↦ rw other.0 (out k) ]
 
 module _ {S T : Type 0} (entry_of : S → ℕ → Option (ℕ × T)) (live_of : S → ℕ) (counter_of : S → Option ℕ) (room_of : S → Room)
     (listed : S → List (ℕ × (ℕ × T))) (last : Option ℕ) {old mid new : S} {i j next g : ℕ} {t : T} (history : List (Step T × S))

@@ -78,7 +78,7 @@ some_next o there = by (next_in o) refl there
 
 module _ {I T : Type 0} (number : I → ℕ) (c : Content (IndexLink I T)) (i g : ℕ) where
   -- what is found at a pointer has its generation
-  generation_of : IsSome (ends_found number c i g) → generation_at (values_in c) i ≡ Some g
+  pub generation_of : IsSome (ends_found number c i g) → generation_at (values_in c) i ≡ Some g
   generation_of there = by (entry_at c i) there
     where
       by : (o : Option (ℕ × IndexLink I T)) → IsSome (option_map (link_ends number) (value_if g o)) → option_map (λ v. v.0) (option_map valued o) ≡ Some g
@@ -86,7 +86,7 @@ module _ {I T : Type 0} (number : I → ℕ) (c : Content (IndexLink I T)) (i g 
       by (Some e) some = elim (eqb_tells e.0 g) [ inl is ↦ ap Some is.1 | inr other ↦ absurd (let no : false ≡ true = rw other.0 at some in cc) ]
 
   -- and what has this generation is found
-  finds : generation_at (values_in c) i ≡ Some g → ends_found number c i g ≡ ends_in number c i
+  pub finds : generation_at (values_in c) i ≡ Some g → ends_found number c i g ≡ ends_in number c i
   finds is = by (entry_at c i) is
     where
       by : (o : Option (ℕ × IndexLink I T)) → option_map (λ v. v.0) (option_map valued o) ≡ Some g
@@ -95,6 +95,14 @@ module _ {I T : Type 0} (number : I → ℕ) (c : Content (IndexLink I T)) (i g 
       by (Some e) some =
           let at : e.0 ≡ g = cc in
           elim (eqb_tells e.0 g) [ inl same ↦ rw same.0 refl | inr other ↦ absurd (other.1 at) ]
+
+  -- and is live
+  pub live_with : generation_at (values_in c) i ≡ Some g → IsSome (ends_in number c i)
+  live_with is = by (entry_at c i) is
+    where
+      by : (o : Option (ℕ × IndexLink I T)) → option_map (λ v. v.0) (option_map valued o) ≡ Some g → IsSome (option_map (entry_ends number) o)
+      by None none = absurd (let no : None ≡ Some g = none in cc)
+      by (Some e) some = refl
 
   next_found : (n : ℕ) → next_in (ends_found number c i g) ≡ Some n → next_at (ends_in number c) i ≡ Some n
   next_found n is = ap next_in (sym (finds (generation_of (live_next_in (ends_found number c i g) n is)))) ∙ is
@@ -210,12 +218,8 @@ module _ {I T : Type 0} (number : I → ℕ) (c m : Content (IndexLink I T)) (o 
         let into = ap prev_in (p_is ∙ (breaks p own).ends p) ∙ parted_alone (ends_in number m) p in
         bridges q p (ends_found number b q h) (ends_found number b p g) (live_q q_is before) out (live_p p_is) into)
       where
-        live_at : (x : Option (ℕ × IndexLink I T)) (k : ℕ) → option_map (λ v. v.0) (option_map valued x) ≡ Some k → IsSome (option_map (entry_ends number) x)
-        live_at None k is = absurd (let no : None ≡ Some k = is in cc)
-        live_at (Some e) k is = refl
-
         live_q : ends_found number b q h ≡ ends_in number b q → generation_at (values_in b) q ≡ Some h → IsSome (ends_found number b q h)
-        live_q is at = subst IsSome (sym is) (live_at (entry_at b q) h at)
+        live_q is at = subst IsSome (sym is) (live_with number b q h at)
 
         live_p : ends_found number b p g ≡ ends_in number b p → IsSome (ends_found number b p g)
         live_p is =

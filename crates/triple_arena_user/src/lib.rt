@@ -17,7 +17,7 @@ pub use documents::tidy;
 pub use each::raise_each;
 pub use mirrors::reflect;
 pub use nodes::{Node, Nodes};
-pub use playlist::{add_after, play_from, reverse_pair};
+pub use playlist::{add_after, move_after, play_from, reverse_pair};
 pub use reuse::replace;
 pub use searches::{find_equal, find_first};
 pub use sums::{direct_sum_of, sum_of, sum_of_entries};

@@ -1,13 +1,14 @@
 //! Playlists: songs in the chains of an arena, of which all is said in lists of indexes.
-ghost use Rattle.std.specs.Prelude.{◌≡◌, ◌<◌, ◌≤◌, ◌↔◌, ◌%◌, ◌^◌, ℕ, List, ◌∷◌, ◌++◌, map as list_map, None, Some, IsSome, IfSome, IfNone, IsOk, IfOk, OnSome, OnErr, IsErrOf};
+ghost use Rattle.std.specs.Prelude.{◌≡◌, ◌≢◌, ◌<◌, ◌≤◌, ◌↔◌, ◌%◌, ◌^◌, ℕ, List, ◌∷◌, ◌++◌, map as list_map, None, Some, IsSome, IfSome, IfNone, IsOk, IfOk, OnSome, OnErr, IsErrOf};
 ghost use Rattle.std.specs.List.{sum};
 ghost use Rattle.triple_arena.specs.Content.{get, live_count, arena_capacity};
-ghost use Rattle.triple_arena.specs.Entries.{with_entry};
+ghost use Rattle.triple_arena.specs.Entries.{with_entry, without};
+ghost use Rattle.triple_arena_chain.specs.declared.link.IndexLink.{IndexLink};
 ghost use Rattle.triple_arena_chain.specs.Chains.{Off, next_in, IsLinear, IsRing};
 ghost use Rattle.triple_arena_chain.specs.Links.{ends_in, ends_found, values_in};
 ghost use Rattle.triple_arena_chain.specs.Lists.{Chain, members, IsChainOf};
 ghost use Rattle.triple_arena_chain.specs.Walks.{IsWalkFrom};
-ghost use Rattle.triple_arena_user.specs.Playlists.{length_at};
+ghost use Rattle.triple_arena_user.specs.Playlists.{length_at, IsMoved};
 
 use triple_arena::{Advancer, ArenaSlot, ArenaTrait, NonZeroInxGenericStack, Ptr};
 use triple_arena_chain::{ChainArena, ChainArenaTrait, LinkInsertKind, LinkNoGen};
@@ -42,6 +43,34 @@ pub fn add_after<P: Ptr, T: Drop, S: NonZeroInxGenericStack<ArenaSlot<P, LinkNoG
     // The interlinks agree.
     let _ = songs.len();
     songs.insert_within_capacity(LinkInsertKind::NextTo(p), song)
+}
+
+/// Moves the song at `p` to directly after the one at `q`, in whatever lists or rings they stand, and answers its new
+/// pointer. It answers `None`, and changes nothing, where one of them is invalid or they are the same song.
+pub fn move_after<P: Ptr, T: Drop, S: NonZeroInxGenericStack<ArenaSlot<P, LinkNoGen<P, T>>> + Drop>(
+    songs: &mut ChainArena<P, T, S>,
+    p: P,
+    q: P,
+) -> Option<P>
+    ensures variant { IsSome result ↔ (IsSome (get songs.old (P.index p) (P.generation p))
+        × IsSome (get songs.old (P.index q) (P.generation q)) × (P.index p ≢ P.index q)) }
+    ensures moved { IfSome result (λ n. IsMoved (P.index p) (P.index q) (P.index n)
+        (ends_in P.Inx.number songs.old) (ends_in P.Inx.number songs.new)) }
+    ensures songs { IfSome result (λ n. (link : IndexLink P.Inx T)
+        → get songs.old (P.index p) (P.generation p) ≡ Some link → (j : ℕ) → values_in songs.new j
+        ≡ with_entry (without (values_in songs.old) (P.index p)) (P.index n) (P.generation n, link.t) j) }
+    ensures live { live_count songs.new ≡ live_count songs.old }
+    ensures none { IfNone result (songs.new ≡ songs.old) }
+{
+    // The interlinks agree, and no more songs are there than fit.
+    let _ = songs.len();
+    if p == q || !songs.contains(q) {
+        return None;
+    }
+    let link = songs.remove_link_no_gen(p).allow()?;
+    songs
+        .insert_within_capacity(LinkInsertKind::NextTo(q), link.t)
+        .ok()
 }
 
 /// Turns the song at `p`, which is the next of `before`, and its own next round: `before, p, q` is `before, q, p` then,

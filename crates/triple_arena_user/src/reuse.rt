@@ -1,6 +1,6 @@
 //! Slots that are used again while pointers to what stood in them are kept.
 ghost use Rattle.std.specs.Prelude.{◌≡◌, ◌↔◌, ℕ, List, Option, Some, IsSome, IfSome, IfNone, false};
-ghost use Rattle.triple_arena.specs.Entries.{value_if, counter_wraps, IsOneOf};
+ghost use Rattle.triple_arena.specs.Entries.{value_if, with_entry, without, counter_wraps, IsOneOf};
 ghost use Rattle.triple_arena.specs.Steps.{Step, Finds, Happens, all_given, reached};
 ghost use Rattle.triple_arena_user.specs.Histories.{IsReached};
 
@@ -18,6 +18,8 @@ pub fn replace<P: Ptr, T: Drop, A: ArenaInsertTrait<P, T>>(arena: &mut A, p: P, 
         ↔ IsSome (value_if (P.generation p) (A.entry_at arena.old (P.index p))) }
     ensures found { IfSome result (λ q. value_if (P.generation q) (A.entry_at arena.new (P.index q))
         ≡ Some t) }
+    ensures others { IfSome result (λ q. (k : ℕ) → A.entry_at arena.new k
+        ≡ with_entry (without (A.entry_at arena.old) (P.index p)) (P.index q) (P.generation q, t) k) }
     ensures live { A.live_count arena.new ≡ A.live_count arena.old }
     ensures missed { IfNone result (arena.new ≡ arena.old) }
     ensures never_given { (history : List (Step T × A))

@@ -13,15 +13,15 @@ use triple_arena::{
 use triple_arena_chain::{ChainArena, ChainArenaTrait, LinkInsertKind, LinkNoGen};
 use triple_arena_ptr::ChainInsertionError;
 
-type Slot<P> = ArenaSlot<P, LinkNoGen<P, u64>>;
+pub(crate) type Slot<P> = ArenaSlot<P, LinkNoGen<P, u64>>;
 
-type InVec<P> = NonZeroInxVec<Slot<P>, Global>;
+pub(crate) type InVec<P> = NonZeroInxVec<Slot<P>, Global>;
 
-type InArray<P> = NonZeroInxArray<Slot<P>, 6>;
+pub(crate) type InArray<P> = NonZeroInxArray<Slot<P>, 6>;
 
 // The links 1, 3 and 2 in this order, and a ring of 4 and 5, with a free slot between them. It answers links 1 and 4,
 // and the one that is gone.
-fn fill<P: Ptr, S: NonZeroInxGenericStack<Slot<P>> + Drop>(
+pub(crate) fn fill<P: Ptr, S: NonZeroInxGenericStack<Slot<P>> + Drop>(
     chains: &mut ChainArena<P, u64, S>,
 ) -> Result<(P, P, P), ChainInsertionError> {
     let a = chains.insert_reallocating(LinkInsertKind::Disconnected, 1)?;

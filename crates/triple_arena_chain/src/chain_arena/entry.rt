@@ -1,8 +1,8 @@
 //! A place for one link more, which tells its pointer before the value is there.
-ghost use Rattle.std.specs.Prelude.{◌≡◌, ◌<◌, ◌≤◌, ◌↔◌, None, Some, IsOk, IsSome, IfOk, IfSome, IsErrOf};
+ghost use Rattle.std.specs.Prelude.{◌≡◌, ◌<◌, ◌↔◌, None, Some, IsSome, IfOk, IfSome};
 ghost use Rattle.std.specs.Borrow.{sem, RestsIfErr};
 ghost use Rattle.triple_arena.specs.Content.{live_count, arena_capacity, next_index, grown_if_full};
-ghost use Rattle.triple_arena_chain.specs.InsertEntry.{entry_chains, entry_lender, entry_place, IsReady, IsLinkRefusal};
+ghost use Rattle.triple_arena_chain.specs.InsertEntry.{entry_chains, entry_lender, entry_place, IsReady, IsLinkAnswer, IsLinkRefusal};
 ghost use Rattle.triple_arena_chain.specs.Links.{place_among, IsChained, IsPlaced};
 
 use crate::place::Place;
@@ -85,14 +85,8 @@ impl<P: Ptr, T: Drop, S: NonZeroInxGenericStack<ArenaSlot<P, LinkNoGen<P, T>>> +
         &mut self,
         kind: LinkInsertKind<P>,
     ) -> Result<ChainArenaInsertEntry<'_, P, T, S>, ChainInsertionError>
-        ensures failed { IsErrOf result ChainInsertionError.FailedLinkRequirement
-            ↔ (place_among P.index P.generation P.Inx.number self.old kind ≡ None) }
-        ensures variant { IsOk result
-            ↔ (IsSome (place_among P.index P.generation P.Inx.number self.old kind)
-            × (live_count self.old < arena_capacity self.old)) }
-        ensures full { IsErrOf result ChainInsertionError.NotWithinCapacity
-            ↔ (IsSome (place_among P.index P.generation P.Inx.number self.old kind)
-            × (arena_capacity self.old ≤ live_count self.old)) }
+        ensures answer { IsLinkAnswer (place_among P.index P.generation P.Inx.number self.old kind)
+            (live_count self.old) (arena_capacity self.old) result }
         ensures same_reference { IfOk result (λ e. entry_lender e ≡ self.entry.ghost_name) }
         ensures chains { IfOk result (λ e. entry_chains e ≡ self.old) }
         ensures ready { IfOk result (λ e. IsReady P.Inx.number P.index P.generation e) }

@@ -1,5 +1,10 @@
-use Rattle.triple_arena_user.proofs.ReuseLemmas.{where_valid, never_given, ended}
+use Rattle.triple_arena_user.proofs.ReuseLemmas.{put_over, where_valid, never_given, ended}
 use Rattle.triple_arena_user.proofs.reuse.replace.Goals as goal
+
+pub returns-in-Ok-clause-others : goal.returns-in-Ok-clause-others
+returns-in-Ok-clause-others g c =
+    put_over (g.A.ArenaTrait.entry_at c.args.arena.now) (g.A.ArenaTrait.entry_at c.remove.new.self) (g.A.ArenaTrait.entry_at c.insert_within_capacity.new.self)
+    _ _ _ (where_valid _ c.in_default.not-InvalidPtr c.remove.ensures.removed).entries c.in-Ok.ensures.inserted.entries
 
 pub returns-in-Ok-clause-never_given : goal.returns-in-Ok-clause-never_given
 returns-in-Ok-clause-never_given g c history reached stays =

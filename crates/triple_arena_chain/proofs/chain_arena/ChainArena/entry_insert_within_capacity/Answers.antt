@@ -18,9 +18,7 @@ returns-in-Some-next_ptr g c =
     let room = c.in-Some-next_ptr.ensures.variant.0 refl in (
       (refl, λ w. refl, tt),
       record {
-        failed = search rules;
-        variant = search rules;
-        full = search rules;
+        answer = record { failed = search rules; succeeds = search rules; full = search rules };
         same_reference = search rules;
         chains = kept;
         ready = record {
