@@ -1,5 +1,5 @@
 -- What becomes of the lists of a playlist where a song is taken out and put in directly after another one.
-use Rattle.std.proofs.Common.{◌≡◌, ◌≢◌, ℕ, Bool, ◌&&◌, ◌==◌, ◌<◌, ◌+◌, Option, Some, None, IsSome, IfSome, Result, Ok, Err, IsOk, IfOk, is_some, option_map, refl, sym, ap, subst, ◌∙◌, true, false, true≢false, inl, inr, arith}
+use Rattle.std.proofs.Common.{◌≡◌, ◌≢◌, ℕ, ◌&&◌, ◌==◌, Option, Some, None, IsSome, IfSome, Result, Ok, Err, IsOk, IfOk, option_map, refl, sym, ap, subst, ◌∙◌, true, false, true≢false, inl, inr}
 use Rattle.std.specs.Result.{result_ok}
 use Rattle.std.proofs.lemmas.Bool.{eq-eqb}
 use Rattle.std.proofs.lemmas.Bool.Decides.{eqb_tells}

@@ -5,7 +5,7 @@ use std::process::Abort;
 use std::test::Fail;
 use triple_arena::{
     ArenaInsertTrait, ArenaSlot, ArenaTrait, ArrayArena, DirectSlot, NonZeroInxArray,
-    NonZeroInxGenericStack, P0, P1, P5, Ptr, PtrInx, Recast, compress_recaster,
+    NonZeroInxGenericStack, P0, P1, P5, Ptr, PtrGen, PtrInx, Recast, compress_recaster,
 };
 use triple_arena_chain::{ChainArena, ChainArenaTrait, LinkInsertKind, LinkNoGen};
 use triple_arena_ptr::ChainInsertionError;
@@ -27,35 +27,42 @@ fn digits<P: Ptr, S: NonZeroInxGenericStack<Slot<P>> + Drop>(
     (indexes, values)
 }
 
-// The list from the first index, and the ring from the last one.
+// The walks from the first index, the second and the last.
 fn walks<P: Ptr, S: NonZeroInxGenericStack<Slot<P>> + Drop>(
     chains: &ChainArena<P, u64, S>,
-) -> (u64, u64) {
-    let mut first = 0;
-    let mut last = 0;
+) -> (u64, u64, u64) {
+    let mut walks = (0, 0, 0);
+    let mut seen: u8 = 0;
     for p in chains.ptrs() {
-        last = walk(chains, p);
-        if first == 0 {
-            first = last;
+        let digits = walk(chains, p);
+        match seen {
+            0 => walks.0 = digits,
+            1 => walks.1 = digits,
+            _ => walks.2 = digits,
         }
+        seen = seen.saturating_add(1);
     }
-    (first, last)
+    walks
 }
 
-// The links go to the first indexes in the order of theirs, and stay in their list and their ring.
+// The links go to the first indexes in the order of theirs, and stay in their list and their ring, forwards and backwards.
 fn compresses<P: Ptr, S: NonZeroInxGenericStack<Slot<P>> + Drop>(
     rt: &impl Abort,
     chains: &mut ChainArena<P, u64, S>,
 ) -> Result<(), ChainInsertionError> {
-    fill(chains)?;
+    let (a, _, _) = fill(chains)?;
     assert!(rt; digits(chains) == (12456, 12345));
-    assert!(rt; walks(chains) == (132, 54));
-    let _ = chains.compress_with(false, |_, value, _| value.wrapping_add(1));
+    assert!(rt; walks(chains) == (132, 231, 54));
+    let told = chains.compress_with(false, |_, value, _| value.wrapping_add(1));
+    assert!(rt; told.is_success());
     assert!(rt; digits(chains) == (12345, 23456));
-    assert!(rt; walks(chains) == (243, 65));
-    let _ = chains.compress(true);
-    assert!(rt; digits(chains) == (12345, 23456));
-    assert!(rt; walks(chains) == (243, 65));
+    assert!(rt; walks(chains) == (243, 342, 65));
+    // Without the first link, and with the generations from the start.
+    assert!(rt; chains.remove_inx_link_no_gen(a.inx()).is_success());
+    assert!(rt; chains.compress(true).is_success());
+    assert!(rt; chains.generation() == P::Gen::two());
+    assert!(rt; digits(chains) == (1234, 3456));
+    assert!(rt; walks(chains) == (34, 43, 65));
     Ok(())
 }
 

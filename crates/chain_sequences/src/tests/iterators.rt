@@ -52,7 +52,7 @@ fn counts_generations(rt: HostRuntime) -> Result<(), Fail> {
     Ok(())
 }
 
-// A drain that is dropped after one item leaves no link.
+// A drain that is dropped after two items of three leaves no link.
 fn drains<P: Ptr, S: NonZeroInxGenericStack<Slot<P>> + Drop>(
     rt: &impl Abort,
     chains: &mut ChainArena<P, u64, S>,

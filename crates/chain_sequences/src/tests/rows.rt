@@ -119,6 +119,9 @@ fn refuses<P: Ptr, S: NonZeroInxGenericStack<Slot<P>> + Drop>(
     assert!(rt; chains.break_prev(b).is_some());
     walks(rt, chains, b, 21);
     assert!(rt; chains.connect(b, a).is_none());
+    assert!(rt; !chains.are_neighbors(a, b));
+    assert!(rt; chains.connect(a, b).is_some());
+    walks(rt, chains, a, 12);
 }
 
 #[test]

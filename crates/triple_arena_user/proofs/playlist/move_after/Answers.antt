@@ -1,7 +1,6 @@
-use Rattle.std.proofs.Common.{rules, ◌≡◌, ◌≢◌, ◌<◌, ℕ, Option, Some, None, IsSome, IfSome, IsOk, ◌==◌, ◌&&◌, false, sym, ◌∙◌}
+use Rattle.std.proofs.Common.{rules, ◌≡◌, ◌<◌, Some, IsSome, IsOk, ◌==◌, ◌&&◌, false, sym, ◌∙◌}
 use Rattle.triple_arena.specs.Content.{get, live_count, arena_capacity}
-use Rattle.triple_arena_chain.specs.Links.{ends_in, place_among, values_in, IsTakenOut, IsChained}
-use Rattle.triple_arena_chain.specs.declared.kind.InsertKind.TheVariants.{NextTo}
+use Rattle.triple_arena_chain.specs.Links.{IsTakenOut, IsChained}
 use Rattle.triple_arena_user.proofs.MoveLemmas.{Settled, differ, place_left, answered}
 use Rattle.triple_arena_user.proofs.playlist.move_after.Goals as goal
 

@@ -1,4 +1,4 @@
-use Rattle.std.proofs.Common.{rules, ◌≡◌, ℕ, Some, true≢false, option_map, sym, ap, ◌∙◌}
+use Rattle.std.proofs.Common.{rules, ◌≡◌, Some, true≢false, sym, ap, ◌∙◌}
 use Rattle.triple_arena.specs.Content.{get}
 use Rattle.triple_arena_chain.proofs.FromArenaLemmas.{next_goes_back, prev_goes_on}
 use Rattle.triple_arena_chain.proofs.chain_arena.ChainArena.interlinks_agree.Goals.{then-not-goes_back-via-then-not-goes_back, then-not-goes_back-via-else-not-goes_back+then-not-goes_on}

@@ -1,6 +1,5 @@
 use Rattle.triple_arena_ptr.specs.InvalidationOption.{value_of}
 use Rattle.triple_arena_ptr.specs.InvalidationResult.{answer_of}
-use Rattle.triple_arena_chain.specs.Links.{IsChained}
 use Rattle.triple_arena_chain.proofs.SameLinksLemmas.{invalidated_chained}
 use Rattle.triple_arena_chain.proofs.chain_arena.calls.ChainArenaArenaTrait.invalidate.Goals as goal
 

@@ -1,4 +1,4 @@
-use Rattle.std.proofs.Common.{◌≡◌, ℕ, ◌∷◌, length, Some, rules, sym, ap, ◌∙◌, arith}
+use Rattle.std.proofs.Common.{◌≡◌, ◌∷◌, length, Some, rules, sym, ap, ◌∙◌, arith}
 use Rattle.triple_arena.specs.Changes.{IsRemoved}
 use Rattle.triple_arena.specs.Content.{live_count, some_counter}
 use Rattle.triple_arena.specs.Entries.{value_if}
