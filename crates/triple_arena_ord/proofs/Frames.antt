@@ -144,3 +144,12 @@ write-elsewhere n m i v w j z = w.elsewhere j (one-apart j i z)
 
 pub count-same : (j : ℕ) (a b : Tree) → walk a ≡ walk b → count j a ≡ count j b
 count-same j a b e = count-walk j a ∙ ap (count_in j) e ∙ sym (count-walk j b)
+
+-- a tree whose walk has one index more
+pub count_split : (j : ℕ) (a b : Tree) (front : List ℕ) (h : ℕ) (back : List ℕ) → walk a ≡ front ++ h ∷ back → walk b ≡ front ++ back → count j a ≡ count j b + one j h
+count_split j a b front h back e f =
+    let p = count-walk j a ∙ ap (count_in j) e in
+    let q = count-walk j b ∙ ap (count_in j) f in
+    let r = count_in-append j front (h ∷ back) in
+    let s = count_in-append j front back in
+    omega arith

@@ -21,3 +21,4 @@ pub mod LeafLemmas
 pub mod EndLemmas
 pub mod InsertLemmas
 pub mod AscendingLemmas
+pub mod TakenLemmas

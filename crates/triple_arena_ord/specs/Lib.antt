@@ -10,3 +10,4 @@ pub mod Kinds
 pub mod Pairs
 pub mod Ordered
 pub mod Inserted
+pub mod Removal

@@ -15,6 +15,7 @@ mod ord_arena;
 mod pair;
 mod removed;
 mod search;
+mod taken;
 mod turn;
 
 pub use item::SimpleOrdItem;

@@ -1,0 +1,213 @@
+-- An entry leaves the tree, and then the list.
+use Rattle.std.proofs.Common.{◌≡◌, ◌≢◌, ◌==◌, ℕ, ◌+◌, ◌^◌, ◌<◌, List, [], ◌∷◌, ◌++◌, length, append_assoc, length-append, Option, Some, None, IsSome, IfSome, OnSome, Bool, true, false, if◌then◌else◌, refl, sym, ap, ◌∙◌, subst, arith, inl, inr}
+use Rattle.std.specs.Option.{option_map}
+use Rattle.std.proofs.lemmas.Bool.{cases_eq, eq-eqb, ne_eqb}
+use Rattle.triple_arena.specs.Content.{Content, entry_at, live_count}
+use Rattle.triple_arena.specs.Entries.{without}
+use Rattle.triple_arena_chain.specs.declared.link.IndexLink.{IndexLink}
+use Rattle.triple_arena_chain.specs.Chains.{IsLinear}
+use Rattle.triple_arena_chain.specs.Links.{ends_in, entry_ends, link_ends, values_in, valued, IsTakenOut}
+use Rattle.triple_arena_chain.specs.Lists.{Linear}
+use Rattle.triple_arena_chain.specs.ListLaws.{chain_where}
+use Rattle.triple_arena_ord.specs.declared.knots.Side.{Side}
+use Rattle.triple_arena_ord.specs.declared.knots.Side.TheVariants.{Left, Right}
+use Rattle.triple_arena_ord.specs.declared.node.IndexNode.{IndexNode}
+use Rattle.triple_arena_ord.specs.Store.{child_of}
+use Rattle.triple_arena_ord.specs.Node.{knots_in, items_in, knot_of, itemed, rest}
+use Rattle.triple_arena_ord.specs.Tree.{leaf, node, walk, IsRanked}
+use Rattle.triple_arena_ord.specs.Shape.{make, knot, root_of, top, plug, holder, Stands, IsDistinct, one, count}
+use Rattle.triple_arena_ord.specs.Repair.{Loose, Restored}
+use Rattle.triple_arena_ord.specs.Ordered.{Ordered, IsOrdered, tree_in, order_in}
+use Rattle.triple_arena_ord.specs.Removal.{IsThin, Loses, IsUprooted}
+use Rattle.triple_arena_ord.proofs.Frames.{one-same, one-other, Represents-keep, plug-opens, count_split}
+use Rattle.triple_arena_ord.proofs.Descents.{before, after, plug-walk_is, rest_leaf}
+use Rattle.triple_arena_ord.proofs.Unique.{tree_is}
+use Rattle.triple_arena_ord.proofs.LeafLemmas.{Located, located}
+use Rattle.triple_arena_ord.proofs.RestLemmas.{Rested, rested}
+
+lives_from : {A B : Type 0} (f : A → B) (o : Option A) (b : B) → option_map f o ≡ Some b → IsSome o
+lives_from f None b e = absurd (cc)
+lives_from f (Some a) b e = refl
+
+mapped_lives : {A B : Type 0} (f : A → B) (o : Option A) → IsSome (option_map f o) → IsSome o
+mapped_lives f None e = absurd (cc)
+mapped_lives f (Some a) e = refl
+
+not_none : {A : Type 0} (o : Option A) → o ≡ None → IsSome o → ⊥
+not_none None e s = absurd (cc)
+not_none (Some x) e s = absurd (cc)
+
+pub on_some : {A : Type 0} (a : Option A) (Q : Type 0) → IsSome a → OnSome a Q → Q
+on_some None Q s q = absurd (cc)
+on_some (Some x) Q s q = q
+
+pub thin_lives : {I T : Type 0} (number : I → ℕ) (o : Ordered I T) (h : ℕ) → IsThin (knots_in number o.chains h) → IsSome (knots_in number o.chains h)
+thin_lives number o h thin = lives_from (λ v. child_of thin.0 v) (knots_in number o.chains h) None thin.1
+
+module _ {I T : Type 0} (number : I → ℕ) where
+  -- a node with at most one child, and the list round it
+  pub record Out (o : Ordered I T) (h : ℕ) : Type 0 where
+    pub loose : Loose (knots_in number o.chains) o.root h
+    pub front : List ℕ
+    pub back : List ℕ
+    pub was : order_in number o ≡ front ++ h ∷ back
+    pub is : walk (plug loose.context loose.sub) ≡ front ++ back
+
+  pub out : (o : Ordered I T) → IsOrdered number o → (h : ℕ) → live_count o.chains < 2 ^ 64 → IsThin (knots_in number o.chains h) → Out o h
+  out o is h small thin = by thin.0 thin.1
+    where
+      found : Located (tree_in number o) h
+      found = located top (tree_in number o) h (is.all h (thin_lives number o h thin))
+
+      at_h : knots_in number o.chains h ≡ Some (knot Left (holder found.context) (root_of found.left) found.rank (root_of found.right))
+      at_h = (plug-opens (knots_in number o.chains) o.root found.context (node found.left h found.rank found.right)
+        (subst (Stands (knots_in number o.chains) o.root) found.is is.whole.stands)).1.0
+
+      short : length (walk (tree_in number o)) < 2 ^ 64
+      short = rw is.counted small
+
+      by : (side : Side) → option_map (λ v. child_of side v) (knots_in number o.chains h) ≡ Some None → Out o h
+      by Left free =
+          let c = found.context in
+          let k = found.rank in
+          let r = found.right in
+          let none : root_of found.left ≡ None = let z : Some (root_of found.left) ≡ Some None = sym (ap (option_map (λ v. child_of Left v)) at_h) ∙ free in cc in
+          let tree : tree_in number o ≡ plug c (node leaf h k r) = found.is ∙ ap (λ t. plug c (node t h k r)) (rest_leaf found.left none) in
+          record {
+            loose = record {
+              context = c;
+              side = Right;
+              sub = r;
+              rank = k;
+              distinct = subst IsDistinct tree is.whole.distinct;
+              stands = subst (Stands (knots_in number o.chains) o.root) tree is.whole.stands;
+              ranked = subst IsRanked tree is.whole.ranked;
+              small = subst (λ t. length (walk t) < 2 ^ 64) tree short;
+            };
+            front = before c;
+            back = walk r ++ after c;
+            was = ap walk tree ∙ plug-walk_is c (node leaf h k r);
+            is = plug-walk_is c r;
+          }
+      by Right free =
+          let c = found.context in
+          let k = found.rank in
+          let a = found.left in
+          let none : root_of found.right ≡ None = let z : Some (root_of found.right) ≡ Some None = sym (ap (option_map (λ v. child_of Right v)) at_h) ∙ free in cc in
+          let tree : tree_in number o ≡ plug c (node a h k leaf) = found.is ∙ ap (λ t. plug c (node a h k t)) (rest_leaf found.right none) in
+          record {
+            loose = record {
+              context = c;
+              side = Left;
+              sub = a;
+              rank = k;
+              distinct = subst IsDistinct tree is.whole.distinct;
+              stands = subst (Stands (knots_in number o.chains) o.root) tree is.whole.stands;
+              ranked = subst IsRanked tree is.whole.ranked;
+              small = subst (λ t. length (walk t) < 2 ^ 64) tree short;
+            };
+            front = before c ++ walk a;
+            back = after c;
+            was = ap walk tree ∙ plug-walk_is c (node a h k leaf) ∙ ap (λ z. before c ++ z) (append_assoc (walk a) (h ∷ []) (after c)) ∙ sym (append_assoc (before c) (walk a) (h ∷ after c));
+            is = plug-walk_is c a ∙ sym (append_assoc (before c) (walk a) (after c));
+          }
+
+  pub uprooted : (o p : Ordered I T) (h : ℕ) (out : Out o h) → Restored (knots_in number p.chains) p.root (walk (plug out.loose.context out.loose.sub)) → IsUprooted number o p h
+  uprooted o p h out restored = record {
+    before = out.front;
+    after = out.back;
+    was = out.was;
+    restored = subst (Restored (knots_in number p.chains) p.root) out.is restored;
+  }
+
+  item-none : (b : Bool) (o : Option (ℕ × IndexNode I T)) → option_map itemed (if b then None else o) ≡ (if b then None else option_map itemed o)
+  item-none true o = refl
+  item-none false o = refl
+
+  -- the entry is there until the chain loses it
+  pub still : (o : Ordered I T) (c1 : Content (IndexLink I (IndexNode I T))) (h : ℕ) → rest c1 ≡ rest o.chains → IsSome (knots_in number o.chains h) → IsSome (entry_at c1 h)
+  still o c1 h keeps lives =
+      let same = rested number o.chains c1 keeps in
+      mapped_lives valued (entry_at c1 h) (mapped_lives (λ e. knot_of number e.1) (values_in c1 h) (same.stays h lives))
+
+  pub answered : {A : Type 0} (a : Option A) (f : A → ℕ × IndexLink I (IndexNode I T)) (e : Option (ℕ × IndexLink I (IndexNode I T))) → option_map f a ≡ e → IsSome e → IsSome a
+  answered a f e is s = mapped_lives f a (subst IsSome (sym is) s)
+
+  pub answer_item : {A : Type 0} (a : Option A) (f : A → ℕ × IndexLink I (IndexNode I T)) (o : Ordered I T) (c1 : Content (IndexLink I (IndexNode I T))) (h : ℕ)
+      → rest c1 ≡ rest o.chains → option_map f a ≡ entry_at c1 h → option_map (λ x. ((f x).0, (f x).1.t.t)) a ≡ items_in o.chains h
+  answer_item {A = A} a f o c1 h keeps is = by a ∙ ap (option_map itemed) (ap (option_map valued) is) ∙ (rested number o.chains c1 keeps).items h
+    where
+      by : (a : Option A) → option_map (λ x. ((f x).0, (f x).1.t.t)) a ≡ option_map itemed (option_map valued (option_map f a))
+      by None = refl
+      by (Some a) = refl
+
+  pub answer_ends : {A : Type 0} (a : Option A) (f : A → ℕ × IndexLink I (IndexNode I T)) (o : Ordered I T) (c1 : Content (IndexLink I (IndexNode I T))) (h : ℕ)
+      → rest c1 ≡ rest o.chains → option_map f a ≡ entry_at c1 h → IfSome a (λ x. Some (link_ends number (f x).1) ≡ ends_in number o.chains h)
+  answer_ends None f o c1 h keeps is = tt
+  answer_ends (Some x) f o c1 h keeps is = ap (option_map (entry_ends number)) is ∙ (rested number o.chains c1 keeps).ends h
+
+  module _ (o : Ordered I T) (is : IsOrdered number o) (h : ℕ) (last : Option ℕ) (c1 c2 : Content (IndexLink I (IndexNode I T))) (root1 : Option ℕ)
+      (up : IsUprooted number o (record { chains = c1; root = root1 }) h) (keeps : rest c1 ≡ rest o.chains) (out : IsTakenOut number last h c1 c2) where
+    same : Rested number o.chains c1
+    same = rested number o.chains c1 keeps
+
+    other : (j : ℕ) → j ≢ h → knots_in number c2 j ≡ knots_in number c1 j
+    other j d = ap (option_map (λ e. knot_of number e.1)) (out.values j) ∙ rw (ne_eqb j h d) refl
+
+    here : knots_in number c2 h ≡ None
+    here = ap (option_map (λ e. knot_of number e.1)) (out.values h) ∙ rw (eq-eqb h h refl) refl
+
+    counts : (j : ℕ) → count j (tree_in number o) ≡ count j up.restored.tree + one j h
+    counts j = count_split j (tree_in number o) up.restored.tree up.before h up.after up.was up.restored.is_walk
+
+    in_new : (j : ℕ) → 0 < count j up.restored.tree → j ≢ h
+    in_new j c e =
+        let z = counts j in
+        let b = is.whole.distinct.once j in
+        let y : one j h ≡ 1 = ap (λ z. one z h) e ∙ one-same h in
+        absurd (omega arith)
+
+    pub record Taken : Type 0 where
+      pub ordered : IsOrdered number (record { chains = c2; root = root1 })
+      pub order : Loses (order_in number o) (order_in number (record { chains = c2; root = root1 })) h
+      pub entries : (k : ℕ) → items_in c2 k ≡ without (items_in o.chains) h k
+
+    pub taken : Taken
+    taken =
+        let p : Ordered I T = record { chains = c2; root = root1 } in
+        let r = up.restored in
+        let stands2 : Stands (knots_in number c2) root1 r.tree = (r.stands.0, Represents-keep (knots_in number c1) (knots_in number c2) None r.tree (λ j c. other j (in_new j c)) r.stands.1) in
+        let tree : tree_in number p ≡ r.tree = tree_is (knots_in number c2) root1 r.tree stands2 r.ranked in
+        let order : order_in number p ≡ up.before ++ up.after = ap walk tree ∙ r.is_walk in
+        let linear0 = chain_where (ends_in number o.chains) (ends_in number c1) (Linear (up.before ++ h ∷ up.after)) (λ i on. same.ends i) (subst (IsLinear (ends_in number o.chains)) up.was is.linear) in
+        let linear2 : IsLinear (ends_in number c2) (up.before ++ up.after) = out.lists.from_linear up.before up.after linear0 in
+        let live2 = out.live in
+        let l1 : length (order_in number o) ≡ length (up.before ++ h ∷ up.after) = ap length up.was in
+        let l2 = length-append up.before (h ∷ up.after) in
+        let l3 = length-append up.before up.after in
+        let l4 : length (order_in number p) ≡ length (up.before ++ up.after) = ap length order in
+        let l5 = is.counted in
+        let l6 : live_count c1 ≡ live_count o.chains = same.kept.live in
+        record {
+          ordered = record {
+            whole = record {
+              stands = subst (Stands (knots_in number c2) root1) (sym tree) stands2;
+              distinct = subst IsDistinct (sym tree) (record { once = λ j. let z = counts j in let b = is.whole.distinct.once j in omega arith });
+              ranked = subst IsRanked (sym tree) r.ranked;
+            };
+            linear = subst (IsLinear (ends_in number c2)) (sym order) linear2;
+            all = λ j lives.
+                elim (cases_eq j h) [
+                  | inl e ↦ absurd (not_none (knots_in number c2 j) (ap (knots_in number c2) e ∙ here) lives)
+                  | inr d ↦
+                      let z = is.all j (same.lives j (subst IsSome (other j d) lives)) in
+                      let f = counts j in
+                      let y = one-other j h d in
+                      let t : count j (tree_in number p) ≡ count j r.tree = ap (count j) tree in
+                      omega arith
+                ];
+            counted = omega arith;
+          };
+          order = record { before = up.before; after = up.after; was = up.was; is = order };
+          entries = λ k. ap (option_map itemed) (out.values k) ∙ item-none (k == h) (values_in c1 k) ∙ ap (λ z. if k == h then None else z) (same.items k);
+        }

@@ -1,0 +1,61 @@
+//! An entry leaves the tree, and then the list.
+ghost use Rattle.std.specs.Prelude.{◌≡◌, ℕ, Some, None, IsSome, IfSome};
+ghost use Rattle.std.specs.Option.{option_map};
+ghost use Rattle.triple_arena_ptr.specs.Generation.{next_generation, next_wraps};
+ghost use Rattle.triple_arena_ptr.specs.InvalidationOption.{value_of, overflowed};
+ghost use Rattle.triple_arena_ptr.specs.InvalidationResult.{answer_of};
+ghost use Rattle.triple_arena.specs.Entries.{without};
+ghost use Rattle.triple_arena_chain.specs.Links.{ends_in, link_ends};
+ghost use Rattle.triple_arena_ord.specs.Node.{knots_in, items_in, rest};
+ghost use Rattle.triple_arena_ord.specs.Ordered.{IsOrdered, order_in};
+ghost use Rattle.triple_arena_ord.specs.Removal.{IsThin, Loses, IsUprooted};
+
+use crate::SimpleOrdArenaNode;
+use crate::removed::bring_out;
+use triple_arena::{ArenaSlot, ArenaTrait, InvalidationResult, NonZeroInxGenericStack, Ptr};
+use triple_arena_chain::{ChainArena, ChainArenaTrait, LinkNoGen};
+
+// A node with at most one child leaves the tree; its link stays.
+fn uproot<
+    P: Ptr,
+    T: Drop,
+    S: NonZeroInxGenericStack<ArenaSlot<P, LinkNoGen<P, SimpleOrdArenaNode<P, T>>>> + Drop,
+>(chains: &mut ChainArena<P, SimpleOrdArenaNode<P, T>, S>, root: &mut Option<P::Inx>, gone: P::Inx)
+    requires ordered { IsOrdered P.Inx.number (record { chains = chains.old; root = option_map P.Inx.number root.old }) }
+    requires thin { IsThin (knots_in P.Inx.number chains.old (P.Inx.number gone)) }
+    ensures uprooted { IsUprooted P.Inx.number (record { chains = chains.old; root = option_map P.Inx.number root.old })
+        (record { chains = chains.new; root = option_map P.Inx.number root.new }) (P.Inx.number gone) }
+    ensures keeps { rest chains.new ≡ rest chains.old }
+{
+    let _count = chains.len();
+    bring_out(chains, root, gone);
+}
+
+// The entry at an index, whose node has at most one child, leaves the tree and the list. Its link is given back with the
+// neighbours that it had.
+pub(crate) fn take_entry<
+    P: Ptr,
+    T: Drop,
+    S: NonZeroInxGenericStack<ArenaSlot<P, LinkNoGen<P, SimpleOrdArenaNode<P, T>>>> + Drop,
+>(
+    chains: &mut ChainArena<P, SimpleOrdArenaNode<P, T>, S>,
+    root: &mut Option<P::Inx>,
+    gone: P::Inx,
+) -> InvalidationResult<(P::Gen, LinkNoGen<P, SimpleOrdArenaNode<P, T>>)>
+    requires ordered { IsOrdered P.Inx.number (record { chains = chains.old; root = option_map P.Inx.number root.old }) }
+    requires lives { IsSome (knots_in P.Inx.number chains.old (P.Inx.number gone)) }
+    requires thin { IsThin (knots_in P.Inx.number chains.old (P.Inx.number gone)) }
+    ensures ordered { IsOrdered P.Inx.number (record { chains = chains.new; root = option_map P.Inx.number root.new }) }
+    ensures order { Loses (order_in P.Inx.number (record { chains = chains.old; root = option_map P.Inx.number root.old }))
+        (order_in P.Inx.number (record { chains = chains.new; root = option_map P.Inx.number root.new })) (P.Inx.number gone) }
+    ensures entries { (k : ℕ) → items_in chains.new k ≡ without (items_in chains.old) (P.Inx.number gone) k }
+    ensures some { IsSome (answer_of result) }
+    ensures value { option_map (λ a. (P.Gen.number (value_of a).0, (value_of a).1.t.t)) (answer_of result) ≡ items_in chains.old (P.Inx.number gone) }
+    ensures ends { IfSome (answer_of result) (λ a. Some (link_ends P.Inx.number (value_of a).1) ≡ ends_in P.Inx.number chains.old (P.Inx.number gone)) }
+    ensures overflow { IfSome (answer_of result) (λ a. overflowed a ≡ next_wraps P.Gen.last chains.old.counter) }
+    ensures counter { chains.new.counter ≡ next_generation P.Gen.last chains.old.counter }
+    ensures room { chains.new.room ≡ chains.old.room }
+{
+    uproot(chains, root, gone);
+    chains.remove_inx_link_no_gen(gone)
+}
