@@ -19,15 +19,15 @@ first_right [] h n after = refl
 first_right (x ∷ xs) h n after = refl
 
 -- the last of a list that begins with an index stands elsewhere than that index
-last_far : (h y : ℕ) (ys : List ℕ) → Off (y ∷ ys) h → (p : ℕ) → last_or (Some y) ys ≡ Some p → p ≢ h
+pub last_far : (h y : ℕ) (ys : List ℕ) → Off (y ∷ ys) h → (p : ℕ) → last_or (Some y) ys ≡ Some p → p ≢ h
 last_far h y [] off p is same = let z : y ≡ p = cc in off.0 (z ∙ same)
 last_far h y (x ∷ xs) off p is same = last_far h x xs off.1 p is same
 
-last_some : (y : ℕ) (ys : List ℕ) → (p : ℕ) × (last_or (Some y) ys ≡ Some p)
+pub last_some : (y : ℕ) (ys : List ℕ) → (p : ℕ) × (last_or (Some y) ys ≡ Some p)
 last_some y [] = (y, refl)
 last_some y (x ∷ xs) = last_some x xs
 
-after_off : (before : List ℕ) (h : ℕ) (after : List ℕ) → Apart (before ++ h ∷ after) → Off after h
+pub after_off : (before : List ℕ) (h : ℕ) (after : List ℕ) → Apart (before ++ h ∷ after) → Off after h
 after_off [] h after apart = apart.0
 after_off (x ∷ xs) h after apart = after_off xs h after apart.1
 

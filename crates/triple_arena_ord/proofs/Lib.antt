@@ -22,3 +22,4 @@ pub mod EndLemmas
 pub mod InsertLemmas
 pub mod AscendingLemmas
 pub mod TakenLemmas
+pub mod LostEnds

@@ -61,7 +61,7 @@ module _ {I T : Type 0} (number : I → ℕ) where
 
       at_h : knots_in number o.chains h ≡ Some (knot Left (holder found.context) (root_of found.left) found.rank (root_of found.right))
       at_h = (plug-opens (knots_in number o.chains) o.root found.context (node found.left h found.rank found.right)
-        (subst (Stands (knots_in number o.chains) o.root) found.is is.whole.stands)).1.0
+          (subst (Stands (knots_in number o.chains) o.root) found.is is.whole.stands)).1.0
 
       short : length (walk (tree_in number o)) < 2 ^ 64
       short = rw is.counted small

@@ -1,5 +1,5 @@
 -- What a removal finds and leaves.
-use Rattle.std.specs.Prelude.{◌≡◌, ℕ, List, ◌∷◌, ◌++◌, Option, Some, None}
+use Rattle.std.specs.Prelude.{◌≡◌, ◌==◌, if◌then◌else◌, ℕ, List, ◌∷◌, ◌++◌, Option, Some, None}
 use Rattle.std.specs.Option.{option_map}
 use Rattle.triple_arena_ord.specs.declared.knots.Side.{Side}
 use Rattle.triple_arena_ord.specs.Knot.{Knot}
@@ -18,6 +18,11 @@ pub record Loses (old new : List ℕ) (h : ℕ) : Type 0 where
   pub after : List ℕ
   pub was : old ≡ before ++ h ∷ after
   pub is : new ≡ before ++ after
+
+-- an end of the list without an index, which had this neighbor
+abbrev pub ended : Option ℕ → ℕ → Option ℕ → Option ℕ
+ended None h neighbor = None
+ended (Some i) h neighbor = if i == h then neighbor else Some i
 
 -- the tree without one index of the list, which is still in the chain
 pub record IsUprooted {I T : Type 0} (number : I → ℕ) (old new : Ordered I T) (h : ℕ) : Type 0 where

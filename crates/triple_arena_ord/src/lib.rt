@@ -13,6 +13,7 @@ mod looks;
 mod node;
 mod ord_arena;
 mod pair;
+mod remove;
 mod removed;
 mod search;
 mod taken;

@@ -7,13 +7,41 @@ ghost use Rattle.triple_arena_ptr.specs.InvalidationResult.{answer_of};
 ghost use Rattle.triple_arena.specs.Entries.{without};
 ghost use Rattle.triple_arena_chain.specs.Links.{ends_in, link_ends};
 ghost use Rattle.triple_arena_ord.specs.Node.{knots_in, items_in, rest};
+ghost use Rattle.triple_arena_ord.specs.Tree.{node};
+ghost use Rattle.triple_arena_ord.specs.Shape.{plug, Stands};
+ghost use Rattle.triple_arena_ord.specs.Repair.{Exchange};
 ghost use Rattle.triple_arena_ord.specs.Ordered.{IsOrdered, order_in};
 ghost use Rattle.triple_arena_ord.specs.Removal.{IsThin, Loses, IsUprooted};
 
 use crate::SimpleOrdArenaNode;
+use crate::knots::{read, relink, reparent, write};
 use crate::removed::bring_out;
 use triple_arena::{ArenaSlot, ArenaTrait, InvalidationResult, NonZeroInxGenericStack, Ptr};
 use triple_arena_chain::{ChainArena, ChainArenaTrait, LinkNoGen};
+
+// `new`, which is not in the tree, takes the place and the rank of `old`.
+fn exchange<
+    P: Ptr,
+    T: Drop,
+    S: NonZeroInxGenericStack<ArenaSlot<P, LinkNoGen<P, SimpleOrdArenaNode<P, T>>>> + Drop,
+>(
+    chains: &mut ChainArena<P, SimpleOrdArenaNode<P, T>, S>,
+    root: &mut Option<P::Inx>,
+    old: P::Inx,
+    new: P::Inx,
+)
+    requires place { Exchange (knots_in P.Inx.number chains.old) (option_map P.Inx.number root.old) (P.Inx.number old) (P.Inx.number new) }
+    requires slot { IsSome (knots_in P.Inx.number chains.old (P.Inx.number new)) }
+    ensures does { (place : Exchange (knots_in P.Inx.number chains.old) (option_map P.Inx.number root.old) (P.Inx.number old) (P.Inx.number new))
+        → Stands (knots_in P.Inx.number chains.new) (option_map P.Inx.number root.new) (plug place.context (node place.left (P.Inx.number new) place.rank place.right)) }
+    ensures keeps { rest chains.new ≡ rest chains.old }
+{
+    let knot = read(chains, old);
+    write(chains, new, knot);
+    reparent(chains, knot.left, Some(new));
+    reparent(chains, knot.right, Some(new));
+    relink(chains, root, knot.parent, old, Some(new));
+}
 
 // A node with at most one child leaves the tree; its link stays.
 fn uproot<
