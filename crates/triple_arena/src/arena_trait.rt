@@ -192,8 +192,8 @@ pub trait ArenaTrait<P: Ptr, T: Drop> {
         ensures falling_from { rev ≡ true
             → (walk result).high ≡ min (P.Inx.number i) (2 ^ 64 - 1) };
 
-    /// Removes the value that `p` points to, and steps the counter. It answers `InvalidPtr`, and changes nothing,
-    /// where `p` points to none.
+    /// Removes the value that `p` points to, and steps the counter, where there is one. It answers `InvalidPtr`, and
+    /// changes nothing, where `p` points to none.
     fn remove(&mut self, p: P) -> InvalidationResult<T>
         ensures value { option_map value_of (answer_of result)
             ≡ value_if (P.generation p) (entry_at self.old (P.index p)) }
@@ -205,8 +205,8 @@ pub trait ArenaTrait<P: Ptr, T: Drop> {
         ensures formed { is_formed self.new }
         ensures invalid { IfNone (answer_of result) (self.new ≡ self.old) };
 
-    /// Removes the entry at an index, and steps the counter. It answers `InvalidPtr`, and changes nothing, where the
-    /// index is not live.
+    /// Removes the entry at an index, and steps the counter, where there is one. It answers `InvalidPtr`, and changes
+    /// nothing, where the index is not live.
     fn remove_inx(&mut self, i: P::Inx) -> InvalidationResult<(P::Gen, T)>
         ensures value { option_map (λ a. (P.Gen.number (value_of a).0, (value_of a).1))
             (answer_of result) ≡ entry_at self.old (P.Inx.number i) }
@@ -240,7 +240,8 @@ pub trait ArenaTrait<P: Ptr, T: Drop> {
         ensures formed { is_formed self.new }
         ensures invalid { IfNone (answer_of result) (self.new ≡ self.old) };
 
-    /// Removes every entry and every slot, and steps the counter once, also where there was no entry.
+    /// Removes every entry and every slot, and steps the counter, where there is one, once, also where there was no
+    /// entry.
     fn clear(&mut self) -> InvalidationOption<()>
         ensures overflow { overflowed result ≡ counter_wraps P.Gen.last (counter self.old) }
         ensures cleared { IsCleared entry_at live_count counter room P.Gen.last
