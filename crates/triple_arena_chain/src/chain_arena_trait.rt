@@ -1,22 +1,24 @@
 //! What every chain arena does with its links.
-ghost use Rattle.std.specs.Prelude.{◌≡◌, ◌<◌, ◌↔◌, ℕ, None, Some, IsSome, IsTrue, IfOk, IfSome, IfNone, OnOk, OnErr, OnSome, option_copied};
+ghost use Rattle.std.specs.Prelude.{◌≡◌, ◌+◌, ◌<◌, ◌↔◌, ℕ, Bool, List, length, None, Some, Option, IsSome, IsTrue, IfOk, IfSome, IfNone, OnOk, OnErr, OnSome, option_copied};
 ghost use Rattle.std.specs.Option.{option_map};
-ghost use Rattle.triple_arena_ptr.specs.Generation.{next_wraps};
+ghost use Rattle.triple_arena_ptr.specs.Generation.{next_wraps, second_generation};
 ghost use Rattle.triple_arena_ptr.specs.InvalidationOption.{value_of, overflowed};
 ghost use Rattle.triple_arena_ptr.specs.InvalidationResult.{answer_of};
-ghost use Rattle.triple_arena_stack.specs.Room.{room_after};
-ghost use Rattle.triple_arena.specs.Content.{Content, get, entry_at, live_count, arena_capacity, some_counter, removed};
+ghost use Rattle.triple_arena_stack.specs.Room.{Room, room_after};
+ghost use Rattle.triple_arena.specs.Content.{Content, get, entry_at, live_count, arena_capacity, some_counter, removed, empty, reallocated, invalidated, cleared};
 ghost use Rattle.triple_arena.specs.Entries.{value_if};
 ghost use Rattle.triple_arena_chain.specs.declared.kind.InsertKind.TheVariants.{Bridge};
 ghost use Rattle.triple_arena_chain.specs.declared.link.IndexLink.{IndexLink};
 ghost use Rattle.triple_arena_chain.specs.Chains.{next_in, prev_in, next_at, prev_at, linked, unlinked, exchanged};
 ghost use Rattle.triple_arena_chain.specs.InsertEntry.{IsLinkAnswer, IsLinkRefusal};
-ghost use Rattle.triple_arena_chain.specs.Links.{ends_in, ends_found, values_in, place_among, bridged_over, IsChained, IsPlaced, IsRelinked, IsTakenOut};
+ghost use Rattle.triple_arena_chain.specs.Links.{ends_in, ends_found, values_in, with_value_in, link_removed, place_among, bridged_over, IsChained, IsPlaced, IsRelinked, IsTakenOut};
 ghost use Rattle.triple_arena_chain.specs.Lists.{IsAppended, IsSplit, IsExchanged};
+ghost use Rattle.triple_arena_chain.specs.Renaming.{IsCompacted};
 ghost use Rattle.triple_arena_chain.specs.Values.{IsLivePtr};
+ghost use Rattle.triple_arena_chain.specs.Walks.{ChainWalk, walk_from, IsWalkAlong, ChainSteps};
 
 use crate::{Link, LinkInsertKind, LinkNoGen};
-use triple_arena::{ArenaTrait, InvalidationResult, Ptr};
+use triple_arena::{Advancer, ArenaTrait, InvalidationResult, Ptr};
 use triple_arena_ptr::ChainInsertionError;
 
 /// The arenas whose entries are links in chains: each link is in one list or ring, once. What is said of a call is said of the
@@ -24,8 +26,14 @@ use triple_arena_ptr::ChainInsertionError;
 ///
 /// `ArenaTrait` has the calls on the values of the links.
 pub trait ChainArenaTrait<P: Ptr, T: Drop>: ArenaTrait<P, T> {
+    /// What goes along the links of a chain.
+    type ChainAdvancer: Advancer<Self, Item = P> + Drop;
+
     // The links as the words on chains ask for them.
     ghost links: { Self → Content (IndexLink P.Inx T) };
+
+    // Where an advancer is, and how it goes on.
+    ghost chain_walk: { Self.ChainAdvancer → ChainWalk };
 
     /// The link that `p` points to, if it is live.
     fn get_link_no_gen(&self, p: P) -> Option<&LinkNoGen<P, T>>
@@ -60,6 +68,15 @@ pub trait ChainArenaTrait<P: Ptr, T: Drop>: ArenaTrait<P, T> {
     fn meets(&self, kind: &LinkInsertKind<P>) -> bool
         ensures { IsTrue result
             ↔ IsSome (place_among P.index P.generation P.Inx.number (links self.now) kind.now) };
+
+    /// A walk along the chain of the link that `p` points to, from there on, or `None` where `p` is not valid. It gives the
+    /// pointers, one a call, to the links from that one on to the end and then backwards from the link before it, or once
+    /// round a ring. The links are free between the calls.
+    fn advancer_chain(&self, p: P) -> Option<Self::ChainAdvancer>
+        ensures variant { IsSome result ↔ IsSome (get (links self.now) (P.index p) (P.generation p)) }
+        ensures from { IfSome result (λ a. chain_walk a ≡ walk_from (P.index p)) }
+        ensures along { IfSome result (λ a. IsWalkAlong (ends_in P.Inx.number (links self.now))
+            (length (links self.now).slots + 1) (chain_walk a) (P.index p)) };
 
     // What `insert_within_capacity` does, with the kind lent: an implementation cannot take it by value today.
     fn insert_lent_within_capacity(
@@ -191,6 +208,32 @@ pub trait ChainArenaTrait<P: Ptr, T: Drop>: ArenaTrait<P, T> {
     ghost links_room: { (s : Self) → (links s).room ≡ Self.room s };
 
     ghost links_chained: { (s : Self) → Self.is_formed s → IsChained P.Inx.number (links s) };
+
+    // What a step of an advancer gives and leaves.
+    ghost advances_along: { (before : Self.ChainAdvancer) (s : Self) (given : Option P) (after : Self.ChainAdvancer)
+        → Self.ChainAdvancer.advance_gives before s given after
+        → ChainSteps (ends_in P.Inx.number (links s)) (values_in (links s)) (chain_walk before)
+        (option_map (λ p. (P.index p, P.generation p)) given) (chain_walk after) };
+
+    // The links that the calls of `ArenaTrait` leave.
+    ghost links_empty: { (room : Room) → links (Self.empty room) ≡ empty (second_generation P.Gen.last) room };
+
+    ghost links_reallocated: { (s : Self) (n : ℕ) → links (Self.reallocated s n) ≡ reallocated (links s) n };
+
+    ghost links_with_value: { (s : Self) (i : ℕ) (t : T)
+        → links (Self.with_value s i t) ≡ with_value_in (links s) i t };
+
+    ghost links_removed: { (s : Self) (i : ℕ)
+        → links (Self.removed s i) ≡ link_removed P.Inx.number P.Gen.last (links s) i };
+
+    ghost links_invalidated: { (s : Self) (i : ℕ)
+        → links (Self.invalidated s i) ≡ invalidated P.Gen.last (links s) i };
+
+    ghost links_cleared: { (s : Self) → links (Self.cleared s) ≡ cleared P.Gen.last (links s) };
+
+    ghost links_compressed: { (s : Self) (reset : Bool) (values : List T) (new : Self)
+        → Self.is_compressed s reset values new
+        → IsCompacted P.Inx.number P.Gen.last reset values (links s) (links new) };
 
     /// Stores `t` in a link where the kind says, if there is room. It answers `FailedLinkRequirement` where the links
     /// are not as the kind requires, and else `NotWithinCapacity` where there is no room. The links stay as they are

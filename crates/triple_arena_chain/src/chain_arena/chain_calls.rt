@@ -2,6 +2,7 @@
 ghost use Rattle.std.specs.Prelude.{refl};
 
 use crate::chain_arena::interlinks::{set_next, set_prev};
+use crate::chain_iterators::ChainPtrAdvancer;
 use crate::{ChainArena, ChainArenaTrait, Link, LinkInsertKind, LinkNoGen};
 use triple_arena::{
     ArenaSlot, ArenaTrait, InvalidationResult, NonZeroInxGenericStack, Ptr, PtrInx,
@@ -13,7 +14,11 @@ impl<
     T: Drop,
     S: NonZeroInxGenericStack<ArenaSlot<P, LinkNoGen<P, T>>> + Drop,
 > ChainArenaTrait<P, T> for ChainArena<P, T, S> {
+    type ChainAdvancer = ChainPtrAdvancer<P>;
+
     ghost links = { λ a. a };
+
+    ghost chain_walk = { λ a. a };
 
     ghost links_entries = { λ c i. refl };
 
@@ -24,6 +29,22 @@ impl<
     ghost links_room = { λ c. refl };
 
     ghost links_chained = { λ c chained. chained };
+
+    ghost advances_along = { λ before c given after step. step };
+
+    ghost links_empty = { λ room. refl };
+
+    ghost links_reallocated = { λ c n. refl };
+
+    ghost links_with_value = { λ c i t. refl };
+
+    ghost links_removed = { λ c i. refl };
+
+    ghost links_invalidated = { λ c i. refl };
+
+    ghost links_cleared = { λ c. refl };
+
+    ghost links_compressed = { λ c reset values new compacted. compacted };
 
     fn get_link_no_gen(&self, p: P) -> Option<&LinkNoGen<P, T>> {
         self.arena.get(p)
@@ -61,6 +82,16 @@ impl<
 
     fn meets(&self, kind: &LinkInsertKind<P>) -> bool {
         self.place(*kind).is_some()
+    }
+
+    fn advancer_chain(&self, p: P) -> Option<ChainPtrAdvancer<P>> {
+        // The interlinks agree.
+        let _ = self.has_room();
+        if self.arena.contains(p) {
+            Some(ChainPtrAdvancer::from(p))
+        } else {
+            None
+        }
     }
 
     #[inline(always)]

@@ -39,6 +39,17 @@ impl<P: Ptr> Model for ChainPtrAdvancer<P> {
 }
 
 impl<P: Ptr> ChainPtrAdvancer<P> {
+    // The walk that begins at a pointer.
+    pub(crate) fn from(p: P) -> Self
+        ensures { result ≡ walk_from (P.index p) }
+    {
+        ChainPtrAdvancer {
+            start: p,
+            at: Some(p.inx()),
+            back: false,
+        }
+    }
+
     // Goes on from the link at an index, which it gave.
     fn go_on<T: Drop, S: NonZeroInxGenericStack<ArenaSlot<P, LinkNoGen<P, T>>> + Drop>(
         &mut self,
@@ -124,26 +135,6 @@ impl<P: Ptr, T: Drop, S: NonZeroInxGenericStack<ArenaSlot<P, LinkNoGen<P, T>>> +
         match self.ends_at(i) {
             Some((_, next)) => next,
             None => None,
-        }
-    }
-
-    /// A walk along the chain of the link that `p` points to, from there on, or `None` where `p` is not valid.
-    pub fn advancer_chain(&self, p: P) -> Option<ChainPtrAdvancer<P>>
-        ensures variant { IsSome result ↔ IsSome (get self.now (P.index p) (P.generation p)) }
-        ensures from { IfSome result (λ a. a ≡ walk_from (P.index p)) }
-        ensures along { IfSome result (λ a.
-            IsWalkAlong (ends_in P.Inx.number self.now) (length self.now.slots + 1) a (P.index p)) }
-    {
-        // The interlinks agree.
-        let _ = self.has_room();
-        if self.arena.contains(p) {
-            Some(ChainPtrAdvancer {
-                start: p,
-                at: Some(p.inx()),
-                back: false,
-            })
-        } else {
-            None
         }
     }
 

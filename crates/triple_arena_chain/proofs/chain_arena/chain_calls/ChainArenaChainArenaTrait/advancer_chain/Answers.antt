@@ -1,10 +1,10 @@
-use Rattle.std.proofs.Common.{rules, IsSome, Some, false, ap}
+use Rattle.std.proofs.Common.{rules, IsSome}
 use Rattle.triple_arena.specs.Content.{get}
 use Rattle.triple_arena_chain.proofs.WalkLemmas.{walk_along}
-use Rattle.triple_arena_chain.proofs.chain_arena.ChainArena.advancer_chain.Goals as goal
+use Rattle.triple_arena_chain.proofs.chain_arena.chain_calls.ChainArenaChainArenaTrait.advancer_chain.Goals as goal
 
 pub returns-then-contains-clause-along : goal.returns-then-contains-clause-along
 returns-then-contains-clause-along g c =
     let live : IsSome (get c.args.self.now (g.P.Ptr.index c.args.p) (g.P.Ptr.generation c.args.p)) = search rules in
     walk_along g.P.Inx.PtrInx.number c.args.self.now (g.P.Ptr.index c.args.p) (g.P.Ptr.generation c.args.p) _ c.has_room.ensures.chained live
-    (ap (λ n. record { start = g.P.Ptr.index c.args.p; at = Some n; back = false }) c.inx.ensures)
+    c.from.ensures
