@@ -3,6 +3,7 @@ use Rattle.std.proofs.Common.{◌≡◌, ◌≢◌, ℕ, ◌&&◌, ◌==◌, Opt
 use Rattle.std.specs.Result.{result_ok}
 use Rattle.std.proofs.lemmas.Bool.{eq-eqb}
 use Rattle.std.proofs.lemmas.Bool.Decides.{eqb_tells}
+use Rattle.triple_arena_ptr.specs.Generation.{next_generation}
 use Rattle.triple_arena.specs.Content.{Content, get, entry_at, live_count}
 use Rattle.triple_arena.specs.Entries.{generation_at, value_if, with_entry, without}
 use Rattle.triple_arena_chain.specs.declared.kind.InsertKind.TheVariants.{NextTo}
@@ -10,7 +11,7 @@ use Rattle.triple_arena_chain.specs.declared.link.IndexLink.{IndexLink}
 use Rattle.triple_arena_chain.specs.declared.place.Place.{Place}
 use Rattle.triple_arena_chain.specs.KindLaws.{put-next_to}
 use Rattle.triple_arena_chain.specs.Links.{link_ends, values_in, ends_in, ends_found, place_among, IsChained, IsPlaced, IsTakenOut}
-use Rattle.triple_arena_user.proofs.PlaylistLemmas.{moved}
+use Rattle.triple_arena_user.proofs.PlaylistLemmas.{told, moved}
 use Rattle.triple_arena_user.proofs.ReuseLemmas.{put_over}
 use Rattle.triple_arena_user.proofs.ReversalLemmas.{generation_of, finds, live_with}
 use Rattle.triple_arena_user.specs.Playlists.{IsMoved}
@@ -38,10 +39,11 @@ differ c i j g h unequal first second same =
     absurd (let no : true ≡ false = rw (same, one, eq-eqb j j refl, eq-eqb h h refl) at unequal in cc)
 
 -- what is known of the song that was put in
-pub record Settled {P I T : Type 0} (index generation : P → ℕ) (number : I → ℕ) (old new : Content (IndexLink I T)) (p q : P) (t : T) (n : P) : Type 0 where
+pub record Settled {P I T : Type 0} (index generation : P → ℕ) (number : I → ℕ) (last : Option ℕ) (old new : Content (IndexLink I T)) (p q : P) (t : T) (n : P) : Type 0 where
   pub lists : IsMoved (index p) (index q) (index n) (ends_in number old) (ends_in number new)
   pub songs : (k : ℕ) → values_in new k ≡ with_entry (without (values_in old) (index p)) (index n) (generation n, t) k
   pub live : live_count new ≡ live_count old
+  pub counter : new.counter ≡ next_generation last old.counter
 
 module _ {P I T : Type 0} (index generation : P → ℕ) (number : I → ℕ) (last : Option ℕ) (old between : Content (IndexLink I T)) (p q : P)
     (taken : IsTakenOut number last (index p) old between) where
@@ -62,24 +64,23 @@ module _ {P I T : Type 0} (index generation : P → ℕ) (number : I → ℕ) (l
       found = subst IsSome (sym (finds number between (index q) (generation q) has)) (live_with number between (index q) (generation q) has)
 
   module _ (new : Content (IndexLink I T)) (t : T) (chained : IsChained number between) (there : IsSome (place_among index generation number between (NextTo q))) where
-    settled : (n : P) → IfSome (place_among index generation number between (NextTo q)) (λ place. IsPlaced number place (index n) (generation n) t between new) → Settled index generation number old new p q t n
+    settled : (n : P) → IfSome (place_among index generation number between (NextTo q)) (λ place. IsPlaced number place (index n) (generation n) t between new) → Settled index generation number last old new p q t n
     settled n placed =
         record {
           lists = moved (ends_in number old) (ends_in number between) (ends_in number new) (index p) (index q) (index n) taken.lists chained.agreed
               (put-next_to index generation number between new q (index n) (generation n) t there placed);
-          songs = by (place_among index generation number between (NextTo q)) there placed
+          songs = tell
               (λ place at. put_over (values_in old) (values_in between) (values_in new) (index p) (index n) (generation n, t) taken.values at.values);
-          live = by (place_among index generation number between (NextTo q)) there placed (λ place at. at.live ∙ taken.live);
+          live = tell (λ place at. at.live ∙ taken.live);
+          counter = tell (λ place at. at.counter ∙ taken.counter);
         }
       where
-        by : {X : Type 0} (o : Option (Place ℕ)) → IsSome o → IfSome o (λ place. IsPlaced number place (index n) (generation n) t between new)
-            → ((place : Place ℕ) → IsPlaced number place (index n) (generation n) t between new → X) → X
-        by None some placed tell = absurd (true≢false (sym some))
-        by (Some place) some placed tell = tell place placed
+        tell : {X : Type 0} → ((place : Place ℕ) → IsPlaced number place (index n) (generation n) t between new → X) → X
+        tell say = told number between new (index n) (generation n) t (place_among index generation number between (NextTo q)) there placed say
 
     -- the answer, which is there
     pub answered : {E : Type 0} (r : Result P E) (o : Option P) → IsOk r → o ≡ result_ok r
         → IfOk r (λ n. IfSome (place_among index generation number between (NextTo q)) (λ place. IsPlaced number place (index n) (generation n) t between new))
-        → (n : P) × (o ≡ Some n) × Settled index generation number old new p q t n
+        → (n : P) × (o ≡ Some n) × Settled index generation number last old new p q t n
     answered (Ok n) o ok is placed = (n, is, settled n placed)
     answered (Err e) o ok is placed = absurd (true≢false (sym ok))

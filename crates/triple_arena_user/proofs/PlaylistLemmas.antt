@@ -1,5 +1,5 @@
 -- What the calls of a playlist make of its lists.
-use Rattle.std.proofs.Common.{◌≡◌, ℕ, List, ◌∷◌, ◌++◌, Option, Some, None, IsSome, IfSome, Result, Ok, Err, IsOk, IfOk, OnErr, refl, sym, ap, subst, ◌∙◌, ◌+◌, ◌%◌, ◌^◌, ◌<◌, length, map, arith, true≢false, inl, inr}
+use Rattle.std.proofs.Common.{◌≡◌, ℕ, List, ◌∷◌, ◌++◌, Option, Some, None, IsSome, IfSome, Result, Ok, Err, IsOk, IfOk, OnErr, option_map, refl, sym, ap, subst, ◌∙◌, ◌+◌, ◌%◌, ◌^◌, ◌<◌, length, map, arith, true≢false, inl, inr}
 use Rattle.std.specs.List.{sum}
 use Rattle.std.proofs.lemmas.List.Sums.{sum_by-cons}
 use Rattle.std.proofs.lemmas.Bool.Decides.{eqb_tells}
@@ -19,11 +19,11 @@ use Rattle.triple_arena_chain.specs.ListLaws.{turned}
 use Rattle.triple_arena_chain.specs.Lists.{Chain, Linear, Cyclic, members, IsChainOf, IsPutIn, IsTaken}
 
 module _ {I T : Type 0} (number : I → ℕ) (c d : Content (IndexLink I T)) (i g : ℕ) (t : T) where
-  -- the value that was placed
-  values_placed : (o : Option (Place ℕ)) → IsSome o → IfSome o (λ place. IsPlaced number place i g t c d)
-      → (k : ℕ) → values_in d k ≡ with_entry (values_in c) i (g, t) k
-  values_placed None there placed = absurd (true≢false (sym there))
-  values_placed (Some place) there placed = placed.values
+  -- what the place tells where there is one
+  pub told : {X : Type 0} (o : Option (Place ℕ)) → IsSome o → IfSome o (λ place. IsPlaced number place i g t c d)
+      → ((place : Place ℕ) → IsPlaced number place i g t c d → X) → X
+  told None there placed tell = absurd (true≢false (sym there))
+  told (Some place) there placed tell = tell place placed
 
 module _ {P E I T : Type 0} (index generation : P → ℕ) (number : I → ℕ) (c d : Content (IndexLink I T)) (p : P) (t : T) where
   -- what an insertion directly after `p` makes of the lists
@@ -33,21 +33,29 @@ module _ {P E I T : Type 0} (index generation : P → ℕ) (number : I → ℕ) 
         → IsLinear (ends_in number d) (before ++ (index p ∷ index q ∷ after)))
     pub ring : IfOk r (λ q. (after : List ℕ) → IsRing (ends_in number c) (index p ∷ after) → IsRing (ends_in number d) (index p ∷ index q ∷ after))
     pub others : (l : Chain) → IsChainOf (ends_in number c) l → Off (members l) (index p) → IsChainOf (ends_in number d) l
+    pub counter : d.counter ≡ c.counter
 
   pub added : (r : Result P E) → IsChained number c → (IsOk r → IsSome (place_among index generation number c (NextTo p)))
       → IfOk r (λ q. IfSome (place_among index generation number c (NextTo p)) (λ place. IsPlaced number place (index q) (generation q) t c d))
       → OnErr r (d ≡ c) → Added r
   added (Err e) chained there placed same =
-      record { song = tt; linear = tt; ring = tt; others = λ l chain off. subst (λ x. IsChainOf (ends_in number x) l) (sym same) chain }
+      record {
+        song = tt;
+        linear = tt;
+        ring = tt;
+        others = λ l chain off. subst (λ x. IsChainOf (ends_in number x) l) (sym same) chain;
+        counter = ap (λ x. x.counter) same;
+      }
   added (Ok q) chained there placed same =
       let old = ends_in number c in
       let new = ends_in number d in
       let put = put-next_to index generation number c d p (index q) (generation q) t (there refl) placed in
       record {
-        song = values_placed number c d (index q) (generation q) t (place_among index generation number c (NextTo p)) (there refl) placed;
+        song = told number c d (index q) (generation q) t (place_among index generation number c (NextTo p)) (there refl) placed (λ place at. at.values);
         linear = linear-put_after old new (index p) (index q) put;
         ring = ring-put_after old new (index p) (index q) put;
         others = others-put_after old new (index p) (index q) put chained.agreed;
+        counter = told number c d (index q) (generation q) t (place_among index generation number c (NextTo p)) (there refl) placed (λ place at. at.counter);
       }
 
 -- what was taken out stands directly after `q` once it is put in there
@@ -71,6 +79,16 @@ seen g v (Some e) is =
     elim (eqb_tells e.0 g) [
       | inl same ↦ let value : Some e.1 ≡ Some v = rw same.0 at is in cc
       | inr differs ↦ absurd (let no : None ≡ Some v = rw differs.0 at is in cc)
+    ]
+
+-- a song with this generation has a length
+pub has_length : {T : Type 0} (g : ℕ) (o : Option (ℕ × T)) → option_map (λ e. e.0) o ≡ Some g → value_if g o ≡ None → ⊥
+has_length g None is none = let no : None ≡ Some g = is in absurd (cc)
+has_length g (Some e) is none =
+    let at : e.0 ≡ g = cc in
+    elim (eqb_tells e.0 g) [
+      | inl same ↦ absurd (let no : Some e.1 ≡ None = rw same.0 at none in cc)
+      | inr differs ↦ absurd (differs.1 at)
     ]
 
 -- what is added goes on with the rest

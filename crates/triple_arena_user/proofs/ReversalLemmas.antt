@@ -1,5 +1,5 @@
 -- What becomes of the lists of a playlist where a song and its next are turned round.
-use Rattle.std.proofs.Common.{◌≡◌, ℕ, List, [], ◌∷◌, ◌++◌, Option, Some, None, IsSome, OnSome, is_some, option_map, refl, sym, ap, subst, ◌∙◌, true, false, true≢false, inl, inr}
+use Rattle.std.proofs.Common.{◌≡◌, ◌≢◌, ℕ, List, [], ◌∷◌, ◌++◌, Option, Some, None, IsSome, OnSome, is_some, option_map, refl, sym, ap, subst, ◌∙◌, true, false, true≢false, inl, inr}
 use Rattle.std.proofs.lemmas.Bool.Decides.{eqb_tells}
 use Rattle.triple_arena.specs.Content.{Content, entry_at}
 use Rattle.triple_arena.specs.Entries.{generation_at, value_if}
@@ -11,7 +11,7 @@ use Rattle.triple_arena_chain.specs.InsertionListLaws.{linear-reversed, ring-rev
 use Rattle.triple_arena_chain.specs.Kinds.{at_bridge}
 use Rattle.triple_arena_chain.specs.ListLaws.{off_or_not, on_differs, holds_next, holds_prev, live_next_in}
 use Rattle.triple_arena_chain.specs.Links.{valued, values_in, link_ends, entry_ends, ends_in, ends_found, place_among, IsChained, IsRelinked}
-use Rattle.triple_arena_chain.specs.Lists.{Chain, members, IsChainOf, IsAppended, IsSplit, IsExchanged}
+use Rattle.triple_arena_chain.specs.Lists.{Chain, Cyclic, members, IsChainOf, IsAppended, IsSplit, IsExchanged}
 
 module _ (f : ℕ → Option Ends) where
   next-with_prev : (i : ℕ) (v : Option ℕ) (k : ℕ) → next_at (with_prev f i v) k ≡ next_at f k
@@ -113,6 +113,8 @@ module _ {I T : Type 0} (number : I → ℕ) (c : Content (IndexLink I T)) (o p 
     pub linear : (front rest : List ℕ) (q : ℕ) → IsLinear (ends_in number c) (front ++ (o ∷ p ∷ q ∷ rest))
         → IsLinear (ends_in number d) (front ++ (o ∷ q ∷ p ∷ rest))
     pub ring : (rest : List ℕ) (q : ℕ) → IsRing (ends_in number c) (o ∷ p ∷ q ∷ rest) → IsRing (ends_in number d) (o ∷ q ∷ p ∷ rest)
+    pub ring_of_two : IsRing (ends_in number c) (o ∷ p ∷ []) → IsRing (ends_in number d) (o ∷ p ∷ [])
+    pub alone : IsRing (ends_in number c) (p ∷ []) → IsRing (ends_in number d) (p ∷ [])
     pub others : (l : Chain) → IsChainOf (ends_in number c) l → Off (members l) p → IsChainOf (ends_in number d) l
     pub values : (k : ℕ) → values_in d k ≡ values_in c k
 
@@ -166,6 +168,21 @@ module _ {I T : Type 0} (number : I → ℕ) (c m : Content (IndexLink I T)) (o 
       let same : q ≡ x = cc in
       subst (λ y. IsRing (ends_in number c) (o ∷ p ∷ y ∷ rest) → IsRing n (o ∷ y ∷ p ∷ rest)) same (turns rest) r
 
+  -- in a ring of two the second of the pair is the one before it
+  second_of_two : IsRing (ends_in number c) (o ∷ p ∷ []) → q ≡ o
+  second_of_two r = let both : Some q ≡ Some o = sym next_p ∙ ap next_in r.stands.1.0 in cc
+
+  -- and the two are rings of one each after the first exchange
+  parted_two : (r : IsRing (ends_in number c) (o ∷ p ∷ [])) → o ≢ p → IsRing (ends_in number m) (o ∷ []) × IsRing (ends_in number m) (p ∷ [])
+  parted_two r o_not_p = (first.first o_not_p).parted [] [] r
+
+  -- a ring of one is its own second one, and the one before it
+  second_alone : IsRing (ends_in number c) (p ∷ []) → q ≡ p
+  second_alone r = let both : Some q ≡ Some p = sym next_p ∙ ap next_in r.stands.0 in cc
+
+  before_alone : IsRing (ends_in number c) (p ∷ []) → o ≡ p
+  before_alone r = let both : Some o ≡ Some p = sym (chained.agreed.forward o p next_o) ∙ ap prev_in r.stands.0 in cc
+
   -- where the second one has a next it is put in again by another exchange
   pub exchanged_back : (d : Content (IndexLink I T)) → IsSome (next_in (ends_found number m q h))
       → ((s t : ℕ) → next_at (ends_in number m) q ≡ Some s → next_at (ends_in number m) p ≡ Some t
@@ -180,6 +197,12 @@ module _ {I T : Type 0} (number : I → ℕ) (c m : Content (IndexLink I T)) (o 
       record {
         linear = linear_of new (linear-reversed old between new o p q first second);
         ring = ring_of new (ring-reversed old between new o p q first second);
+        ring_of_two = λ r.
+            let o_not_p : o ≢ p = λ same. r.apart.0.0 (sym same) in
+            let parts = parted_two r o_not_p in
+            let again_o = subst (λ x. IsExchanged x p between new) (second_of_two r) second in
+            (again_o.first o_not_p).merged [] [] parts.0 parts.1 (o_not_p, tt);
+        alone = λ r. second.itself (second_alone r) (Cyclic (p ∷ [])) (first.itself (before_alone r) (Cyclic (p ∷ [])) r);
         others = λ l chain off. second.others l (first.others l chain (off_o l chain off) off) (off_q l chain off) off;
         values = λ k. twice.values k ∙ once.values k;
       }
@@ -238,6 +261,11 @@ module _ {I T : Type 0} (number : I → ℕ) (c m : Content (IndexLink I T)) (o 
         record {
           linear = linear_of new (λ front rest. linear-reversed_end old between broken new o p q first parted appended front rest ends);
           ring = ring_of new (λ rest r. absurd (no_ring rest r));
+          ring_of_two = λ r.
+              let parts = parted_two r (λ same. r.apart.0.0 (sym same)) in
+              let no : None ≡ Some o = sym ends ∙ ap (next_at between) (second_of_two r) ∙ ap next_in parts.0.stands.0 in
+              absurd (cc);
+          alone = λ r. absurd (differs (second_alone r));
           others = λ l chain off.
               appended.others l (parted.others l (first.others l chain (off_o l chain off) off) off off) (off_q l chain off) off;
           values = λ k. joined.values k ∙ (breaks p own).values k ∙ once.values k;

@@ -1,6 +1,7 @@
 //! Playlists: songs in the chains of an arena, of which all is said in lists of indexes.
-ghost use Rattle.std.specs.Prelude.{◌≡◌, ◌≢◌, ◌<◌, ◌≤◌, ◌↔◌, ◌%◌, ◌^◌, ℕ, List, ◌∷◌, ◌++◌, map as list_map, None, Some, IsSome, IfSome, IfNone, IsOk, IfOk, OnSome, OnErr, IsErrOf};
+ghost use Rattle.std.specs.Prelude.{◌≡◌, ◌≢◌, ◌<◌, ◌≤◌, ◌↔◌, ◌%◌, ◌^◌, ℕ, List, [], ◌∷◌, ◌++◌, map as list_map, None, Some, IsSome, IfSome, IfNone, IsOk, IfOk, OnSome, OnErr, IsErrOf};
 ghost use Rattle.std.specs.List.{sum};
+ghost use Rattle.triple_arena_ptr.specs.Generation.{next_generation};
 ghost use Rattle.triple_arena.specs.Content.{get, live_count, arena_capacity};
 ghost use Rattle.triple_arena.specs.Entries.{with_entry, without};
 ghost use Rattle.triple_arena_chain.specs.declared.link.IndexLink.{IndexLink};
@@ -38,6 +39,8 @@ pub fn add_after<P: Ptr, T: Drop, S: NonZeroInxGenericStack<ArenaSlot<P, LinkNoG
         → IsRing (ends_in P.Inx.number songs.new) (P.index p ∷ P.index q ∷ after)) }
     ensures others { (c : Chain) → IsChainOf (ends_in P.Inx.number songs.old) c
         → Off (members c) (P.index p) → IsChainOf (ends_in P.Inx.number songs.new) c }
+    ensures counter { songs.new.counter ≡ songs.old.counter }
+    ensures room { songs.new.room ≡ songs.old.room }
     ensures err { OnErr result (songs.new ≡ songs.old) }
 {
     // The interlinks agree.
@@ -60,6 +63,8 @@ pub fn move_after<P: Ptr, T: Drop, S: NonZeroInxGenericStack<ArenaSlot<P, LinkNo
         → get songs.old (P.index p) (P.generation p) ≡ Some link → (j : ℕ) → values_in songs.new j
         ≡ with_entry (without (values_in songs.old) (P.index p)) (P.index n) (P.generation n, link.t) j) }
     ensures live { live_count songs.new ≡ live_count songs.old }
+    ensures counter { OnSome result (songs.new.counter ≡ next_generation P.Gen.last songs.old.counter) }
+    ensures room { songs.new.room ≡ songs.old.room }
     ensures none { IfNone result (songs.new ≡ songs.old) }
 {
     // The interlinks agree, and no more songs are there than fit.
@@ -74,8 +79,8 @@ pub fn move_after<P: Ptr, T: Drop, S: NonZeroInxGenericStack<ArenaSlot<P, LinkNo
 }
 
 /// Turns the song at `p`, which is the next of `before`, and its own next round: `before, p, q` is `before, q, p` then,
-/// also where `q` is the end of the list. It answers `None`, and changes nothing, where `p` is not the next of `before`,
-/// one of them is invalid, or `p` has no next.
+/// also where `q` is the end of the list. A ring of one or of two stays as it is. It answers `None`, and changes nothing,
+/// where `p` is not the next of `before`, one of them is invalid, or `p` has no next.
 pub fn reverse_pair<
     P: Ptr,
     T: Drop,
@@ -90,6 +95,10 @@ pub fn reverse_pair<
     ensures ring { OnSome result ((rest : List ℕ) (q : ℕ)
         → IsRing (ends_in P.Inx.number songs.old) (P.index before ∷ P.index p ∷ q ∷ rest)
         → IsRing (ends_in P.Inx.number songs.new) (P.index before ∷ q ∷ P.index p ∷ rest)) }
+    ensures ring_of_two { OnSome result (IsRing (ends_in P.Inx.number songs.old) (P.index before ∷ P.index p ∷ [])
+        → IsRing (ends_in P.Inx.number songs.new) (P.index before ∷ P.index p ∷ [])) }
+    ensures alone { OnSome result (IsRing (ends_in P.Inx.number songs.old) (P.index p ∷ [])
+        → IsRing (ends_in P.Inx.number songs.new) (P.index p ∷ [])) }
     ensures others { OnSome result ((c : Chain) → IsChainOf (ends_in P.Inx.number songs.old) c
         → Off (members c) (P.index p) → IsChainOf (ends_in P.Inx.number songs.new) c) }
     ensures songs { OnSome result ((j : ℕ) → values_in songs.new j ≡ values_in songs.old j) }
@@ -110,15 +119,13 @@ pub fn reverse_pair<
     songs.connect(q, p)
 }
 
-/// How long it plays from the song at `p` on: to the end of its chain and then backwards from the song before it, or
-/// once round a ring. Past the greatest number it goes on from 0.
-pub fn play_from<P: Ptr, S: NonZeroInxGenericStack<ArenaSlot<P, LinkNoGen<P, u64>>> + Drop>(
-    songs: &ChainArena<P, u64, S>,
-    p: P,
-) -> Option<u64>
-    ensures variant { IsSome result ↔ IsSome (get songs.now (P.index p) (P.generation p)) }
-    ensures total { IfSome result (λ total. (walk : List ℕ) × IsWalkFrom (ends_in P.Inx.number songs.now) (P.index p) walk
-        × (total ≡ sum (list_map (length_at songs.now) walk) % 2 ^ 64)) }
+/// How long it plays from the song at `p` on, in any arena of chains: to the end of its chain and then backwards from the
+/// song before it, or once round a ring. Past the greatest number it goes on from 0.
+pub fn play_from<P: Ptr, A: ChainArenaTrait<P, u64>>(songs: &A, p: P) -> Option<u64>
+    ensures variant { IsSome result ↔ IsSome (get (A.links songs.now) (P.index p) (P.generation p)) }
+    ensures total { IfSome result (λ total. (walk : List ℕ)
+        × IsWalkFrom (ends_in P.Inx.number (A.links songs.now)) (P.index p) walk
+        × (total ≡ sum (list_map (length_at (A.links songs.now)) walk) % 2 ^ 64)) }
 {
     let mut player = songs.advancer_chain(p)?;
     let mut total = 0u64;

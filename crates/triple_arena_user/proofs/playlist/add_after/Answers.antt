@@ -21,3 +21,6 @@ returns-clause-others g c = (lists g c).others
 
 pub returns-clause-song : goal.returns-clause-song
 returns-clause-song g c = (lists g c).song
+
+pub returns-clause-counter : goal.returns-clause-counter
+returns-clause-counter g c = (lists g c).counter

@@ -6,7 +6,7 @@ use Rattle.triple_arena_user.proofs.playlist.move_after.Goals as goal
 
 -- the song is put in again
 put_in : (g : _) (c : goal.After-ok g) → (n : g.row.P.Denot) × (c.ok.result ≡ Some n)
-    × Settled g.P.Ptr.index g.P.Ptr.generation g.P.Inx.PtrInx.number c.args.songs.now c.insert_within_capacity.new.self c.args.p c.args.q c.in_ok-link.link.t n
+    × Settled g.P.Ptr.index g.P.Ptr.generation g.P.Inx.PtrInx.number g.P.Gen.PtrGen.last c.args.songs.now c.insert_within_capacity.new.self c.args.p c.args.q c.in_ok-link.link.t n
 put_in g c =
     let number = g.P.Inx.PtrInx.number in
     let index = g.P.Ptr.index in
@@ -40,6 +40,14 @@ returns-clause-songs g c =
 
 pub returns-clause-live : goal.returns-clause-live
 returns-clause-live g c = (put_in g c).2.live
+
+pub returns-clause-counter : goal.returns-clause-counter
+returns-clause-counter g c = let put = put_in g c in rw put.1 put.2.counter
+
+pub returns-clause-room : goal.returns-clause-room
+returns-clause-room g c =
+    let taken : IsTakenOut g.P.Inx.PtrInx.number g.P.Gen.PtrGen.last (g.P.Ptr.index c.args.p) c.args.songs.now c.remove_link_no_gen.new.self = search rules in
+    c.insert_within_capacity.ensures.room ∙ taken.room
 
 pub returns-clause-none : goal.returns-clause-none
 returns-clause-none g c = let put = put_in g c in rw put.1 tt

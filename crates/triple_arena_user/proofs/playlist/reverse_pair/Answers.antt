@@ -104,6 +104,12 @@ returns-then-is_some-clause-linear g c = (exchanged_twice g c).linear
 pub returns-then-is_some-clause-ring : goal.returns-then-is_some-clause-ring
 returns-then-is_some-clause-ring g c = (exchanged_twice g c).ring
 
+pub returns-then-is_some-clause-ring_of_two : goal.returns-then-is_some-clause-ring_of_two
+returns-then-is_some-clause-ring_of_two g c = (exchanged_twice g c).ring_of_two
+
+pub returns-then-is_some-clause-alone : goal.returns-then-is_some-clause-alone
+returns-then-is_some-clause-alone g c = (exchanged_twice g c).alone
+
 pub returns-then-is_some-clause-others : goal.returns-then-is_some-clause-others
 returns-then-is_some-clause-others g c = (exchanged_twice g c).others
 
@@ -132,6 +138,12 @@ returns-clause-linear g c = let turned = (appended g c).1 in search (rules, turn
 
 pub returns-clause-ring : goal.returns-clause-ring
 returns-clause-ring g c = let turned = (appended g c).1 in search (rules, turned.ring)
+
+pub returns-clause-ring_of_two : goal.returns-clause-ring_of_two
+returns-clause-ring_of_two g c = let turned = (appended g c).1 in search (rules, turned.ring_of_two)
+
+pub returns-clause-alone : goal.returns-clause-alone
+returns-clause-alone g c = let turned = (appended g c).1 in search (rules, turned.alone)
 
 pub returns-clause-others : goal.returns-clause-others
 returns-clause-others g c = let turned = (appended g c).1 in search (rules, turned.others)
