@@ -1,11 +1,11 @@
 -- A step of an iterator over a chain.
-use Rattle.std.proofs.Common.{◌≡◌, ℕ, [], ◌∷◌, Some, None, ap, ◌∙◌}
+use Rattle.std.proofs.Common.{◌≡◌, ℕ, ◌+◌, [], ◌∷◌, length, Option, Some, None, sym, ap, subst, ◌∙◌, arith}
 use Rattle.triple_arena.specs.Content.{Content, entry_at, get}
 use Rattle.triple_arena_chain.specs.declared.link.IndexLink.{IndexLink}
 use Rattle.triple_arena_chain.specs.IterChains.{link_and, links_along}
 use Rattle.triple_arena_chain.specs.Links.{ends_in, values_in}
-use Rattle.triple_arena_chain.specs.Walks.{ChainWalk, ChainSteps, left_over, IsEnding}
-use Rattle.triple_arena_chain.specs.WalkLaws.{left-after, left-none}
+use Rattle.triple_arena_chain.specs.Walks.{ChainWalk, Leaves, ChainSteps, left_over, IsEnding}
+use Rattle.triple_arena_chain.specs.WalkLaws.{steps-left, left-after, left-none}
 use Rattle.triple_arena_chain.proofs.RemovalLemmas.{entry_seen}
 
 module _ {I T : Type 0} (number : I → ℕ) (c : Content (IndexLink I T)) where
@@ -20,3 +20,11 @@ module _ {I T : Type 0} (number : I → ℕ) (c : Content (IndexLink I T)) where
   pub none_given : (w on : ChainWalk) → IsEnding number c w → ChainSteps (ends_in number c) (values_in c) w None on
       → links_along (entry_at c) (left_over number c w) ≡ []
   none_given w on ends step = ap (links_along (entry_at c)) (left-none number c w on ends step)
+
+  -- a walk goes on to its end
+  pub still_ending : (w on : ChainWalk) (o : Option (ℕ × ℕ)) → IsEnding number c w → ChainSteps (ends_in number c) (values_in c) w o on
+      → IsEnding number c on
+  still_ending w on None ends step =
+      let over = steps-left (ends_in number c) (length c.slots + 1) on [] step.1 (omega arith) in
+      subst (Leaves (ends_in number c) on) (sym over) step.1
+  still_ending w on (Some p) ends step = (left-after number c w p on ends step).1

@@ -59,11 +59,8 @@ where
 
     #[tactic(auto, using(crate::proofs::IterChainLemmas::link_given, crate::proofs::IterChainLemmas::none_given))]
     fn next(&mut self) -> Option<(P, &'a LinkNoGen<P, T>)> {
-        let p = self.advancer.advance(self.chains)?;
-        match self.chains.get_link_no_gen(p) {
-            Some(link) => Some((p, link)),
-            None => unreachable!(),
-        }
+        let (p, link) = self.advancer.step(self.chains)?;
+        Some((p, link))
     }
 }
 

@@ -1,5 +1,5 @@
 //! Walks along a chain.
-ghost use Rattle.std.specs.Prelude.{◌≡◌, ◌+◌, ◌↔◌, length, IsSome, IfSome};
+ghost use Rattle.std.specs.Prelude.{◌≡◌, ℕ, Some, IfSome};
 ghost use Rattle.std.specs.Option.{option_map};
 ghost use Rattle.triple_arena.specs.Content.{get};
 ghost use Rattle.triple_arena.specs.LiveEntries.{live_entries};
@@ -50,19 +50,22 @@ impl<P: Ptr> ChainPtrAdvancer<P> {
         }
     }
 
-    // Goes on from the link at an index, which it gave.
+    // Goes on from a link with these neighbours, which it gave.
     fn go_on<T: Drop, S: NonZeroInxGenericStack<ArenaSlot<P, LinkNoGen<P, T>>> + Drop>(
         &mut self,
         chains: &ChainArena<P, T, S>,
-        i: P::Inx,
+        prev: Option<P::Inx>,
+        next: Option<P::Inx>,
     )
-        ensures { self.new ≡ past_index (ends_in P.Inx.number chains.now) self.old (P.Inx.number i) }
+        ensures { (i : ℕ) → ends_in P.Inx.number chains.now i
+            ≡ Some (option_map P.Inx.number prev, option_map P.Inx.number next)
+            → self.new ≡ past_index (ends_in P.Inx.number chains.now) self.old i }
     {
         if self.back {
-            self.at = chains.prev_of(i);
+            self.at = prev;
             return;
         }
-        match chains.next_of(i) {
+        match next {
             Some(next) => {
                 self.at = if next == self.start.inx() {
                     None
@@ -73,6 +76,28 @@ impl<P: Ptr> ChainPtrAdvancer<P> {
             None => {
                 self.at = chains.prev_of(self.start.inx());
                 self.back = true;
+            }
+        }
+    }
+
+    // Gives the link where the walk is, and goes on from there. Where nothing is live the walk ends.
+    pub(crate) fn step<'a, T: Drop, S: NonZeroInxGenericStack<ArenaSlot<P, LinkNoGen<P, T>>> + Drop>(
+        &mut self,
+        chains: &'a ChainArena<P, T, S>,
+    ) -> Option<(P, &'a LinkNoGen<P, T>)>
+        ensures steps { ChainSteps (ends_in P.Inx.number chains.now) (values_in chains.now) self.old
+            (option_map (λ e. (P.index e.0, P.generation e.0)) result) self.new }
+        ensures link { IfSome result (λ e. get chains.now (P.index e.0) (P.generation e.0) ≡ Some e.1.now) }
+    {
+        let i = self.at?;
+        match chains.get_inx_link_no_gen(i) {
+            Some((generation, link)) => {
+                self.go_on(chains, link.prev, link.next);
+                Some((P::_from_raw(i, generation), link))
+            }
+            None => {
+                self.at = None;
+                None
             }
         }
     }
@@ -89,16 +114,9 @@ impl<P: Ptr, T: Drop, S: NonZeroInxGenericStack<ArenaSlot<P, LinkNoGen<P, T>>> +
         before (option_map (λ p. (P.index p, P.generation p)) given) after };
 
     fn advance(&mut self, chains: &ChainArena<P, T, S>) -> Option<P> {
-        let i = self.at?;
-        match chains.get_inx_link_no_gen(i) {
-            Some((generation, _)) => {
-                self.go_on(chains, i);
-                Some(P::_from_raw(i, generation))
-            }
-            None => {
-                self.at = None;
-                None
-            }
+        match self.step(chains) {
+            Some((p, _)) => Some(p),
+            None => None,
         }
     }
 
@@ -123,17 +141,6 @@ impl<P: Ptr, T: Drop, S: NonZeroInxGenericStack<ArenaSlot<P, LinkNoGen<P, T>>> +
     {
         match self.ends_at(i) {
             Some((prev, _)) => prev,
-            None => None,
-        }
-    }
-
-    // The next index of the link at an index.
-    fn next_of(&self, i: P::Inx) -> Option<P::Inx>
-        ensures { option_map P.Inx.number result
-            ≡ next_at (ends_in P.Inx.number self.now) (P.Inx.number i) }
-    {
-        match self.ends_at(i) {
-            Some((_, next)) => next,
             None => None,
         }
     }
