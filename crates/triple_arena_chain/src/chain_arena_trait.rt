@@ -78,7 +78,7 @@ pub trait ChainArenaTrait<P: Ptr, T: Drop>: ArenaTrait<P, T> {
         ensures along { IfSome result (λ a. IsWalkAlong (ends_in P.Inx.number (links self.now))
             (length (links self.now).slots + 1) (chain_walk a) (P.index p)) };
 
-    // What `insert_within_capacity` does, with the kind lent: an implementation cannot take it by value today.
+    /// What `insert_within_capacity` does, with the kind lent: an implementation cannot take it by value today.
     fn insert_lent_within_capacity(
         &mut self,
         kind: &LinkInsertKind<P>,
@@ -93,7 +93,7 @@ pub trait ChainArenaTrait<P: Ptr, T: Drop>: ArenaTrait<P, T> {
         ensures room { (links self.new).room ≡ (links self.old).room }
         ensures err { OnErr result (self.new ≡ self.old) };
 
-    // What `insert_reallocating` does, with the kind lent.
+    /// What `insert_reallocating` does, with the kind lent.
     fn insert_lent_reallocating(
         &mut self,
         kind: &LinkInsertKind<P>,

@@ -81,10 +81,11 @@ impl<P: Ptr> ChainPtrAdvancer<P> {
     }
 
     // Gives the link where the walk is, and goes on from there. Where nothing is live the walk ends.
-    pub(crate) fn step<'a, T: Drop, S: NonZeroInxGenericStack<ArenaSlot<P, LinkNoGen<P, T>>> + Drop>(
-        &mut self,
-        chains: &'a ChainArena<P, T, S>,
-    ) -> Option<(P, &'a LinkNoGen<P, T>)>
+    pub(crate) fn step<
+        'a,
+        T: Drop,
+        S: NonZeroInxGenericStack<ArenaSlot<P, LinkNoGen<P, T>>> + Drop,
+    >(&mut self, chains: &'a ChainArena<P, T, S>) -> Option<(P, &'a LinkNoGen<P, T>)>
         ensures steps { ChainSteps (ends_in P.Inx.number chains.now) (values_in chains.now) self.old
             (option_map (λ e. (P.index e.0, P.generation e.0)) result) self.new }
         ensures link { IfSome result (λ e. get chains.now (P.index e.0) (P.generation e.0) ≡ Some e.1.now) }
