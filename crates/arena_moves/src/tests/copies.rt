@@ -1,7 +1,9 @@
 //! Copies of arenas at concrete arenas: which pointers they have, and which index comes next.
 use crate::tests::places::put;
+use crate::tests::texts::reads;
 use std::alloc::{AllocError, Global};
 use std::cell::Cell;
+use std::fmt::Debug;
 use std::num::NonZeroUsize;
 use std::process::Abort;
 use std::test::Fail;
@@ -261,4 +263,38 @@ fn a_map_is_called_once_for_each_entry(rt: HostRuntime) {
     });
     assert!(rt; answer == Err(ReallocationError::BeyondMaxCapacity));
     assert!(rt; calls.get() == 3);
+}
+
+// The arena has room for the two entries of `source`, and has twice their values then.
+fn has_room_for_two<S: ArenaCloneSource<P0, u64>, A: ArenaCloneFromWith<P0, u64> + Debug>(
+    rt: &(impl Abort + Alloc),
+    source: &S,
+    copy: &mut A,
+) {
+    let answer = copy.clone_from_with(source, |_, value| Ok(value.wrapping_mul(2)));
+    assert!(rt; answer == Ok(()));
+    assert!(rt; copy.capacity() == 2);
+    reads(rt, copy, "{P0[1](2): 20, P0[2](2): 40}");
+}
+
+#[test]
+fn free_slots_at_the_end_are_not_copied(rt: HostRuntime) {
+    let mut source = ArrayArena::<P0, u64, 4>::new(());
+    let mut mirror = ArrayDirectArena::<P0, u64, 4>::new(());
+    for before in 0..4u8 {
+        let value = (before as u64).wrapping_mul(10).wrapping_add(10);
+        let p = insert(&rt, &mut source, value);
+        assert!(rt; put(&mut mirror, p, value) == Ok(()));
+    }
+    for before in 2..4u8 {
+        assert!(rt; source.remove(at(index(before))).is_success());
+        assert!(rt; mirror.remove(at(index(before))).is_success());
+    }
+    let mut copy = ArrayArena::<P0, u64, 2>::new(());
+    has_room_for_two(&rt, &source, &mut copy);
+    assert!(rt; copy.generation() == source.generation());
+    has_room_for_two(&rt, &mirror, &mut copy);
+    let mut direct = ArrayDirectArena::<P0, u64, 2>::new(());
+    has_room_for_two(&rt, &source, &mut direct);
+    has_room_for_two(&rt, &mirror, &mut direct);
 }

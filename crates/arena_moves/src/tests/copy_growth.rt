@@ -3,6 +3,7 @@ use crate::tests::copies::{at, fills, holds, index};
 use crate::tests::places::put;
 use refusing_allocator::RefusingAllocator;
 use std::alloc::{Allocator, Global};
+use std::num::NonZeroU64;
 use std::process::Abort;
 use triple_arena::{
     Arena, ArenaCloneFromWith, ArenaCloneSource, ArenaInsertTrait, ArenaSlot, ArenaTrait,
@@ -26,6 +27,7 @@ fn grows<M: ArenaCloneSource<P0, u64>, A: ArenaCloneFromWith<P0, u64>>(
 ) {
     let had_refused = heap.has_refused();
     let capacity = copy.capacity();
+    let counter = copy.singular_generation();
     let answer = copy.clone_from_with(source, |_, value| Ok(*value));
     if heap.has_refused() == had_refused {
         assert!(rt; answer == Ok(()));
@@ -36,7 +38,10 @@ fn grows<M: ArenaCloneSource<P0, u64>, A: ArenaCloneFromWith<P0, u64>>(
     } else {
         assert!(rt; answer == Err(ReallocationError::AllocError));
         assert!(rt; copy.len() == 1);
+        assert!(rt; copy.find_first_inx_ptr() == Some(at(index(0))));
+        assert!(rt; copy.get(at(index(0))) == Some(&77));
         assert!(rt; copy.capacity() == capacity);
+        assert!(rt; copy.singular_generation() == counter);
     }
 }
 
@@ -45,12 +50,15 @@ fn grows<M: ArenaCloneSource<P0, u64>, A: ArenaCloneFromWith<P0, u64>>(
 fn is_cloned<A: ArenaTrait<P0, u64>>(
     rt: &impl Abort,
     is_refused: bool,
+    counter: Option<NonZeroU64>,
     answer: Result<(), ReallocationError>,
     clone: &A,
 ) {
     if is_refused {
         assert!(rt; answer == Err(ReallocationError::AllocError));
+        assert!(rt; clone.find_first_inx_ptr() == None);
         assert!(rt; clone.capacity() == 0);
+        assert!(rt; clone.singular_generation() == counter);
     } else if clone.max_capacity() == Some(0) {
         assert!(rt; answer == Err(ReallocationError::BeyondMaxCapacity));
     } else {
@@ -80,8 +88,15 @@ fn clones<H: Allocator, S: NonZeroInxGenericStack<Slot, Alloc = H> + Drop>(
     }
     let has_refused = heap.has_refused();
     let mut clone = Arena::<P0, u64, S>::new(other);
+    let counter = clone.singular_generation();
     let answer = clone.clone_from(source);
-    is_cloned(rt, heap.has_refused() != has_refused, answer, &clone);
+    is_cloned(
+        rt,
+        heap.has_refused() != has_refused,
+        counter,
+        answer,
+        &clone,
+    );
 }
 
 // The same of a direct arena.
@@ -105,8 +120,15 @@ fn clones_directly<H: Allocator, S: NonZeroInxGenericStack<Direct, Alloc = H> + 
     }
     let has_refused = heap.has_refused();
     let mut clone = DirectArena::<P0, u64, S>::new(other);
+    let counter = clone.singular_generation();
     let answer = clone.clone_from(source);
-    is_cloned(rt, heap.has_refused() != has_refused, answer, &clone);
+    is_cloned(
+        rt,
+        heap.has_refused() != has_refused,
+        counter,
+        answer,
+        &clone,
+    );
 }
 
 // An arena with one entry and so many slots, and what becomes of it. Each call takes memory at most once, from `heap`,

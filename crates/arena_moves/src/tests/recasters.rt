@@ -4,6 +4,7 @@ use crate::tests::places::{at, put};
 use crate::tests::texts::reads;
 use refusing_allocator::RefusingAllocator;
 use std::alloc::{Allocator, Global};
+use std::fmt::Debug;
 use std::num::NonZeroU8;
 use std::process::Abort;
 use std::test::Fail;
@@ -47,6 +48,80 @@ fn pointers_in_a_direct_arena_are_recast(rt: HostRuntime) -> Result<(), Fail> {
     // The new names have no names: the recast stops at the first.
     assert!(rt; arena.recast(&renaming) == Err(at(1, 2)));
     Ok(())
+}
+
+// Three entries that hold these pointers, with a free slot after the first and after the second.
+fn points(rt: &impl Abort, names: &[P0; 3]) -> ArrayArena<P0, Option<P0>, 5> {
+    let mut arena = ArrayArena::new(());
+    for name in [Some(names[0]), None, Some(names[1]), None, Some(names[2])] {
+        assert!(rt; arena.insert(name).is_ok());
+    }
+    assert!(rt; arena.remove(at(4, 2)).is_success());
+    assert!(rt; arena.remove(at(2, 2)).is_success());
+    arena
+}
+
+// The same in a direct arena.
+fn points_directly(rt: &impl Abort, names: &[P0; 3]) -> ArrayDirectArena<P0, Option<P0>, 5> {
+    let mut arena = ArrayDirectArena::new(());
+    assert!(rt; put(&mut arena, at(5, 2), Some(names[2])) == Ok(()));
+    assert!(rt; put(&mut arena, at(3, 2), Some(names[1])) == Ok(()));
+    assert!(rt; put(&mut arena, at(1, 2), Some(names[0])) == Ok(()));
+    arena
+}
+
+// The recast has this answer, and leaves this text.
+fn is_recast<A: Recast<P0> + Debug>(
+    rt: &(impl Abort + Alloc),
+    arena: &mut A,
+    renaming: &ArrayDirectArena<P0, P0, 5>,
+    answer: Result<(), P0>,
+    text: &str,
+) {
+    assert!(rt; arena.recast(renaming) == answer);
+    reads(rt, arena, text);
+}
+
+#[test]
+fn an_arena_with_holes_is_recast(rt: HostRuntime) {
+    let mut renaming = ArrayDirectArena::<P0, P0, 5>::new(());
+    assert!(rt; put(&mut renaming, at(1, 2), at(1, 9)) == Ok(()));
+    assert!(rt; put(&mut renaming, at(3, 2), at(2, 9)) == Ok(()));
+    assert!(rt; put(&mut renaming, at(5, 2), at(3, 9)) == Ok(()));
+    let named = [at(3, 2), at(5, 2), at(1, 2)];
+    let renamed = "{P0[1](2): Some(P0[2](9)), P0[3](2): Some(P0[3](9)), P0[5](2): Some(P0[1](9))}";
+    is_recast(&rt, &mut points(&rt, &named), &renaming, Ok(()), renamed);
+    is_recast(
+        &rt,
+        &mut points_directly(&rt, &named),
+        &renaming,
+        Ok(()),
+        renamed,
+    );
+    // The renaming has no second index.
+    let missing = [at(3, 2), at(2, 2), at(1, 2)];
+    let stopped = Err(at(2, 2));
+    let left = "{P0[1](2): Some(P0[2](9)), P0[3](2): Some(P0[2](2)), P0[5](2): Some(P0[1](2))}";
+    is_recast(&rt, &mut points(&rt, &missing), &renaming, stopped, left);
+    is_recast(
+        &rt,
+        &mut points_directly(&rt, &missing),
+        &renaming,
+        stopped,
+        left,
+    );
+    // It has another generation at the third one.
+    let past = [at(5, 2), at(1, 2), at(3, 4)];
+    let stopped = Err(at(3, 4));
+    let left = "{P0[1](2): Some(P0[3](9)), P0[3](2): Some(P0[1](9)), P0[5](2): Some(P0[3](4))}";
+    is_recast(&rt, &mut points(&rt, &past), &renaming, stopped, left);
+    is_recast(
+        &rt,
+        &mut points_directly(&rt, &past),
+        &renaming,
+        stopped,
+        left,
+    );
 }
 
 type Counted = ArrayArena<P1, u64, 5>;

@@ -30,17 +30,19 @@ fn pointer<P: Ptr>(rt: &impl Abort, before: usize, steps: usize) -> P {
 
 // One entry is accepted, one refused since it is there, one since it is past the capacity of 4; its pointer ends, and it
 // moves to the first index.
-fn takes_whole_pointers<P: Ptr, S: NonZeroInxGenericStack<DirectSlot<P, u64>> + Drop>(
-    rt: &(impl Abort + Alloc),
-    arena: &mut DirectArena<P, u64, S>,
-    text: &str,
-) {
+fn takes_whole_pointers<
+    P: Ptr,
+    T: Copy + Debug + Drop,
+    S: NonZeroInxGenericStack<DirectSlot<P, T>> + Drop,
+>(rt: &(impl Abort + Alloc), arena: &mut DirectArena<P, T, S>, value: T, text: &str) {
     let p = pointer(rt, 2, 5);
-    assert!(rt; put(arena, p, 10) == Ok(()));
+    assert!(rt; put(arena, p, value) == Ok(()));
     assert!(rt;
-        put(arena, pointer(rt, 2, 7), 11) == Err(DirectInsertionError::ExistingElementAtIndex)
+        put(arena, pointer(rt, 2, 7), value) == Err(DirectInsertionError::ExistingElementAtIndex)
     );
-    assert!(rt; put(arena, pointer(rt, 4, 0), 11) == Err(DirectInsertionError::NotWithinCapacity));
+    assert!(rt;
+        put(arena, pointer(rt, 4, 0), value) == Err(DirectInsertionError::NotWithinCapacity)
+    );
     assert!(rt; arena.invalidate(p) == InvalidationResult::Success(pointer(rt, 2, 6)));
     assert!(rt; arena.compress(false) == InvalidationOption::Success(()));
     reads(rt, arena, text);
@@ -48,12 +50,12 @@ fn takes_whole_pointers<P: Ptr, S: NonZeroInxGenericStack<DirectSlot<P, u64>> + 
 
 #[test]
 fn takes_whole_pointers_in_a_vector(rt: HostRuntime) -> Result<(), Fail> {
-    let mut wide = HeapDirectArena::<P0, u64, Global>::with_min_capacity(rt.alloc(), 4)?;
-    takes_whole_pointers(&rt, &mut wide, "{P0[1](9): 10}");
-    let mut narrow = HeapDirectArena::<P1, u64, Global>::with_min_capacity(rt.alloc(), 4)?;
-    takes_whole_pointers(&rt, &mut narrow, "{P1[1](9): 10}");
-    let mut uncounted = HeapDirectArena::<P5, u64, Global>::with_min_capacity(rt.alloc(), 4)?;
-    takes_whole_pointers(&rt, &mut uncounted, "{P5[1]: 10}");
+    let mut wide = HeapDirectArena::<P0, &str, Global>::with_min_capacity(rt.alloc(), 4)?;
+    takes_whole_pointers(&rt, &mut wide, "x", "{P0[1](9): \"x\"}");
+    let mut narrow = HeapDirectArena::<P1, &str, Global>::with_min_capacity(rt.alloc(), 4)?;
+    takes_whole_pointers(&rt, &mut narrow, "x", "{P1[1](9): \"x\"}");
+    let mut uncounted = HeapDirectArena::<P5, &str, Global>::with_min_capacity(rt.alloc(), 4)?;
+    takes_whole_pointers(&rt, &mut uncounted, "x", "{P5[1]: \"x\"}");
     Ok(())
 }
 
@@ -61,18 +63,21 @@ fn takes_whole_pointers_in_a_vector(rt: HostRuntime) -> Result<(), Fail> {
 fn takes_whole_pointers_in_an_array(rt: HostRuntime) {
     takes_whole_pointers(
         &rt,
-        &mut ArrayDirectArena::<P0, u64, 4>::new(()),
-        "{P0[1](9): 10}",
+        &mut ArrayDirectArena::<P0, &str, 4>::new(()),
+        "x",
+        "{P0[1](9): \"x\"}",
     );
     takes_whole_pointers(
         &rt,
-        &mut ArrayDirectArena::<P1, u64, 4>::new(()),
-        "{P1[1](9): 10}",
+        &mut ArrayDirectArena::<P1, &str, 4>::new(()),
+        "x",
+        "{P1[1](9): \"x\"}",
     );
     takes_whole_pointers(
         &rt,
-        &mut ArrayDirectArena::<P5, u64, 4>::new(()),
-        "{P5[1]: 10}",
+        &mut ArrayDirectArena::<P5, &str, 4>::new(()),
+        "x",
+        "{P5[1]: \"x\"}",
     );
 }
 

@@ -29,12 +29,14 @@ fn takes<
     let counter = source.singular_generation();
     let had_refused = heap.has_refused();
     let capacity = target.capacity();
+    let target_counter = target.singular_generation();
     let moved = target.transfer_reallocating(seventh(), source, |_, item, _| item.allow());
     if heap.has_refused() == had_refused {
         assert!(rt; moved == Ok(()));
         assert!(rt; target.len() == 5);
         assert!(rt; target.capacity() == 5);
         assert!(rt; target.get(at(5, 7)) == Some(&4));
+        assert!(rt; target.singular_generation() == target_counter.map(|_| seventh()));
         assert!(rt; source.is_empty());
         // The fourth step of the counter, where there is one, starts the generations again.
         assert!(rt;
@@ -43,8 +45,10 @@ fn takes<
     } else {
         assert!(rt; moved == Err(ReallocationError::AllocError));
         assert!(rt; target.len() == 1);
+        assert!(rt; target.find_first_inx_ptr() == Some(at(1, 2)));
         assert!(rt; target.get(at(1, 2)) == Some(&77));
         assert!(rt; target.capacity() == capacity);
+        assert!(rt; target.singular_generation() == target_counter);
         assert!(rt; source.len() == 5);
         assert!(rt; source.singular_generation() == counter);
     }
@@ -83,7 +87,7 @@ fn runs_directly<
     }
 }
 
-// Over each heap stack. Boxed slots are made with room for all entries.
+// Into an arena over each heap stack. Boxed slots are made with room for all entries.
 fn in_turn<
     E: ArenaCloneSource<P1, u64>,
     M: ArenaTransferSource<P1, u64> + ArenaCloneFromWith<P1, u64>,
@@ -92,7 +96,7 @@ fn in_turn<
         let vector = RefusingAllocator::new(alloc, nth);
         runs::<&Heap, NonZeroInxVec<Slot, &Heap>, E, M>(rt, &vector, &vector, 2, entries, source);
         let limited = RefusingAllocator::new(alloc, nth);
-        runs_directly::<&Heap, NonZeroInxLimitedVec<Direct, &Heap>, E, M>(
+        runs::<&Heap, NonZeroInxLimitedVec<Slot, &Heap>, E, M>(
             rt, &limited, &limited, 2, entries, source,
         );
         let boxed = RefusingAllocator::new(alloc, nth);
@@ -106,19 +110,42 @@ fn in_turn<
     }
 }
 
+// The same into a direct arena.
+fn directly_in_turn<
+    E: ArenaCloneSource<P1, u64>,
+    M: ArenaTransferSource<P1, u64> + ArenaCloneFromWith<P1, u64>,
+>(rt: &impl Abort, alloc: Global, entries: &E, source: &mut M) {
+    for nth in 1..4u64 {
+        let vector = RefusingAllocator::new(alloc, nth);
+        runs_directly::<&Heap, NonZeroInxVec<Direct, &Heap>, E, M>(
+            rt, &vector, &vector, 2, entries, source,
+        );
+        let limited = RefusingAllocator::new(alloc, nth);
+        runs_directly::<&Heap, NonZeroInxLimitedVec<Direct, &Heap>, E, M>(
+            rt, &limited, &limited, 2, entries, source,
+        );
+        let boxed = RefusingAllocator::new(alloc, nth);
+        runs_directly::<&Heap, NonZeroInxBoxedSlice<Direct, &Heap>, E, M>(
+            rt, &boxed, &boxed, 5, entries, source,
+        );
+        assert!(rt; vector.has_refused() == (nth <= 2));
+        assert!(rt; limited.has_refused() == (nth <= 2));
+        assert!(rt; boxed.has_refused() == (nth <= 1));
+    }
+}
+
 #[test]
 fn each_request_in_turn(rt: HostRuntime) {
     let entries = five(&rt);
-    in_turn(&rt, rt.alloc(), &entries, &mut five(&rt));
+    let mut source = five(&rt);
+    in_turn(&rt, rt.alloc(), &entries, &mut source);
+    directly_in_turn(&rt, rt.alloc(), &entries, &mut source);
 }
 
 #[test]
 fn each_request_in_turn_from_a_mirror(rt: HostRuntime) {
     let entries = five(&rt);
-    in_turn(
-        &rt,
-        rt.alloc(),
-        &entries,
-        &mut ArrayDirectArena::<P1, u64, 5>::new(()),
-    );
+    let mut source = ArrayDirectArena::<P1, u64, 5>::new(());
+    in_turn(&rt, rt.alloc(), &entries, &mut source);
+    directly_in_turn(&rt, rt.alloc(), &entries, &mut source);
 }
