@@ -6,4 +6,5 @@ mod loops;
 mod maps;
 mod refusals;
 mod rows;
+mod single_links;
 mod texts;

@@ -188,6 +188,24 @@ fn clones<H: Allocator + Copy, S: NonZeroInxGenericStack<Slot, Alloc = H> + Drop
     is_refused_with_the_heap(rt, heap, &other, &was, error.map(of_kind));
 }
 
+// So does one that becomes a copy by a function.
+fn maps<H: Allocator + Copy, S: NonZeroInxGenericStack<Slot, Alloc = H> + Drop>(
+    rt: &impl Abort,
+    heap: &Heap,
+    alloc: H,
+    chains: &ChainArena<P0, u64, S>,
+) {
+    let mut other = ChainArena::<P0, u64, S>::new(alloc);
+    let _ = other.insert_reallocating(LinkInsertKind::Disconnected, 77);
+    let was = seen(heap, &other);
+    let error = other.clone_from_with(chains, |_, link| Ok(link.t)).err();
+    if error == None {
+        assert!(rt; other.len() == chains.len());
+        assert!(rt; order(&other) == order(chains));
+    }
+    is_refused_with_the_heap(rt, heap, &other, &was, error.map(of_kind));
+}
+
 // All of them over one heap, which `alloc` is as an arena takes it.
 fn runs<H: Allocator + Copy, S: NonZeroInxGenericStack<Slot, Alloc = H> + Drop>(
     rt: &impl Abort,
@@ -205,17 +223,18 @@ fn runs<H: Allocator + Copy, S: NonZeroInxGenericStack<Slot, Alloc = H> + Drop>(
     }
     copies(rt, heap, alloc, &chains);
     clones(rt, heap, alloc, &chains);
+    maps(rt, heap, alloc, &chains);
 }
 
 #[test]
 fn each_request_in_turn(rt: HostRuntime) {
-    for nth in 1..11u64 {
+    for nth in 1..13u64 {
         let vector = RefusingAllocator::new(rt.alloc(), nth);
         runs::<&Heap, NonZeroInxVec<Slot, &Heap>>(&rt, &vector, &vector);
         let limited = RefusingAllocator::new(rt.alloc(), nth);
         runs::<&Heap, NonZeroInxLimitedVec<Slot, &Heap>>(&rt, &limited, &limited);
-        // The arena, its four growths, the copy, the clone, and another arena and its growth.
-        assert!(rt; vector.has_refused() == (nth <= 9));
-        assert!(rt; limited.has_refused() == (nth <= 9));
+        // The arena, its four growths, the copy of the values, the clone, and twice another arena and its growth.
+        assert!(rt; vector.has_refused() == (nth <= 11));
+        assert!(rt; limited.has_refused() == (nth <= 11));
     }
 }
