@@ -1,1 +1,3 @@
 mod insertions;
+mod removals;
+mod searches;

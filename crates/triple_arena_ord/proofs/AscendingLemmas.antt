@@ -1,6 +1,6 @@
--- A list whose keys ascend still does after an insertion by key.
+-- A list whose keys ascend still does after an insertion by key, and after a removal.
 use Rattle.std.proofs.Common.{◌≡◌, ℕ, zero, suc, ◌+◌, List, [], ◌∷◌, ◌++◌, get_or, filter_map, Option, Some}
-use Rattle.std.proofs.Common.{None, Result, Ok, Err, arith, refl, sym, ap, ◌∙◌, subst, false, inl, inr}
+use Rattle.std.proofs.Common.{None, Result, Ok, Err, arith, refl, sym, ap, ◌∙◌, subst, false, true, inl, inr}
 use Rattle.std.specs.Option.{option_map}
 use Rattle.std.proofs.lemmas.Bool.{eq-eqb, ne_eqb}
 use Rattle.std.proofs.lemmas.Bool.Decides.{eqb_tells}
@@ -12,7 +12,7 @@ use Rattle.std.specs.declared.cmp.Ordering.{Ordering}
 use Rattle.std.specs.declared.cmp.Ordering.TheVariants.{Less, Equal, Greater}
 use Rattle.std.proofs.lemmas.Cmp.{alike_right}
 use Rattle.std.proofs.lemmas.List.Elements.{filter_map-append}
-use Rattle.triple_arena.specs.Entries.{with_entry}
+use Rattle.triple_arena.specs.Entries.{with_entry, without}
 use Rattle.triple_arena_ptr.specs.declared.errors.OrdInsertionError.{OrdInsertionError}
 use Rattle.triple_arena_chain.specs.Chains.{Off, Apart}
 use Rattle.triple_arena_chain.specs.ChainLaws.{Apart-taken, Off-front, Off-back}
@@ -21,24 +21,26 @@ use Rattle.triple_arena_chain.specs.UniquenessLaws.{linear_apart}
 use Rattle.triple_arena_ord.specs.Search.{AllIn}
 use Rattle.triple_arena_ord.specs.Ordered.{Ordered, IsOrdered, IsAscending, order_in, entry_in, asked_of}
 use Rattle.triple_arena_ord.specs.Inserted.{IsInserted}
+use Rattle.triple_arena_ord.specs.Removal.{IsRemoved}
+use Rattle.triple_arena_ord.proofs.SortedLemmas.{parts}
 
 module _ {X : Type 0} (R : X → X → Ordering) where
   abbrev AllOf : (X → Type 0) → List X → Type 0
   AllOf Q [] = Unit {0}
   AllOf Q (x ∷ xs) = Q x × AllOf Q xs
 
-  first : (x y : X) (xs : List X) → IsSorted R (x ∷ y ∷ xs) → is_lt (R y x) ≡ false
+  pub first : (x y : X) (xs : List X) → IsSorted R (x ∷ y ∷ xs) → is_lt (R y x) ≡ false
   first x y xs s = s 0 x (omega arith) (omega arith)
 
-  tail : (x : X) (xs : List X) → IsSorted R (x ∷ xs) → IsSorted R xs
+  pub tail : (x : X) (xs : List X) → IsSorted R (x ∷ xs) → IsSorted R xs
   tail x xs s k d low high =
       let up : suc k + 1 ≡ suc (k + 1) = omega arith in
       subst (λ z. is_lt (R (get_or (x ∷ xs) z d) (get_or xs k d)) ≡ false) up (s (suc k) d (omega arith) (omega arith))
 
-  single : (x : X) → IsSorted R (x ∷ [])
+  pub single : (x : X) → IsSorted R (x ∷ [])
   single x k d low high = absurd (omega arith)
 
-  cons : (x y : X) (xs : List X) → is_lt (R y x) ≡ false → IsSorted R (y ∷ xs) → IsSorted R (x ∷ y ∷ xs)
+  pub cons : (x y : X) (xs : List X) → is_lt (R y x) ≡ false → IsSorted R (y ∷ xs) → IsSorted R (x ∷ y ∷ xs)
   cons x y xs h s zero d low high = h
   cons x y xs h s (suc k) d low high =
       let down : suc (k + 1) ≡ suc k + 1 = omega arith in
@@ -51,6 +53,36 @@ module _ {X : Type 0} (R : X → X → Ordering) where
   put [] x (y ∷ ys) s low high = cons x y ys high.0 s
   put (a ∷ []) x ys s low high = cons a x ys low.0 (put [] x ys (tail a ys s) tt high)
   put (a ∷ b ∷ xs) x ys s low high = cons a b (xs ++ x ∷ ys) (first a b (xs ++ ys) s) (put (b ∷ xs) x ys (tail a (b ∷ xs ++ ys) s) low.1 high)
+
+  AllOf-map : (P Q : X → Type 0) → ((z : X) → P z → Q z) → (xs : List X) → AllOf P xs → AllOf Q xs
+  AllOf-map P Q f [] all = tt
+  AllOf-map P Q f (x ∷ xs) all = (f x all.0, AllOf-map P Q f xs all.1)
+
+  -- no element is greater than a later one
+  abbrev Rising : List X → Type 0
+  Rising [] = Unit {0}
+  Rising (x ∷ xs) = AllOf (λ z. is_lt (R z x) ≡ false) xs × Rising xs
+
+  rising-sorted : (xs : List X) → Rising xs → IsSorted R xs
+  rising-sorted [] p = λ k d low high. absurd (omega arith)
+  rising-sorted (x ∷ []) p = single x
+  rising-sorted (x ∷ y ∷ xs) p = cons x y xs p.0.0 (rising-sorted (y ∷ xs) p.1)
+
+  sorted-rising : ((x y z : X) → is_lt (R y x) ≡ false → is_lt (R z y) ≡ false → is_lt (R z x) ≡ false) → (xs : List X) → IsSorted R xs → Rising xs
+  sorted-rising trans [] s = tt
+  sorted-rising trans (x ∷ []) s = (tt, tt)
+  sorted-rising trans (x ∷ y ∷ xs) s =
+      let rest = sorted-rising trans (y ∷ xs) (tail x (y ∷ xs) s) in
+      let h = first x y xs s in
+      ((h, AllOf-map (λ z. is_lt (R z y) ≡ false) (λ z. is_lt (R z x) ≡ false) (λ z low. trans x y z h low) xs rest.0), rest)
+
+  all-later : (Q : X → Type 0) (o : Option X) (xs : List X) → AllOf Q (cons_option o xs) → AllOf Q xs
+  all-later Q None xs all = all
+  all-later Q (Some x) xs all = all.1
+
+  rising-later : (o : Option X) (xs : List X) → Rising (cons_option o xs) → Rising xs
+  rising-later None xs p = p
+  rising-later (Some x) xs p = p.1
 
   -- two elements that no third tells apart
   record Alike (x y : X) : Type 0 where
@@ -162,6 +194,61 @@ module _ {K T : Type 0} (R : K → K → Ordering) (key : T → K) (total : IsTo
           (cons_option (option_map (λ e. (x, e)) (entry x)) (listed_of (with_entry entry i (g, t)) xs))
       by None at rest = rw at rest
       by (Some o) at rest = rw at (record { left = λ z. refl; right = λ z. refl }, rest)
+
+  -- without an index
+  kept-all : (entry : ℕ → Option (ℕ × T)) (h : ℕ) (Q : ℕ × (ℕ × T) → Type 0) (w : List ℕ)
+      → AllOf below Q (listed_of entry w) → AllOf below Q (listed_of (without entry h) w)
+  kept-all entry h Q [] all = tt
+  kept-all entry h Q (x ∷ xs) all =
+      elim (eqb_tells x h) [
+        | inl same ↦ rw same.0 (kept-all entry h Q xs (all-later below Q (option_map (λ e. (x, e)) (entry x)) (listed_of entry xs) all))
+        | inr other ↦ rw other.0 (by (kept-all entry h Q xs) (option_map (λ e. (x, e)) (entry x)) all)
+      ]
+    where
+      by : (AllOf below Q (listed_of entry xs) → AllOf below Q (listed_of (without entry h) xs)) → (o : Option (ℕ × (ℕ × T)))
+          → AllOf below Q (cons_option o (listed_of entry xs)) → AllOf below Q (cons_option o (listed_of (without entry h) xs))
+      by rest None all = rest all
+      by rest (Some a) all = (all.0, rest all.1)
+
+  kept-rising : (entry : ℕ → Option (ℕ × T)) (h : ℕ) (w : List ℕ) → Rising below (listed_of entry w) → Rising below (listed_of (without entry h) w)
+  kept-rising entry h [] p = tt
+  kept-rising entry h (x ∷ xs) p =
+      elim (eqb_tells x h) [
+        | inl same ↦ rw same.0 (kept-rising entry h xs (rising-later below (option_map (λ e. (x, e)) (entry x)) (listed_of entry xs) p))
+        | inr other ↦ rw other.0 (by (kept-rising entry h xs) (option_map (λ e. (x, e)) (entry x)) p)
+      ]
+    where
+      by : (Rising below (listed_of entry xs) → Rising below (listed_of (without entry h) xs)) → (o : Option (ℕ × (ℕ × T)))
+          → Rising below (cons_option o (listed_of entry xs)) → Rising below (cons_option o (listed_of (without entry h) xs))
+      by rest None p = rest p
+      by rest (Some a) p = (kept-all entry h (λ z. is_lt (below z a) ≡ false) xs p.0, rest p.1)
+
+  not_less : (x y z : ℕ × (ℕ × T)) → is_lt (below y x) ≡ false → is_lt (below z y) ≡ false → is_lt (below z x) ≡ false
+  not_less x y z low high = by (below z x) refl
+    where
+      by : (a : Ordering) → below z x ≡ a → is_lt (below z x) ≡ false
+      by Less e =
+          let less : below z y ≡ Less = (parts total (key z.1.1) (key x.1.1) (key y.1.1) low).less e in
+          let no : true ≡ false = sym (ap is_lt less) ∙ high in
+          absurd (cc)
+      by Equal e = ap is_lt e
+      by Greater e = ap is_lt e
+
+  module _ {I : Type 0} (number : I → ℕ) where
+    pub removed_ascending : (last : Option ℕ) (h : ℕ) (o p : Ordered I T) → IsRemoved number last h o p → IsAscending number R key o → IsAscending number R key p
+    removed_ascending last h o p s ascending =
+        let w = order_in number o in
+        let f : ℕ → Option (ℕ × (ℕ × T)) = λ i. option_map (λ e. (i, e)) (entry_in p i) in
+        let kept : IsSorted below (listed_of (without (entry_in o) h) w) =
+        rising-sorted below (listed_of (without (entry_in o) h) w) (kept-rising (entry_in o) h w (sorted-rising below not_less (listed_of (entry_in o) w) ascending)) in
+        let left : IsSorted below (listed_of (entry_in p) w) = subst (IsSorted below) (sym (listed-same (entry_in p) (without (entry_in o) h) s.entries w)) kept in
+        let none : entry_in p h ≡ None = s.entries h ∙ rw (eq-eqb h h refl) refl in
+        let here : listed_of (entry_in p) (h ∷ s.order.after) ≡ listed_of (entry_in p) s.order.after = rw none refl in
+        let same : listed_of (entry_in p) (s.order.before ++ h ∷ s.order.after) ≡ listed_of (entry_in p) (s.order.before ++ s.order.after) =
+        filter_map-append f s.order.before (h ∷ s.order.after) ∙ ap (λ l. listed_of (entry_in p) s.order.before ++ l) here
+        ∙ sym (filter_map-append f s.order.before s.order.after) in
+        subst (λ v. IsSorted below (listed_of (entry_in p) v)) (sym s.order.is)
+        (subst (IsSorted below) (ap (listed_of (entry_in p)) s.order.was ∙ same) left)
 
   module _ {I P : Type 0} (number : I → ℕ) (index generation : P → ℕ) where
     pub stays_ascending : (o p : Ordered I T) (t : T) (result : Result (P × Option T) OrdInsertionError) → IsOrdered number p

@@ -4,11 +4,11 @@ use Rattle.triple_arena_chain.specs.Chains.{Ends, Stands, IsLinear, first_or, la
 use Rattle.triple_arena_chain.specs.ChainLaws.{Stands-front, Stands-back, last_or-append}
 
 -- the last of a list
-record Last (xs : List ℕ) (p : ℕ) : Type 0 where
+pub record Last (xs : List ℕ) (p : ℕ) : Type 0 where
   pub front : List ℕ
   pub is : xs ≡ front ++ p ∷ []
 
-last_in : (xs : List ℕ) (p : ℕ) → last_or None xs ≡ Some p → Last xs p
+pub last_in : (xs : List ℕ) (p : ℕ) → last_or None xs ≡ Some p → Last xs p
 last_in [] p e = absurd (cc)
 last_in (x ∷ xs) p e = go x xs e
   where

@@ -30,7 +30,7 @@ use Rattle.triple_arena_ord.proofs.Unique.{tree_is}
 use Rattle.triple_arena_ord.proofs.SeekLemmas.{parts_at, absent}
 
 -- an index stands at one place of a list that has each index once
-split_same : (xs : List ℕ) (h : ℕ) (ys us vs : List ℕ) → Apart (xs ++ h ∷ ys) → xs ++ h ∷ ys ≡ us ++ h ∷ vs → (xs ≡ us) × (ys ≡ vs)
+pub split_same : (xs : List ℕ) (h : ℕ) (ys us vs : List ℕ) → Apart (xs ++ h ∷ ys) → xs ++ h ∷ ys ≡ us ++ h ∷ vs → (xs ≡ us) × (ys ≡ vs)
 split_same [] h ys [] vs apart e = let z : ys ≡ vs = cc in (refl, z)
 split_same [] h ys (u ∷ us) vs apart e =
     let tail : ys ≡ us ++ h ∷ vs = cc in

@@ -21,7 +21,7 @@ use Rattle.triple_arena_ord.proofs.Climbs.{size-walk}
 use Rattle.triple_arena_ord.proofs.Descents.{Descent, Here, descent_begins, descent_free, step_down, AllIn-front, AllIn-back, AllIn-append, AllIn-map, parted-after, parted-before}
 use Rattle.triple_arena_ord.proofs.Frames.{one-other, one-same}
 use Rattle.triple_arena_ord.proofs.NameLemmas.{if_answered}
-use Rattle.triple_arena_ord.proofs.SeekShapes.{counted-lives}
+use Rattle.triple_arena_ord.proofs.LiveLemmas.{counted_entry, entry_counted}
 use Rattle.triple_arena_ord.proofs.SortedLemmas.{parted_from}
 
 -- what holds of each index of the walk holds of each that is counted
@@ -44,17 +44,33 @@ counted-all P (node l i k r) h =
     let here = let z = one-same i in h i (omega arith) in
     AllIn-append P (walk l) (i ∷ walk r) (counted-all P l (λ j z. h j (omega arith))) (here, counted-all P r (λ j z. h j (omega arith)))
 
--- the last answer of a search that found nothing
-pub none_not : {I : Type 0} (number : I → ℕ) (r : Option (I × Ordering)) → r ≡ None → (i : ℕ) (d : Ordering) → option_map {U = ℕ × Ordering} (λ a. (number a.0, a.1)) r ≡ Some (i, d) → d ≢ Equal
-none_not number None e i d u = absurd (cc)
-none_not number (Some a) e i d u = absurd (cc)
+-- no entry of the walk is equal where the search ended at none
+pub unequal : (f : ℕ → Ordering) (t : Tree) (a : Option (ℕ × Ordering)) → IsAnswer f t a → ((i : ℕ) (d : Ordering) → a ≡ Some (i, d) → d ≢ Equal) → IsParted f (walk t) → AllIn (λ y. f y ≢ Equal) (walk t)
+unequal f leaf a is not parted = tt
+unequal f (node l x r_k r) None is not parted = let z = is.empty refl in absurd (cc)
+unequal f (node l x r_k r) (Some p) is not parted = by p.1 refl
+  where
+    t : Tree
+    t = node l x r_k r
 
-pub some_not : {I : Type 0} (number : I → ℕ) (r : Option (I × Ordering)) (x : I) (a : Ordering) → r ≡ Some (x, a) → a ≢ Equal → (i : ℕ) (d : Ordering) → option_map {U = ℕ × Ordering} (λ a. (number a.0, a.1)) r ≡ Some (i, d) → d ≢ Equal
-some_not number None x a e not i d u = absurd (cc)
-some_not number (Some b) x a e not i d u =
-    let p : b ≡ (x, a) = cc in
-    let q : ◌≡◌ {A = ℕ × Ordering} (number b.0, b.1) (i, d) = cc in
-    λ w. not (sym (ap (λ z. z.1) p) ∙ ap (λ z. z.1) q ∙ w)
+    by : (d : Ordering) → p.1 ≡ d → AllIn (λ y. f y ≢ Equal) (walk t)
+    by Less e =
+        let at : ◌≡◌ {A = Option (ℕ × Ordering)} (Some p) (Some (p.0, Less)) = ap (λ d. Some (p.0, d)) e in
+        let places = is.parted p.0 Less at parted in
+        let here : f p.0 ≡ Less = is.asked p.0 Less at in
+        let up = parted-after f places.before p.0 places.after (subst (IsParted f) places.is parted) in
+        subst (AllIn (λ y. f y ≢ Equal)) (sym places.is) (AllIn-append (λ y. f y ≢ Equal) places.before (p.0 ∷ places.after)
+        (AllIn-map (λ y. f y ≡ Greater) (λ y. f y ≢ Equal) (λ y z u. absurd (cc)) places.before (places.less refl))
+        ((λ u. absurd (cc)), AllIn-map (λ y. Before (f p.0) (f y)) (λ y. f y ≢ Equal) (λ y z u. let w = z.less here in absurd (cc)) places.after up))
+    by Equal e = absurd (not p.0 Equal (ap (λ d. Some (p.0, d)) e) refl)
+    by Greater e =
+        let at : ◌≡◌ {A = Option (ℕ × Ordering)} (Some p) (Some (p.0, Greater)) = ap (λ d. Some (p.0, d)) e in
+        let places = is.parted p.0 Greater at parted in
+        let here : f p.0 ≡ Greater = is.asked p.0 Greater at in
+        let down = parted-before f places.before p.0 places.after (subst (IsParted f) places.is parted) in
+        subst (AllIn (λ y. f y ≢ Equal)) (sym places.is) (AllIn-append (λ y. f y ≢ Equal) places.before (p.0 ∷ places.after)
+        (AllIn-map (λ y. Before (f y) (f p.0)) (λ y. f y ≢ Equal) (λ y z u. let w = z.greater here in absurd (cc)) places.before down)
+        ((λ u. absurd (cc)), AllIn-map (λ y. f y ≡ Less) (λ y. f y ≢ Equal) (λ y z u. absurd (cc)) places.after (places.greater refl)))
 
 -- the ticks of a search are few
 pub few : {I T : Type 0} (number : I → ℕ) (o : Ordered I T) (old new : ℕ) → IsOrdered number o → new ≤ old + rank_of (tree_in number o) → new ≤ old + fair (size_in o)
@@ -72,9 +88,6 @@ few number o old new is ticks = by (tree_in number o) refl
         omega (arith, m, ticks)
 
 module _ {I K T : Type 0} (number : I → ℕ) (cmp : K → K → Ordering) (key : T → K) (k : K) where
-  abbrev bare_item : ℕ × IndexNode I T → ℕ × T
-  bare_item entry = itemed entry
-
   abbrev knot : ℕ × IndexNode I T → Knot
   knot entry = knot_of number entry.1
 
@@ -112,77 +125,12 @@ module _ {I K T : Type 0} (number : I → ℕ) (cmp : K → K → Ordering) (key
       if_answered number (λ i d. IsFreeAt d (knots_in number o.chains i)) r
       (descent_free (knots_in number o.chains) (asked_at cmp key k o) o.root (tree_in number o) link (option_map (λ a. (number a.0, a.1)) r) asked it.whole.stands at d)
 
-  -- the entry that was found
-  pub found : (o inside : Ordered I T) → inside ≡ o → (i g : ℕ) (u : IndexNode I T) → Some (g, u) ≡ values_in inside.chains i → asked_at cmp key k o i ≡ Equal
-      → option_map (λ t. cmp k (key t)) (value_if g (entry_in o i)) ≡ Some Equal
-  found o inside same i g u at e =
-      let is : values_in o.chains i ≡ Some (g, u) = ap (λ (z : Ordered I T). values_in z.chains i) (sym same) ∙ sym at in
-      let item : entry_in o i ≡ Some (g, u.t) = ap (option_map itemed) is in
-      let q : cmp k (key u.t) ≡ Equal = ap (asked_of cmp key k) (sym item) ∙ e in
-      rw (item, eq-eqb g g refl) (ap Some q)
-
-  pub found_at : {J G B : Type 0} (index : J → ℕ) (generation : G → ℕ) (now : B → IndexNode I T) (o inside : Ordered I T) → inside ≡ o → IsOrdered number o
-      → (r : Option (J × Ordering)) (x : J) (a : Ordering) → r ≡ Some (x, a) → a ≡ Equal → IsAnswer (asked_at cmp key k o) (tree_in number o) (option_map (λ a. (index a.0, a.1)) r)
-      → (e : Option (G × B)) (gen : G) (b : B) → e ≡ Some (gen, b) → option_map (λ e. (generation e.0, now e.1)) e ≡ values_in inside.chains (index x)
-      → (p_index p_gen : ℕ) → p_index ≡ index x → p_gen ≡ generation gen
-      → option_map (λ t. cmp k (key t)) (value_if p_gen (entry_in o p_index)) ≡ Some Equal
-  found_at index generation now o inside same is r x a r_is a_is answer e gen b e_is at p_index p_gen index_is gen_is =
-      let q : option_map (λ a. (index a.0, a.1)) r ≡ Some (index x, Equal) = ap (option_map (λ a. (index a.0, a.1))) r_is ∙ ap (λ d. Some (index x, d)) a_is in
-      let w : Some (generation gen, now b) ≡ values_in inside.chains (index x) = sym (ap (option_map (λ e. (generation e.0, now e.1))) e_is) ∙ at in
-      rw (index_is, gen_is) (found o inside same (index x) (generation gen) (now b) w (answer.asked (index x) Equal q))
-
-  item-some : (e : Option (ℕ × IndexNode I T)) → IsSome (option_map itemed e) → IsSome (option_map knot e)
-  item-some None h = absurd (cc)
-  item-some (Some e) h = refl
-
-  knot-some : (e : Option (ℕ × IndexNode I T)) → IsSome (option_map knot e) → IsSome (option_map itemed e)
-  knot-some None h = absurd (cc)
-  knot-some (Some e) h = refl
-
   asked-equal : (e : Option (ℕ × T)) → option_map (λ e. cmp k (key e.1)) e ≡ Some Equal → IsSome e × (asked_of cmp key k e ≡ Equal)
   asked-equal None h = absurd (cc)
   asked-equal (Some e) h = (refl, let z : cmp k (key e.1) ≡ Equal = cc in z)
 
-  -- no entry of the walk is equal where the search ended at none
-  unequal : (f : ℕ → Ordering) (t : Tree) (a : Option (ℕ × Ordering)) → IsAnswer f t a → ((i : ℕ) (d : Ordering) → a ≡ Some (i, d) → d ≢ Equal) → IsParted f (walk t) → AllIn (λ y. f y ≢ Equal) (walk t)
-  unequal f leaf a is not parted = tt
-  unequal f (node l x r_k r) None is not parted = let z = is.empty refl in absurd (cc)
-  unequal f (node l x r_k r) (Some p) is not parted = by p.1 refl
-    where
-      t : Tree
-      t = node l x r_k r
-
-      by : (d : Ordering) → p.1 ≡ d → AllIn (λ y. f y ≢ Equal) (walk t)
-      by Less e =
-          let at : ◌≡◌ {A = Option (ℕ × Ordering)} (Some p) (Some (p.0, Less)) = ap (λ d. Some (p.0, d)) e in
-          let places = is.parted p.0 Less at parted in
-          let here : f p.0 ≡ Less = is.asked p.0 Less at in
-          let up = parted-after f places.before p.0 places.after (subst (IsParted f) places.is parted) in
-          subst (AllIn (λ y. f y ≢ Equal)) (sym places.is) (AllIn-append (λ y. f y ≢ Equal) places.before (p.0 ∷ places.after)
-          (AllIn-map (λ y. f y ≡ Greater) (λ y. f y ≢ Equal) (λ y z u. absurd (cc)) places.before (places.less refl))
-          ((λ u. absurd (cc)), AllIn-map (λ y. Before (f p.0) (f y)) (λ y. f y ≢ Equal) (λ y z u. let w = z.less here in absurd (cc)) places.after up))
-      by Equal e = absurd (not p.0 Equal (ap (λ d. Some (p.0, d)) e) refl)
-      by Greater e =
-          let at : ◌≡◌ {A = Option (ℕ × Ordering)} (Some p) (Some (p.0, Greater)) = ap (λ d. Some (p.0, d)) e in
-          let places = is.parted p.0 Greater at parted in
-          let here : f p.0 ≡ Greater = is.asked p.0 Greater at in
-          let down = parted-before f places.before p.0 places.after (subst (IsParted f) places.is parted) in
-          subst (AllIn (λ y. f y ≢ Equal)) (sym places.is) (AllIn-append (λ y. f y ≢ Equal) places.before (p.0 ∷ places.after)
-          (AllIn-map (λ y. Before (f y) (f p.0)) (λ y. f y ≢ Equal) (λ y z u. let w = z.greater here in absurd (cc)) places.before down)
-          ((λ u. absurd (cc)), AllIn-map (λ y. f y ≡ Less) (λ y. f y ≢ Equal) (λ y z u. absurd (cc)) places.after (places.greater refl)))
-
   pub lives-entry : (o : Ordered I T) → IsOrdered number o → (j : ℕ) → 0 < count j (tree_in number o) → IsSome (entry_in o j)
-  lives-entry o is j h = knot-some (values_in o.chains j) (counted-lives (knots_in number o.chains) None (tree_in number o) is.whole.stands.1 j h)
-
-  pub found_lives : {J G B : Type 0} (index : J → ℕ) (generation : G → ℕ) (now : B → IndexNode I T) (o inside : Ordered I T) → inside ≡ o → IsOrdered number o
-      → (r : Option (J × Ordering)) (x : J) (a : Ordering) → r ≡ Some (x, a) → IsAnswer (asked_at cmp key k o) (tree_in number o) (option_map (λ a. (index a.0, a.1)) r)
-      → (e : Option (G × B)) → e ≡ None → option_map (λ e. (generation e.0, now e.1)) e ≡ values_in inside.chains (index x) → ⊥
-  found_lives index generation now o inside same is r x a r_is answer e e_is at =
-      let q : option_map (λ a. (index a.0, a.1)) r ≡ Some (index x, a) = ap (option_map (λ a. (index a.0, a.1))) r_is in
-      let lives = lives-entry o is (index x) (answer.lives (index x) a q) in
-      let none : values_in o.chains (index x) ≡ None = ap (λ (z : Ordered I T). values_in z.chains (index x)) (sym same) ∙ sym at ∙ ap (option_map (λ e. (generation e.0, now e.1))) e_is in
-      let gone : IsSome (option_map bare_item None) = subst (λ e. IsSome (option_map itemed e)) none lives in
-      absurd (cc)
+  lives-entry o is j h = counted_entry number o is j h
 
   -- a sorted list parts at a key
   pub parts_at : IsTotalOrder cmp → (o : Ordered I T) → IsOrdered number o → IsAscending number cmp key o → IsParted (asked_at cmp key k o) (order_in number o)
@@ -195,4 +143,4 @@ module _ {I K T : Type 0} (number : I → ℕ) (cmp : K → K → Ordering) (key
       let f = asked_at cmp key k o in
       let none = unequal f (tree_in number o) a answer not (parts_at total o is ascending) in
       let q = asked-equal (entry_in o j) e in
-      all-counted (λ y. f y ≢ Equal) (tree_in number o) none j (is.all j (item-some (values_in o.chains j) q.0)) q.1
+      all-counted (λ y. f y ≢ Equal) (tree_in number o) none j (entry_counted number o is j q.0) q.1

@@ -16,7 +16,7 @@ before-trans a b c p q = record { less = λ e. q.less (p.less e); greater = λ e
 
 module _ {K : Type 0} {R : K → K → Ordering} (o : IsTotalOrder R) where
   -- what is not above something parts no later than it
-  parts : (k x y : K) → is_lt (R y x) ≡ false → Before (R k x) (R k y)
+  pub parts : (k x y : K) → is_lt (R y x) ≡ false → Before (R k x) (R k y)
   parts k x y h = by (R x y) refl
     where
       by : (a : Ordering) → R x y ≡ a → Before (R k x) (R k y)

@@ -2,32 +2,29 @@
 use Rattle.std.proofs.Common.{◌≡◌, ◌≢◌, ◌==◌, ℕ, ◌+◌, ◌^◌, ◌<◌, List, [], ◌∷◌, ◌++◌, length, append_assoc, length-append, Option, Some, None, IsSome, IfSome, OnSome, Bool, true, false, if◌then◌else◌, refl, sym, ap, ◌∙◌, subst, arith, inl, inr}
 use Rattle.std.specs.Option.{option_map}
 use Rattle.std.proofs.lemmas.Bool.{cases_eq, eq-eqb, ne_eqb}
+use Rattle.std.proofs.lemmas.Bool.Decides.{eqb_tells}
+use Rattle.triple_arena_ptr.specs.Generation.{next_generation}
 use Rattle.triple_arena.specs.Content.{Content, entry_at, live_count}
-use Rattle.triple_arena.specs.Entries.{without}
+use Rattle.triple_arena.specs.Entries.{without, value_if}
 use Rattle.triple_arena_chain.specs.declared.link.IndexLink.{IndexLink}
 use Rattle.triple_arena_chain.specs.Chains.{IsLinear}
-use Rattle.triple_arena_chain.specs.Links.{ends_in, entry_ends, link_ends, values_in, valued, IsTakenOut}
+use Rattle.triple_arena_chain.specs.Links.{ends_in, values_in, valued, IsTakenOut}
 use Rattle.triple_arena_chain.specs.Lists.{Linear}
 use Rattle.triple_arena_chain.specs.ListLaws.{chain_where}
-use Rattle.triple_arena_ord.specs.declared.knots.Side.{Side}
-use Rattle.triple_arena_ord.specs.declared.knots.Side.TheVariants.{Left, Right}
+use Rattle.triple_arena_ord.specs.declared.knots.Side.TheVariants.{Left}
 use Rattle.triple_arena_ord.specs.declared.node.IndexNode.{IndexNode}
-use Rattle.triple_arena_ord.specs.Store.{child_of}
+use Rattle.triple_arena_ord.specs.Knot.{Knot}
 use Rattle.triple_arena_ord.specs.Node.{knots_in, items_in, knot_of, itemed, rest}
 use Rattle.triple_arena_ord.specs.Tree.{leaf, node, walk, IsRanked}
 use Rattle.triple_arena_ord.specs.Shape.{make, knot, root_of, top, plug, holder, Stands, IsDistinct, one, count}
 use Rattle.triple_arena_ord.specs.Repair.{Loose, Restored}
-use Rattle.triple_arena_ord.specs.Ordered.{Ordered, IsOrdered, tree_in, order_in}
-use Rattle.triple_arena_ord.specs.Removal.{IsThin, Loses, IsUprooted}
+use Rattle.triple_arena_ord.specs.Ordered.{Ordered, IsOrdered, tree_in, order_in, entry_in}
+use Rattle.triple_arena_ord.specs.Removal.{Loses, IsUprooted, IsRemoved}
 use Rattle.triple_arena_ord.proofs.Frames.{one-same, one-other, Represents-keep, plug-opens, count_split}
 use Rattle.triple_arena_ord.proofs.Descents.{before, after, plug-walk_is, rest_leaf}
 use Rattle.triple_arena_ord.proofs.Unique.{tree_is}
 use Rattle.triple_arena_ord.proofs.LeafLemmas.{Located, located}
 use Rattle.triple_arena_ord.proofs.RestLemmas.{Rested, rested}
-
-lives_from : {A B : Type 0} (f : A → B) (o : Option A) (b : B) → option_map f o ≡ Some b → IsSome o
-lives_from f None b e = absurd (cc)
-lives_from f (Some a) b e = refl
 
 mapped_lives : {A B : Type 0} (f : A → B) (o : Option A) → IsSome (option_map f o) → IsSome o
 mapped_lives f None e = absurd (cc)
@@ -37,15 +34,16 @@ not_none : {A : Type 0} (o : Option A) → o ≡ None → IsSome o → ⊥
 not_none None e s = absurd (cc)
 not_none (Some x) e s = absurd (cc)
 
+pub mapped_if : {A B : Type 0} (f : A → B) (o : Option A) (b : B) → IsSome o → IfSome o (λ a. f a ≡ b) → option_map f o ≡ Some b
+mapped_if f None b s e = absurd (cc)
+mapped_if f (Some a) b s e = ap Some e
+
 pub on_some : {A : Type 0} (a : Option A) (Q : Type 0) → IsSome a → OnSome a Q → Q
 on_some None Q s q = absurd (cc)
 on_some (Some x) Q s q = q
 
-pub thin_lives : {I T : Type 0} (number : I → ℕ) (o : Ordered I T) (h : ℕ) → IsThin (knots_in number o.chains h) → IsSome (knots_in number o.chains h)
-thin_lives number o h thin = lives_from (λ v. child_of thin.0 v) (knots_in number o.chains h) None thin.1
-
 module _ {I T : Type 0} (number : I → ℕ) where
-  -- a node with at most one child, and the list round it
+  -- a node without a right child, and the list round it
   pub record Out (o : Ordered I T) (h : ℕ) : Type 0 where
     pub loose : Loose (knots_in number o.chains) o.root h
     pub front : List ℕ
@@ -53,64 +51,36 @@ module _ {I T : Type 0} (number : I → ℕ) where
     pub was : order_in number o ≡ front ++ h ∷ back
     pub is : walk (plug loose.context loose.sub) ≡ front ++ back
 
-  pub out : (o : Ordered I T) → IsOrdered number o → (h : ℕ) → live_count o.chains < 2 ^ 64 → IsThin (knots_in number o.chains h) → Out o h
-  out o is h small thin = by thin.0 thin.1
-    where
-      found : Located (tree_in number o) h
-      found = located top (tree_in number o) h (is.all h (thin_lives number o h thin))
-
-      at_h : knots_in number o.chains h ≡ Some (knot Left (holder found.context) (root_of found.left) found.rank (root_of found.right))
-      at_h = (plug-opens (knots_in number o.chains) o.root found.context (node found.left h found.rank found.right)
-          (subst (Stands (knots_in number o.chains) o.root) found.is is.whole.stands)).1.0
-
-      short : length (walk (tree_in number o)) < 2 ^ 64
-      short = rw is.counted small
-
-      by : (side : Side) → option_map (λ v. child_of side v) (knots_in number o.chains h) ≡ Some None → Out o h
-      by Left free =
-          let c = found.context in
-          let k = found.rank in
-          let r = found.right in
-          let none : root_of found.left ≡ None = let z : Some (root_of found.left) ≡ Some None = sym (ap (option_map (λ v. child_of Left v)) at_h) ∙ free in cc in
-          let tree : tree_in number o ≡ plug c (node leaf h k r) = found.is ∙ ap (λ t. plug c (node t h k r)) (rest_leaf found.left none) in
-          record {
-            loose = record {
-              context = c;
-              side = Right;
-              sub = r;
-              rank = k;
-              distinct = subst IsDistinct tree is.whole.distinct;
-              stands = subst (Stands (knots_in number o.chains) o.root) tree is.whole.stands;
-              ranked = subst IsRanked tree is.whole.ranked;
-              small = subst (λ t. length (walk t) < 2 ^ 64) tree short;
-            };
-            front = before c;
-            back = walk r ++ after c;
-            was = ap walk tree ∙ plug-walk_is c (node leaf h k r);
-            is = plug-walk_is c r;
-          }
-      by Right free =
-          let c = found.context in
-          let k = found.rank in
-          let a = found.left in
-          let none : root_of found.right ≡ None = let z : Some (root_of found.right) ≡ Some None = sym (ap (option_map (λ v. child_of Right v)) at_h) ∙ free in cc in
-          let tree : tree_in number o ≡ plug c (node a h k leaf) = found.is ∙ ap (λ t. plug c (node a h k t)) (rest_leaf found.right none) in
-          record {
-            loose = record {
-              context = c;
-              side = Left;
-              sub = a;
-              rank = k;
-              distinct = subst IsDistinct tree is.whole.distinct;
-              stands = subst (Stands (knots_in number o.chains) o.root) tree is.whole.stands;
-              ranked = subst IsRanked tree is.whole.ranked;
-              small = subst (λ t. length (walk t) < 2 ^ 64) tree short;
-            };
-            front = before c ++ walk a;
-            back = after c;
-            was = ap walk tree ∙ plug-walk_is c (node a h k leaf) ∙ ap (λ z. before c ++ z) (append_assoc (walk a) (h ∷ []) (after c)) ∙ sym (append_assoc (before c) (walk a) (h ∷ after c));
-            is = plug-walk_is c a ∙ sym (append_assoc (before c) (walk a) (after c));
-          }
+  pub out : (o : Ordered I T) → IsOrdered number o → (h : ℕ) → live_count o.chains < 2 ^ 64 → IsSome (knots_in number o.chains h)
+      → (v : Knot) → knots_in number o.chains h ≡ Some v → v.right ≡ None → Out o h
+  out o is h small lives v at free =
+      let found : Located (tree_in number o) h = located top (tree_in number o) h (is.all h lives) in
+      let c = found.context in
+      let a = found.left in
+      let k = found.rank in
+      let at_h : knots_in number o.chains h ≡ Some (knot Left (holder c) (root_of a) k (root_of found.right)) =
+      (plug-opens (knots_in number o.chains) o.root c (node a h k found.right) (subst (Stands (knots_in number o.chains) o.root) found.is is.whole.stands)).1.0 in
+      let same : Some v ≡ Some (knot Left (holder c) (root_of a) k (root_of found.right)) = sym at ∙ at_h in
+      let below : v ≡ knot Left (holder c) (root_of a) k (root_of found.right) = cc in
+      let none : root_of found.right ≡ None = sym (ap (λ z. z.right) below) ∙ free in
+      let tree : tree_in number o ≡ plug c (node a h k leaf) = found.is ∙ ap (λ t. plug c (node a h k t)) (rest_leaf found.right none) in
+      let short : length (walk (tree_in number o)) < 2 ^ 64 = rw is.counted small in
+      record {
+        loose = record {
+          context = c;
+          side = Left;
+          sub = a;
+          rank = k;
+          distinct = subst IsDistinct tree is.whole.distinct;
+          stands = subst (Stands (knots_in number o.chains) o.root) tree is.whole.stands;
+          ranked = subst IsRanked tree is.whole.ranked;
+          small = subst (λ t. length (walk t) < 2 ^ 64) tree short;
+        };
+        front = before c ++ walk a;
+        back = after c;
+        was = ap walk tree ∙ plug-walk_is c (node a h k leaf) ∙ ap (λ z. before c ++ z) (append_assoc (walk a) (h ∷ []) (after c)) ∙ sym (append_assoc (before c) (walk a) (h ∷ after c));
+        is = plug-walk_is c a ∙ sym (append_assoc (before c) (walk a) (after c));
+      }
 
   pub uprooted : (o p : Ordered I T) (h : ℕ) (out : Out o h) → Restored (knots_in number p.chains) p.root (walk (plug out.loose.context out.loose.sub)) → IsUprooted number o p h
   uprooted o p h out restored = record {
@@ -140,11 +110,6 @@ module _ {I T : Type 0} (number : I → ℕ) where
       by : (a : Option A) → option_map (λ x. ((f x).0, (f x).1.t.t)) a ≡ option_map itemed (option_map valued (option_map f a))
       by None = refl
       by (Some a) = refl
-
-  pub answer_ends : {A : Type 0} (a : Option A) (f : A → ℕ × IndexLink I (IndexNode I T)) (o : Ordered I T) (c1 : Content (IndexLink I (IndexNode I T))) (h : ℕ)
-      → rest c1 ≡ rest o.chains → option_map f a ≡ entry_at c1 h → IfSome a (λ x. Some (link_ends number (f x).1) ≡ ends_in number o.chains h)
-  answer_ends None f o c1 h keeps is = tt
-  answer_ends (Some x) f o c1 h keeps is = ap (option_map (entry_ends number)) is ∙ (rested number o.chains c1 keeps).ends h
 
   module _ (o : Ordered I T) (is : IsOrdered number o) (h : ℕ) (last : Option ℕ) (c1 c2 : Content (IndexLink I (IndexNode I T))) (root1 : Option ℕ)
       (up : IsUprooted number o (record { chains = c1; root = root1 }) h) (keeps : rest c1 ≡ rest o.chains) (out : IsTakenOut number last h c1 c2) where
@@ -211,3 +176,38 @@ module _ {I T : Type 0} (number : I → ℕ) where
           order = record { before = up.before; after = up.after; was = up.was; is = order };
           entries = λ k. ap (option_map itemed) (out.values k) ∙ item-none (k == h) (values_in c1 k) ∙ ap (λ z. if k == h then None else z) (same.items k);
         }
+
+  -- a pointer finds the item of the entry that it finds
+  pub item_found : (v : Option (ℕ × IndexNode I T)) (g : ℕ) (e : ℕ × T) → IsSome (value_if g v) → Some e ≡ option_map itemed v
+      → Some e.1 ≡ value_if g (option_map itemed v)
+  item_found None g e s is = absurd (cc)
+  item_found (Some a) g e s is =
+      elim (eqb_tells a.0 g) [
+        | inl same ↦ rw same.0 (ap (option_map (λ z. z.1)) is)
+        | inr other ↦ absurd (let z : IsSome {T = IndexNode I T} None = subst (λ b. IsSome (if b then Some a.1 else None)) other.0 s in cc)
+      ]
+
+  pub nothing_found : (v : Option (ℕ × IndexNode I T)) (g : ℕ) → (IsSome (value_if g v) → ⊥) → value_if g (option_map itemed v) ≡ None
+  nothing_found None g n = refl
+  nothing_found (Some a) g n =
+      elim (eqb_tells a.0 g) [
+        | inl same ↦ absurd (n (subst (λ b. IsSome (if b then Some a.1 else None)) (sym same.0) refl))
+        | inr other ↦ rw other.0 refl
+      ]
+
+  pub found_lives : {A : Type 0} (v : Option (ℕ × IndexNode I T)) (g : ℕ) (f : ℕ × IndexNode I T → A) → IsSome (value_if g v) → IsSome (option_map f v)
+  found_lives None g f s = absurd (cc)
+  found_lives (Some a) g f s = refl
+
+  -- the list is one shorter
+  pub removed : (last : Option ℕ) (o p : Ordered I T) (h : ℕ) → IsOrdered number o → IsOrdered number p → Loses (order_in number o) (order_in number p) h
+      → ((k : ℕ) → entry_in p k ≡ without (entry_in o) h k) → p.chains.counter ≡ next_generation last o.chains.counter → p.chains.room ≡ o.chains.room
+      → IsRemoved number last h o p
+  removed last o p h is new_is lost entries counter room =
+      let l1 : length (order_in number o) ≡ length (lost.before ++ h ∷ lost.after) = ap length lost.was in
+      let l2 : length (order_in number p) ≡ length (lost.before ++ lost.after) = ap length lost.is in
+      let l3 = length-append lost.before (h ∷ lost.after) in
+      let l4 = length-append lost.before lost.after in
+      let l5 : length (order_in number o) ≡ live_count o.chains = is.counted in
+      let l6 : length (order_in number p) ≡ live_count p.chains = new_is.counted in
+      record { order = lost; entries = entries; size = omega arith; counter = counter; room = room }

@@ -1,5 +1,5 @@
 -- The nodes determine the tree.
-use Rattle.std.proofs.Common.{◌≡◌, ℕ, zero, suc, ◌≤◌, Option, Some, None, refl, sym, ap, ◌∙◌, arith, [], ◌∷◌, ◌++◌, append_assoc}
+use Rattle.std.proofs.Common.{◌≡◌, ℕ, zero, suc, ◌≤◌, Option, Some, None, refl, sym, ap, ◌∙◌, arith, [], ◌∷◌, ◌++◌}
 use Rattle.triple_arena_ord.specs.declared.knots.Side.TheVariants.{Left, Right}
 use Rattle.triple_arena_ord.specs.Store.{Store, rank_or_link, rank_or_zero}
 use Rattle.triple_arena_ord.specs.Whole.{read_tree, tree_of}
@@ -46,26 +46,26 @@ pub plug_in-plug : (c d : Context) (t : Tree) → plug (plug_in c d) t ≡ plug 
 plug_in-plug c top t = refl
 plug_in-plug c (under d s i k far) t = plug_in-plug c d (make s t i k far)
 
--- the greatest index below a node: the last of the left subtree's walk has no right child
-pub record Last (t : Tree) : Type 0 where
+-- the least index of a tree: the first of its walk has no left child
+pub record First (t : Tree) : Type 0 where
   pub context : Context
-  pub left : Tree
   pub index : ℕ
   pub rank : ℕ
-  pub is : t ≡ plug context (node left index rank leaf)
-  pub at_end : walk t ≡ walk (plug context left) ++ index ∷ []
+  pub right : Tree
+  pub is : t ≡ plug context (node leaf index rank right)
+  pub at_start : walk t ≡ index ∷ walk (plug context right)
 
-pub last_at : (t : Tree) (i : ℕ) → root_of t ≡ Some i → Last t
-last_at leaf i e = absurd (cc)
-last_at (node l x k leaf) i e = record { context = top; left = l; index = x; rank = k; is = refl; at_end = refl }
-last_at (node l x k (node a y j b)) i e = go (last_at (node a y j b) y refl)
+pub first_at : (t : Tree) (i : ℕ) → root_of t ≡ Some i → First t
+first_at leaf i e = absurd (cc)
+first_at (node leaf x k r) i e = record { context = top; index = x; rank = k; right = r; is = refl; at_start = refl }
+first_at (node (node a y j b) x k r) i e = go (first_at (node a y j b) y refl)
   where
-    go : Last (node a y j b) → Last (node l x k (node a y j b))
+    go : First (node a y j b) → First (node (node a y j b) x k r)
     go h = record {
-      context = plug_in (under top Right x k l) h.context;
-      left = h.left;
+      context = plug_in (under top Left x k r) h.context;
       index = h.index;
       rank = h.rank;
-      is = ap (λ t. node l x k t) h.is ∙ sym (plug_in-plug (under top Right x k l) h.context (node h.left h.index h.rank leaf));
-      at_end = ap (λ w. walk l ++ x ∷ w) h.at_end ∙ sym (append_assoc (walk l) (x ∷ walk (plug h.context h.left)) (h.index ∷ [])) ∙ ap (λ t. walk t ++ h.index ∷ []) (sym (plug_in-plug (under top Right x k l) h.context h.left));
+      right = h.right;
+      is = ap (λ t. node t x k r) h.is ∙ sym (plug_in-plug (under top Left x k r) h.context (node leaf h.index h.rank h.right));
+      at_start = ap (λ w. w ++ x ∷ walk r) h.at_start ∙ ap (λ t. h.index ∷ walk t) (sym (plug_in-plug (under top Left x k r) h.context h.right));
     }

@@ -11,3 +11,8 @@ pub mod Pairs
 pub mod Ordered
 pub mod Inserted
 pub mod Removal
+pub mod Found
+pub mod Asked
+pub mod Near
+pub mod AskedLaws
+pub mod Ascending

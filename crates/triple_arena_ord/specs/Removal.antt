@@ -1,16 +1,10 @@
 -- What a removal finds and leaves.
-use Rattle.std.specs.Prelude.{◌≡◌, ◌==◌, if◌then◌else◌, ℕ, List, ◌∷◌, ◌++◌, Option, Some, None}
-use Rattle.std.specs.Option.{option_map}
-use Rattle.triple_arena_ord.specs.declared.knots.Side.{Side}
-use Rattle.triple_arena_ord.specs.Knot.{Knot}
-use Rattle.triple_arena_ord.specs.Store.{child_of}
+use Rattle.std.specs.Prelude.{◌≡◌, ◌==◌, if◌then◌else◌, ℕ, ◌+◌, List, ◌∷◌, ◌++◌, Option, Some, None}
+use Rattle.triple_arena_ptr.specs.Generation.{next_generation}
+use Rattle.triple_arena.specs.Entries.{without}
 use Rattle.triple_arena_ord.specs.Node.{knots_in}
 use Rattle.triple_arena_ord.specs.Repair.{Restored}
-use Rattle.triple_arena_ord.specs.Ordered.{Ordered, order_in}
-
--- a node that has no child on one side
-abbrev pub IsThin : Option Knot → Type 0
-IsThin o = (side : Side) × (option_map (λ v. child_of side v) o ≡ Some None)
+use Rattle.triple_arena_ord.specs.Ordered.{Ordered, order_in, entry_in, size_in}
 
 -- the list without one index
 pub record Loses (old new : List ℕ) (h : ℕ) : Type 0 where
@@ -30,3 +24,11 @@ pub record IsUprooted {I T : Type 0} (number : I → ℕ) (old new : Ordered I T
   pub after : List ℕ
   pub was : order_in number old ≡ before ++ h ∷ after
   pub restored : Restored (knots_in number new.chains) new.root (before ++ after)
+
+-- one entry less: the list is without its index, every other pointer finds the item that it found, and the counter steps
+pub record IsRemoved {I T : Type 0} (number : I → ℕ) (last : Option ℕ) (h : ℕ) (old new : Ordered I T) : Type 0 where
+  pub order : Loses (order_in number old) (order_in number new) h
+  pub entries : (k : ℕ) → entry_in new k ≡ without (entry_in old) h k
+  pub size : size_in new + 1 ≡ size_in old
+  pub counter : new.chains.counter ≡ next_generation last old.chains.counter
+  pub room : new.chains.room ≡ old.chains.room

@@ -2,22 +2,23 @@
 //! arena of the Rust crate `triple_arena`.
 #![tactic(auto)]
 
+mod ascends;
+mod asks;
 mod edges;
-mod insert;
 mod inserted;
 mod item;
 mod kind;
 mod knots;
+pub mod laws;
 mod leaf;
 mod looks;
 mod node;
 mod ord_arena;
 mod pair;
-mod remove;
 mod removed;
-mod search;
 mod taken;
 mod turn;
+mod walks;
 
 pub use item::SimpleOrdItem;
 pub use kind::{InsertKind, OrdEntryKind, OrdInsertKind};

@@ -9,6 +9,14 @@ ghost use Rattle.triple_arena_ord.specs.Ordered.{IsOrdered, StandsBeside, size_i
 ghost use Rattle.triple_arena_ord.specs.Store.{child_of};
 ghost use Rattle.triple_arena_ord.specs.Node.{knots_in};
 
+mod check;
+mod found;
+mod insert;
+mod remove;
+mod search;
+mod search_linear;
+mod search_with;
+
 use crate::knots::Side;
 use crate::leaf::{insert_leaf, moved};
 use crate::{IndexNode, SimpleOrdArenaNode};

@@ -5,13 +5,14 @@ ghost use Rattle.triple_arena_ptr.specs.Generation.{next_generation, next_wraps}
 ghost use Rattle.triple_arena_ptr.specs.InvalidationOption.{value_of, overflowed};
 ghost use Rattle.triple_arena_ptr.specs.InvalidationResult.{answer_of};
 ghost use Rattle.triple_arena.specs.Entries.{without};
-ghost use Rattle.triple_arena_chain.specs.Links.{ends_in, link_ends};
+ghost use Rattle.triple_arena_chain.specs.Chains.{next_at};
+ghost use Rattle.triple_arena_chain.specs.Links.{ends_in};
 ghost use Rattle.triple_arena_ord.specs.Node.{knots_in, items_in, rest};
 ghost use Rattle.triple_arena_ord.specs.Tree.{node};
 ghost use Rattle.triple_arena_ord.specs.Shape.{plug, Stands};
 ghost use Rattle.triple_arena_ord.specs.Repair.{Exchange};
 ghost use Rattle.triple_arena_ord.specs.Ordered.{IsOrdered, order_in};
-ghost use Rattle.triple_arena_ord.specs.Removal.{IsThin, Loses, IsUprooted};
+ghost use Rattle.triple_arena_ord.specs.Removal.{Loses, IsUprooted};
 
 use crate::SimpleOrdArenaNode;
 use crate::knots::{read, relink, reparent, write};
@@ -43,24 +44,40 @@ fn exchange<
     relink(chains, root, knot.parent, old, Some(new));
 }
 
-// A node with at most one child leaves the tree; its link stays.
+// A node leaves the tree, and its link stays: one with a right child when the next one, which has no left child, takes its
+// place.
 fn uproot<
     P: Ptr,
     T: Drop,
     S: NonZeroInxGenericStack<ArenaSlot<P, LinkNoGen<P, SimpleOrdArenaNode<P, T>>>> + Drop,
->(chains: &mut ChainArena<P, SimpleOrdArenaNode<P, T>, S>, root: &mut Option<P::Inx>, gone: P::Inx)
+>(
+    chains: &mut ChainArena<P, SimpleOrdArenaNode<P, T>, S>,
+    root: &mut Option<P::Inx>,
+    gone: P::Inx,
+    next: Option<P::Inx>,
+)
     requires ordered { IsOrdered P.Inx.number (record { chains = chains.old; root = option_map P.Inx.number root.old }) }
-    requires thin { IsThin (knots_in P.Inx.number chains.old (P.Inx.number gone)) }
+    requires lives { IsSome (knots_in P.Inx.number chains.old (P.Inx.number gone)) }
+    requires next { next_at (ends_in P.Inx.number chains.old) (P.Inx.number gone) ≡ option_map P.Inx.number next }
     ensures uprooted { IsUprooted P.Inx.number (record { chains = chains.old; root = option_map P.Inx.number root.old })
         (record { chains = chains.new; root = option_map P.Inx.number root.new }) (P.Inx.number gone) }
     ensures keeps { rest chains.new ≡ rest chains.old }
 {
     let _count = chains.len();
-    bring_out(chains, root, gone);
+    let knot = read(chains, gone);
+    match knot.right {
+        None => bring_out(chains, root, gone),
+        Some(_) => {
+            let Some(successor) = next else {
+                unreachable!()
+            };
+            bring_out(chains, root, successor);
+            exchange(chains, root, gone, successor);
+        }
+    }
 }
 
-// The entry at an index, whose node has at most one child, leaves the tree and the list. Its link is given back with the
-// neighbours that it had.
+// The entry at an index, which has this one after it, leaves the tree and the list. Its link is given back.
 pub(crate) fn take_entry<
     P: Ptr,
     T: Drop,
@@ -69,21 +86,21 @@ pub(crate) fn take_entry<
     chains: &mut ChainArena<P, SimpleOrdArenaNode<P, T>, S>,
     root: &mut Option<P::Inx>,
     gone: P::Inx,
+    next: Option<P::Inx>,
 ) -> InvalidationResult<(P::Gen, LinkNoGen<P, SimpleOrdArenaNode<P, T>>)>
     requires ordered { IsOrdered P.Inx.number (record { chains = chains.old; root = option_map P.Inx.number root.old }) }
     requires lives { IsSome (knots_in P.Inx.number chains.old (P.Inx.number gone)) }
-    requires thin { IsThin (knots_in P.Inx.number chains.old (P.Inx.number gone)) }
+    requires next { next_at (ends_in P.Inx.number chains.old) (P.Inx.number gone) ≡ option_map P.Inx.number next }
     ensures ordered { IsOrdered P.Inx.number (record { chains = chains.new; root = option_map P.Inx.number root.new }) }
     ensures order { Loses (order_in P.Inx.number (record { chains = chains.old; root = option_map P.Inx.number root.old }))
         (order_in P.Inx.number (record { chains = chains.new; root = option_map P.Inx.number root.new })) (P.Inx.number gone) }
     ensures entries { (k : ℕ) → items_in chains.new k ≡ without (items_in chains.old) (P.Inx.number gone) k }
     ensures some { IsSome (answer_of result) }
     ensures value { option_map (λ a. (P.Gen.number (value_of a).0, (value_of a).1.t.t)) (answer_of result) ≡ items_in chains.old (P.Inx.number gone) }
-    ensures ends { IfSome (answer_of result) (λ a. Some (link_ends P.Inx.number (value_of a).1) ≡ ends_in P.Inx.number chains.old (P.Inx.number gone)) }
     ensures overflow { IfSome (answer_of result) (λ a. overflowed a ≡ next_wraps P.Gen.last chains.old.counter) }
     ensures counter { chains.new.counter ≡ next_generation P.Gen.last chains.old.counter }
     ensures room { chains.new.room ≡ chains.old.room }
 {
-    uproot(chains, root, gone);
+    uproot(chains, root, gone, next);
     chains.remove_inx_link_no_gen(gone)
 }

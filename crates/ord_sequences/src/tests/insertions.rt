@@ -10,14 +10,14 @@ type Item = OrdPair<u64, u64>;
 
 type Slot = ArenaSlot<P0, LinkNoGen<P0, SimpleOrdArenaNode<P0, Item>>>;
 
-type Pairs = SimpleOrdArena<P0, Item, NonZeroInxArray<Slot, 1000>>;
+pub(crate) type Pairs = SimpleOrdArena<P0, Item, NonZeroInxArray<Slot, 1000>>;
 
 // The greatest c with `2^(c+1) <= 1001^2`.
 const MOST: u64 = 18;
 
 // The keys from 1 to 1000 in the order of their products with `factor`, modulo the prime 1009: 1 puts them in rising, 1008
 // falling. It answers the most comparisons that a search took.
-fn fills(rt: &impl Abort, factor: u64) -> (Pairs, u64) {
+pub(crate) fn fills(rt: &impl Abort, factor: u64) -> (Pairs, u64) {
     let mut pairs = Pairs::new(());
     for i in 1..1009u64 {
         let key = i.wrapping_mul(factor) % 1009;

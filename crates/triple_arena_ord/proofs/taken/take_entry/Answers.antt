@@ -7,11 +7,11 @@ use Rattle.triple_arena_ptr.specs.InvalidationResult.{answer_of}
 use Rattle.triple_arena.specs.Content.{entry_at}
 use Rattle.triple_arena_chain.specs.Links.{IsTakenOut}
 use Rattle.triple_arena_ord.specs.Ordered.{Ordered}
-use Rattle.triple_arena_ord.proofs.TakenLemmas.{on_some, still, answered, answer_item, answer_ends, taken}
+use Rattle.triple_arena_ord.proofs.TakenLemmas.{on_some, still, answered, answer_item, taken}
 use Rattle.triple_arena_ord.proofs.taken.take_entry.Goals as goal
 
-pub returns-clause-ordered : goal.returns-clause-ordered
-returns-clause-ordered g c =
+pub returns : goal.returns
+returns g c =
     let number = g.P.Inx.PtrInx.number in
     let o : Ordered g.row.P-Inx.Denot g.row.T.Denot = record { chains = c.args.chains.now; root = option_map number c.args.root.now } in
     let h = number c.args.gone in
@@ -19,119 +19,18 @@ returns-clause-ordered g c =
     let c2 = c.remove_inx_link_no_gen.new.self in
     let last = g.P.Gen.PtrGen.last in
     let a = answer_of c.remove_inx_link_no_gen.result in
+    let kept = c.uproot.ensures.keeps in
     let some : IsSome a = answered number a (λ a. (g.P.Gen.PtrGen.number (value_of a).0, (value_of a).1)) (entry_at c1 h)
-    c.remove_inx_link_no_gen.ensures.value (still number o c1 h c.uproot.ensures.keeps c.requires.lives) in
+    c.remove_inx_link_no_gen.ensures.value (still number o c1 h kept c.requires.lives) in
     let out : IsTakenOut number last h c1 c2 = on_some a (IsTakenOut number last h c1 c2) some c.remove_inx_link_no_gen.ensures.taken in
-    (taken number o c.requires.ordered h last c1 c2 (option_map number c.uproot.new.root) c.uproot.ensures.uprooted c.uproot.ensures.keeps out).ordered
-
-pub returns-clause-order : goal.returns-clause-order
-returns-clause-order g c =
-    let number = g.P.Inx.PtrInx.number in
-    let o : Ordered g.row.P-Inx.Denot g.row.T.Denot = record { chains = c.args.chains.now; root = option_map number c.args.root.now } in
-    let h = number c.args.gone in
-    let c1 = c.uproot.new.chains in
-    let c2 = c.remove_inx_link_no_gen.new.self in
-    let last = g.P.Gen.PtrGen.last in
-    let a = answer_of c.remove_inx_link_no_gen.result in
-    let some : IsSome a = answered number a (λ a. (g.P.Gen.PtrGen.number (value_of a).0, (value_of a).1)) (entry_at c1 h)
-    c.remove_inx_link_no_gen.ensures.value (still number o c1 h c.uproot.ensures.keeps c.requires.lives) in
-    let out : IsTakenOut number last h c1 c2 = on_some a (IsTakenOut number last h c1 c2) some c.remove_inx_link_no_gen.ensures.taken in
-    (taken number o c.requires.ordered h last c1 c2 (option_map number c.uproot.new.root) c.uproot.ensures.uprooted c.uproot.ensures.keeps out).order
-
-pub returns-clause-entries : goal.returns-clause-entries
-returns-clause-entries g c =
-    let number = g.P.Inx.PtrInx.number in
-    let o : Ordered g.row.P-Inx.Denot g.row.T.Denot = record { chains = c.args.chains.now; root = option_map number c.args.root.now } in
-    let h = number c.args.gone in
-    let c1 = c.uproot.new.chains in
-    let c2 = c.remove_inx_link_no_gen.new.self in
-    let last = g.P.Gen.PtrGen.last in
-    let a = answer_of c.remove_inx_link_no_gen.result in
-    let some : IsSome a = answered number a (λ a. (g.P.Gen.PtrGen.number (value_of a).0, (value_of a).1)) (entry_at c1 h)
-    c.remove_inx_link_no_gen.ensures.value (still number o c1 h c.uproot.ensures.keeps c.requires.lives) in
-    let out : IsTakenOut number last h c1 c2 = on_some a (IsTakenOut number last h c1 c2) some c.remove_inx_link_no_gen.ensures.taken in
-    (taken number o c.requires.ordered h last c1 c2 (option_map number c.uproot.new.root) c.uproot.ensures.uprooted c.uproot.ensures.keeps out).entries
-
-pub returns-clause-some : goal.returns-clause-some
-returns-clause-some g c =
-    let number = g.P.Inx.PtrInx.number in
-    let o : Ordered g.row.P-Inx.Denot g.row.T.Denot = record { chains = c.args.chains.now; root = option_map number c.args.root.now } in
-    let h = number c.args.gone in
-    let c1 = c.uproot.new.chains in
-    let c2 = c.remove_inx_link_no_gen.new.self in
-    let last = g.P.Gen.PtrGen.last in
-    let a = answer_of c.remove_inx_link_no_gen.result in
-    let some : IsSome a = answered number a (λ a. (g.P.Gen.PtrGen.number (value_of a).0, (value_of a).1)) (entry_at c1 h)
-    c.remove_inx_link_no_gen.ensures.value (still number o c1 h c.uproot.ensures.keeps c.requires.lives) in
-    let out : IsTakenOut number last h c1 c2 = on_some a (IsTakenOut number last h c1 c2) some c.remove_inx_link_no_gen.ensures.taken in
-    some
-
-pub returns-clause-value : goal.returns-clause-value
-returns-clause-value g c =
-    let number = g.P.Inx.PtrInx.number in
-    let o : Ordered g.row.P-Inx.Denot g.row.T.Denot = record { chains = c.args.chains.now; root = option_map number c.args.root.now } in
-    let h = number c.args.gone in
-    let c1 = c.uproot.new.chains in
-    let c2 = c.remove_inx_link_no_gen.new.self in
-    let last = g.P.Gen.PtrGen.last in
-    let a = answer_of c.remove_inx_link_no_gen.result in
-    let some : IsSome a = answered number a (λ a. (g.P.Gen.PtrGen.number (value_of a).0, (value_of a).1)) (entry_at c1 h)
-    c.remove_inx_link_no_gen.ensures.value (still number o c1 h c.uproot.ensures.keeps c.requires.lives) in
-    let out : IsTakenOut number last h c1 c2 = on_some a (IsTakenOut number last h c1 c2) some c.remove_inx_link_no_gen.ensures.taken in
-    answer_item number a (λ a. (g.P.Gen.PtrGen.number (value_of a).0, (value_of a).1)) o c1 h c.uproot.ensures.keeps c.remove_inx_link_no_gen.ensures.value
-
-pub returns-clause-ends : goal.returns-clause-ends
-returns-clause-ends g c =
-    let number = g.P.Inx.PtrInx.number in
-    let o : Ordered g.row.P-Inx.Denot g.row.T.Denot = record { chains = c.args.chains.now; root = option_map number c.args.root.now } in
-    let h = number c.args.gone in
-    let c1 = c.uproot.new.chains in
-    let c2 = c.remove_inx_link_no_gen.new.self in
-    let last = g.P.Gen.PtrGen.last in
-    let a = answer_of c.remove_inx_link_no_gen.result in
-    let some : IsSome a = answered number a (λ a. (g.P.Gen.PtrGen.number (value_of a).0, (value_of a).1)) (entry_at c1 h)
-    c.remove_inx_link_no_gen.ensures.value (still number o c1 h c.uproot.ensures.keeps c.requires.lives) in
-    let out : IsTakenOut number last h c1 c2 = on_some a (IsTakenOut number last h c1 c2) some c.remove_inx_link_no_gen.ensures.taken in
-    answer_ends number a (λ a. (g.P.Gen.PtrGen.number (value_of a).0, (value_of a).1)) o c1 h c.uproot.ensures.keeps c.remove_inx_link_no_gen.ensures.value
-
-pub returns-clause-counter : goal.returns-clause-counter
-returns-clause-counter g c =
-    let number = g.P.Inx.PtrInx.number in
-    let o : Ordered g.row.P-Inx.Denot g.row.T.Denot = record { chains = c.args.chains.now; root = option_map number c.args.root.now } in
-    let h = number c.args.gone in
-    let c1 = c.uproot.new.chains in
-    let c2 = c.remove_inx_link_no_gen.new.self in
-    let last = g.P.Gen.PtrGen.last in
-    let a = answer_of c.remove_inx_link_no_gen.result in
-    let some : IsSome a = answered number a (λ a. (g.P.Gen.PtrGen.number (value_of a).0, (value_of a).1)) (entry_at c1 h)
-    c.remove_inx_link_no_gen.ensures.value (still number o c1 h c.uproot.ensures.keeps c.requires.lives) in
-    let out : IsTakenOut number last h c1 c2 = on_some a (IsTakenOut number last h c1 c2) some c.remove_inx_link_no_gen.ensures.taken in
-    out.counter ∙ ap (λ r. next_generation last r.counter) c.uproot.ensures.keeps
-
-pub returns-clause-overflow : goal.returns-clause-overflow
-returns-clause-overflow g c =
-    let number = g.P.Inx.PtrInx.number in
-    let o : Ordered g.row.P-Inx.Denot g.row.T.Denot = record { chains = c.args.chains.now; root = option_map number c.args.root.now } in
-    let h = number c.args.gone in
-    let c1 = c.uproot.new.chains in
-    let c2 = c.remove_inx_link_no_gen.new.self in
-    let last = g.P.Gen.PtrGen.last in
-    let a = answer_of c.remove_inx_link_no_gen.result in
-    let some : IsSome a = answered number a (λ a. (g.P.Gen.PtrGen.number (value_of a).0, (value_of a).1)) (entry_at c1 h)
-    c.remove_inx_link_no_gen.ensures.value (still number o c1 h c.uproot.ensures.keeps c.requires.lives) in
-    let out : IsTakenOut number last h c1 c2 = on_some a (IsTakenOut number last h c1 c2) some c.remove_inx_link_no_gen.ensures.taken in
-    subst (λ n. IfSome a (λ a. overflowed a ≡ next_wraps last n)) (ap (λ r. r.counter) c.uproot.ensures.keeps) c.remove_inx_link_no_gen.ensures.overflow
-
-pub returns-clause-room : goal.returns-clause-room
-returns-clause-room g c =
-    let number = g.P.Inx.PtrInx.number in
-    let o : Ordered g.row.P-Inx.Denot g.row.T.Denot = record { chains = c.args.chains.now; root = option_map number c.args.root.now } in
-    let h = number c.args.gone in
-    let c1 = c.uproot.new.chains in
-    let c2 = c.remove_inx_link_no_gen.new.self in
-    let last = g.P.Gen.PtrGen.last in
-    let a = answer_of c.remove_inx_link_no_gen.result in
-    let some : IsSome a = answered number a (λ a. (g.P.Gen.PtrGen.number (value_of a).0, (value_of a).1)) (entry_at c1 h)
-    c.remove_inx_link_no_gen.ensures.value (still number o c1 h c.uproot.ensures.keeps c.requires.lives) in
-    let out : IsTakenOut number last h c1 c2 = on_some a (IsTakenOut number last h c1 c2) some c.remove_inx_link_no_gen.ensures.taken in
-    out.room ∙ ap (λ r. r.room) c.uproot.ensures.keeps
+    let done = taken number o c.requires.ordered h last c1 c2 (option_map number c.uproot.new.root) c.uproot.ensures.uprooted kept out in
+    record {
+      ordered = done.ordered;
+      order = done.order;
+      entries = done.entries;
+      some = some;
+      value = answer_item number a (λ a. (g.P.Gen.PtrGen.number (value_of a).0, (value_of a).1)) o c1 h kept c.remove_inx_link_no_gen.ensures.value;
+      overflow = subst (λ n. IfSome a (λ a. overflowed a ≡ next_wraps last n)) (ap (λ r. r.counter) kept) c.remove_inx_link_no_gen.ensures.overflow;
+      counter = out.counter ∙ ap (λ r. next_generation last r.counter) kept;
+      room = out.room ∙ ap (λ r. r.room) kept;
+    }

@@ -1,7 +1,7 @@
 use Rattle.std.proofs.Common.{sym, ap, ◌∙◌}
 use Rattle.std.specs.Option.{option_map}
 use Rattle.triple_arena_ord.proofs.InsertLemmas.{renewed_at}
-use Rattle.triple_arena_ord.proofs.insert.renew.Goals as goal
+use Rattle.triple_arena_ord.proofs.ord_arena.insert.renew.Goals as goal
 
 pub returns-clause-renewed : goal.returns-clause-renewed
 returns-clause-renewed g c =

@@ -1,13 +1,14 @@
 //! Searches by key.
-ghost use Rattle.std.specs.Prelude.{◌≡◌, ◌≢◌, ℕ, ◌+◌, ◌≤◌, Some, None, IfSome};
+ghost use Rattle.std.specs.Prelude.{◌+◌, ◌≤◌, IfSome};
 ghost use Rattle.std.specs.Option.{option_map};
 ghost use Rattle.counted_search.specs.Searches.{fair};
-ghost use Rattle.triple_arena.specs.Entries.{value_if};
 ghost use Rattle.triple_arena_ord.specs.Tree.{rank_of};
 ghost use Rattle.triple_arena_ord.specs.Node.{knots_in};
 ghost use Rattle.triple_arena_ord.specs.Search.{IsAnswer, IsFreeAt};
-ghost use Rattle.triple_arena_ord.specs.Ordered.{IsOrdered, IsAscending, tree_in, entry_in, size_in, asked_at};
+ghost use Rattle.triple_arena_ord.specs.Ordered.{IsOrdered, IsAscending, tree_in, size_in, asked_at};
+ghost use Rattle.triple_arena_ord.specs.Found.{IsFound, IsSimilar};
 
+use crate::ord_arena::found::{found_at, similar_at};
 use crate::{SimpleOrdArena, SimpleOrdArenaNode, SimpleOrdItem};
 use std::cmp::Ordering;
 use triple_arena::{ArenaSlot, ArenaTrait, NonZeroInxGenericStack, Ptr};
@@ -48,35 +49,44 @@ impl<
         place
     }
 
-    /// The pointer to an entry with an equal key, where the arena is sorted exactly where there is one. Each comparison is a
+    /// The pointer to an entry with an equal key; in a list whose keys ascend, exactly where there is one. Each comparison is a
     /// tick, and among n entries there are at most c of them, where c is the greatest number with `2^(c+1) <= (n+1)^2`.
     pub fn find_key_counted(&self, k: &T::Key, probes: &mut Probes) -> Option<P>
-        ensures some { (p : P) → result ≡ Some p
-            → option_map (λ t. T.Key.cmp k.now (T.key_of t))
-            (value_if (P.generation p) (entry_in self.now (P.index p))) ≡ Some Ordering.Equal }
-        ensures none { IsAscending P.Inx.number T.Key.cmp T.key_of self.now → result ≡ None → (i : ℕ)
-            → option_map (λ e. T.Key.cmp k.now (T.key_of e.1)) (entry_in self.now i) ≢ Some Ordering.Equal }
+        ensures found { IsFound P.index P.generation (asked_at T.Key.cmp T.key_of k.now self.now)
+            (IsAscending P.Inx.number T.Key.cmp T.key_of self.now) result self.now }
         ensures rises { probes.old ≤ probes.new }
         ensures bound { probes.new ≤ probes.old + fair (size_in self.now) }
     {
-        let (i, answer) = self.seek(k, probes)?;
-        match answer {
-            Ordering::Equal => match self.chains.get_inx(i) {
-                Some(entry) => Some(P::_from_raw(i, entry.0)),
-                None => None,
-            },
-            _ => None,
-        }
+        let place = self.seek(k, probes);
+        found_at(&self.chains, place)
     }
 
     /// The same, with no count.
     pub fn find_key(&self, k: &T::Key) -> Option<P>
-        ensures some { (p : P) → result ≡ Some p
-            → option_map (λ t. T.Key.cmp k.now (T.key_of t))
-            (value_if (P.generation p) (entry_in self.now (P.index p))) ≡ Some Ordering.Equal }
-        ensures none { IsAscending P.Inx.number T.Key.cmp T.key_of self.now → result ≡ None → (i : ℕ)
-            → option_map (λ e. T.Key.cmp k.now (T.key_of e.1)) (entry_in self.now i) ≢ Some Ordering.Equal }
+        ensures { IsFound P.index P.generation (asked_at T.Key.cmp T.key_of k.now self.now)
+            (IsAscending P.Inx.number T.Key.cmp T.key_of self.now) result self.now }
     {
         self.find_key_counted(k, &mut Probes::new())
+    }
+
+    /// The pointer to an entry with an equal key, or else to one beside which the key belongs, and what the key compares as
+    /// with the entry's; `None` where there is no entry. Where the keys do not ascend it is some entry. Each comparison is a
+    /// tick, and there are as many at most as `find_key_counted` says.
+    pub fn find_similar_key_counted(&self, k: &T::Key, probes: &mut Probes) -> Option<(P, Ordering)>
+        ensures similar { IsSimilar P.index P.generation P.Inx.number (asked_at T.Key.cmp T.key_of k.now self.now)
+            (IsAscending P.Inx.number T.Key.cmp T.key_of self.now) result self.now }
+        ensures rises { probes.old ≤ probes.new }
+        ensures bound { probes.new ≤ probes.old + fair (size_in self.now) }
+    {
+        let place = self.seek(k, probes);
+        similar_at(&self.chains, place)
+    }
+
+    /// The same, with no count.
+    pub fn find_similar_key(&self, k: &T::Key) -> Option<(P, Ordering)>
+        ensures { IsSimilar P.index P.generation P.Inx.number (asked_at T.Key.cmp T.key_of k.now self.now)
+            (IsAscending P.Inx.number T.Key.cmp T.key_of self.now) result self.now }
+    {
+        self.find_similar_key_counted(k, &mut Probes::new())
     }
 }

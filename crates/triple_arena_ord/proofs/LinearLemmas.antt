@@ -1,0 +1,105 @@
+-- A search along the list of an ordered arena.
+use Rattle.std.proofs.Common.{◌≡◌, ◌≢◌, ℕ, ◌+◌, ◌<◌, ◌≤◌, List, [], ◌∷◌, filter_map, Option, Some, None, IsSome, IfSome, is_some, true, inl, refl, sym, ap, ◌∙◌, subst, arith}
+use Rattle.std.specs.Option.{option_map}
+use Rattle.std.specs.declared.cmp.Ordering.{Ordering}
+use Rattle.std.specs.declared.cmp.Ordering.TheVariants.{Equal}
+use Rattle.triple_arena.specs.Entries.{value_if}
+use Rattle.triple_arena_ord.specs.declared.node.IndexNode.{IndexNode}
+use Rattle.std.specs.List.Sorted.{IsSorted}
+use Rattle.counted_search.specs.Searches.{fair}
+use Rattle.triple_arena_chain.specs.Chains.{IsLinear, On, first_or}
+use Rattle.triple_arena_chain.specs.Links.{ends_in, values_in}
+use Rattle.triple_arena_ord.specs.Node.{items_in, itemed}
+use Rattle.triple_arena_ord.specs.Tree.{rank_of}
+use Rattle.triple_arena_ord.specs.Search.{IsParted, IsAnswer}
+use Rattle.triple_arena_ord.specs.Near.{IsEndNear, IsAtHand, IsStop, asked_in}
+use Rattle.triple_arena_ord.specs.Ordered.{Ordered, IsOrdered, IsAscending, tree_in, order_in, entry_in, size_in, asked_at}
+use Rattle.triple_arena_ord.proofs.LiveLemmas.{counted_entry, entry_counted}
+use Rattle.triple_arena_ord.proofs.SeekLemmas.{few, unequal}
+use Rattle.triple_arena_ord.proofs.NearLemmas.{AllIn-at}
+use Rattle.triple_arena_ord.proofs.WayLemmas.{counted-walk, walk-counted}
+use Rattle.triple_arena_ord.proofs.FoundLemmas.{stop_answers}
+
+module _ {I T : Type 0} (number : I → ℕ) where
+  -- an entry stands on the chain
+  pub on_chain : (o : Ordered I T) → IsOrdered number o → (i : ℕ) → IsSome (entry_in o i) → (w : List ℕ) × IsLinear (ends_in number o.chains) w × On w i
+  on_chain o is i lives = (order_in number o, is.linear, counted-walk (tree_in number o) i (entry_counted number o is i lives))
+
+  -- what was looked up is there
+  pub looked_up : {G B : Type 0} (stamp : G → ℕ) (now : B → IndexNode I T) (o : Ordered I T) (i : ℕ) (r : Option (G × B))
+      → option_map (λ e. (stamp e.0, now e.1)) r ≡ values_in o.chains i → is_some r ≡ true → IsSome (entry_in o i)
+  looked_up stamp now o i None at some = absurd (cc)
+  looked_up stamp now o i (Some x) at some = subst (λ e. IsSome (option_map itemed e)) at refl
+
+  pub pointed_lives : (o : Ordered I T) (g i j : ℕ) → IsSome (value_if g (values_in o.chains i)) → j ≡ i → IsSome (entry_in o j)
+  pointed_lives o g i j h e = subst (λ z. IsSome (entry_in o z)) (sym e) (by (values_in o.chains i) h)
+    where
+      by : (v : Option (ℕ × IndexNode I T)) → IsSome (value_if g v) → IsSome (option_map itemed v)
+      by None h = absurd (cc)
+      by (Some x) h = refl
+
+  -- where a search ends there is an entry
+  pub places_live : {f : ℕ → Ordering} (o inside : Ordered I T) → inside ≡ o → IsOrdered number o → (r : Option (I × Ordering))
+      → IsAnswer f (tree_in number o) (option_map (λ a. (number a.0, a.1)) r) → IfSome r (λ a. IsSome (entry_in inside (number a.0)))
+  places_live o inside same is None answer = tt
+  places_live o inside same is (Some x) answer = subst (λ z. IsSome (entry_in z (number x.0))) (sym same) (counted_entry number o is (number x.0) (answer.lives (number x.0) x.1 refl))
+
+  pub few_more : (o : Ordered I T) (old new num : ℕ) → IsOrdered number o → new ≤ old + (num + rank_of (tree_in number o)) → new ≤ old + (num + fair (size_in o))
+  few_more o old new num is ticks = let h = few number o (old + num) new is (omega (arith, ticks)) in omega (arith, h)
+
+  module _ {K : Type 0} (cmp : K → K → Ordering) (key : T → K) where
+    pub empty_ascends : (o : Ordered I T) → first_or (order_in number o) None ≡ None → IsAscending number cmp key o
+    empty_ascends o e = by (order_in number o) e
+      where
+        by : (w : List ℕ) → first_or w None ≡ None → IsSorted (λ (x y : ℕ × (ℕ × T)). cmp (key x.1.1) (key y.1.1)) (filter_map (λ i. option_map (λ e. (i, e)) (entry_in o i)) w)
+        by [] h = λ k d low high. absurd (omega arith)
+        by (x ∷ w) h = absurd (cc)
+
+    module _ (k : K) (o inside : Ordered I T) (same : inside ≡ o) (is : IsOrdered number inside) (start : ℕ) (lives : IsSome (entry_in inside start)) (r : Option (I × Ordering)) where
+      abbrev Stops : Type 0
+      Stops = (w : List ℕ) → IsLinear (ends_in number inside.chains) w → On w start → IfSome r (λ a. IsStop (asked_in cmp key k (items_in inside.chains)) w (number a.0) a.1)
+
+      abbrev Reaches : ℕ → Type 0
+      Reaches num = (w : List ℕ) → IsLinear (ends_in number inside.chains) w → On w start → IsParted (asked_in cmp key k (items_in inside.chains)) w
+          → IsAtHand num (asked_in cmp key k (items_in inside.chains)) w start → r ≢ None
+
+      on : On (order_in number inside) start
+      on = counted-walk (tree_in number inside) start (entry_counted number inside is start lives)
+
+      pub linear_answer : Stops → (i : ℕ) (d : Ordering) → option_map {U = ℕ × Ordering} (λ a. (number a.0, a.1)) r ≡ Some (i, d) → IsAnswer (asked_at cmp key k o) (tree_in number o) (Some (i, d))
+      linear_answer stops i d e =
+          subst (λ z. IsAnswer (asked_at cmp key k z) (tree_in number z) (Some (i, d))) same
+          (stop_answers (asked_at cmp key k inside) (tree_in number inside) i d (taken r e (stops (order_in number inside) is.linear on)))
+        where
+          taken : (s : Option (I × Ordering)) → option_map {U = ℕ × Ordering} (λ a. (number a.0, a.1)) s ≡ Some (i, d) → IfSome s (λ a. IsStop (asked_at cmp key k inside) (order_in number inside) (number a.0) a.1)
+              → IsStop (asked_at cmp key k inside) (order_in number inside) i d
+          taken None u h = absurd (cc)
+          taken (Some y) u h =
+              let a : ℕ × Ordering = (number y.0, y.1) in
+              let b : ℕ × Ordering = (i, d) in
+              let z : a ≡ b = cc in subst (λ (p : ℕ × Ordering). IsStop (asked_at cmp key k inside) (order_in number inside) p.0 p.1) z h
+
+      pub stops_live : Stops → IfSome r (λ a. IsSome (entry_in inside (number a.0)))
+      stops_live stops = by r (stops (order_in number inside) is.linear on)
+        where
+          by : (s : Option (I × Ordering)) → IfSome s (λ a. IsStop (asked_at cmp key k inside) (order_in number inside) (number a.0) a.1) → IfSome s (λ a. IsSome (entry_in inside (number a.0)))
+          by None h = tt
+          by (Some x) h = counted_entry number inside is (number x.0) (walk-counted (tree_in number inside) (number x.0) h.on)
+
+      pub linear_near : (num : ℕ) → Reaches num → r ≡ None → IsParted (asked_at cmp key k o) (order_in number o) → IsAtHand num (asked_at cmp key k o) (order_in number o) start → ⊥
+      linear_near num near none parted hand =
+          near (order_in number inside) is.linear on (subst (λ z. IsParted (asked_at cmp key k z) (order_in number z)) (sym same) parted)
+          (subst (λ z. IsAtHand num (asked_at cmp key k z) (order_in number z) start) (sym same) hand) none
+
+      -- where no equal key was found, none is near
+      pub linear_missed : (num : ℕ) → Stops → Reaches num → ((i : ℕ) → option_map {U = ℕ × Ordering} (λ a. (number a.0, a.1)) r ≢ Some (i, Equal))
+          → IsParted (asked_at cmp key k o) (order_in number o) → IsEndNear num (asked_at cmp key k o) (order_in number o) start → ⊥
+      linear_missed num stops near missed parted end = by r refl
+        where
+          by : (s : Option (I × Ordering)) → r ≡ s → ⊥
+          by None e = linear_near num near e parted (inl end)
+          by (Some x) e =
+              let at : option_map {U = ℕ × Ordering} (λ a. (number a.0, a.1)) r ≡ Some (number x.0, x.1) = ap (option_map {U = ℕ × Ordering} (λ a. (number a.0, a.1))) e in
+              let answer = linear_answer stops (number x.0) x.1 at in
+              let not = unequal (asked_at cmp key k o) (tree_in number o) (Some (number x.0, x.1)) answer (λ i d u v. missed i (at ∙ u ∙ ap (λ d. Some (i, d)) v)) parted in
+              AllIn-at (λ y. asked_at cmp key k o y ≢ Equal) (order_in number o) not end.near.to end.at end.near.ends end.equal

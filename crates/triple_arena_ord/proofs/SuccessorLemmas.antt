@@ -1,0 +1,166 @@
+-- The next index of the list, which has no left child, takes the place of a node with a right child.
+use Rattle.std.proofs.Common.{◌≡◌, ◌≢◌, ℕ, ◌+◌, ◌^◌, ◌<◌, List, [], ◌∷◌, ◌++◌, length, append_assoc, Option, Some, None, IsSome, refl, sym, ap, ◌∙◌, subst, arith}
+use Rattle.std.specs.Option.{option_map}
+use Rattle.triple_arena.specs.Content.{Content, live_count}
+use Rattle.triple_arena_chain.specs.declared.link.IndexLink.{IndexLink}
+use Rattle.triple_arena_chain.specs.Chains.{IsLinear, Apart, next_in, next_at}
+use Rattle.triple_arena_chain.specs.ChainLaws.{Apart-taken}
+use Rattle.triple_arena_chain.specs.Links.{ends_in}
+use Rattle.triple_arena_chain.specs.UniquenessLaws.{linear_apart}
+use Rattle.triple_arena_ord.specs.declared.knots.Side.TheVariants.{Left, Right}
+use Rattle.triple_arena_ord.specs.declared.node.IndexNode.{IndexNode}
+use Rattle.triple_arena_ord.specs.Knot.{Knot}
+use Rattle.triple_arena_ord.specs.Node.{knots_in, rest}
+use Rattle.triple_arena_ord.specs.Tree.{Tree, leaf, node, walk, IsRanked}
+use Rattle.triple_arena_ord.specs.Shape.{knot, root_of, Context, top, under, plug, holder, Stands, IsDistinct, one, count}
+use Rattle.triple_arena_ord.specs.Repair.{Loose, Restored, Exchange}
+use Rattle.triple_arena_ord.specs.Ordered.{Ordered, IsOrdered, tree_in, order_in}
+use Rattle.triple_arena_ord.specs.Removal.{IsUprooted}
+use Rattle.triple_arena_ord.proofs.Frames.{one-same, one-other, plug-opens, count_split}
+use Rattle.triple_arena_ord.proofs.Descents.{before, after, plug-walk_is}
+use Rattle.triple_arena_ord.proofs.Leans.{plug-ranked}
+use Rattle.triple_arena_ord.proofs.EdgeLemmas.{plug-ranked-opens, loose_lives}
+use Rattle.triple_arena_ord.proofs.EndLemmas.{after_off}
+use Rattle.triple_arena_ord.proofs.GapLemmas.{linear_ends}
+use Rattle.triple_arena_ord.proofs.InsertLemmas.{split_same}
+use Rattle.triple_arena_ord.proofs.LeafLemmas.{Located, located}
+use Rattle.triple_arena_ord.proofs.RestLemmas.{rested}
+use Rattle.triple_arena_ord.proofs.Unique.{plug_in, plug_in-plug, First, first_at}
+
+-- the ranks are the same under another index
+renamed-ranked : (c : Context) (l : Tree) (i j k : ℕ) (r : Tree) → IsRanked (plug c (node l i k r)) → IsRanked (plug c (node l j k r))
+renamed-ranked c l i j k r h = let o = plug-ranked-opens c (node l i k r) h in plug-ranked c (node l j k r) o.0 o.1
+
+-- an index of a node, and the list round it
+flat : (c : Context) (l : Tree) (h : ℕ) (w : List ℕ) → before c ++ ((walk l ++ h ∷ w) ++ after c) ≡ (before c ++ walk l) ++ h ∷ (w ++ after c)
+flat c l h w = ap (λ z. before c ++ z) (append_assoc (walk l) (h ∷ w) (after c)) ∙ sym (append_assoc (before c) (walk l) (h ∷ (w ++ after c)))
+
+snoc : (xs : List ℕ) (h : ℕ) (ys : List ℕ) → xs ++ h ∷ ys ≡ (xs ++ h ∷ []) ++ ys
+snoc xs h ys = sym (append_assoc xs (h ∷ []) ys)
+
+module _ {I T : Type 0} (number : I → ℕ) where
+  -- an index and the next one, which has no left child, and the list round both
+  pub record Over (o : Ordered I T) (h n : ℕ) : Type 0 where
+    pub loose : Loose (knots_in number o.chains) o.root n
+    pub front : List ℕ
+    pub back : List ℕ
+    pub was : order_in number o ≡ front ++ h ∷ n ∷ back
+    pub is : walk (plug loose.context loose.sub) ≡ front ++ h ∷ back
+
+  pub record Successor (o : Ordered I T) (h : ℕ) : Type 0 where
+    pub index : ℕ
+    pub over : Over o h index
+    pub next : next_at (ends_in number o.chains) h ≡ Some index
+
+  pub successor : (o : Ordered I T) → IsOrdered number o → (h : ℕ) → live_count o.chains < 2 ^ 64 → IsSome (knots_in number o.chains h)
+      → (v : Knot) → knots_in number o.chains h ≡ Some v → (x : ℕ) → v.right ≡ Some x → Successor o h
+  successor o is h small lives v at x right =
+      let found : Located (tree_in number o) h = located top (tree_in number o) h (is.all h lives) in
+      let c = found.context in
+      let a = found.left in
+      let k = found.rank in
+      let r = found.right in
+      let at_h : knots_in number o.chains h ≡ Some (knot Left (holder c) (root_of a) k (root_of r)) =
+      (plug-opens (knots_in number o.chains) o.root c (node a h k r) (subst (Stands (knots_in number o.chains) o.root) found.is is.whole.stands)).1.0 in
+      let same : Some v ≡ Some (knot Left (holder c) (root_of a) k (root_of r)) = sym at ∙ at_h in
+      let below : v ≡ knot Left (holder c) (root_of a) k (root_of r) = cc in
+      let f : First r = first_at r x (sym (ap (λ z. z.right) below) ∙ right) in
+      let inner = plug_in (under c Right h k a) f.context in
+      let tree : tree_in number o ≡ plug inner (node leaf f.index f.rank f.right) =
+      found.is ∙ ap (λ t. plug c (node a h k t)) f.is ∙ sym (plug_in-plug (under c Right h k a) f.context (node leaf f.index f.rank f.right)) in
+      let rest = walk (plug f.context f.right) in
+      let order : order_in number o ≡ (before c ++ walk a) ++ h ∷ f.index ∷ (rest ++ after c) =
+      ap walk found.is ∙ plug-walk_is c (node a h k r) ∙ flat c a h (walk r) ∙ ap (λ w. (before c ++ walk a) ++ h ∷ (w ++ after c)) f.at_start in
+      let ends = linear_ends (ends_in number o.chains) (before c ++ walk a) h (f.index ∷ (rest ++ after c)) (subst (IsLinear (ends_in number o.chains)) order is.linear) in
+      let short : length (walk (tree_in number o)) < 2 ^ 64 = rw is.counted small in
+      record {
+        index = f.index;
+        over = record {
+          loose = record {
+            context = inner;
+            side = Right;
+            sub = f.right;
+            rank = f.rank;
+            distinct = subst IsDistinct tree is.whole.distinct;
+            stands = subst (Stands (knots_in number o.chains) o.root) tree is.whole.stands;
+            ranked = subst IsRanked tree is.whole.ranked;
+            small = subst (λ t. length (walk t) < 2 ^ 64) tree short;
+          };
+          front = before c ++ walk a;
+          back = rest ++ after c;
+          was = order;
+          is = ap walk (plug_in-plug (under c Right h k a) f.context f.right) ∙ plug-walk_is c (node a h k (plug f.context f.right)) ∙ flat c a h rest;
+        };
+        next = ap next_in ends;
+      }
+
+  pub over_at : (o : Ordered I T) (h n : ℕ) → Successor o h → next_at (ends_in number o.chains) h ≡ Some n → Over o h n
+  over_at o h n s at = let e : Some s.index ≡ Some n = sym s.next ∙ at in let same : s.index ≡ n = cc in subst (Over o h) same s.over
+
+  pub over_lives : (o : Ordered I T) (h n : ℕ) (c1 : Content (IndexLink I (IndexNode I T))) → Over o h n → rest c1 ≡ rest o.chains → IsSome (knots_in number c1 n)
+  over_lives o h n c1 over keeps = (rested number o.chains c1 keeps).stays n (loose_lives (knots_in number o.chains) o.root n over.loose)
+
+  -- the next index is out of the tree
+  module _ (o : Ordered I T) (is : IsOrdered number o) (h n : ℕ) (lives : IsSome (knots_in number o.chains h)) (over : Over o h n)
+      (c1 : Content (IndexLink I (IndexNode I T))) (root1 : Option ℕ)
+      (restored : Restored (knots_in number c1) root1 (walk (plug over.loose.context over.loose.sub))) where
+    walk_is : walk restored.tree ≡ over.front ++ h ∷ over.back
+    walk_is = restored.is_walk ∙ over.is
+
+    apart : Apart (over.front ++ h ∷ n ∷ over.back)
+    apart = subst Apart over.was (linear_apart (ends_in number o.chains) None (order_in number o) is.linear)
+
+    apart_without : Apart (over.front ++ h ∷ over.back)
+    apart_without =
+        subst Apart (sym (snoc over.front h over.back))
+        (Apart-taken (over.front ++ h ∷ []) over.back n (subst Apart (snoc over.front h (n ∷ over.back)) apart)).0
+
+    differs : h ≢ n
+    differs e = (after_off over.front h (n ∷ over.back) apart).0 (sym e)
+
+    counts : (j : ℕ) → count j (tree_in number o) ≡ count j restored.tree + one j n
+    counts j =
+        count_split j (tree_in number o) restored.tree (over.front ++ h ∷ []) n over.back
+        (over.was ∙ snoc over.front h (n ∷ over.back)) (walk_is ∙ snoc over.front h over.back)
+
+    place : Located restored.tree h
+    place = located top restored.tree h (let z = counts h in let y = one-other h n differs in let w = is.all h lives in omega arith)
+
+    pub exchange_place : Exchange (knots_in number c1) root1 h n
+    exchange_place = record {
+      context = place.context;
+      left = place.left;
+      rank = place.rank;
+      right = place.right;
+      distinct = subst IsDistinct place.is (record { once = λ j. let z = counts j in let b = is.whole.distinct.once j in omega arith });
+      stands = subst (Stands (knots_in number c1) root1) place.is restored.stands;
+      fresh = subst (λ t. count n t ≡ 0) place.is (let z = counts n in let b = is.whole.distinct.once n in let y = one-same n in omega arith);
+    }
+
+    -- and takes the place of the other
+    pub replaced : (c2 : Content (IndexLink I (IndexNode I T))) (root2 : Option ℕ)
+        → Stands (knots_in number c2) root2 (plug exchange_place.context (node exchange_place.left n exchange_place.rank exchange_place.right))
+        → IsUprooted number o (record { chains = c2; root = root2 }) h
+    unfolding exchange_place
+    replaced c2 root2 stands =
+        let c = place.context in
+        let l = place.left in
+        let k = place.rank in
+        let r = place.right in
+        let round : over.front ++ h ∷ over.back ≡ (before c ++ walk l) ++ h ∷ (walk r ++ after c) =
+        sym walk_is ∙ ap walk place.is ∙ plug-walk_is c (node l h k r) ∙ flat c l h (walk r) in
+        let split = split_same over.front h over.back (before c ++ walk l) (walk r ++ after c) apart_without round in
+        let walk_new : walk (plug c (node l n k r)) ≡ over.front ++ n ∷ over.back =
+        plug-walk_is c (node l n k r) ∙ flat c l n (walk r)
+        ∙ ap (λ z. z ++ n ∷ (walk r ++ after c)) (sym split.0) ∙ ap (λ z. over.front ++ n ∷ z) (sym split.1) in
+        record {
+          before = over.front;
+          after = n ∷ over.back;
+          was = over.was;
+          restored = record {
+            tree = plug c (node l n k r);
+            stands = stands;
+            ranked = renamed-ranked c l h n k r (subst IsRanked place.is restored.ranked);
+            is_walk = walk_new;
+          };
+        }

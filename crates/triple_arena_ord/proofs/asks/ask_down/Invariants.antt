@@ -1,0 +1,17 @@
+use Rattle.std.proofs.Common.{ℕ}
+use Rattle.std.specs.Option.{option_map}
+use Rattle.triple_arena_ord.specs.Store.{rank_or_link}
+use Rattle.triple_arena_ord.specs.Whole.{tree_of}
+use Rattle.triple_arena_ord.specs.Asked.{knots_among}
+use Rattle.triple_arena_ord.proofs.AskedLemmas.{Asking}
+use Rattle.triple_arena_ord.proofs.asks.ask_down.Given as goal
+
+abbrev pub invariant-down : goal.invariant-down
+invariant-down g l =
+    goal.F-IsAlwaysCallable g l.f
+    × Asking g.P.Inx.PtrInx.number g.P.Ptr.index g.P.Ptr.generation (goal.F-step g) (g.A.ArenaTrait.entry_at l.arena)
+    (tree_of (knots_among g.P.Inx.PtrInx.number (g.A.ArenaTrait.entry_at l.arena)) (option_map g.P.Inx.PtrInx.number l.fn.root))
+    l.fn.f (option_map g.P.Inx.PtrInx.number l.link) l.place l.f l.fn.probes l.probes
+
+abbrev pub decreases-down : goal.decreases-down
+decreases-down g l = rank_or_link (knots_among g.P.Inx.PtrInx.number (g.A.ArenaTrait.entry_at l.arena)) (option_map g.P.Inx.PtrInx.number l.link)

@@ -1,0 +1,16 @@
+use Rattle.std.proofs.Common.{subst, arith}
+use Rattle.triple_arena_ord.specs.Asked.{IsAsked}
+use Rattle.triple_arena_ord.specs.Ordered.{order_in, entry_in}
+use Rattle.triple_arena_ord.proofs.ord_arena.SimpleOrdArena.find_with.Goals as goal
+
+pub returns-clause-asked : goal.returns-clause-asked
+returns-clause-asked g c =
+    let none = c.new.ensures in
+    let bound = c.find_with_counted.ensures.bound in (
+      c.find_with_counted.new.probes,
+      c.find_with_counted.ensures.asked.0,
+      subst (λ z. IsAsked g.P.Ptr.index g.P.Ptr.generation (goal.F-step g) (entry_in c.args.self.now) (order_in g.P.Inx.PtrInx.number c.args.self.now) c.args.f c.find_with_counted.ensures.asked.0 z c.find_with_counted.new.probes)
+          none c.find_with_counted.ensures.asked.1,
+      c.find_with_counted.ensures.asked.2,
+      omega (arith, none, bound),
+    )

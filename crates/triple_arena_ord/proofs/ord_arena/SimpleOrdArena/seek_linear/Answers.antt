@@ -1,0 +1,28 @@
+use Rattle.std.proofs.Common.{ℕ, Some, not, ap, ◌∙◌, option_map}
+use Rattle.std.specs.declared.cmp.Ordering.{Ordering}
+use Rattle.triple_arena_ord.specs.Ordered.{Ordered}
+use Rattle.triple_arena_ord.proofs.LinearLemmas.{looked_up, on_chain, linear_answer, linear_near}
+use Rattle.triple_arena_ord.proofs.ord_arena.SimpleOrdArena.seek_linear.Goals as goal
+
+pub walk_from-requires : goal.walk_from-requires
+walk_from-requires g c =
+    let number = g.P.Inx.PtrInx.number in
+    let inside : Ordered g.row.P-Inx.Denot g.row.T.Denot = record { chains = c.self.inside.chains; root = option_map number c.self.inside.root } in
+    let lives = looked_up number g.P.Gen.PtrGen.number (λ b. b.now) inside (number c.args.p_init) c.get_inx.result c.get_inx.ensures (c.is_none.ensures ∙ ap not c.if-is_none.false) in
+    on_chain number inside c.self.invariant.0 (number c.args.p_init) lives
+
+pub returns-in-Some-clause-answer : goal.returns-in-Some-clause-answer
+returns-in-Some-clause-answer g c =
+    let number = g.P.Inx.PtrInx.number in
+    let inside : Ordered g.row.P-Inx.Denot g.row.T.Denot = record { chains = c.self.inside.chains; root = option_map number c.self.inside.root } in
+    let lives = looked_up number g.P.Gen.PtrGen.number (λ b. b.now) inside (number c.args.p_init) c.get_inx.result c.get_inx.ensures (c.is_none.ensures ∙ ap not c.if-is_none.false) in
+    linear_answer number g.T.Key.Ord.cmp g.T.SimpleOrdItem.key_of c.args.k.now c.args.self.now inside c.self.view_is c.self.invariant.0 (number c.args.p_init) lives c.walk_from.result
+    c.walk_from.ensures.stops (number c.in-Some.place.0) c.in-Some.place.1 (ap (option_map {U = ℕ × Ordering} (λ a. (number a.0, a.1))) c.in-Some.is)
+
+pub returns-in-None-clause-near : goal.returns-in-None-clause-near
+returns-in-None-clause-near g c = λ parted there hand.
+    let number = g.P.Inx.PtrInx.number in
+    let inside : Ordered g.row.P-Inx.Denot g.row.T.Denot = record { chains = c.self.inside.chains; root = option_map number c.self.inside.root } in
+    let lives = looked_up number g.P.Gen.PtrGen.number (λ b. b.now) inside (number c.args.p_init) c.get_inx.result c.get_inx.ensures (c.is_none.ensures ∙ ap not c.if-is_none.false) in
+    absurd (linear_near number g.T.Key.Ord.cmp g.T.SimpleOrdItem.key_of c.args.k.now c.args.self.now inside c.self.view_is c.self.invariant.0 (number c.args.p_init) lives c.walk_from.result
+    c.args.num c.walk_from.ensures.near c.in-None.is parted hand)

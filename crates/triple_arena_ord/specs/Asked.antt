@@ -1,0 +1,72 @@
+-- What a search asks of a closure, and where.
+use Rattle.std.specs.Prelude.{◌≡◌, ℕ, ◌+◌, List, [], ◌∷◌, length, map, Option, Some, None}
+use Rattle.std.specs.Borrow.{Bor}
+use Rattle.std.specs.List.{FoldsTo, AllByRecursion, last_or}
+use Rattle.std.specs.declared.cmp.Ordering.{Ordering}
+use Rattle.std.specs.declared.cmp.Ordering.TheVariants.{Less, Equal, Greater}
+use Rattle.std.specs.Option.{option_map}
+use Rattle.triple_arena_chain.specs.Chains.{On}
+use Rattle.triple_arena_ord.specs.declared.node.IndexNode.{IndexNode}
+use Rattle.triple_arena_ord.specs.Store.{Store}
+use Rattle.triple_arena_ord.specs.Node.{knot_of, itemed}
+use Rattle.triple_arena_ord.specs.Ordered.{Ordered, entry_in}
+
+-- what an answer leaves of a list, where this stands before and that after the index that was asked
+abbrev pub left_by : Ordering → List ℕ → List ℕ → List ℕ
+left_by Less before after = before
+left_by Equal before after = []
+left_by Greater before after = after
+
+-- each index that is asked stands in what the answers before it leave of the list, and the last answer leaves nothing
+abbrev pub IsWay : List (ℕ × Ordering) → List ℕ → Type 0
+IsWay [] left = left ≡ []
+IsWay (a ∷ asked) left = (on : On left a.0) × IsWay asked (left_by a.1 on.front on.back)
+
+-- the pointer, the item that was lent, and the answer
+pub record Question (P T : Type 0) : Type 0 where
+  pub pointer : P
+  pub lent : Bor T
+  pub answer : Ordering
+
+module _ {P T F : Type 0} (index generation : P → ℕ) (step : F → P → Bor T → Ordering → F → Type 0) where
+  -- a closure was asked at entries, which stand on a way through the list, once a tick. The result is the last of these
+  -- entries with its answer
+  pub record IsAsked (entry : ℕ → Option (ℕ × T)) (order : List ℕ) (f : F) (result : Option (P × Ordering)) (old_ticks new_ticks : ℕ) : Type 0 where
+    pub questions : List (Question P T)
+    pub last : F
+    pub made : FoldsTo (λ g q h. step g q.pointer q.lent q.answer h) f questions last
+    pub entries : AllByRecursion (λ (q : Question P T). entry (index q.pointer) ≡ Some (generation q.pointer, q.lent.now)) questions
+    pub way : IsWay (map (λ (q : Question P T). (index q.pointer, q.answer)) questions) order
+    pub ends : result ≡ last_or None (map (λ (q : Question P T). (q.pointer, q.answer)) questions)
+    pub ticks : new_ticks ≡ old_ticks + length questions
+
+  -- the answers hang on the pointer and the item alone
+  abbrev pub AnswersBy : (ℕ → ℕ × T → Ordering) → Type 0
+  AnswersBy side = (g : F) (p : P) (t : Bor T) (d : Ordering) (h : F) → step g p t d h → d ≡ side (index p) (generation p, t.now)
+
+-- the pointer to the entry that ended the questions
+abbrev pub found_by : {P : Type 0} → Option (P × Ordering) → Option P
+found_by None = None
+found_by {P} (Some a) = at a.1
+  where
+    at : Ordering → Option P
+    at Less = None
+    at Equal = Some a.0
+    at Greater = None
+
+-- the answer at an entry, and Equal where there is none
+abbrev pub answer_of : {T : Type 0} → (ℕ → ℕ × T → Ordering) → ℕ → Option (ℕ × T) → Ordering
+answer_of side i None = Equal
+answer_of side i (Some e) = side i e
+
+abbrev pub answer_at : {I T : Type 0} → (ℕ → ℕ × T → Ordering) → Ordered I T → ℕ → Ordering
+answer_at side o i = answer_of side i (entry_in o i)
+
+module _ {I T : Type 0} where
+  -- the nodes of these entries as the tree sees them
+  abbrev pub knots_among : (I → ℕ) → (ℕ → Option (ℕ × IndexNode I T)) → Store
+  knots_among number entry i = option_map (λ e. knot_of number e.1) (entry i)
+
+  -- their items
+  abbrev pub items_among : (ℕ → Option (ℕ × IndexNode I T)) → ℕ → Option (ℕ × T)
+  items_among entry i = option_map itemed (entry i)

@@ -1,0 +1,59 @@
+-- What a search along the list comes to.
+use Rattle.std.specs.Prelude.{◌≡◌, ℕ, ◌+◌, ◌<◌, List, ◌++◌, ◌⊎◌, slice_get, Option, Some, None}
+use Rattle.std.specs.declared.cmp.Ordering.{Ordering}
+use Rattle.std.specs.declared.cmp.Ordering.TheVariants.{Less, Equal, Greater}
+use Rattle.triple_arena_chain.specs.Chains.{Ends, On, first_or, last_or}
+use Rattle.triple_arena_ord.specs.Search.{AllIn, IsParted, Places}
+use Rattle.triple_arena_ord.specs.Ordered.{asked_of}
+
+-- how a key compares with that of the entry at an index
+abbrev pub asked_in : {K T : Type 0} → (K → K → Ordering) → (T → K) → K → (ℕ → Option (ℕ × T)) → ℕ → Ordering
+asked_in cmp key k entry i = asked_of cmp key k (entry i)
+
+-- two indexes stand in the list less than so many places apart
+pub record IsNear (num : ℕ) (w : List ℕ) (i j : ℕ) : Type 0 where
+  pub from : ℕ
+  pub to : ℕ
+  pub starts : slice_get w from ≡ Some i
+  pub ends : slice_get w to ≡ Some j
+  pub ahead : to < from + num
+  pub behind : from < to + num
+
+-- an index that ends the search is near
+pub record IsEndNear (num : ℕ) (f : ℕ → Ordering) (w : List ℕ) (i : ℕ) : Type 0 where
+  pub at : ℕ
+  pub equal : f at ≡ Equal
+  pub near : IsNear num w i at
+
+-- each neighbor of the gap that there is is near
+pub record IsGapNear (num : ℕ) (f : ℕ → Ordering) (w : List ℕ) (i : ℕ) : Type 0 where
+  pub low : List ℕ
+  pub high : List ℕ
+  pub is : w ≡ low ++ high
+  pub greater : AllIn (λ j. f j ≡ Greater) low
+  pub less : AllIn (λ j. f j ≡ Less) high
+  pub last : (j : ℕ) → last_or None low ≡ Some j → IsNear num w i j
+  pub first : (j : ℕ) → first_or high None ≡ Some j → IsNear num w i j
+
+-- one of both
+abbrev pub IsAtHand : ℕ → (ℕ → Ordering) → List ℕ → ℕ → Type 0
+IsAtHand num f w i = IsEndNear num f w i ⊎ IsGapNear num f w i
+
+-- an index of the list and the way there; in a list that is parted it ends the search, or is a neighbor of the gap
+pub record IsStop (f : ℕ → Ordering) (w : List ℕ) (i : ℕ) (d : Ordering) : Type 0 where
+  pub on : On w i
+  pub way : f i ≡ d
+  pub places : IsParted f w → Places f w i d
+
+-- where a walk goes from an index with this answer, after it went this way, if at all. It goes on in one direction, up to
+-- the gap, an end of the list, or an index that ends the search
+abbrev pub onward : Ordering → Ordering → Ends → Option ℕ
+onward Less Less ends = ends.0
+onward Less Equal ends = None
+onward Less Greater ends = None
+onward Equal Less ends = ends.0
+onward Equal Equal ends = None
+onward Equal Greater ends = ends.1
+onward Greater Less ends = None
+onward Greater Equal ends = None
+onward Greater Greater ends = ends.1

@@ -1,0 +1,53 @@
+//! Whether the keys ascend along the list. It is asked of an arena by its trait alone, so that little is known where it is proved.
+ghost use Rattle.std.specs.Prelude.{◌≡◌, ◌≤◌, ◌↔◌, ℕ, List, Some, None, IsSome, IsTrue, length};
+ghost use Rattle.std.specs.Option.{option_map};
+ghost use Rattle.triple_arena.specs.Content.{entry_at};
+ghost use Rattle.triple_arena_chain.specs.Chains.{IsLinear, first_or};
+ghost use Rattle.triple_arena_chain.specs.Links.{ends_in};
+ghost use Rattle.triple_arena_ord.specs.Node.{items_in};
+ghost use Rattle.triple_arena_ord.specs.Ascending.{AscendsAlong};
+
+use crate::{IndexNode, SimpleOrdItem};
+use std::cmp::Ordering;
+use triple_arena::{Ptr, PtrInx};
+use triple_arena_chain::{ChainArenaTrait, IndexLink};
+
+// The link at an index that is live.
+fn link_at<P, T, A>(arena: &A, i: P::Inx) -> &IndexLink<P::Inx, IndexNode<P::Inx, T>>
+where
+    P: Ptr,
+    T: Drop,
+    A: ChainArenaTrait<P, IndexNode<P::Inx, T>>,
+    requires { IsSome (entry_at (A.links arena.now) (P.Inx.number i)) }
+    ensures { option_map (λ e. e.1) (entry_at (A.links arena.now) (P.Inx.number i)) ≡ Some result.now }
+{
+    match arena.get_inx_link_no_gen(i) {
+        Some((_, link)) => link,
+        None => unreachable!(),
+    }
+}
+
+/// Whether no key is greater than the next one, along a list with this first index and at most `most` indexes.
+pub(crate) fn ascends<P, T, A>(arena: &A, first: P::Inx, most: usize) -> bool
+where
+    P: Ptr,
+    T: SimpleOrdItem + Drop,
+    A: ChainArenaTrait<P, IndexNode<P::Inx, T>>,
+    requires { (w : List ℕ) × IsLinear (ends_in P.Inx.number (A.links arena.now)) w
+        × (first_or w None ≡ Some (P.Inx.number first)) × (length w ≤ most) }
+    ensures { (w : List ℕ) → IsLinear (ends_in P.Inx.number (A.links arena.now)) w → first_or w None ≡ Some (P.Inx.number first)
+        → length w ≤ most → IsTrue result ↔ AscendsAlong T.Key.cmp T.key_of (items_in (A.links arena.now)) w }
+{
+    let mut link = link_at::<P, T, A>(arena, first);
+    'along: for _done in 1..most {
+        let Some(i) = link.next() else {
+            return true;
+        };
+        let next = link_at::<P, T, A>(arena, i);
+        match link.t.t.key().cmp(next.t.t.key()) {
+            Ordering::Greater => return false,
+            _ => link = next,
+        }
+    }
+    true
+}

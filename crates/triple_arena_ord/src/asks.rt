@@ -1,0 +1,51 @@
+//! A search that asks a closure. It knows an arena by its trait alone: the check of the closure's call grows with what is known.
+ghost use Rattle.std.specs.Prelude.{◌≡◌, ◌+◌, ◌≤◌};
+ghost use Rattle.std.specs.Option.{option_map};
+ghost use Rattle.triple_arena_ord.specs.Tree.{walk, rank_of};
+ghost use Rattle.triple_arena_ord.specs.Whole.{tree_of, IsWhole};
+ghost use Rattle.triple_arena_ord.specs.Asked.{knots_among, items_among, IsAsked};
+
+use crate::IndexNode;
+use std::cmp::Ordering;
+use triple_arena::{ArenaTrait, Ptr};
+use triple_arena_ptr::Probes;
+
+/// Asks `f` on the way down from the root, and says what it answered last, and where.
+pub(crate) fn ask_down<P, T, A, F>(
+    arena: &A,
+    root: Option<P::Inx>,
+    mut f: F,
+    probes: &mut Probes,
+) -> Option<(P, Ordering)>
+where
+    P: Ptr,
+    T: Drop,
+    A: ArenaTrait<P, IndexNode<P::Inx, T>>,
+    F: FnMut(P, &T) -> Ordering,
+    requires whole { IsWhole (knots_among P.Inx.number (A.entry_at arena.now)) (option_map P.Inx.number root) }
+    requires callable { F.IsAlwaysCallable f }
+    ensures asked { IsAsked P.index P.generation F.step (items_among (A.entry_at arena.now))
+        (walk (tree_of (knots_among P.Inx.number (A.entry_at arena.now)) (option_map P.Inx.number root)))
+        f result probes.old probes.new }
+    ensures bound { probes.new ≤ probes.old
+        + rank_of (tree_of (knots_among P.Inx.number (A.entry_at arena.now)) (option_map P.Inx.number root)) }
+{
+    let mut link = root;
+    let mut place = None;
+    'down: while let Some(i) = link {
+        let (generation, node) = match arena.get_inx(i) {
+            Some(entry) => entry,
+            None => unreachable!(),
+        };
+        probes.tick();
+        let p = P::_from_raw(i, generation);
+        let answer = f(p, &node.t);
+        place = Some((p, answer));
+        link = match answer {
+            Ordering::Less => node.p_tree0,
+            Ordering::Equal => None,
+            Ordering::Greater => node.p_tree1,
+        };
+    }
+    place
+}

@@ -1,0 +1,44 @@
+//! What follows from the calls of an ordered arena.
+ghost use Rattle.std.specs.Prelude.{◌≡◌, ◌≢◌, ℕ, List, ◌∷◌, ◌++◌, Option, Some, None, IsSome};
+ghost use Rattle.std.specs.List.{AllByRecursion};
+ghost use Rattle.std.specs.declared.cmp.Ordering.{Ordering as Way};
+ghost use Rattle.triple_arena_chain.specs.Chains.{On};
+ghost use Rattle.triple_arena_ord.specs.Asked.{IsWay};
+ghost use Rattle.triple_arena_ord.specs.AskedLaws.{IsCutAt, last_greater, last_less};
+ghost use Rattle.triple_arena_ord.specs.Ordered.{Ordered, IsOrdered, IsAscending, order_in, entry_in, asked_at};
+ghost use Rattle.triple_arena_ord.specs.Removal.{IsRemoved};
+ghost use Rattle.triple_arena_ord.specs.Search.{AllIn};
+
+use crate::SimpleOrdItem;
+use triple_arena::Ptr;
+
+/// Each live index stands in the list.
+pub fn entries_stand_in_the_list<P: Ptr, T>()
+    ensures { (o : Ordered P.Inx T) (i : ℕ) → IsOrdered P.Inx.number o → IsSome (entry_in o i)
+        → On (order_in P.Inx.number o) i }
+{}
+
+/// Where the keys ascend, none before an entry is greater than its key, and none after it less.
+pub fn keys_ascend_along_the_list<P: Ptr, T: SimpleOrdItem>()
+    ensures before { (o : Ordered P.Inx T) (front back : List ℕ) (i : ℕ) (entry : ℕ × T) → IsOrdered P.Inx.number o
+        → IsAscending P.Inx.number T.Key.cmp T.key_of o → order_in P.Inx.number o ≡ front ++ i ∷ back
+        → entry_in o i ≡ Some entry
+        → AllIn (λ j. asked_at T.Key.cmp T.key_of (T.key_of entry.1) o j ≢ Way.Less) front }
+    ensures after { (o : Ordered P.Inx T) (front back : List ℕ) (i : ℕ) (entry : ℕ × T) → IsOrdered P.Inx.number o
+        → IsAscending P.Inx.number T.Key.cmp T.key_of o → order_in P.Inx.number o ≡ front ++ i ∷ back
+        → entry_in o i ≡ Some entry
+        → AllIn (λ j. asked_at T.Key.cmp T.key_of (T.key_of entry.1) o j ≢ Way.Greater) back }
+{}
+
+/// A list whose keys ascend still does after a removal.
+pub fn removals_keep_keys_ascending<P: Ptr, T: SimpleOrdItem>()
+    ensures { (last : Option ℕ) (i : ℕ) (old new : Ordered P.Inx T) → IsRemoved P.Inx.number last i old new
+        → IsAscending P.Inx.number T.Key.cmp T.key_of old → IsAscending P.Inx.number T.Key.cmp T.key_of new }
+{}
+
+/// Where no answer of a closure that a search asks is `Equal`, the last entry that answered `Greater` and the last that answered
+/// `Less` are neighbors in the list, as far as there are any.
+pub fn questions_end_at_the_gap()
+    ensures { (asked : List (ℕ × Way)) (w : List ℕ) → IsWay asked w → AllByRecursion (λ (a : ℕ × Way). a.1 ≢ Way.Equal) asked
+        → IsCutAt w (last_greater None asked) (last_less None asked) }
+{}

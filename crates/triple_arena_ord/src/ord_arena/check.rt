@@ -1,0 +1,31 @@
+//! Whether the keys ascend.
+ghost use Rattle.std.specs.Prelude.{◌≡◌, ◌↔◌, IsOk, IfErr, codes};
+ghost use Rattle.triple_arena_ord.specs.Ordered.{IsAscending};
+
+use crate::ascends::ascends;
+use crate::{SimpleOrdArena, SimpleOrdArenaNode, SimpleOrdItem};
+use triple_arena::{ArenaSlot, ArenaTrait, NonZeroInxGenericStack, Ptr};
+use triple_arena_chain::{ChainArena, LinkNoGen};
+
+impl<
+    P: Ptr,
+    T: SimpleOrdItem + Drop,
+    S: NonZeroInxGenericStack<ArenaSlot<P, LinkNoGen<P, SimpleOrdArenaNode<P, T>>>> + Drop,
+> SimpleOrdArena<P, T, S> {
+    /// Whether no key is greater than the next one. Where one is, it answers the error "incorrect ordering". All else that an
+    /// arena keeps, its tree, ranks and list, needs no look: no call can break it.
+    pub fn _check_invariants(this: &Self) -> Result<(), &'static str>
+        ensures ascends { IsOk result ↔ IsAscending P.Inx.number T.Key.cmp T.key_of this.now }
+        ensures error { IfErr result (λ e. e.now ≡ codes "incorrect ordering") }
+    {
+        let Some(first) = this.first else {
+            return Ok(());
+        };
+        let most = this.chains.len();
+        if ascends::<P, T, ChainArena<P, SimpleOrdArenaNode<P, T>, S>>(&this.chains, first, most) {
+            Ok(())
+        } else {
+            Err("incorrect ordering")
+        }
+    }
+}

@@ -1,0 +1,70 @@
+//! Pointers to where searches end.
+ghost use Rattle.std.specs.Prelude.{◌≡◌, ◌≢◌, ℕ, Some, None, IsSome, IfSome};
+ghost use Rattle.std.specs.Option.{option_map};
+ghost use Rattle.std.specs.declared.cmp.Ordering.{Ordering as Way};
+ghost use Rattle.triple_arena.specs.Entries.{generation_at};
+ghost use Rattle.triple_arena_ord.specs.Node.{items_in};
+
+use crate::SimpleOrdArenaNode;
+use std::cmp::Ordering;
+use triple_arena::{ArenaSlot, ArenaTrait, NonZeroInxGenericStack, Ptr, PtrInx};
+use triple_arena_chain::{ChainArena, LinkNoGen};
+
+// The pointer to the entry at an index that is live.
+pub(crate) fn ptr_at<
+    P: Ptr,
+    T: Drop,
+    S: NonZeroInxGenericStack<ArenaSlot<P, LinkNoGen<P, SimpleOrdArenaNode<P, T>>>> + Drop,
+>(chains: &ChainArena<P, SimpleOrdArenaNode<P, T>, S>, i: P::Inx) -> P
+    requires { IsSome (items_in chains.now (P.Inx.number i)) }
+    ensures index { P.index result ≡ P.Inx.number i }
+    ensures live { generation_at (items_in chains.now) (P.index result) ≡ Some (P.generation result) }
+{
+    match chains.get_inx(i) {
+        Some(entry) => P::_from_raw(i, entry.0),
+        None => unreachable!(),
+    }
+}
+
+// The pointer to where a search ended, with its last answer.
+pub(crate) fn similar_at<
+    P: Ptr,
+    T: Drop,
+    S: NonZeroInxGenericStack<ArenaSlot<P, LinkNoGen<P, SimpleOrdArenaNode<P, T>>>> + Drop,
+>(
+    chains: &ChainArena<P, SimpleOrdArenaNode<P, T>, S>,
+    place: Option<(P::Inx, Ordering)>,
+) -> Option<(P, Ordering)>
+    requires { IfSome place (λ a. IsSome (items_in chains.now (P.Inx.number a.0))) }
+    ensures same { option_map {U = ℕ × Way} (λ a. (P.index a.0, a.1)) result ≡ option_map (λ a. (P.Inx.number a.0, a.1)) place }
+    ensures live { IfSome result (λ a. generation_at (items_in chains.now) (P.index a.0) ≡ Some (P.generation a.0)) }
+{
+    match place {
+        Some((i, answer)) => Some((ptr_at(chains, i), answer)),
+        None => None,
+    }
+}
+
+// The pointer to where a search ended, if it found what it looked for.
+pub(crate) fn found_at<
+    P: Ptr,
+    T: Drop,
+    S: NonZeroInxGenericStack<ArenaSlot<P, LinkNoGen<P, SimpleOrdArenaNode<P, T>>>> + Drop,
+>(
+    chains: &ChainArena<P, SimpleOrdArenaNode<P, T>, S>,
+    place: Option<(P::Inx, Ordering)>,
+) -> Option<P>
+    requires { IfSome place (λ a. IsSome (items_in chains.now (P.Inx.number a.0))) }
+    ensures some { (p : P) → result ≡ Some p
+        → option_map {U = ℕ × Way} (λ a. (P.Inx.number a.0, a.1)) place ≡ Some (P.index p, Way.Equal) }
+    ensures none { result ≡ None → (i : ℕ) → option_map {U = ℕ × Way} (λ a. (P.Inx.number a.0, a.1)) place ≢ Some (i, Way.Equal) }
+    ensures live { IfSome result (λ p. generation_at (items_in chains.now) (P.index p) ≡ Some (P.generation p)) }
+{
+    match place {
+        Some((i, answer)) => match answer {
+            Ordering::Equal => Some(ptr_at(chains, i)),
+            _ => None,
+        },
+        None => None,
+    }
+}

@@ -1,0 +1,125 @@
+//! Removals.
+ghost use Rattle.std.specs.Prelude.{◌≡◌, ℕ, Some, IsSome, IfSome, IfNone, OnSome};
+ghost use Rattle.std.specs.Option.{option_map};
+ghost use Rattle.triple_arena_ptr.specs.Generation.{next_wraps};
+ghost use Rattle.triple_arena_ptr.specs.InvalidationOption.{value_of, overflowed};
+ghost use Rattle.triple_arena_ptr.specs.InvalidationResult.{answer_of};
+ghost use Rattle.triple_arena.specs.Entries.{value_if};
+ghost use Rattle.triple_arena_chain.specs.Links.{ends_in};
+ghost use Rattle.triple_arena_ord.specs.Node.{knots_in};
+ghost use Rattle.triple_arena_ord.specs.Ordered.{IsOrdered, entry_in};
+ghost use Rattle.triple_arena_ord.specs.Removal.{IsRemoved, ended};
+ghost use Rattle.triple_arena_chain.specs.declared.link.IndexLink.{IndexLink};
+ghost use Rattle.triple_arena_ord.specs.declared.node.IndexNode.{IndexNode};
+
+use crate::taken::take_entry;
+use crate::{SimpleOrdArena, SimpleOrdArenaNode};
+use triple_arena::{
+    ArenaSlot, ArenaTrait, InvalidationResult, NonZeroInxGenericStack, Ptr, PtrInx,
+};
+use triple_arena_chain::{ChainArena, ChainArenaTrait, LinkNoGen};
+
+// The neighbors of an index in the list.
+fn neighbors<
+    P: Ptr,
+    T: Drop,
+    S: NonZeroInxGenericStack<ArenaSlot<P, LinkNoGen<P, SimpleOrdArenaNode<P, T>>>> + Drop,
+>(
+    chains: &ChainArena<P, SimpleOrdArenaNode<P, T>, S>,
+    i: P::Inx,
+) -> (Option<P::Inx>, Option<P::Inx>)
+    requires { IsSome (knots_in P.Inx.number chains.now (P.Inx.number i)) }
+    ensures { ends_in P.Inx.number chains.now (P.Inx.number i) ≡ Some (option_map P.Inx.number result.0, option_map P.Inx.number result.1) }
+{
+    match chains.get_inx_link_no_gen(i) {
+        Some((_, link)) => (link.prev(), link.next()),
+        None => unreachable!(),
+    }
+}
+
+// What an end of the list is without an index, which had this neighbor.
+fn ended<I: PtrInx>(end: Option<I>, gone: I, neighbor: Option<I>) -> Option<I>
+    ensures { option_map I.number result ≡ ended (option_map I.number end) (I.number gone) (option_map I.number neighbor) }
+{
+    match end {
+        Some(i) => { if i == gone { neighbor } else { Some(i) } }
+        None => None,
+    }
+}
+
+// An entry that was taken out, with its item alone.
+fn item_of<P: Ptr, T>(
+    taken: InvalidationResult<(P::Gen, LinkNoGen<P, SimpleOrdArenaNode<P, T>>)>,
+) -> InvalidationResult<(P::Gen, T)>
+    ensures value { option_map {U = ℕ × T} (λ a. let v : P.Gen × T = value_of a in (P.Gen.number v.0, v.1)) (answer_of result)
+        ≡ option_map (λ a. let v : P.Gen × IndexLink P.Inx (IndexNode P.Inx T) = value_of a in (P.Gen.number v.0, v.1.t.t)) (answer_of taken) }
+    ensures overflow { option_map overflowed (answer_of result) ≡ option_map overflowed (answer_of taken) }
+{
+    match taken {
+        InvalidationResult::Success((generation, link)) => {
+            InvalidationResult::Success((generation, link.t.t))
+        }
+        InvalidationResult::GenerationOverflow((generation, link)) => {
+            InvalidationResult::GenerationOverflow((generation, link.t.t))
+        }
+        InvalidationResult::InvalidPtr => InvalidationResult::InvalidPtr,
+    }
+}
+
+impl<
+    P: Ptr,
+    T: Drop,
+    S: NonZeroInxGenericStack<ArenaSlot<P, LinkNoGen<P, SimpleOrdArenaNode<P, T>>>> + Drop,
+> SimpleOrdArena<P, T, S> {
+    // The entry at an index that is live leaves.
+    pub(crate) fn remove_live(&mut self, gone: P::Inx) -> InvalidationResult<(P::Gen, T)>
+        requires { IsSome (knots_in P.Inx.number self.old.chains (P.Inx.number gone)) }
+        ensures removed { IsRemoved P.Inx.number P.Gen.last (P.Inx.number gone) self.old self.new }
+        ensures value { option_map (λ a. (P.Gen.number (value_of a).0, (value_of a).1)) (answer_of result) ≡ entry_in self.old (P.Inx.number gone) }
+        ensures overflow { option_map overflowed (answer_of result) ≡ Some (next_wraps P.Gen.last self.old.chains.counter) }
+        ensures ordered { IsOrdered P.Inx.number self.new }
+    {
+        let (prev, next) = neighbors(&self.chains, gone);
+        let taken = take_entry(&mut self.chains, &mut self.root, gone, next);
+        self.first = ended(self.first, gone, next);
+        self.last = ended(self.last, gone, prev);
+        item_of::<P, T>(taken)
+    }
+
+    /// Removes the item that `p` points to, and steps the counter. All other pointers find their items in the same order, so
+    /// that a list whose keys ascend still does (`laws::removals_keep_keys_ascending`). It answers `InvalidPtr`, and changes
+    /// nothing, where `p` points to none.
+    pub fn remove(&mut self, p: P) -> InvalidationResult<T>
+        ensures value { option_map value_of (answer_of result) ≡ value_if (P.generation p) (entry_in self.old (P.index p)) }
+        ensures overflow { IfSome (answer_of result) (λ a. overflowed a ≡ next_wraps P.Gen.last self.old.chains.counter) }
+        ensures removed { OnSome (answer_of result) (IsRemoved P.Inx.number P.Gen.last (P.index p) self.old self.new) }
+        ensures invalid { IfNone (answer_of result) (self.new ≡ self.old) }
+        ensures ordered { IsOrdered P.Inx.number self.new }
+    {
+        if !self.chains.contains(p) {
+            return InvalidationResult::InvalidPtr;
+        }
+        match self.remove_live(p.inx()) {
+            InvalidationResult::Success((_, t)) => InvalidationResult::Success(t),
+            InvalidationResult::GenerationOverflow((_, t)) => {
+                InvalidationResult::GenerationOverflow(t)
+            }
+            InvalidationResult::InvalidPtr => InvalidationResult::InvalidPtr,
+        }
+    }
+
+    /// Removes the entry at an index in the same way. It answers `InvalidPtr`, and changes nothing, where the index is not
+    /// live.
+    pub fn remove_inx(&mut self, i: P::Inx) -> InvalidationResult<(P::Gen, T)>
+        ensures value { option_map (λ a. (P.Gen.number (value_of a).0, (value_of a).1)) (answer_of result) ≡ entry_in self.old (P.Inx.number i) }
+        ensures overflow { IfSome (answer_of result) (λ a. overflowed a ≡ next_wraps P.Gen.last self.old.chains.counter) }
+        ensures removed { OnSome (answer_of result) (IsRemoved P.Inx.number P.Gen.last (P.Inx.number i) self.old self.new) }
+        ensures invalid { IfNone (answer_of result) (self.new ≡ self.old) }
+        ensures ordered { IsOrdered P.Inx.number self.new }
+    {
+        if self.chains.get_inx(i).is_none() {
+            return InvalidationResult::InvalidPtr;
+        }
+        self.remove_live(i)
+    }
+}

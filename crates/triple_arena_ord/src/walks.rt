@@ -1,0 +1,74 @@
+//! Searches along the list. They know an arena by its trait alone, so that little is known where they are proved.
+ghost use Rattle.std.specs.Prelude.{◌≡◌, ◌≢◌, ◌+◌, ◌≤◌, ℕ, List, None, IfSome};
+ghost use Rattle.std.specs.Option.{option_map};
+ghost use Rattle.triple_arena_chain.specs.Chains.{IsLinear, On};
+ghost use Rattle.triple_arena_chain.specs.Links.{ends_in, link_ends};
+ghost use Rattle.triple_arena_ord.specs.Node.{items_in};
+ghost use Rattle.triple_arena_ord.specs.Search.{IsParted};
+ghost use Rattle.triple_arena_ord.specs.Near.{IsAtHand, IsStop, asked_in, onward as onward_of};
+
+use crate::{IndexNode, SimpleOrdItem};
+use std::cmp::Ordering;
+use triple_arena::{Ptr, PtrInx};
+use triple_arena_chain::{ChainArenaTrait, IndexLink};
+use triple_arena_ptr::Probes;
+
+// Where a search along the list goes from a link that answered so, after it went `way`: nowhere, where it ends.
+fn onward<I: PtrInx, N>(link: &IndexLink<I, N>, way: Ordering, answer: Ordering) -> Option<I>
+    ensures { option_map I.number result ≡ onward_of way answer (link_ends I.number link.now) }
+{
+    match answer {
+        Ordering::Less => match way {
+            Ordering::Greater => None,
+            _ => link.prev(),
+        },
+        Ordering::Equal => None,
+        Ordering::Greater => match way {
+            Ordering::Less => None,
+            _ => link.next(),
+        },
+    }
+}
+
+/// Goes along the list from an index that stands there, for at most `num` comparisons, up to an equal key, to where the key
+/// belongs, or to an end of the list, and says what the key compared as there.
+pub(crate) fn walk_from<P, T, A>(
+    arena: &A,
+    start: P::Inx,
+    num: usize,
+    k: &T::Key,
+    probes: &mut Probes,
+) -> Option<(P::Inx, Ordering)>
+where
+    P: Ptr,
+    T: SimpleOrdItem + Drop,
+    A: ChainArenaTrait<P, IndexNode<P::Inx, T>>,
+    requires { (w : List ℕ) × IsLinear (ends_in P.Inx.number (A.links arena.now)) w × On w (P.Inx.number start) }
+    ensures stops { (w : List ℕ) → IsLinear (ends_in P.Inx.number (A.links arena.now)) w → On w (P.Inx.number start)
+        → IfSome result (λ a. IsStop (asked_in T.Key.cmp T.key_of k.now (items_in (A.links arena.now))) w (P.Inx.number a.0) a.1) }
+    ensures near { (w : List ℕ) → IsLinear (ends_in P.Inx.number (A.links arena.now)) w → On w (P.Inx.number start)
+        → IsParted (asked_in T.Key.cmp T.key_of k.now (items_in (A.links arena.now))) w
+        → IsAtHand num (asked_in T.Key.cmp T.key_of k.now (items_in (A.links arena.now))) w (P.Inx.number start)
+        → result ≢ None }
+    ensures rises { probes.old ≤ probes.new }
+    ensures ticks { probes.new ≤ probes.old + num }
+{
+    let mut i = start;
+    let mut way = Ordering::Equal;
+    'along: for _made in 0..num {
+        let link = match arena.get_inx_link_no_gen(i) {
+            Some((_, link)) => link,
+            None => unreachable!(),
+        };
+        probes.tick();
+        let answer = k.cmp(link.t.t.key());
+        match onward(link, way, answer) {
+            Some(next) => {
+                i = next;
+                way = answer;
+            }
+            None => return Some((i, answer)),
+        }
+    }
+    None
+}
