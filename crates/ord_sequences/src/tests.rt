@@ -1,3 +1,2 @@
 mod insertions;
 mod removals;
-mod searches;
