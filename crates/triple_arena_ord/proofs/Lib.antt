@@ -26,7 +26,9 @@ pub mod FoundLemmas
 pub mod LinearLemmas
 pub mod LeafLemmas
 pub mod EndLemmas
+pub mod SameListLemmas
 pub mod InsertLemmas
+pub mod StateLemmas
 pub mod AscendingLemmas
 pub mod AlongLemmas
 pub mod TakenLemmas

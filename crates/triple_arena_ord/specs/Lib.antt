@@ -9,6 +9,7 @@ pub mod Search
 pub mod Kinds
 pub mod Pairs
 pub mod Ordered
+pub mod States
 pub mod Inserted
 pub mod Removal
 pub mod Found

@@ -9,9 +9,16 @@ ghost use Rattle.triple_arena_ord.specs.Ordered.{IsOrdered, StandsBeside, size_i
 ghost use Rattle.triple_arena_ord.specs.Store.{child_of};
 ghost use Rattle.triple_arena_ord.specs.Node.{knots_in};
 
+mod advancer;
 mod check;
+mod clear;
+mod default;
 mod found;
+mod generation;
+mod indexing;
 mod insert;
+mod lending;
+mod reading;
 mod remove;
 mod search;
 mod search_linear;

@@ -1,5 +1,5 @@
 //! The calls that end pointers and leave no memory to be found again: `clear`, and `invalidate`.
-ghost use Rattle.std.specs.Prelude.{◌≡◌, IfSome, IfNone, OnSome};
+ghost use Rattle.std.specs.Prelude.{◌≡◌, ℕ, IfSome, IfNone, OnSome};
 ghost use Rattle.std.specs.Option.{option_map};
 ghost use Rattle.triple_arena_ptr.specs.Generation.{next_generation, next_wraps};
 ghost use Rattle.triple_arena_ptr.specs.InvalidationOption.{value_of, overflowed};
@@ -37,8 +37,8 @@ impl<
     /// are counted. Where they are not the pointer is equal to `p`. The list stays. It answers `InvalidPtr`, and changes
     /// nothing, where `p` points to no entry.
     pub fn invalidate(&mut self, p: P) -> InvalidationResult<P>
-        ensures pointer { option_map (λ a. (P.index (value_of a), P.generation (value_of a))) (answer_of result)
-            ≡ option_map (λ t. (P.index p, next_generation P.Gen.last self.old.chains.counter))
+        ensures pointer { option_map {U = ℕ × ℕ} (λ a. (P.index (value_of a), P.generation (value_of a))) (answer_of result)
+            ≡ option_map {U = ℕ × ℕ} (λ t. (P.index p, next_generation P.Gen.last self.old.chains.counter))
             (value_if (P.generation p) (entry_in self.old (P.index p))) }
         ensures overflow { IfSome (answer_of result) (λ a. overflowed a ≡ next_wraps P.Gen.last self.old.chains.counter) }
         ensures order { order_in P.Inx.number self.new ≡ order_in P.Inx.number self.old }

@@ -9,7 +9,11 @@ use triple_arena::{ArenaSlot, NonZeroInxArray, Ptr};
 use triple_arena_chain::LinkNoGen;
 
 impl<P: Ptr, T: Drop, const LIMIT: usize> Default
-    for SimpleOrdArena<P, T, NonZeroInxArray<ArenaSlot<P, LinkNoGen<P, SimpleOrdArenaNode<P, T>>>, LIMIT>> {
+    for SimpleOrdArena<
+        P,
+        T,
+        NonZeroInxArray<ArenaSlot<P, LinkNoGen<P, SimpleOrdArenaNode<P, T>>>, LIMIT>,
+    > {
     ghost is_default = { λ o. o.chains ≡ empty (second_generation P.Gen.last)
         (room_of P.Inx.greatest (record { reserved = LIMIT; limit = Some LIMIT })) };
 
