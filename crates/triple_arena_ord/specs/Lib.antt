@@ -16,3 +16,4 @@ pub mod Asked
 pub mod Near
 pub mod AskedLaws
 pub mod Ascending
+pub mod OrderedWalks

@@ -10,12 +10,16 @@ ghost use Rattle.triple_arena_ord.specs.Store.{child_of};
 ghost use Rattle.triple_arena_ord.specs.Node.{knots_in};
 
 mod check;
+mod ends;
 mod found;
 mod insert;
+pub(crate) mod iter_ordered;
+mod nodes;
 mod remove;
 mod search;
 mod search_linear;
 mod search_with;
+pub(crate) mod walk;
 
 use crate::knots::Side;
 use crate::leaf::{insert_leaf, moved};
