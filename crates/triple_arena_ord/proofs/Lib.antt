@@ -35,3 +35,4 @@ pub mod TakenLemmas
 pub mod SuccessorLemmas
 pub mod LostEnds
 pub mod LawLemmas
+pub mod OrderedWalkLemmas

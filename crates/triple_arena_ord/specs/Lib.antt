@@ -17,3 +17,4 @@ pub mod Asked
 pub mod Near
 pub mod AskedLaws
 pub mod Ascending
+pub mod OrderedWalks
