@@ -1,2 +1,5 @@
+mod counted_keys;
+mod falling_keys;
 mod insertions;
+mod pairs;
 mod removals;
