@@ -1,0 +1,163 @@
+//! Keys that count their comparisons: each is a tick of the search, by the root and along the list.
+ghost use Rattle.std.specs.Prelude.{◌==◌};
+ghost use Rattle.std.proofs.Common.{rules};
+ghost use Rattle.std.specs.Cmp.{partial_order_from_own_ties};
+ghost use Rattle.std.specs.Cmp.Rules.{comparing};
+ghost use Rattle.std.specs.Ordering.{nat_cmp, on, as_partial_cmp};
+
+use std::cell::Cell;
+use std::cmp::Ordering;
+use std::process::Abort;
+use std::test::Fail;
+use triple_arena::{ArenaSlot, NonZeroInxArray, P0};
+use triple_arena_chain::LinkNoGen;
+use triple_arena_ord::{OrdPair, SimpleOrdArena, SimpleOrdArenaNode};
+use triple_arena_ptr::{Probes, Ptr};
+
+// A number that counts each comparison of it with another one.
+#[derive(Clone, Copy)]
+struct Counting<'a> {
+    n: u64,
+    calls: &'a Cell<u64>,
+}
+
+impl Ord for Counting<'_> {
+    ghost cmp = { on (λ k. k.n) nat_cmp };
+
+    ghost total = { Prim.search (comparing, rules) };
+
+    ghost matches_partial_cmp = { Prim.search (comparing, rules) };
+
+    ghost matches_eq = { Prim.search (comparing, rules) };
+
+    fn cmp(&self, other: &Self) -> Ordering {
+        self.calls.set(self.calls.get().wrapping_add(1));
+        self.n.cmp(&other.n)
+    }
+}
+
+impl PartialOrd for Counting<'_> {
+    ghost partial_cmp = { as_partial_cmp (on (λ k. k.n) nat_cmp) };
+
+    ghost laws = { partial_order_from_own_ties (Prim.search (comparing, rules)) (Prim.search (comparing, rules)) };
+
+    fn partial_cmp(&self, other: &Self) -> Option<Ordering> {
+        Some(self.cmp(other))
+    }
+}
+
+impl PartialEq for Counting<'_> {
+    ghost eq = { on (λ k. k.n) ◌==◌ };
+
+    ghost laws = { Prim.search (comparing, rules) };
+
+    fn eq(&self, other: &Self) -> bool {
+        match self.cmp(other) {
+            Ordering::Equal => true,
+            _ => false,
+        }
+    }
+}
+
+impl Eq for Counting<'_> {
+    ghost laws = { Prim.search (comparing, rules) };
+}
+
+type Item<'a> = OrdPair<Counting<'a>, u64>;
+
+type Slot<'a> = ArenaSlot<P0, LinkNoGen<P0, SimpleOrdArenaNode<P0, Item<'a>>>>;
+
+type Counted<'a> = SimpleOrdArena<P0, Item<'a>, NonZeroInxArray<Slot<'a>, 500>>;
+
+// The even keys from 2 to 1000, in the order of their halves' products with 389, modulo the prime 503.
+fn even_keys<'a>(rt: &impl Abort, calls: &'a Cell<u64>) -> Counted<'a> {
+    let mut arena = Counted::new(());
+    for i in 1..503u64 {
+        let half = i.wrapping_mul(389) % 503;
+        if half <= 500 {
+            let n = half.wrapping_mul(2);
+            let item = OrdPair::new(Counting { n, calls }, n);
+            assert!(rt; arena.insert_within_capacity(item).is_ok());
+        }
+    }
+    assert!(rt; arena.len() == 500);
+    arena
+}
+
+// The comparisons that were made since `before` are the ticks, and no more than `most`.
+fn just_ticks(rt: &impl Abort, calls: &Cell<u64>, before: u64, probes: &Probes, most: u64) {
+    assert!(rt; calls.get().wrapping_sub(before) == probes.count());
+    assert!(rt; probes.count() <= most);
+}
+
+// The greatest c with `2^(c+1) <= 501^2`.
+const MOST: u64 = 16;
+
+fn finds_key<'a>(rt: &impl Abort, arena: &Counted<'a>, k: &Counting<'a>) {
+    let mut probes = Probes::new();
+    let before = k.calls.get();
+    let found = arena.find_key_counted(k, &mut probes);
+    just_ticks(rt, k.calls, before, &probes, MOST);
+    assert!(rt; found.is_some() == (k.n % 2 == 0 && 0 < k.n && k.n <= 1000));
+}
+
+fn finds_similar_key<'a>(rt: &impl Abort, arena: &Counted<'a>, k: &Counting<'a>) {
+    let mut probes = Probes::new();
+    let before = k.calls.get();
+    let similar = arena.find_similar_key_counted(k, &mut probes);
+    just_ticks(rt, k.calls, before, &probes, MOST);
+    match similar {
+        Some((p, answer)) => {
+            let is_there = k.n % 2 == 0 && 0 < k.n && k.n <= 1000;
+            assert!(rt; (answer == Ordering::Equal) == is_there);
+            assert!(rt; !is_there || arena.find_key(k) == Some(p));
+        }
+        None => panic!(rt; "no entry is similar"),
+    }
+}
+
+// A search from the entry of the key 500 compares at most seven times more than one from the root, and at most seven times
+// where the key is that of an entry at most six places away.
+fn finds_along<'a>(rt: &impl Abort, arena: &Counted<'a>, start: P0, k: &Counting<'a>) {
+    let is_near = 488 <= k.n && k.n <= 512 && k.n % 2 == 0;
+    let most = if is_near { 7 } else { MOST + 7 };
+    let mut probes = Probes::new();
+    let before = k.calls.get();
+    let found = arena.find_key_linear_counted(start, 7, k, &mut probes);
+    just_ticks(rt, k.calls, before, &probes, most);
+    assert!(rt; found == arena.find_key(k));
+}
+
+fn finds_similar_along<'a>(rt: &impl Abort, arena: &Counted<'a>, start: P0, k: &Counting<'a>) {
+    let is_near = 488 <= k.n && k.n <= 512;
+    let most = if is_near { 7 } else { MOST + 7 };
+    let mut probes = Probes::new();
+    let before = k.calls.get();
+    let similar = arena.find_similar_key_linear_counted(start.inx(), 7, k, &mut probes);
+    just_ticks(rt, k.calls, before, &probes, most);
+    match similar {
+        Some((p, answer)) => assert!(rt; answer != Ordering::Equal || arena.find_key(k) == Some(p)),
+        None => panic!(rt; "no entry is similar"),
+    }
+}
+
+#[test]
+fn comparisons_are_ticks(rt: HostRuntime) -> Result<(), Fail> {
+    let calls = Cell::new(0);
+    let arena = even_keys(&rt, &calls);
+    assert!(rt; Counted::_check_invariants(&arena).is_ok());
+    let Some(start) = arena.find_key(&Counting {
+        n: 500,
+        calls: &calls,
+    }) else {
+        panic!(rt; "a key is not found")
+    };
+    for n in 0..1002u64 {
+        let k = Counting { n, calls: &calls };
+        finds_key(&rt, &arena, &k);
+        finds_similar_key(&rt, &arena, &k);
+        finds_along(&rt, &arena, start, &k);
+        finds_similar_along(&rt, &arena, start, &k);
+    }
+    Ok(())
+}
