@@ -10,6 +10,7 @@ pub mod Kinds
 pub mod Pairs
 pub mod Ordered
 pub mod States
+pub mod Canonical
 pub mod Inserted
 pub mod Removal
 pub mod Found

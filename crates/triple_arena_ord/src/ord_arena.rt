@@ -10,6 +10,7 @@ ghost use Rattle.triple_arena_ord.specs.Store.{child_of};
 ghost use Rattle.triple_arena_ord.specs.Node.{knots_in};
 
 mod advancer;
+mod canonical;
 mod check;
 mod clear;
 mod default;
@@ -26,6 +27,7 @@ mod remove;
 mod search;
 mod search_linear;
 mod search_with;
+mod text;
 pub(crate) mod walk;
 
 use crate::knots::Side;
