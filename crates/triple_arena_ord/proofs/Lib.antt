@@ -27,6 +27,7 @@ pub mod LinearLemmas
 pub mod LeafLemmas
 pub mod EndLemmas
 pub mod InsertLemmas
+pub mod GrowthLemmas
 pub mod AscendingLemmas
 pub mod AlongLemmas
 pub mod TakenLemmas

@@ -10,6 +10,7 @@ pub mod Kinds
 pub mod Pairs
 pub mod Ordered
 pub mod Inserted
+pub mod Growth
 pub mod Removal
 pub mod Found
 pub mod Asked

@@ -11,6 +11,7 @@ ghost use Rattle.triple_arena_ord.specs.Node.{knots_in};
 
 mod check;
 mod found;
+mod growth;
 mod insert;
 mod remove;
 mod search;
