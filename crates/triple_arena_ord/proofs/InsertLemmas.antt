@@ -19,7 +19,7 @@ use Rattle.triple_arena_ord.specs.Knot.{Knot}
 use Rattle.triple_arena_ord.specs.Node.{knots_in, knot_of, itemed}
 use Rattle.triple_arena_ord.specs.Search.{AllIn, Before, IsParted, IsAnswer}
 use Rattle.triple_arena_ord.specs.Ordered.{Ordered, IsOrdered, tree_in, order_in, size_in, asked_of, asked_at}
-use Rattle.triple_arena_ord.specs.Inserted.{StandsAt, IsRenewed, IsReplaced, IsInsertedAt, IsPlacedByKey, IsInserted}
+use Rattle.triple_arena_ord.specs.Inserted.{Replaces, StandsAt, IsRenewed, IsReplaced, IsInsertedAt, IsPlacedByKey, IsInserted}
 use Rattle.triple_arena_ord.proofs.Descents.{AllIn-append, AllIn-map, parted-after, parted-before}
 use Rattle.triple_arena_ord.proofs.SeekLemmas.{parts_at, absent}
 use Rattle.triple_arena_ord.proofs.SameListLemmas.{Reordered, same_list}
@@ -147,12 +147,12 @@ module _ {I T : Type 0} (number : I → ℕ) where
         let new_count : length (order_in number p) ≡ size_in p = new_is.counted in
         omega arith
 
-    module _ {P : Type 0} (index generation : P → ℕ) where
+    module _ {P : Type 0} (index generation : P → ℕ) (allows : Option OrdInsertionError → Type 0) where
       -- an insertion where the search for its key ended
       pub inserted_by_key : (o p : Ordered I T) (t : T) (k : K) → k ≡ key t → (place : Option (ℕ × Ordering))
           → (result : Result (P × Option T) OrdInsertionError) → IsOrdered number o
           → IsOrdered number p → IsAnswer (asked_at cmp key k o) (tree_in number o) place
-          → IsInsertedAt number index generation place t result o p → IsInserted number cmp key index generation t result o p
+          → IsInsertedAt number index generation allows place t result o p → IsInserted number cmp key index generation allows t result o p
       inserted_by_key o p t k k_is place result is new_is found put =
           let answer : IsAnswer (asked_at cmp key (key t) o) (tree_in number o) place =
           subst (λ z. IsAnswer (asked_at cmp key z o) (tree_in number o) place) k_is found in
@@ -164,7 +164,9 @@ module _ {I T : Type 0} (number : I → ℕ) where
             grown = λ q e.
                 let r = put.added q e in
                 grows o p (index q) is new_is (by_key o p (key t) (index q) place is answer r.0);
+            fits = put.fits;
             refused = λ error e. (put.refused error e).1;
+            same = put.same;
             absent = λ error e ascending j.
-                absent number cmp key (key t) total o is place answer (λ i d at same. (put.refused error e).0 i (at ∙ ap (λ z. Some (i, z)) same)) ascending j;
+                absent number cmp key (key t) total o is place answer (λ i d at same. (put.refused error e).0 (subst Replaces (sym at) same)) ascending j;
           }

@@ -29,6 +29,7 @@ pub mod EndLemmas
 pub mod SameListLemmas
 pub mod InsertLemmas
 pub mod StateLemmas
+pub mod GrowthLemmas
 pub mod AscendingLemmas
 pub mod AlongLemmas
 pub mod TakenLemmas

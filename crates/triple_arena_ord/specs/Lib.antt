@@ -12,6 +12,7 @@ pub mod Ordered
 pub mod States
 pub mod Canonical
 pub mod Inserted
+pub mod Growth
 pub mod Removal
 pub mod Found
 pub mod Asked

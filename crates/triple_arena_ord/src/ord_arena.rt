@@ -17,6 +17,7 @@ mod default;
 mod ends;
 mod found;
 mod generation;
+mod growth;
 mod indexing;
 mod insert;
 pub(crate) mod iter_ordered;
