@@ -1,4 +1,5 @@
 mod calls;
+mod canonical;
 mod counted_keys;
 mod falling_keys;
 mod insertions;
