@@ -34,3 +34,5 @@ pub mod SuccessorLemmas
 pub mod LostEnds
 pub mod LawLemmas
 pub mod OrderedWalkLemmas
+pub mod OrderedDrainLemmas
+pub mod IndexedLemmas

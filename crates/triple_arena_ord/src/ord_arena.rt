@@ -10,10 +10,14 @@ ghost use Rattle.triple_arena_ord.specs.Store.{child_of};
 ghost use Rattle.triple_arena_ord.specs.Node.{knots_in};
 
 mod check;
+pub(crate) mod drain;
 mod ends;
 mod found;
+pub(crate) mod index_drain;
 mod insert;
+pub(crate) mod into_iter;
 pub(crate) mod iter_ordered;
+pub(crate) mod iterators;
 mod nodes;
 mod remove;
 mod search;
