@@ -37,3 +37,5 @@ pub mod SuccessorLemmas
 pub mod LostEnds
 pub mod LawLemmas
 pub mod OrderedWalkLemmas
+pub mod OrderedDrainLemmas
+pub mod IndexedLemmas

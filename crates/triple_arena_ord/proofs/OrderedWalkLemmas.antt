@@ -1,5 +1,5 @@
 -- Steps of a walk along the list.
-use Rattle.std.proofs.Common.{◌≡◌, ◌==◌, if◌then◌else◌, ℕ, Bool, true, false, List, [], ◌∷◌, ◌++◌, reverse, length, append_assoc, Option, Some, None, IsSome, IfSome, is_some, option_map, refl, sym, ap, subst, ◌∙◌, inl, inr, ◌↔◌, arith}
+use Rattle.std.proofs.Common.{◌≡◌, if◌then◌else◌, ℕ, Bool, true, false, List, [], ◌∷◌, ◌++◌, reverse, length, append_assoc, Option, Some, None, IsSome, IfSome, is_some, option_map, refl, sym, ap, subst, ◌∙◌, inl, inr, ◌↔◌, arith}
 use Rattle.std.proofs.lemmas.Bool.{eq-eqb, ne_eqb}
 use Rattle.std.proofs.lemmas.List.{reverse-append, reverse-reverse}
 use Rattle.triple_arena.specs.Content.{entry_at}
@@ -7,17 +7,18 @@ use Rattle.triple_arena.specs.Entries.{generation_at, value_if}
 use Rattle.triple_arena_chain.specs.declared.link.IndexLink.{IndexLink}
 use Rattle.triple_arena_chain.specs.Chains.{Ends, Off, Apart, On, IsLinear, next_at, prev_at, next_in, prev_in, first_or, last_or}
 use Rattle.triple_arena_chain.specs.ChainLaws.{Off-append, Apart-last, last_or-append, off_or_on}
-use Rattle.triple_arena_chain.specs.ListLaws.{Apart-split, On-first, first_on, last_on_list}
-use Rattle.triple_arena_chain.specs.Links.{ends_in, link_ends, entry_ends, valued}
+use Rattle.triple_arena_chain.specs.ListLaws.{Apart-split, first_on, last_on_list}
+use Rattle.triple_arena_chain.specs.Links.{ends_in, entry_ends, valued}
 use Rattle.triple_arena_chain.specs.UniquenessLaws.{linear_apart}
 use Rattle.triple_arena_ord.specs.declared.node.IndexNode.{IndexNode}
-use Rattle.triple_arena_ord.specs.Node.{itemed}
+use Rattle.triple_arena_ord.specs.Node.{knots_in, itemed}
 use Rattle.triple_arena_ord.specs.Ordered.{Ordered, IsOrdered, tree_in, order_in, entry_in}
 use Rattle.triple_arena_ord.specs.OrderedWalks.{OrderedWalk, walk_at, from_index, from_where, along, IsFrom, listed_at, left_over, IsEnd, IsGiven, IsOver}
 use Rattle.triple_arena_ord.proofs.EndLemmas.{last_some}
 use Rattle.triple_arena_ord.proofs.GapLemmas.{linear_ends}
 use Rattle.triple_arena_ord.proofs.LawLemmas.{stands}
 use Rattle.triple_arena_ord.proofs.LiveLemmas.{counted_entry}
+use Rattle.triple_arena_ord.proofs.SeekShapes.{counted-lives}
 use Rattle.triple_arena_ord.proofs.WayLemmas.{walk-counted}
 
 -- a list whose indexes are apart, and the function that leads along it
@@ -200,12 +201,16 @@ module _ {I T : Type 0} (number : I → ℕ) (o : Ordered I T) (is : IsOrdered n
       all [] = refl
       all (x ∷ l) = rw (eq-eqb x x refl) refl
 
-  on_lives : (i : ℕ) → On w i → IsSome (entry_in o i)
+  pub on_lives : (i : ℕ) → On w i → IsSome (entry_in o i)
   on_lives i on = counted_entry number o is i (walk-counted (tree_in number o) i on)
 
   -- the ends of the list live
   pub first_lives : (i : ℕ) → first_or w None ≡ Some i → IsSome (entry_in o i)
   first_lives i at = on_lives i (first_on w i at)
+
+  pub first_knot : (i : ℕ) → first_or w None ≡ Some i → IsSome (knots_in number o.chains i)
+  first_knot i at =
+      counted-lives (knots_in number o.chains) None (tree_in number o) is.whole.stands.1 i (walk-counted (tree_in number o) i (first_on w i at))
 
   pub last_lives : (i : ℕ) → last_or None w ≡ Some i → IsSome (entry_in o i)
   last_lives i at = on_lives i (last_on_list e w i at)

@@ -20,3 +20,6 @@ pub mod Near
 pub mod AskedLaws
 pub mod Ascending
 pub mod OrderedWalks
+pub mod OrderedDrains
+pub mod Indexed
+pub mod IndexedDrains

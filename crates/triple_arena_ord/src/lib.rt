@@ -20,10 +20,22 @@ mod taken;
 mod turn;
 mod walks;
 
-/// The advancers and the iterators of `SimpleOrdArena`.
+/// The advancers, the iterators and the drains of `SimpleOrdArena`.
 pub mod ord_iterators {
+    pub use crate::ord_arena::drain::OrderedDrain;
+    pub use crate::ord_arena::index_drain::Drain;
+    pub use crate::ord_arena::into_iter::CapacityDrain;
     pub use crate::ord_arena::iter_ordered::Iter;
+    pub use crate::ord_arena::iterators::{InxIter, Vals};
     pub use crate::ord_arena::walk::OrderedPtrAdvancer;
+    pub use triple_arena::arena_iterators::PtrAdvancer;
+
+    /// The pointers, in the order of the indexes.
+    pub type Ptrs<'a, P, T> = triple_arena_chain::chain_iterators::Ptrs<
+        'a,
+        P,
+        crate::SimpleOrdArenaNode<P, T>,
+    >;
 }
 
 pub use item::SimpleOrdItem;

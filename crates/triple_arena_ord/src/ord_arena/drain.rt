@@ -1,0 +1,110 @@
+//! Taking the entries out of an arena along the list.
+ghost use Rattle.std.specs.Prelude.{◌≡◌};
+ghost use Rattle.std.specs.Iterator.{item_count};
+ghost use Rattle.triple_arena_ord.specs.Ordered.{IsOrdered};
+ghost use Rattle.triple_arena_ord.specs.OrderedDrains.{drain_arena, drain_lender, drain_rest, drain_leaves, emptied_after, TakesFirst, DrainSteps, DrainKeepsAlong};
+
+use crate::{SimpleOrdArena, SimpleOrdArenaNode};
+use std::iter::FusedIterator;
+use triple_arena::{ArenaSlot, ArenaTrait, InvalidationOption, NonZeroInxGenericStack, Ptr};
+use triple_arena_chain::LinkNoGen;
+
+/// Takes the entries out of an arena, from the first of the list to the last.
+///
+/// Each item is one removal, which steps the counter; it is `GenerationOverflow` where that step started the generations
+/// again. Dropped, at whatever item, it clears the arena: the entries that are left go at once, by one step of the counter
+/// more, which is made also where none is left, and no slot stays. What is left when it is never dropped is an arena
+/// without the entries that it gave.
+pub struct OrderedDrain<
+    'a,
+    P: Ptr,
+    T: Drop,
+    S: NonZeroInxGenericStack<ArenaSlot<P, LinkNoGen<P, SimpleOrdArenaNode<P, T>>>> + Drop,
+> {
+    arena: &'a mut SimpleOrdArena<P, T, S>,
+}
+
+impl<
+    P: Ptr,
+    T: Drop,
+    S: NonZeroInxGenericStack<ArenaSlot<P, LinkNoGen<P, SimpleOrdArenaNode<P, T>>>> + Drop,
+> SimpleOrdArena<P, T, S> {
+    /// Takes each entry out, from the first of the list to the last. Once the iterator is dropped the arena has no entry
+    /// and no slot, its counter has stepped once for each item and once more, and its room is as it was.
+    pub fn drain_ordered(&mut self) -> OrderedDrain<'_, P, T, S>
+        ensures entries { drain_arena result ≡ self.old }
+        ensures same_reference { drain_lender result ≡ self.entry.ghost_name }
+        ensures stays { DrainKeepsAlong P.Gen.last P.Inx.number P.index P.generation result }
+    {
+        OrderedDrain { arena: self }
+    }
+
+    // The first entry leaves, if there is one.
+    pub(crate) fn take_first(&mut self) -> Option<InvalidationOption<(P, T)>>
+        ensures { TakesFirst P.Inx.number P.Gen.last P.index P.generation result self.old self.new }
+    {
+        let i = self.first_index()?;
+        let ((generation, t), wrapped) = self.remove_live(i).overflowing()?;
+        let item = (P::_from_raw(i, generation), t);
+        if wrapped {
+            Some(InvalidationOption::GenerationOverflow(item))
+        } else {
+            Some(InvalidationOption::Success(item))
+        }
+    }
+
+    // Every entry leaves at once.
+    fn take_rest(&mut self)
+        ensures value { self.new ≡ emptied_after P.Gen.last 1 self.old }
+        ensures ordered { IsOrdered P.Inx.number self.new }
+    {
+        self.chains.clear();
+        self.root = None;
+        self.first = None;
+        self.last = None;
+    }
+}
+
+impl<
+    'a,
+    P: Ptr,
+    T: Drop,
+    S: NonZeroInxGenericStack<ArenaSlot<P, LinkNoGen<P, SimpleOrdArenaNode<P, T>>>> + Drop,
+> Drop for OrderedDrain<'a, P, T, S> {
+    fn drop(self)
+        ensures value { self.exit.0.now ≡ drain_leaves P.Gen.last self.entry }
+        ensures ordered { IsOrdered P.Inx.number self.exit.0.now }
+    {
+        let OrderedDrain { arena } = self;
+        arena.take_rest();
+    }
+}
+
+impl<
+    'a,
+    P: Ptr,
+    T: Drop,
+    S: NonZeroInxGenericStack<ArenaSlot<P, LinkNoGen<P, SimpleOrdArenaNode<P, T>>>> + Drop,
+> Iterator for OrderedDrain<'a, P, T, S> {
+    type Item = InvalidationOption<(P, T)>;
+
+    ghost next_gives = { DrainSteps P.Gen.last P.Inx.number P.index P.generation };
+
+    ghost remaining = { item_count (drain_rest P.Gen.last P.Inx.number) };
+
+    fn next(&mut self) -> Option<InvalidationOption<(P, T)>> {
+        self.arena.take_first()
+    }
+
+    fn size_hint(&self) -> (usize, Option<usize>) {
+        let len = self.arena.len();
+        (len, Some(len))
+    }
+}
+
+impl<
+    'a,
+    P: Ptr,
+    T: Drop,
+    S: NonZeroInxGenericStack<ArenaSlot<P, LinkNoGen<P, SimpleOrdArenaNode<P, T>>>> + Drop,
+> FusedIterator for OrderedDrain<'a, P, T, S> {}

@@ -1,0 +1,78 @@
+//! Going over the entries of an arena that is given away, along the list.
+ghost use Rattle.std.specs.Prelude.{◌≡◌};
+ghost use Rattle.std.specs.Iterator.{YieldsFirstBy, item_count};
+ghost use Rattle.triple_arena_ord.specs.Ordered.{listed};
+
+use crate::{SimpleOrdArena, SimpleOrdArenaNode};
+use std::iter::FusedIterator;
+use std::marker::Model;
+use triple_arena::{ArenaSlot, NonZeroInxGenericStack, Ptr};
+use triple_arena_chain::LinkNoGen;
+
+/// The pointers and the items of the entries, by value, from the first of the list to the last, seen as the list of those
+/// that are left. Dropped, it drops those.
+#[derive(Drop)]
+pub struct CapacityDrain<
+    P: Ptr,
+    T: Drop,
+    S: NonZeroInxGenericStack<ArenaSlot<P, LinkNoGen<P, SimpleOrdArenaNode<P, T>>>> + Drop,
+> {
+    arena: SimpleOrdArena<P, T, S>,
+}
+
+impl<
+    P: Ptr,
+    T: Drop,
+    S: NonZeroInxGenericStack<ArenaSlot<P, LinkNoGen<P, SimpleOrdArenaNode<P, T>>>> + Drop,
+> Model for CapacityDrain<P, T, S> {
+    ghost use Rattle.std.specs.Prelude.{ℕ, List};
+    ghost use Rattle.triple_arena_ord.specs.Ordered.{listed};
+
+    ghost Value = { List (ℕ × (ℕ × T)) };
+
+    ghost view = { λ it. listed P.Inx.number it.arena };
+}
+
+impl<
+    P: Ptr,
+    T: Drop,
+    S: NonZeroInxGenericStack<ArenaSlot<P, LinkNoGen<P, SimpleOrdArenaNode<P, T>>>> + Drop,
+> Iterator for CapacityDrain<P, T, S> {
+    type Item = (P, T);
+
+    ghost next_gives = { YieldsFirstBy (λ e. (P.index e.0, (P.generation e.0, e.1))) (λ left. left) };
+
+    ghost remaining = { item_count (λ left. left) };
+
+    fn next(&mut self) -> Option<(P, T)> {
+        let item = self.arena.take_first()?;
+        Some(item.allow())
+    }
+
+    fn size_hint(&self) -> (usize, Option<usize>) {
+        let len = self.arena.len();
+        (len, Some(len))
+    }
+}
+
+impl<
+    P: Ptr,
+    T: Drop,
+    S: NonZeroInxGenericStack<ArenaSlot<P, LinkNoGen<P, SimpleOrdArenaNode<P, T>>>> + Drop,
+> FusedIterator for CapacityDrain<P, T, S> {}
+
+impl<
+    P: Ptr,
+    T: Drop,
+    S: NonZeroInxGenericStack<ArenaSlot<P, LinkNoGen<P, SimpleOrdArenaNode<P, T>>>> + Drop,
+> IntoIterator for SimpleOrdArena<P, T, S> {
+    type Item = (P, T);
+
+    type IntoIter = CapacityDrain<P, T, S>;
+
+    ghost into_iter_gives = { λ arena it. it ≡ listed P.Inx.number arena };
+
+    fn into_iter(self) -> CapacityDrain<P, T, S> {
+        CapacityDrain { arena: self }
+    }
+}
