@@ -28,6 +28,7 @@ pub mod LeafLemmas
 pub mod EndLemmas
 pub mod InsertLemmas
 pub mod GrowthLemmas
+pub mod SettleLemmas
 pub mod AscendingLemmas
 pub mod AlongLemmas
 pub mod TakenLemmas

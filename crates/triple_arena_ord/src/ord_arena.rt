@@ -13,10 +13,12 @@ mod check;
 mod found;
 mod growth;
 mod insert;
+mod manual;
 mod remove;
 mod search;
 mod search_linear;
 mod search_with;
+mod settle;
 
 use crate::knots::Side;
 use crate::leaf::{insert_leaf, moved};
