@@ -1,6 +1,6 @@
 -- Another room, and an insertion after a growth.
 use Rattle.std.specs.Prelude.{IfOk, OnOk, OnErr, is_ok}
-use Rattle.std.proofs.Common.{◌≡◌, ◌≢◌, ◌==◌, ℕ, ◌<◌, ◌≤◌, Bool, IsTrue, List, if◌then◌else◌, Option, Some, None, Result, Ok, Err, IsOk, false, refl, sym, ap, ◌∙◌, subst, arith, inl, inr}
+use Rattle.std.proofs.Common.{◌≡◌, ◌≢◌, ◌==◌, ℕ, ◌<◌, ◌≤◌, Bool, List, if◌then◌else◌, Option, Some, None, Result, Ok, Err, IsOk, false, refl, sym, ap, ◌∙◌, subst, arith, inl, inr}
 use Rattle.std.proofs.lemmas.Bool.{cases_lt}
 use Rattle.std.specs.declared.cmp.Ordering.{Ordering}
 use Rattle.std.specs.declared.cmp.Ordering.TheVariants.{Equal}
@@ -13,8 +13,7 @@ use Rattle.triple_arena_stack.specs.Room.{Room, capacity, room_after}
 use Rattle.triple_arena.specs.Content.{Content, in_room, next_index, arena_capacity}
 use Rattle.triple_arena_chain.specs.declared.link.IndexLink.{IndexLink}
 use Rattle.triple_arena_ord.specs.declared.node.IndexNode.{IndexNode}
-use Rattle.triple_arena.specs.Entries.{with_entry}
-use Rattle.triple_arena_ord.specs.Ordered.{Ordered, IsOrdered, order_in, entry_in, size_in}
+use Rattle.triple_arena_ord.specs.Ordered.{Ordered, IsOrdered, order_in, size_in}
 use Rattle.triple_arena_ord.specs.Growth.{IsInRoom}
 use Rattle.triple_arena_ord.specs.Inserted.{Replaces, StandsAt, IsInsertedAt, within_room, growing_room, room_made}
 

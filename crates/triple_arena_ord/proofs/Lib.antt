@@ -30,6 +30,7 @@ pub mod SameListLemmas
 pub mod InsertLemmas
 pub mod StateLemmas
 pub mod GrowthLemmas
+pub mod SettleLemmas
 pub mod AscendingLemmas
 pub mod AlongLemmas
 pub mod TakenLemmas

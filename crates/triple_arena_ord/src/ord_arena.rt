@@ -26,12 +26,14 @@ pub(crate) mod into_iter;
 pub(crate) mod iter_ordered;
 pub(crate) mod iterators;
 mod lending;
+mod manual;
 mod nodes;
 mod reading;
 mod remove;
 mod search;
 mod search_linear;
 mod search_with;
+mod settle;
 mod text;
 pub(crate) mod walk;
 

@@ -1,4 +1,3 @@
-use Rattle.std.proofs.Common.{ℕ}
 use Rattle.std.specs.Option.{option_map}
 use Rattle.triple_arena_ord.specs.Inserted.{Replaces}
 use Rattle.triple_arena_ord.proofs.GrowthLemmas.{unlimited, inserted_grown, room_replacing, room_grown}

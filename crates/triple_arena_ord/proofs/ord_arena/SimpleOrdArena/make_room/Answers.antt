@@ -4,7 +4,7 @@ use Rattle.std.specs.Option.{option_map}
 use Rattle.triple_arena_stack.specs.Room.{room_after}
 use Rattle.triple_arena_chain.specs.Chains.{first_or, last_or}
 use Rattle.triple_arena_ord.specs.Growth.{IsInRoom}
-use Rattle.triple_arena_ord.specs.Ordered.{Ordered, size_in, IsOrdered}
+use Rattle.triple_arena_ord.specs.Ordered.{Ordered, size_in}
 use Rattle.triple_arena_ord.proofs.GrowthLemmas.{still_ordered, same_order, ok_roomier}
 use Rattle.triple_arena_ord.proofs.ord_arena.SimpleOrdArena.make_room.Goals as goal
 

@@ -1,0 +1,71 @@
+//! Where a new leaf hangs that stands beside an entry.
+ghost use Rattle.std.specs.Prelude.{◌≡◌, ◌≢◌, ℕ, List, Some, IsSome, IfSome};
+ghost use Rattle.std.specs.Option.{option_map};
+ghost use Rattle.triple_arena_ord.specs.Node.{knots_in};
+ghost use Rattle.triple_arena_ord.specs.Search.{IsFreeAt};
+ghost use Rattle.triple_arena_ord.specs.Inserted.{StandsAt, IsSamePlace};
+ghost use Rattle.triple_arena_ord.specs.Ordered.{StandsBeside, order_in};
+
+use crate::knots::{Side, read};
+use crate::leaf::neighbours_beside;
+use crate::{SimpleOrdArena, SimpleOrdArenaNode};
+use std::cmp::Ordering;
+use triple_arena::{ArenaSlot, NonZeroInxGenericStack, Ptr};
+use triple_arena_chain::LinkNoGen;
+
+impl<
+    P: Ptr,
+    T: Drop,
+    S: NonZeroInxGenericStack<ArenaSlot<P, LinkNoGen<P, SimpleOrdArenaNode<P, T>>>> + Drop,
+> SimpleOrdArena<P, T, S> {
+    // Where a new leaf hangs that stands directly before an index: there, or on the right of the previous one.
+    fn settle_before(&self, i: P::Inx) -> (P::Inx, Ordering)
+        requires { IsSome (knots_in P.Inx.number self.now.chains (P.Inx.number i)) }
+        ensures free { IsFreeAt result.1 (knots_in P.Inx.number self.now.chains (P.Inx.number result.0)) }
+        ensures new { result.1 ≢ Ordering.Equal }
+        ensures same { (w : List ℕ) (n : ℕ) → StandsAt (Some (P.Inx.number result.0, result.1)) (order_in P.Inx.number self.now) w n
+            → StandsBeside Side.Left (order_in P.Inx.number self.now) w (P.Inx.number i) n }
+    {
+        if read(&self.chains, i).left.is_none() {
+            return (i, Ordering::Less);
+        }
+        match neighbours_beside(&self.chains, i, Side::Left).0 {
+            Some(prev) => (prev, Ordering::Greater),
+            None => unreachable!(),
+        }
+    }
+
+    // The same directly after an index: there, or on the left of the next one.
+    fn settle_after(&self, i: P::Inx) -> (P::Inx, Ordering)
+        requires { IsSome (knots_in P.Inx.number self.now.chains (P.Inx.number i)) }
+        ensures free { IsFreeAt result.1 (knots_in P.Inx.number self.now.chains (P.Inx.number result.0)) }
+        ensures new { result.1 ≢ Ordering.Equal }
+        ensures same { (w : List ℕ) (n : ℕ) → StandsAt (Some (P.Inx.number result.0, result.1)) (order_in P.Inx.number self.now) w n
+            → StandsBeside Side.Right (order_in P.Inx.number self.now) w (P.Inx.number i) n }
+    {
+        if read(&self.chains, i).right.is_none() {
+            return (i, Ordering::Greater);
+        }
+        match neighbours_beside(&self.chains, i, Side::Right).1 {
+            Some(next) => (next, Ordering::Less),
+            None => unreachable!(),
+        }
+    }
+
+    // The same place, as one where a new leaf can hang.
+    pub(crate) fn settle(&self, place: Option<(P::Inx, Ordering)>) -> Option<(P::Inx, Ordering)>
+        requires { IfSome place (λ a. IsSome (knots_in P.Inx.number self.now.chains (P.Inx.number a.0))) }
+        ensures free { IfSome result (λ a. IsFreeAt a.1 (knots_in P.Inx.number self.now.chains (P.Inx.number a.0))) }
+        ensures same { IsSamePlace (order_in P.Inx.number self.now) (option_map (λ a. (P.Inx.number a.0, a.1)) result)
+            (option_map (λ a. (P.Inx.number a.0, a.1)) place) }
+    {
+        match place {
+            None => None,
+            Some((i, direction)) => match direction {
+                Ordering::Less => Some(self.settle_before(i)),
+                Ordering::Equal => Some((i, Ordering::Equal)),
+                Ordering::Greater => Some(self.settle_after(i)),
+            },
+        }
+    }
+}
