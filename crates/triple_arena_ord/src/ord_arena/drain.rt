@@ -2,7 +2,7 @@
 ghost use Rattle.std.specs.Prelude.{◌≡◌};
 ghost use Rattle.std.specs.Iterator.{item_count};
 ghost use Rattle.triple_arena_ord.specs.Ordered.{IsOrdered};
-ghost use Rattle.triple_arena_ord.specs.OrderedDrains.{drain_arena, drain_lender, drain_rest, drain_leaves, emptied_after, TakesFirst, DrainSteps, DrainKeepsAlong};
+ghost use Rattle.triple_arena_ord.specs.OrderedDrains.{drain_arena, drain_lender, drain_rest, drain_leaves, TakesFirst, DrainSteps, DrainKeepsAlong};
 
 use crate::{SimpleOrdArena, SimpleOrdArenaNode};
 use std::iter::FusedIterator;
@@ -52,17 +52,6 @@ impl<
             Some(InvalidationOption::Success(item))
         }
     }
-
-    // Every entry leaves at once.
-    fn take_rest(&mut self)
-        ensures value { self.new ≡ emptied_after P.Gen.last 1 self.old }
-        ensures ordered { IsOrdered P.Inx.number self.new }
-    {
-        self.chains.clear();
-        self.root = None;
-        self.first = None;
-        self.last = None;
-    }
 }
 
 impl<
@@ -76,7 +65,7 @@ impl<
         ensures ordered { IsOrdered P.Inx.number self.exit.0.now }
     {
         let OrderedDrain { arena } = self;
-        arena.take_rest();
+        drop(arena.clear());
     }
 }
 
