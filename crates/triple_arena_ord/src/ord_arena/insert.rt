@@ -170,8 +170,8 @@ impl<
         ensures room { IfOk result (λ made. self.new.chains.room ≡ room_made made.1 (size_in self.old) self.old.chains.room) }
         ensures ordered { IsOrdered P.Inx.number self.new }
     {
-        let place = self.seek(t.key(), &mut Probes::new());
-        self.insert_at_reallocating(place, t)
+        let found = self.seek(t.key(), &mut Probes::new());
+        self.insert_at_reallocating(found, t)
     }
 
     /// The same as `insert_reallocating`.

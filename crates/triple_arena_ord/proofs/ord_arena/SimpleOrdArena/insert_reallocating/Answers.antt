@@ -6,7 +6,7 @@ pub returns-clause-inserted : goal.returns-clause-inserted
 returns-clause-inserted g c =
     inserted_by_key g.P.Inx.PtrInx.number g.T.Key.Ord.cmp g.T.SimpleOrdItem.key_of g.met.T.Key.Ord.total g.P.Ptr.index g.P.Ptr.generation _
     c.args.self.now c.insert_at_reallocating.new.self c.args.t _ c.key.ensures _ _
-    c.seek-place.ensures.ordered c.insert_at_reallocating.ensures.ordered c.seek-place.ensures.answer c.insert_at_reallocating.ensures.inserted
+    c.seek-found.ensures.ordered c.insert_at_reallocating.ensures.ordered c.seek-found.ensures.answer c.insert_at_reallocating.ensures.inserted
 
 pub returns-clause-ascending : goal.returns-clause-ascending
 returns-clause-ascending g c = λ ascending.
@@ -14,4 +14,4 @@ returns-clause-ascending g c = λ ascending.
     c.args.self.now c.insert_at_reallocating.new.self c.args.t c.insert_at_reallocating.result c.insert_at_reallocating.ensures.ordered
     (inserted_by_key g.P.Inx.PtrInx.number g.T.Key.Ord.cmp g.T.SimpleOrdItem.key_of g.met.T.Key.Ord.total g.P.Ptr.index g.P.Ptr.generation _
     c.args.self.now c.insert_at_reallocating.new.self c.args.t _ c.key.ensures _ _
-    c.seek-place.ensures.ordered c.insert_at_reallocating.ensures.ordered c.seek-place.ensures.answer c.insert_at_reallocating.ensures.inserted) ascending
+    c.seek-found.ensures.ordered c.insert_at_reallocating.ensures.ordered c.seek-found.ensures.answer c.insert_at_reallocating.ensures.inserted) ascending
