@@ -1,3 +1,4 @@
+mod calls;
 mod counted_keys;
 mod falling_keys;
 mod insertions;

@@ -22,4 +22,5 @@ pub mod ListedLaws
 pub mod Renaming
 pub mod Copying
 pub mod LinkRecasting
+pub mod SameLinksLaws
 pub mod IndexDrains

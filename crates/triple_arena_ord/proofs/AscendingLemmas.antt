@@ -250,13 +250,13 @@ module _ {K T : Type 0} (R : K → K → Ordering) (key : T → K) (total : IsTo
         subst (λ v. IsSorted below (listed_of (entry_in p) v)) (sym s.order.is)
         (subst (IsSorted below) (ap (listed_of (entry_in p)) s.order.was ∙ same) left)
 
-  module _ {I P : Type 0} (number : I → ℕ) (index generation : P → ℕ) where
+  module _ {I P : Type 0} (number : I → ℕ) (index generation : P → ℕ) (allows : Option OrdInsertionError → Type 0) where
     pub stays_ascending : (o p : Ordered I T) (t : T) (result : Result (P × Option T) OrdInsertionError) → IsOrdered number p
-        → IsInserted number R key index generation t result o p → IsAscending number R key o → IsAscending number R key p
+        → IsInserted number R key index generation allows t result o p → IsAscending number R key o → IsAscending number R key p
     stays_ascending o p t result new_is put ascending = by result refl
       where
         by : (r : Result (P × Option T) OrdInsertionError) → result ≡ r → IsAscending number R key p
-        by (Err e) at = subst (IsAscending number R key) (sym (put.refused e at).same) ascending
+        by (Err e) at = subst (IsAscending number R key) (sym (put.same e at)) ascending
         by (Ok a) at = answered a.1 refl
           where
             answered : (u : Option T) → a.1 ≡ u → IsAscending number R key p

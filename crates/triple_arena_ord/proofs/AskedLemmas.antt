@@ -13,7 +13,7 @@ use Rattle.triple_arena_ord.specs.declared.node.IndexNode.{IndexNode}
 use Rattle.triple_arena_ord.specs.Node.{knot_of, itemed}
 use Rattle.triple_arena_ord.specs.Store.{Store, rank_or_link, rank_or_zero}
 use Rattle.triple_arena_ord.specs.Tree.{Tree, leaf, node, walk, rank_of, IsRanked}
-use Rattle.triple_arena_ord.specs.Shape.{knot, root_of, Represents, Stands}
+use Rattle.triple_arena_ord.specs.Shape.{knot, root_of, Represents}
 use Rattle.triple_arena_ord.specs.Whole.{IsWhole, tree_of}
 use Rattle.triple_arena_ord.specs.Asked.{IsWay, Question, IsAsked, knots_among, items_among}
 

@@ -8,7 +8,7 @@ use Rattle.triple_arena_ord.specs.declared.knots.Side.TheVariants.{Left, Right}
 use Rattle.triple_arena_ord.specs.Store.{Store, rank_in, rank_or_zero, rank_or_link}
 use Rattle.triple_arena_ord.specs.Tree.{Tree, leaf, node, walk, rank_of, IsRanked}
 use Rattle.triple_arena_ord.specs.Shape.{knot, root_of, Context, top, under, plug, holder, Represents, Hangs, Stands, count, count_round}
-use Rattle.triple_arena_ord.specs.Search.{AllIn, Before, IsParted, Places, IsAnswer, IsFreeAt}
+use Rattle.triple_arena_ord.specs.Search.{AllIn, Before, IsParted, Places, IsAnswer, IsFreeAt, led_by, asked_down}
 use Rattle.triple_arena_ord.proofs.Frames.{one-same, plug-count, plug-opens, root-counted}
 use Rattle.triple_arena_ord.proofs.Spots.{root-lives}
 
@@ -71,11 +71,12 @@ pub record Descent (n : Store) (f : ℕ → Ordering) (whole : Tree) (link : Opt
   pub stands : Represents n (holder context) rest
   pub ranked : IsRanked rest
   pub left_over : asked + rank_of rest ≤ rank_of whole
+  pub counted : asked + asked_down f rest ≡ asked_down f whole
   pub answered : (i : ℕ) (d : Ordering) → place ≡ Some (i, d) → f i ≡ d
   pub parted : IsParted f (walk whole) → AllIn (λ y. f y ≡ Greater) (before context) × AllIn (λ y. f y ≡ Less) (after context)
 
 pub descent_begins : (n : Store) (f : ℕ → Ordering) (root : Option ℕ) (t : Tree) → Stands n root t → IsRanked t → Descent n f t root None 0
-descent_begins n f root t stands ranked = record { context = top; rest = t; is = refl; link_is = stands.0; place_is = refl; stands = stands.1; ranked = ranked; left_over = omega arith; answered = λ i d u. absurd (cc); parted = λ o. (tt, tt) }
+descent_begins n f root t stands ranked = record { context = top; rest = t; is = refl; link_is = stands.0; place_is = refl; stands = stands.1; ranked = ranked; left_over = omega arith; counted = omega arith; answered = λ i d u. absurd (cc); parted = λ o. (tt, tt) }
 
 pub place_lives : (c : Context) (i : ℕ) (d : Ordering) → last_of c ≡ Some (i, d) → 0 < count_round i c
 place_lives top i d e = absurd (cc)
@@ -128,6 +129,15 @@ descent_ends n f whole link place asked e h =
       parted = λ i d u s. let o = h.parted s in subst (λ t. Places f (walk t) i d) is (place_places f h.context i d (sym h.place_is ∙ u) o.0 o.1);
     }
 
+-- then all were asked
+pub descent_asked : (n : Store) (f : ℕ → Ordering) (whole : Tree) (link : Option ℕ) (place : Option (ℕ × Ordering)) (asked : ℕ) → link ≡ None
+    → Descent n f whole link place asked → asked ≡ asked_down f whole
+descent_asked n f whole link place asked e h =
+    let nil : h.rest ≡ leaf = rest_leaf h.rest (sym h.link_is ∙ e) in
+    let none : asked_down f h.rest ≡ 0 = ap (asked_down f) nil in
+    let all = h.counted in
+    omega (arith, none, all)
+
 -- what was asked last has no child where the hole is
 place_free : (n : Store) (root : Option ℕ) (c : Context) → Hangs n root c None → (i : ℕ) (d : Ordering) → last_of c ≡ Some (i, d) → IsFreeAt d (n i)
 place_free n root top h i d e = absurd (cc)
@@ -153,6 +163,7 @@ pub record Here (n : Store) (f : ℕ → Ordering) (whole : Tree) (i : ℕ) (v :
   pub left : f i ≡ Less → Descent n f whole v.left (Some (i, Less)) (asked + 1)
   pub right : f i ≡ Greater → Descent n f whole v.right (Some (i, Greater)) (asked + 1)
   pub stop : f i ≡ Equal → IsAnswer f whole (Some (i, Equal))
+  pub all_asked : f i ≡ Equal → asked + 1 ≡ asked_down f whole
   pub in_bound : asked + 1 ≤ rank_of whole
 
 rank_link : (n : Store) (p : Option ℕ) (t : Tree) → Represents n p t → rank_or_link n (root_of t) ≡ rank_of t
@@ -164,9 +175,10 @@ answers f x e q i d u = let g = some_pair x i e d u in sym (ap f g.0) ∙ q ∙ 
 
 here_at : (n : Store) (f : ℕ → Ordering) (c : Context) (l : Tree) (i k : ℕ) (r : Tree) (asked : ℕ) (v : Knot)
     → n i ≡ Some v → Represents n (holder c) (node l i k r) → IsRanked (node l i k r) → asked + k ≤ rank_of (plug c (node l i k r))
+    → asked + asked_down f (node l i k r) ≡ asked_down f (plug c (node l i k r))
     → (IsParted f (walk (plug c (node l i k r))) → AllIn (λ y. f y ≡ Greater) (before c) × AllIn (λ y. f y ≡ Less) (after c))
     → Here n f (plug c (node l i k r)) i v asked
-here_at n f c l i k r asked v e h ranked over parted =
+here_at n f c l i k r asked v e h ranked over asks parted =
     let fits = ranked.0 in
     let is : v ≡ knot Left (holder c) (root_of l) k (root_of r) = cc h.0 in
     let left_is : v.left ≡ root_of l = ap (λ z. z.left) is in
@@ -177,6 +189,8 @@ here_at n f c l i k r asked v e h ranked over parted =
     let flat : walk (plug c (node l i k r)) ≡ (before c ++ walk l) ++ i ∷ (walk r ++ after c) = plug-walk_is c (node l i k r) ∙ simp append_assoc in
     let here = one-same i in
     let counted = plug-count c i (node l i k r) in
+    let led : (d : Ordering) → f i ≡ d → asked + (1 + led_by d (asked_down f l) (asked_down f r)) ≡ asked_down f (plug c (node l i k r)) =
+    λ d q. ap (λ d. asked + (1 + led_by d (asked_down f l) (asked_down f r))) (sym q) ∙ asks in
     record {
       lives = omega arith;
       rank_left = rw left_is (omega arith);
@@ -191,6 +205,7 @@ here_at n f c l i k r asked v e h ranked over parted =
         stands = h.1;
         ranked = ranked.1;
         left_over = omega arith;
+        counted = let e = led Less q in omega (arith, e);
         answered = answers f i Less q;
         parted = λ s.
             let o = parted s in
@@ -206,12 +221,14 @@ here_at n f c l i k r asked v e h ranked over parted =
         stands = h.2;
         ranked = ranked.2;
         left_over = omega arith;
+        counted = let e = led Greater q in omega (arith, e);
         answered = answers f i Greater q;
         parted = λ s.
             let o = parted s in
             let down = parted-before f (before c ++ walk l) i (walk r ++ after c) (subst (IsParted f) flat s) in
             (AllIn-append (λ y. f y ≡ Greater) (before c) (walk l ++ i ∷ []) o.0 (AllIn-append (λ y. f y ≡ Greater) (walk l) (i ∷ []) (AllIn-map (λ y. Before (f y) (f i)) (λ y. f y ≡ Greater) (λ y z. z.greater q) (walk l) (AllIn-back (λ y. Before (f y) (f i)) (before c) (walk l) down)) (q, tt)), o.1);
       };
+      all_asked = λ q. let e = led Equal q in omega (arith, e);
       stop = λ q. record {
         empty = λ u. absurd (cc);
         lives = λ j d u. let g = (some_pair i j Equal d u).0 in rw (← g) (omega arith);
@@ -243,7 +260,7 @@ step_down n f whole link place asked i v e ev h = go h.rest refl
         let over = h.left_over in
         subst (λ t. Here n f t i v asked) is
         (here_at n f h.context l i k r asked v ev (subst (λ t. Represents n (holder h.context) t) same h.stands) (subst IsRanked same h.ranked)
-        (rw is (let y = ap rank_of same in omega arith)) (subst (λ t. IsParted f (walk t) → AllIn (λ y. f y ≡ Greater) (before h.context) × AllIn (λ y. f y ≡ Less) (after h.context)) (sym is) h.parted))
+        (rw is (let y = ap rank_of same in omega arith)) (ap (λ t. asked + asked_down f t) (sym same) ∙ h.counted ∙ ap (asked_down f) (sym is)) (subst (λ t. IsParted f (walk t) → AllIn (λ y. f y ≡ Greater) (before h.context) × AllIn (λ y. f y ≡ Less) (after h.context)) (sym is) h.parted))
 
 pub descent_lives : (n : Store) (f : ℕ → Ordering) (whole : Tree) (link : Option ℕ) (place : Option (ℕ × Ordering)) (asked : ℕ) (i : ℕ)
     → link ≡ Some i → Descent n f whole link place asked → (0 < count i whole) × IsSome (n i)

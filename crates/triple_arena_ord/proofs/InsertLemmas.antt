@@ -1,6 +1,6 @@
 -- An item is replaced, and one is put in where its key belongs.
-use Rattle.std.proofs.Common.{◌≡◌, ℕ, ◌+◌, ◌<◌, List, [], ◌∷◌, ◌++◌, length, append_assoc, length-append, Option}
-use Rattle.std.proofs.Common.{Some, None, IsSome, Result, arith, refl, sym, ap, ◌∙◌, subst, inl, inr}
+use Rattle.std.proofs.Common.{◌≡◌, ℕ, ◌+◌, List, [], ◌∷◌, ◌++◌, length, append_assoc, length-append, Option}
+use Rattle.std.proofs.Common.{Some, None, Result, arith, refl, sym, ap, ◌∙◌, subst, inl, inr}
 use Rattle.std.specs.Option.{option_map}
 use Rattle.std.proofs.lemmas.Bool.Decides.{eqb_tells}
 use Rattle.std.specs.Cmp.{IsTotalOrder}
@@ -9,25 +9,20 @@ use Rattle.std.specs.declared.cmp.Ordering.TheVariants.{Less, Equal, Greater}
 use Rattle.triple_arena.specs.Content.{Content}
 use Rattle.triple_arena_ptr.specs.declared.errors.OrdInsertionError.{OrdInsertionError}
 use Rattle.triple_arena_chain.specs.declared.link.IndexLink.{IndexLink}
-use Rattle.triple_arena_chain.specs.Chains.{IsLinear, Off, Apart}
+use Rattle.triple_arena_chain.specs.Chains.{Off, Apart}
 use Rattle.triple_arena_chain.specs.ChainLaws.{Off-not_on}
 use Rattle.triple_arena_chain.specs.Links.{ends_in, values_in, with_value_in}
 use Rattle.triple_arena_chain.specs.LinkLaws.{values-with_value_in, ends-with_value_in, kept-with_value_in}
-use Rattle.triple_arena_chain.specs.Lists.{Linear}
-use Rattle.triple_arena_chain.specs.ListLaws.{chain_where}
 use Rattle.triple_arena_chain.specs.UniquenessLaws.{linear_apart}
 use Rattle.triple_arena_ord.specs.declared.node.IndexNode.{IndexNode}
 use Rattle.triple_arena_ord.specs.Knot.{Knot}
 use Rattle.triple_arena_ord.specs.Node.{knots_in, knot_of, itemed}
-use Rattle.triple_arena_ord.specs.Tree.{walk, IsRanked}
-use Rattle.triple_arena_ord.specs.Shape.{Stands, IsDistinct, count}
 use Rattle.triple_arena_ord.specs.Search.{AllIn, Before, IsParted, IsAnswer}
 use Rattle.triple_arena_ord.specs.Ordered.{Ordered, IsOrdered, tree_in, order_in, size_in, asked_of, asked_at}
-use Rattle.triple_arena_ord.specs.Inserted.{StandsAt, IsRenewed, IsReplaced, IsInsertedAt, IsPlacedByKey, IsInserted}
-use Rattle.triple_arena_ord.proofs.Frames.{Represents-keep}
+use Rattle.triple_arena_ord.specs.Inserted.{Replaces, StandsAt, IsRenewed, IsReplaced, IsInsertedAt, IsPlacedByKey, IsInserted}
 use Rattle.triple_arena_ord.proofs.Descents.{AllIn-append, AllIn-map, parted-after, parted-before}
-use Rattle.triple_arena_ord.proofs.Unique.{tree_is}
 use Rattle.triple_arena_ord.proofs.SeekLemmas.{parts_at, absent}
+use Rattle.triple_arena_ord.proofs.SameListLemmas.{Reordered, same_list}
 
 -- an index stands at one place of a list that has each index once
 pub split_same : (xs : List ℕ) (h : ℕ) (ys us vs : List ℕ) → Apart (xs ++ h ∷ ys) → xs ++ h ∷ ys ≡ us ++ h ∷ vs → (xs ≡ us) × (ys ≡ vs)
@@ -48,7 +43,7 @@ module _ {I T : Type 0} (number : I → ℕ) where
   abbrev knot_at : ℕ × IndexNode I T → Knot
   knot_at entry = knot_of number entry.1
 
-  renewed : (c : Content (IndexLink I (IndexNode I T))) (i g : ℕ) (u v : IndexNode I T) → values_in c i ≡ Some (g, u) → knot_of number v ≡ knot_of number u
+  pub renewed : (c : Content (IndexLink I (IndexNode I T))) (i g : ℕ) (u v : IndexNode I T) → values_in c i ≡ Some (g, u) → knot_of number v ≡ knot_of number u
       → IsRenewed number i g v.t u.t c (with_value_in c i v)
   renewed c i g u v at same = record {
     was = ap (option_map itemed) at;
@@ -77,34 +72,9 @@ module _ {I T : Type 0} (number : I → ℕ) where
   renewed_at c i g u w t d old p_index p_gen at is old_is d_is index_is gen_is =
       rw (old_is, d_is, index_is, gen_is) (renewed c i g w (record w { t = t }) (same_node (values_in c i) g u w at is) refl)
 
-  -- the list is the same, and as it must be
-  pub record Reordered (o p : Ordered I T) : Type 0 where
-    pub ordered : IsOrdered number p
-    pub order : order_in number p ≡ order_in number o
-
   pub renewed_ordered : (o p : Ordered I T) (i g : ℕ) (t u : T) → p.root ≡ o.root → IsRenewed number i g t u o.chains p.chains
-      → IsOrdered number o → Reordered o p
-  renewed_ordered o p i g t u root r is =
-      let n = knots_in number p.chains in
-      let tree = tree_in number o in
-      let stands : Stands n p.root tree =
-      (root ∙ is.whole.stands.0, Represents-keep (knots_in number o.chains) n None tree (λ j c. r.knots j) is.whole.stands.1) in
-      let same : tree_in number p ≡ tree = tree_is n p.root tree stands is.whole.ranked in
-      let order : order_in number p ≡ order_in number o = ap walk same in
-      let linear = chain_where (ends_in number o.chains) (ends_in number p.chains) (Linear (order_in number o)) (λ i on. r.ends i) is.linear in
-      record {
-        ordered = record {
-          whole = record {
-            stands = subst (Stands n p.root) (sym same) stands;
-            distinct = subst IsDistinct (sym same) is.whole.distinct;
-            ranked = subst IsRanked (sym same) is.whole.ranked;
-          };
-          linear = subst (IsLinear (ends_in number p.chains)) (sym order) linear;
-          all = λ i lives. subst (λ t. 0 < count i t) (sym same) (is.all i (subst IsSome (r.knots i) lives));
-          counted = ap length order ∙ is.counted ∙ sym r.kept.live;
-        };
-        order = order;
-      }
+      → IsOrdered number o → Reordered number o p
+  renewed_ordered o p i g t u root r is = same_list number o p root r.knots r.ends r.kept.live is
 
   pub replaced : (o inside p : Ordered I T) → inside ≡ o → (i g : ℕ) (t u : T) → p.root ≡ inside.root
       → IsRenewed number i g t u inside.chains p.chains → IsOrdered number inside
@@ -177,12 +147,12 @@ module _ {I T : Type 0} (number : I → ℕ) where
         let new_count : length (order_in number p) ≡ size_in p = new_is.counted in
         omega arith
 
-    module _ {P : Type 0} (index generation : P → ℕ) where
+    module _ {P : Type 0} (index generation : P → ℕ) (allows : Option OrdInsertionError → Type 0) where
       -- an insertion where the search for its key ended
       pub inserted_by_key : (o p : Ordered I T) (t : T) (k : K) → k ≡ key t → (place : Option (ℕ × Ordering))
           → (result : Result (P × Option T) OrdInsertionError) → IsOrdered number o
           → IsOrdered number p → IsAnswer (asked_at cmp key k o) (tree_in number o) place
-          → IsInsertedAt number index generation place t result o p → IsInserted number cmp key index generation t result o p
+          → IsInsertedAt number index generation allows place t result o p → IsInserted number cmp key index generation allows t result o p
       inserted_by_key o p t k k_is place result is new_is found put =
           let answer : IsAnswer (asked_at cmp key (key t) o) (tree_in number o) place =
           subst (λ z. IsAnswer (asked_at cmp key z o) (tree_in number o) place) k_is found in
@@ -194,7 +164,9 @@ module _ {I T : Type 0} (number : I → ℕ) where
             grown = λ q e.
                 let r = put.added q e in
                 grows o p (index q) is new_is (by_key o p (key t) (index q) place is answer r.0);
+            fits = put.fits;
             refused = λ error e. (put.refused error e).1;
+            same = put.same;
             absent = λ error e ascending j.
-                absent number cmp key (key t) total o is place answer (λ i d at same. (put.refused error e).0 i (at ∙ ap (λ z. Some (i, z)) same)) ascending j;
+                absent number cmp key (key t) total o is place answer (λ i d at same. (put.refused error e).0 (subst Replaces (sym at) same)) ascending j;
           }

@@ -1,5 +1,5 @@
 -- What laws say of the list.
-use Rattle.std.proofs.Common.{◌≡◌, ◌≢◌, ℕ, ◌<◌, List, ◌∷◌, ◌++◌, Option, Some, IsSome, sym, ap, ◌∙◌, subst}
+use Rattle.std.proofs.Common.{◌≡◌, ◌≢◌, ℕ, List, ◌∷◌, ◌++◌, Some, IsSome, sym, ap, ◌∙◌, subst}
 use Rattle.std.specs.Cmp.{IsTotalOrder}
 use Rattle.std.specs.Ordering.{ordering_reverse}
 use Rattle.std.specs.declared.cmp.Ordering.{Ordering}
@@ -11,7 +11,7 @@ use Rattle.triple_arena_ord.proofs.Descents.{before, after, AllIn-map, parted-af
 use Rattle.triple_arena_ord.proofs.LeafLemmas.{Located, located}
 use Rattle.triple_arena_ord.proofs.LiveLemmas.{entry_counted}
 use Rattle.triple_arena_ord.proofs.SeekLemmas.{parts_at}
-use Rattle.triple_arena_ord.specs.Shape.{top, plug}
+use Rattle.triple_arena_ord.specs.Shape.{top}
 use Rattle.triple_arena_ord.specs.Tree.{node, walk}
 use Rattle.std.proofs.Common.{append_assoc}
 

@@ -26,10 +26,14 @@ pub mod FoundLemmas
 pub mod LinearLemmas
 pub mod LeafLemmas
 pub mod EndLemmas
+pub mod SameListLemmas
 pub mod InsertLemmas
+pub mod StateLemmas
+pub mod GrowthLemmas
 pub mod AscendingLemmas
 pub mod AlongLemmas
 pub mod TakenLemmas
 pub mod SuccessorLemmas
 pub mod LostEnds
 pub mod LawLemmas
+pub mod OrderedWalkLemmas

@@ -9,11 +9,11 @@ use Rattle.triple_arena_ord.specs.Ordered.{Ordered, IsOrdered, tree_in, entry_in
 use Rattle.triple_arena_ord.proofs.SeekShapes.{counted-lives}
 
 module _ {I T : Type 0} (number : I → ℕ) where
-  item-some : (e : Option (ℕ × IndexNode I T)) → IsSome (option_map itemed e) → IsSome (option_map (λ e. knot_of number e.1) e)
+  pub item-some : (e : Option (ℕ × IndexNode I T)) → IsSome (option_map itemed e) → IsSome (option_map (λ e. knot_of number e.1) e)
   item-some None h = absurd (cc)
   item-some (Some e) h = refl
 
-  knot-some : (e : Option (ℕ × IndexNode I T)) → IsSome (option_map (λ e. knot_of number e.1) e) → IsSome (option_map itemed e)
+  pub knot-some : (e : Option (ℕ × IndexNode I T)) → IsSome (option_map (λ e. knot_of number e.1) e) → IsSome (option_map itemed e)
   knot-some None h = absurd (cc)
   knot-some (Some e) h = refl
 

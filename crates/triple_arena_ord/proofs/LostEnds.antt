@@ -1,5 +1,5 @@
 -- The ends of a list without an index.
-use Rattle.std.proofs.Common.{◌≡◌, ◌≢◌, ℕ, List, [], ◌∷◌, ◌++◌, append-nil, Option, Some, None, refl, sym, ap, ◌∙◌, subst}
+use Rattle.std.proofs.Common.{◌≡◌, ℕ, List, [], ◌∷◌, ◌++◌, Option, Some, None, refl, sym, ap, ◌∙◌, subst}
 use Rattle.std.proofs.lemmas.Bool.{eq-eqb, ne_eqb}
 use Rattle.triple_arena_chain.specs.Chains.{Ends, Off, Apart, IsLinear, first_or, last_or}
 use Rattle.triple_arena_chain.specs.ChainLaws.{Off-not_on, last_or-append}

@@ -1,6 +1,5 @@
 -- The next index of the list, which has no left child, takes the place of a node with a right child.
-use Rattle.std.proofs.Common.{◌≡◌, ◌≢◌, ℕ, ◌+◌, ◌^◌, ◌<◌, List, [], ◌∷◌, ◌++◌, length, append_assoc, Option, Some, None, IsSome, refl, sym, ap, ◌∙◌, subst, arith}
-use Rattle.std.specs.Option.{option_map}
+use Rattle.std.proofs.Common.{◌≡◌, ◌≢◌, ℕ, ◌+◌, ◌^◌, ◌<◌, List, [], ◌∷◌, ◌++◌, length, append_assoc, Option, Some, None, IsSome, sym, ap, ◌∙◌, subst, arith}
 use Rattle.triple_arena.specs.Content.{Content, live_count}
 use Rattle.triple_arena_chain.specs.declared.link.IndexLink.{IndexLink}
 use Rattle.triple_arena_chain.specs.Chains.{IsLinear, Apart, next_in, next_at}
@@ -32,10 +31,10 @@ renamed-ranked : (c : Context) (l : Tree) (i j k : ℕ) (r : Tree) → IsRanked 
 renamed-ranked c l i j k r h = let o = plug-ranked-opens c (node l i k r) h in plug-ranked c (node l j k r) o.0 o.1
 
 -- an index of a node, and the list round it
-flat : (c : Context) (l : Tree) (h : ℕ) (w : List ℕ) → before c ++ ((walk l ++ h ∷ w) ++ after c) ≡ (before c ++ walk l) ++ h ∷ (w ++ after c)
+pub flat : (c : Context) (l : Tree) (h : ℕ) (w : List ℕ) → before c ++ ((walk l ++ h ∷ w) ++ after c) ≡ (before c ++ walk l) ++ h ∷ (w ++ after c)
 flat c l h w = ap (λ z. before c ++ z) (append_assoc (walk l) (h ∷ w) (after c)) ∙ sym (append_assoc (before c) (walk l) (h ∷ (w ++ after c)))
 
-snoc : (xs : List ℕ) (h : ℕ) (ys : List ℕ) → xs ++ h ∷ ys ≡ (xs ++ h ∷ []) ++ ys
+pub snoc : (xs : List ℕ) (h : ℕ) (ys : List ℕ) → xs ++ h ∷ ys ≡ (xs ++ h ∷ []) ++ ys
 snoc xs h ys = sym (append_assoc xs (h ∷ []) ys)
 
 module _ {I T : Type 0} (number : I → ℕ) where

@@ -16,7 +16,7 @@ use Rattle.triple_arena_ord.specs.declared.node.IndexNode.{IndexNode}
 use Rattle.triple_arena_ord.specs.Knot.{Knot}
 use Rattle.triple_arena_ord.specs.Node.{knots_in, items_in, knot_of, itemed, rest}
 use Rattle.triple_arena_ord.specs.Tree.{leaf, node, walk, IsRanked}
-use Rattle.triple_arena_ord.specs.Shape.{make, knot, root_of, top, plug, holder, Stands, IsDistinct, one, count}
+use Rattle.triple_arena_ord.specs.Shape.{knot, root_of, top, plug, holder, Stands, IsDistinct, one, count}
 use Rattle.triple_arena_ord.specs.Repair.{Loose, Restored}
 use Rattle.triple_arena_ord.specs.Ordered.{Ordered, IsOrdered, tree_in, order_in, entry_in}
 use Rattle.triple_arena_ord.specs.Removal.{Loses, IsUprooted, IsRemoved}

@@ -1,6 +1,6 @@
 -- The nodes determine the tree.
-use Rattle.std.proofs.Common.{◌≡◌, ℕ, zero, suc, ◌≤◌, Option, Some, None, refl, sym, ap, ◌∙◌, arith, [], ◌∷◌, ◌++◌}
-use Rattle.triple_arena_ord.specs.declared.knots.Side.TheVariants.{Left, Right}
+use Rattle.std.proofs.Common.{◌≡◌, ℕ, zero, suc, ◌≤◌, Option, Some, None, refl, sym, ap, ◌∙◌, arith, ◌∷◌, ◌++◌}
+use Rattle.triple_arena_ord.specs.declared.knots.Side.TheVariants.{Left}
 use Rattle.triple_arena_ord.specs.Store.{Store, rank_or_link, rank_or_zero}
 use Rattle.triple_arena_ord.specs.Whole.{read_tree, tree_of}
 use Rattle.triple_arena_ord.proofs.Bound.{height-le-rank}

@@ -1,14 +1,14 @@
 -- A search by key along the links of an arena.
-use Rattle.std.proofs.Common.{◌≡◌, ℕ, ◌+◌, List, ◌∷◌, ◌++◌, Option, Some, None, refl, sym, ap, ◌∙◌, subst, inl, inr}
+use Rattle.std.proofs.Common.{◌≡◌, ℕ, ◌+◌, List, Option, Some, None, sym, ap, ◌∙◌, subst, inl, inr}
 use Rattle.std.specs.Option.{option_map}
 use Rattle.std.specs.declared.cmp.Ordering.{Ordering}
 use Rattle.triple_arena.specs.Content.{Content, entry_at}
 use Rattle.triple_arena_chain.specs.declared.link.IndexLink.{IndexLink}
-use Rattle.triple_arena_chain.specs.Chains.{Ends, IsLinear, On, first_or, last_or}
+use Rattle.triple_arena_chain.specs.Chains.{IsLinear, On}
 use Rattle.triple_arena_chain.specs.Links.{ends_in, link_ends, entry_ends, valued}
 use Rattle.triple_arena_ord.specs.declared.node.IndexNode.{IndexNode}
 use Rattle.triple_arena_ord.specs.Node.{items_in, itemed}
-use Rattle.triple_arena_ord.specs.Search.{IsParted, Places}
+use Rattle.triple_arena_ord.specs.Search.{IsParted}
 use Rattle.triple_arena_ord.specs.Ordered.{asked_of}
 use Rattle.triple_arena_ord.specs.Near.{IsStop, IsAtHand, asked_in, onward}
 use Rattle.triple_arena_ord.proofs.GapLemmas.{linear_ends}

@@ -1,16 +1,14 @@
 -- What a way of questions comes to where the answers are those of a function.
-use Rattle.std.proofs.Common.{◌≡◌, ℕ, ◌+◌, ◌<◌, List, [], ◌∷◌, ◌++◌, map, append_assoc, append-nil, Option, Some, None, refl, sym, ap, ◌∙◌, subst, arith}
-use Rattle.std.specs.Borrow.{Bor}
-use Rattle.std.specs.Option.{option_map}
-use Rattle.std.specs.List.{AllByRecursion, FoldsTo, last_or}
+use Rattle.std.proofs.Common.{◌≡◌, ℕ, ◌<◌, List, [], ◌∷◌, ◌++◌, append_assoc, append-nil, Option, Some, None, refl, sym, ap, ◌∙◌, subst, arith}
+use Rattle.std.specs.List.{AllByRecursion, last_or}
 use Rattle.std.specs.declared.cmp.Ordering.{Ordering}
 use Rattle.std.specs.declared.cmp.Ordering.TheVariants.{Less, Equal, Greater}
 use Rattle.triple_arena_chain.specs.Chains.{On}
 use Rattle.triple_arena_ord.specs.Tree.{Tree, leaf, node, walk}
 use Rattle.triple_arena_ord.specs.Shape.{root_of, count}
 use Rattle.triple_arena_ord.specs.Search.{AllIn, Before, IsParted, Places, IsAnswer}
-use Rattle.triple_arena_ord.specs.Asked.{left_by, IsWay, Question, IsAsked, AnswersBy, answer_of}
-use Rattle.triple_arena_ord.proofs.Descents.{AllIn-append, AllIn-front, AllIn-back, AllIn-map, parted-after, parted-before}
+use Rattle.triple_arena_ord.specs.Asked.{left_by, IsWay}
+use Rattle.triple_arena_ord.proofs.Descents.{AllIn-append, AllIn-back, AllIn-map, parted-after, parted-before}
 use Rattle.triple_arena_ord.proofs.Frames.{one-same}
 use Rattle.triple_arena_ord.proofs.SeekLemmas.{all-counted}
 

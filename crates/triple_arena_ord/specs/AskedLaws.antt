@@ -1,9 +1,9 @@
 -- Where the questions of a search end.
-use Rattle.std.proofs.Common.{◌≡◌, ◌≢◌, ℕ, List, [], ◌∷◌, ◌++◌, append_assoc, append-nil, Option, Some, None, refl, sym, ap, ◌∙◌, subst, inl, inr}
+use Rattle.std.proofs.Common.{◌≡◌, ◌≢◌, ℕ, List, [], ◌∷◌, ◌++◌, append_assoc, Option, Some, None, refl, sym, ap, ◌∙◌, subst}
 use Rattle.std.specs.List.{AllByRecursion}
 use Rattle.std.specs.declared.cmp.Ordering.{Ordering}
 use Rattle.std.specs.declared.cmp.Ordering.TheVariants.{Less, Equal, Greater}
-use Rattle.triple_arena_chain.specs.Chains.{On, first_or, last_or}
+use Rattle.triple_arena_chain.specs.Chains.{first_or, last_or}
 use Rattle.triple_arena_chain.specs.ChainLaws.{first_or-append, last_or-append}
 use Rattle.triple_arena_ord.specs.Asked.{left_by, IsWay}
 

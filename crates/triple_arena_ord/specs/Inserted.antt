@@ -1,12 +1,13 @@
 -- What an insertion does.
-use Rattle.std.specs.Prelude.{◌≡◌, ◌≢◌, ℕ, ◌+◌, ◌<◌, ◌≤◌, List, [], ◌∷◌, ◌++◌, Option, Some, None, Result, Ok, Err}
+use Rattle.std.specs.Prelude.{◌≡◌, ◌≢◌, ℕ, ◌+◌, ◌<◌, ◌≤◌, Bool, IsTrue, List, [], ◌∷◌, ◌++◌, Option, Some, None, Result, Ok, Err}
 use Rattle.std.specs.Option.{option_map}
 use Rattle.std.specs.declared.cmp.Ordering.{Ordering}
 use Rattle.std.specs.declared.cmp.Ordering.TheVariants.{Less, Equal, Greater}
-use Rattle.triple_arena.specs.Content.{Content, live_count, arena_capacity, next_index}
+use Rattle.triple_arena_stack.specs.Room.{Room, capacity, room_after}
+use Rattle.triple_arena.specs.Content.{Content, next_index}
 use Rattle.triple_arena.specs.Entries.{with_entry}
 use Rattle.triple_arena_ptr.specs.declared.errors.OrdInsertionError.{OrdInsertionError}
-use Rattle.triple_arena_ptr.specs.declared.errors.OrdInsertionError.TheVariants.{NotWithinCapacity}
+use Rattle.triple_arena_ptr.specs.declared.errors.OrdInsertionError.TheVariants.{FailedOrdRequirement, NotWithinCapacity, BeyondMaxCapacity, AllocError}
 use Rattle.triple_arena_chain.specs.Links.{IsKept, ends_in}
 use Rattle.triple_arena_chain.specs.declared.link.IndexLink.{IndexLink}
 use Rattle.triple_arena_ord.specs.declared.knots.Side.TheVariants.{Left, Right}
@@ -24,6 +25,44 @@ StandsAt (Some place) old new n = by place.1
     by Less = StandsBeside Left old new place.0 n
     by Equal = ⊥
     by Greater = StandsBeside Right old new place.0 n
+
+-- at this place an item is replaced
+abbrev pub Replaces : Option (ℕ × Ordering) → Type 0
+Replaces None = ⊥
+Replaces (Some place) = place.1 ≡ Equal
+
+-- what stands at the one place stands at the other, and an item is replaced at both or at none
+pub record IsSamePlace (w : List ℕ) (one other : Option (ℕ × Ordering)) : Type 0 where
+  pub stands : (new : List ℕ) (n : ℕ) → StandsAt one w new n → StandsAt other w new n
+  pub replaced : (i : ℕ) → one ≡ Some (i, Equal) → other ≡ Some (i, Equal)
+  pub replaces : Replaces other → Replaces one
+  pub none : one ≡ None → other ≡ None
+
+-- a result with the pointer to the entry
+abbrev pub under : {P T : Type 0} → P → Result (Option T) OrdInsertionError → Result (P × Option T) OrdInsertionError
+under p (Ok replaced) = Ok (p, replaced)
+under p (Err error) = Err error
+
+-- what a room says of a new entry where it does not grow: there is a place for it, or there is none
+abbrev pub within_room : ℕ → Room → Option OrdInsertionError → Type 0
+within_room len room None = len < capacity room
+within_room len room (Some error) = (error ≡ NotWithinCapacity) × (capacity room ≤ len)
+
+-- the same where it grows: only a full room is refused, for its limit, or else for memory
+abbrev pub growing_room : Bool → ℕ → Room → Option OrdInsertionError → Type 0
+growing_room takes_memory len room None = room.limit ≢ Some len
+growing_room takes_memory len room (Some error) = (capacity room ≤ len) × by error
+  where
+    by : OrdInsertionError → Type 0
+    by FailedOrdRequirement = ⊥
+    by NotWithinCapacity = ⊥
+    by BeyondMaxCapacity = room.limit ≡ Some len
+    by AllocError = IsTrue takes_memory × (room.limit ≢ Some len)
+
+-- the room after an insertion: a new entry, which replaces no item, makes it grow where it is full
+abbrev pub room_made : {T : Type 0} → Option T → ℕ → Room → Room
+room_made None len room = room_after len room
+room_made (Some _) len room = room
 
 module _ {I T : Type 0} (number : I → ℕ) where
   -- the node at an index has another item, and all else is as it was
@@ -43,24 +82,20 @@ module _ {I T : Type 0} (number : I → ℕ) where
 
   -- one more entry, under the next index and the counter; all others stay
   pub record IsAdded (i g : ℕ) (t : T) (old new : Ordered I T) : Type 0 where
-    pub within : live_count old.chains < arena_capacity old.chains
     pub index : i ≡ next_index old.chains
     pub generation : g ≡ old.chains.counter
     pub entries : (k : ℕ) → entry_in new k ≡ with_entry (entry_in old) i (g, t) k
 
-  -- there is no room, and nothing is changed
-  pub record IsRefused (error : OrdInsertionError) (old new : Ordered I T) : Type 0 where
-    pub is : error ≡ NotWithinCapacity
-    pub full : arena_capacity old.chains ≤ live_count old.chains
-    pub same : new ≡ old
-
-  module _ {P : Type 0} (index generation : P → ℕ) where
+  -- `allows` is what the room says: None lets a new entry in, an error does not
+  module _ {P : Type 0} (index generation : P → ℕ) (allows : Option OrdInsertionError → Type 0) where
     -- an insertion where a search ended, whose last answer tells whether an item is replaced
     pub record IsInsertedAt (place : Option (ℕ × Ordering)) (t : T) (result : Result (P × Option T) OrdInsertionError) (old new : Ordered I T) : Type 0 where
       pub replaced : (p : P) (u : T) → result ≡ Ok (p, Some u) → (place ≡ Some (index p, Equal)) × IsReplaced (index p) (generation p) t u old new
       pub added : (p : P) → result ≡ Ok (p, None)
           → StandsAt place (order_in number old) (order_in number new) (index p) × IsAdded (index p) (generation p) t old new
-      pub refused : (error : OrdInsertionError) → result ≡ Err error → ((i : ℕ) → place ≢ Some (i, Equal)) × IsRefused error old new
+      pub fits : (p : P) → result ≡ Ok (p, None) → allows None
+      pub refused : (error : OrdInsertionError) → result ≡ Err error → (Replaces place → ⊥) × allows (Some error)
+      pub same : (error : OrdInsertionError) → result ≡ Err error → new ≡ old
 
   module _ {K : Type 0} (cmp : K → K → Ordering) (key : T → K) where
     -- one more index in the list: where the keys ascend, all before it have lesser keys and all after it greater ones
@@ -72,13 +107,15 @@ module _ {I T : Type 0} (number : I → ℕ) where
       pub greater : IsAscending number cmp key old → AllIn (λ j. asked_at cmp key k old j ≡ Greater) before
       pub less : IsAscending number cmp key old → AllIn (λ j. asked_at cmp key k old j ≡ Less) after
 
-    module _ {P : Type 0} (index generation : P → ℕ) where
-      -- an insertion by key: an item with an equal key is replaced, whether or not there is room; else there is one more entry, or
-      -- no room for it
+    module _ {P : Type 0} (index generation : P → ℕ) (allows : Option OrdInsertionError → Type 0) where
+      -- an insertion by key: an item with an equal key is replaced, whether or not there is room; else there is one more entry,
+      -- where the room allows it
       pub record IsInserted (t : T) (result : Result (P × Option T) OrdInsertionError) (old new : Ordered I T) : Type 0 where
         pub replaced : (p : P) (u : T) → result ≡ Ok (p, Some u) → (cmp (key t) (key u) ≡ Equal) × IsReplaced (index p) (generation p) t u old new
         pub added : (p : P) → result ≡ Ok (p, None) → IsPlacedByKey (key t) (index p) old new × IsAdded (index p) (generation p) t old new
         pub grown : (p : P) → result ≡ Ok (p, None) → size_in new ≡ size_in old + 1
-        pub refused : (error : OrdInsertionError) → result ≡ Err error → IsRefused error old new
+        pub fits : (p : P) → result ≡ Ok (p, None) → allows None
+        pub refused : (error : OrdInsertionError) → result ≡ Err error → allows (Some error)
+        pub same : (error : OrdInsertionError) → result ≡ Err error → new ≡ old
         pub absent : (error : OrdInsertionError) → result ≡ Err error → IsAscending number cmp key old
             → (i : ℕ) → option_map (λ e. cmp (key t) (key e.1)) (entry_in old i) ≢ Some Equal

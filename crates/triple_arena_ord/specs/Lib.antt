@@ -9,10 +9,14 @@ pub mod Search
 pub mod Kinds
 pub mod Pairs
 pub mod Ordered
+pub mod States
+pub mod Canonical
 pub mod Inserted
+pub mod Growth
 pub mod Removal
 pub mod Found
 pub mod Asked
 pub mod Near
 pub mod AskedLaws
 pub mod Ascending
+pub mod OrderedWalks

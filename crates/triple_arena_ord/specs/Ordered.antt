@@ -4,7 +4,8 @@ use Rattle.std.specs.Option.{option_map}
 use Rattle.std.specs.List.Sorted.{IsSorted}
 use Rattle.std.specs.declared.cmp.Ordering.{Ordering}
 use Rattle.std.specs.declared.cmp.Ordering.TheVariants.{Equal}
-use Rattle.triple_arena.specs.Content.{Content, live_count}
+use Rattle.triple_arena_stack.specs.Room.{Room}
+use Rattle.triple_arena.specs.Content.{Content, live_count, some_counter}
 use Rattle.triple_arena_chain.specs.Chains.{IsLinear}
 use Rattle.triple_arena_chain.specs.Links.{ends_in}
 use Rattle.triple_arena_chain.specs.declared.link.IndexLink.{IndexLink}
@@ -61,6 +62,14 @@ module _ {I T : Type 0} where
   -- how many entries
   abbrev pub size_in : Ordered I T → ℕ
   size_in o = live_count o.chains
+
+  -- the generation of the next entry, which each ordered arena has
+  abbrev pub counter_in : Ordered I T → Option ℕ
+  counter_in o = some_counter o.chains
+
+  -- the reserved slots and the greatest capacity
+  abbrev pub room_in : Ordered I T → Room
+  room_in o = o.chains.room
 
 module _ {I T : Type 0} (number : I → ℕ) where
   -- the tree of the nodes

@@ -57,7 +57,7 @@ pub(crate) fn insert_leaf<
 }
 
 // The neighbours of one more link directly before or after that of `holder`.
-fn neighbours_beside<
+pub(crate) fn neighbours_beside<
     P: Ptr,
     T: Drop,
     S: NonZeroInxGenericStack<ArenaSlot<P, LinkNoGen<P, SimpleOrdArenaNode<P, T>>>> + Drop,

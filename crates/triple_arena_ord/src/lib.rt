@@ -20,6 +20,12 @@ mod taken;
 mod turn;
 mod walks;
 
+/// The advancers and the iterators of `SimpleOrdArena`.
+pub mod ord_iterators {
+    pub use crate::ord_arena::iter_ordered::Iter;
+    pub use crate::ord_arena::walk::OrderedPtrAdvancer;
+}
+
 pub use item::SimpleOrdItem;
 pub use kind::{InsertKind, OrdEntryKind, OrdInsertKind};
 pub use node::{IndexNode, SimpleOrdArenaNode};

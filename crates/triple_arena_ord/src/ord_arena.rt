@@ -9,13 +9,27 @@ ghost use Rattle.triple_arena_ord.specs.Ordered.{IsOrdered, StandsBeside, size_i
 ghost use Rattle.triple_arena_ord.specs.Store.{child_of};
 ghost use Rattle.triple_arena_ord.specs.Node.{knots_in};
 
+mod advancer;
+mod canonical;
 mod check;
+mod clear;
+mod default;
+mod ends;
 mod found;
+mod generation;
+mod growth;
+mod indexing;
 mod insert;
+pub(crate) mod iter_ordered;
+mod lending;
+mod nodes;
+mod reading;
 mod remove;
 mod search;
 mod search_linear;
 mod search_with;
+mod text;
+pub(crate) mod walk;
 
 use crate::knots::Side;
 use crate::leaf::{insert_leaf, moved};

@@ -6,7 +6,7 @@ use std::test::Fail;
 use triple_arena::{
     Advancer, ArenaInsertEntryTrait, ArenaTrait, NonZeroInxGenericStack, P0, P5, Ptr,
 };
-use triple_arena_chain::{ChainArena, ChainArenaTrait, LinkInsertKind};
+use triple_arena_chain::{ChainArena, ChainArenaTrait, Link, LinkInsertKind, LinkNoGen};
 use triple_arena_ptr::ChainInsertionError;
 
 // A list of 1, 2 and 3, where 2 has the last index, in an arena that has room for three at least.
@@ -88,5 +88,65 @@ fn one_by_one<P: Ptr, S: NonZeroInxGenericStack<Slot<P>> + Drop>(
 fn links_one_by_one(rt: HostRuntime) -> Result<(), Fail> {
     one_by_one(&rt, &mut ChainArena::<P0, u64, InVec<P0>>::new(rt.alloc()))?;
     one_by_one(&rt, &mut ChainArena::<P5, u64, InArray<P5>>::new(()))?;
+    Ok(())
+}
+
+// The value that `p` points to, or 0.
+fn value_at(chains: &ChainArena<P0, u64, InArray<P0>>, p: P0) -> u64 {
+    if chains.contains(p) { chains[p] } else { 0 }
+}
+
+fn write_at(chains: &mut ChainArena<P0, u64, InArray<P0>>, p: P0, value: u64) {
+    if chains.contains(p) {
+        chains[p] = value;
+    }
+}
+
+// The links in the order of their indexes.
+fn goes_by_index(rt: &impl Abort, chains: &ChainArena<P0, u64, InArray<P0>>, links: (P0, P0, P0)) {
+    let (a, b, c) = links;
+    let mut rest = chains.iter_link_no_gen();
+    for (p, prev_next, value) in [
+        (a, (None, Some(b.inx())), 1),
+        (c, (Some(b.inx()), None), 3),
+        (b, (Some(a.inx()), Some(c.inx())), 7),
+    ] {
+        match rest.next() {
+            Some((q, link)) => {
+                assert!(rt; q == p);
+                assert!(rt; link.prev_next() == prev_next);
+                assert!(rt; link.t == value);
+            }
+            None => panic!(rt; "a link is left out"),
+        }
+    }
+    assert!(rt; rest.next().is_none());
+}
+
+#[test]
+fn values_by_pointers(rt: HostRuntime) -> Result<(), Fail> {
+    let mut chains = ChainArena::<P0, u64, InArray<P0>>::new(());
+    let (a, b, c) = list(&mut chains)?;
+    write_at(&mut chains, b, 7);
+    assert!(rt; value_at(&chains, b) == 7);
+    assert!(rt; value_at(&chains, a) == 1);
+    assert!(rt; walk(&chains, a) == 173);
+    goes_by_index(&rt, &chains, (a, b, c));
+    Ok(())
+}
+
+#[test]
+fn links_as_values(rt: HostRuntime) -> Result<(), Fail> {
+    let low = LinkNoGen::<P0, u64>::new((None, None), 1);
+    let high = LinkNoGen::<P0, u64>::new((None, None), 2);
+    let copy = low;
+    assert!(rt; low == copy);
+    assert!(rt; low < high);
+    let link = Link::<P0, u64>::new((None, None), 1);
+    assert!(rt; link == link);
+    assert!(rt; link < Link::new((None, Some(P0::invalid())), 0));
+    assert!(rt; *link.no_gen_ref().t == 1);
+    assert!(rt; link.no_gen() == low);
+    assert!(rt; LinkInsertKind::<P0>::Disconnected != LinkInsertKind::ChainEnd(P0::invalid()));
     Ok(())
 }

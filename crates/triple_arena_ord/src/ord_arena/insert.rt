@@ -1,16 +1,19 @@
 //! Insertions.
-ghost use Rattle.std.specs.Prelude.{◌≡◌, None, Ok, Err, IsSome, IfSome};
+ghost use Rattle.std.specs.Prelude.{◌≡◌, ◌↔◌, None, Ok, Err, IsTrue, IsSome, IfSome, IfOk};
 ghost use Rattle.std.specs.Option.{option_map};
 ghost use Rattle.triple_arena_ord.specs.Node.{knots_in};
 ghost use Rattle.triple_arena_ord.specs.Search.{IsFreeAt};
-ghost use Rattle.triple_arena_ord.specs.Ordered.{IsOrdered, IsAscending};
-ghost use Rattle.triple_arena_ord.specs.Inserted.{IsRenewed, IsReplaced, IsInsertedAt, IsInserted};
+ghost use Rattle.triple_arena_ord.specs.Ordered.{IsOrdered, IsAscending, size_in};
+ghost use Rattle.triple_arena_ord.specs.Inserted.{IsRenewed, IsReplaced, IsInsertedAt, IsInserted, Replaces, within_room, growing_room, room_made};
 
 use crate::knots::Side;
 use crate::{SimpleOrdArena, SimpleOrdArenaNode, SimpleOrdItem};
 use std::cmp::Ordering;
 use std::mem;
-use triple_arena::{ArenaSlot, ArenaTrait, NonZeroInxGenericStack, NotWithinCapacityError, Ptr};
+use triple_arena::{
+    ArenaSlot, ArenaTrait, NonZeroInxGenericStack, NotWithinCapacityError, Ptr, PtrInx,
+    ReallocationError,
+};
 use triple_arena_chain::{ChainArena, LinkNoGen};
 use triple_arena_ptr::{OrdInsertionError, Probes};
 
@@ -48,6 +51,27 @@ fn answer<P: Drop, T: Drop>(
     }
 }
 
+// What an insertion answers where a growth was refused.
+pub(crate) fn grown_error(error: ReallocationError) -> OrdInsertionError
+    ensures beyond { error ≡ ReallocationError.BeyondMaxCapacity → result ≡ OrdInsertionError.BeyondMaxCapacity }
+    ensures memory { error ≡ ReallocationError.AllocError → result ≡ OrdInsertionError.AllocError }
+{
+    match error {
+        ReallocationError::BeyondMaxCapacity => OrdInsertionError::BeyondMaxCapacity,
+        ReallocationError::AllocError => OrdInsertionError::AllocError,
+    }
+}
+
+// Whether an insertion there replaces an item, and needs no room.
+pub(crate) fn replaces<I: PtrInx>(place: Option<(I, Ordering)>) -> bool
+    ensures { IsTrue result ↔ Replaces (option_map (λ a. (I.number a.0, a.1)) place) }
+{
+    match place {
+        Some((_, Ordering::Equal)) => true,
+        _ => false,
+    }
+}
+
 impl<
     P: Ptr,
     T: Drop,
@@ -71,8 +95,8 @@ impl<
     ) -> Result<(P, Option<T>), OrdInsertionError>
         requires free { IfSome place (λ a. IsFreeAt a.1 (knots_in P.Inx.number self.old.chains (P.Inx.number a.0))) }
         requires empty { place ≡ None → self.old.root ≡ None }
-        ensures inserted { IsInsertedAt P.Inx.number P.index P.generation (option_map (λ a. (P.Inx.number a.0, a.1)) place)
-            t result self.old self.new }
+        ensures inserted { IsInsertedAt P.Inx.number P.index P.generation (within_room (size_in self.old) self.old.chains.room)
+            (option_map (λ a. (P.Inx.number a.0, a.1)) place) t result self.old self.new }
         ensures counter { self.new.chains.counter ≡ self.old.chains.counter }
         ensures room { self.new.chains.room ≡ self.old.chains.room }
         ensures ordered { IsOrdered P.Inx.number self.new }
@@ -89,6 +113,30 @@ impl<
             },
         }
     }
+
+    // The same, where the arena grows if a new entry is needed and there is no room.
+    pub(crate) fn insert_at_reallocating(
+        &mut self,
+        place: Option<(P::Inx, Ordering)>,
+        t: T,
+    ) -> Result<(P, Option<T>), OrdInsertionError>
+        requires free { IfSome place (λ a. IsFreeAt a.1 (knots_in P.Inx.number self.old.chains (P.Inx.number a.0))) }
+        requires empty { place ≡ None → self.old.root ≡ None }
+        ensures inserted { IsInsertedAt P.Inx.number P.index P.generation
+            (growing_room S.takes_memory (size_in self.old) self.old.chains.room)
+            (option_map (λ a. (P.Inx.number a.0, a.1)) place) t result self.old self.new }
+        ensures counter { self.new.chains.counter ≡ self.old.chains.counter }
+        ensures room { IfOk result (λ made. self.new.chains.room ≡ room_made made.1 (size_in self.old) self.old.chains.room) }
+        ensures ordered { IsOrdered P.Inx.number self.new }
+    {
+        if replaces(place) {
+            return self.insert_at_within_capacity(place, t);
+        }
+        match self.make_room() {
+            Ok(_) => self.insert_at_within_capacity(place, t),
+            Err(error) => Err(grown_error(error)),
+        }
+    }
 }
 
 impl<
@@ -100,7 +148,8 @@ impl<
     /// whether or not there is room. Else there is a new entry; `NotWithinCapacity`, where there is no room for it, changes
     /// nothing. A list whose keys ascend still does.
     pub fn insert_within_capacity(&mut self, t: T) -> Result<(P, Option<T>), OrdInsertionError>
-        ensures inserted { IsInserted P.Inx.number T.Key.cmp T.key_of P.index P.generation t result self.old self.new }
+        ensures inserted { IsInserted P.Inx.number T.Key.cmp T.key_of P.index P.generation
+            (within_room (size_in self.old) self.old.chains.room) t result self.old self.new }
         ensures ascending { IsAscending P.Inx.number T.Key.cmp T.key_of self.old → IsAscending P.Inx.number T.Key.cmp T.key_of self.new }
         ensures counter { self.new.chains.counter ≡ self.old.chains.counter }
         ensures room { self.new.chains.room ≡ self.old.chains.room }
@@ -108,5 +157,32 @@ impl<
     {
         let place = self.seek(t.key(), &mut Probes::new());
         self.insert_at_within_capacity(place, t)
+    }
+
+    /// The same, where the arena grows if there is no room for a new entry: to room for 4 at first, then for the double, and
+    /// never past its greatest capacity. `BeyondMaxCapacity`, where as many entries are live as the greatest capacity, and
+    /// `AllocError`, where the memory was refused, change nothing.
+    pub fn insert_reallocating(&mut self, t: T) -> Result<(P, Option<T>), OrdInsertionError>
+        ensures inserted { IsInserted P.Inx.number T.Key.cmp T.key_of P.index P.generation
+            (growing_room S.takes_memory (size_in self.old) self.old.chains.room) t result self.old self.new }
+        ensures ascending { IsAscending P.Inx.number T.Key.cmp T.key_of self.old → IsAscending P.Inx.number T.Key.cmp T.key_of self.new }
+        ensures counter { self.new.chains.counter ≡ self.old.chains.counter }
+        ensures room { IfOk result (λ made. self.new.chains.room ≡ room_made made.1 (size_in self.old) self.old.chains.room) }
+        ensures ordered { IsOrdered P.Inx.number self.new }
+    {
+        let place = self.seek(t.key(), &mut Probes::new());
+        self.insert_at_reallocating(place, t)
+    }
+
+    /// The same as `insert_reallocating`.
+    pub fn insert(&mut self, t: T) -> Result<(P, Option<T>), OrdInsertionError>
+        ensures inserted { IsInserted P.Inx.number T.Key.cmp T.key_of P.index P.generation
+            (growing_room S.takes_memory (size_in self.old) self.old.chains.room) t result self.old self.new }
+        ensures ascending { IsAscending P.Inx.number T.Key.cmp T.key_of self.old → IsAscending P.Inx.number T.Key.cmp T.key_of self.new }
+        ensures counter { self.new.chains.counter ≡ self.old.chains.counter }
+        ensures room { IfOk result (λ made. self.new.chains.room ≡ room_made made.1 (size_in self.old) self.old.chains.room) }
+        ensures ordered { IsOrdered P.Inx.number self.new }
+    {
+        self.insert_reallocating(t)
     }
 }

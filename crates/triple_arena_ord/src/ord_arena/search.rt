@@ -1,10 +1,10 @@
 //! Searches by key.
-ghost use Rattle.std.specs.Prelude.{◌+◌, ◌≤◌, IfSome};
+ghost use Rattle.std.specs.Prelude.{◌≡◌, ◌+◌, ◌≤◌, IfSome};
 ghost use Rattle.std.specs.Option.{option_map};
 ghost use Rattle.counted_search.specs.Searches.{fair};
 ghost use Rattle.triple_arena_ord.specs.Tree.{rank_of};
 ghost use Rattle.triple_arena_ord.specs.Node.{knots_in};
-ghost use Rattle.triple_arena_ord.specs.Search.{IsAnswer, IsFreeAt};
+ghost use Rattle.triple_arena_ord.specs.Search.{IsAnswer, IsFreeAt, asked_down};
 ghost use Rattle.triple_arena_ord.specs.Ordered.{IsOrdered, IsAscending, tree_in, size_in, asked_at};
 ghost use Rattle.triple_arena_ord.specs.Found.{IsFound, IsSimilar};
 
@@ -25,8 +25,8 @@ impl<
         ensures answer { IsAnswer (asked_at T.Key.cmp T.key_of k.now self.now)
             (tree_in P.Inx.number self.now) (option_map (λ a. (P.Inx.number a.0, a.1)) result) }
         ensures free { IfSome result (λ a. IsFreeAt a.1 (knots_in P.Inx.number self.now.chains (P.Inx.number a.0))) }
-        ensures rises { probes.old ≤ probes.new }
-        ensures ticks { probes.new ≤ probes.old + rank_of (tree_in P.Inx.number self.now) }
+        ensures ticks { probes.new ≡ probes.old + asked_down (asked_at T.Key.cmp T.key_of k.now self.now) (tree_in P.Inx.number self.now) }
+        ensures bound { probes.new ≤ probes.old + rank_of (tree_in P.Inx.number self.now) }
         ensures ordered { IsOrdered P.Inx.number self.now }
     {
         let mut link = self.root;
@@ -50,11 +50,12 @@ impl<
     }
 
     /// The pointer to an entry with an equal key; in a list whose keys ascend, exactly where there is one. Each comparison is a
-    /// tick, and among n entries there are at most c of them, where c is the greatest number with `2^(c+1) <= (n+1)^2`.
+    /// tick, one at each entry on the way down from the root, and among n entries there are at most c of them, where c is the
+    /// greatest number with `2^(c+1) <= (n+1)^2`.
     pub fn find_key_counted(&self, k: &T::Key, probes: &mut Probes) -> Option<P>
         ensures found { IsFound P.index P.generation (asked_at T.Key.cmp T.key_of k.now self.now)
             (IsAscending P.Inx.number T.Key.cmp T.key_of self.now) result self.now }
-        ensures rises { probes.old ≤ probes.new }
+        ensures ticks { probes.new ≡ probes.old + asked_down (asked_at T.Key.cmp T.key_of k.now self.now) (tree_in P.Inx.number self.now) }
         ensures bound { probes.new ≤ probes.old + fair (size_in self.now) }
     {
         let place = self.seek(k, probes);
@@ -75,7 +76,7 @@ impl<
     pub fn find_similar_key_counted(&self, k: &T::Key, probes: &mut Probes) -> Option<(P, Ordering)>
         ensures similar { IsSimilar P.index P.generation P.Inx.number (asked_at T.Key.cmp T.key_of k.now self.now)
             (IsAscending P.Inx.number T.Key.cmp T.key_of self.now) result self.now }
-        ensures rises { probes.old ≤ probes.new }
+        ensures ticks { probes.new ≡ probes.old + asked_down (asked_at T.Key.cmp T.key_of k.now self.now) (tree_in P.Inx.number self.now) }
         ensures bound { probes.new ≤ probes.old + fair (size_in self.now) }
     {
         let place = self.seek(k, probes);

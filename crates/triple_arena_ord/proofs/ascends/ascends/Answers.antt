@@ -1,6 +1,6 @@
-use Rattle.std.proofs.Common.{◌≡◌, Some, refl, sym, ap, ◌∙◌, arith}
+use Rattle.std.proofs.Common.{refl, sym, ap, ◌∙◌, arith}
 use Rattle.std.specs.Option.{option_map}
-use Rattle.triple_arena_ord.proofs.AlongLemmas.{Seen, seen, checking_begins, first_lives, next_lives, checking_step, checking_fails, checking_ends, checking_done}
+use Rattle.triple_arena_ord.proofs.AlongLemmas.{seen, checking_begins, first_lives, next_lives, checking_step, checking_fails, checking_ends, checking_done}
 use Rattle.triple_arena_ord.proofs.ascends.ascends.Goals as goal
 
 pub link_at-link-requires : goal.link_at-link-requires

@@ -1,7 +1,7 @@
-use Rattle.std.proofs.Common.{◌≡◌, Some, Option, refl, sym, ap, ◌∙◌, of_calls}
+use Rattle.std.proofs.Common.{refl, sym, ap, ◌∙◌, of_calls}
 use Rattle.std.specs.Option.{option_map}
 use Rattle.triple_arena_ord.specs.Node.{knot_of}
-use Rattle.triple_arena_ord.proofs.AskedLemmas.{Asked, goes, asking_begins, asking_step, asking_ends}
+use Rattle.triple_arena_ord.proofs.AskedLemmas.{goes, asking_begins, asking_step, asking_ends}
 use Rattle.triple_arena_ord.proofs.asks.ask_down.Goals as goal
 
 pub down-init : goal.down-init

@@ -1,4 +1,3 @@
-use Rattle.std.proofs.Common.{ℕ}
 use Rattle.std.specs.Option.{option_map}
 use Rattle.triple_arena_ord.specs.Store.{rank_or_link}
 use Rattle.triple_arena_ord.specs.Whole.{tree_of}

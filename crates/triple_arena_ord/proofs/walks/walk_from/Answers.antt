@@ -1,4 +1,4 @@
-use Rattle.std.proofs.Common.{arith, ap, ◌∙◌, sym, None}
+use Rattle.std.proofs.Common.{arith, ap, ◌∙◌, sym}
 use Rattle.std.specs.Option.{option_map}
 use Rattle.triple_arena_ord.proofs.WalkLemmas.{link_seen, none_seen, walk_lives, walk_step, walk_stops, walk_passes}
 use Rattle.triple_arena_ord.proofs.walks.walk_from.Goals as goal

@@ -1,4 +1,4 @@
-use Rattle.std.proofs.Common.{◌≡◌, None, refl, sym, ap, ◌∙◌, subst, arith}
+use Rattle.std.proofs.Common.{refl, sym, ap, ◌∙◌, subst, arith}
 use Rattle.std.specs.Option.{option_map}
 use Rattle.triple_arena_ord.specs.Ordered.{Ordered, IsAscending, order_in}
 use Rattle.triple_arena_ord.proofs.LinearLemmas.{empty_ascends}

@@ -17,4 +17,4 @@ returns-clause-found g c =
     (subst (λ z. IfSome c.found_at.result (λ p. generation_at (entry_in z) (g.P.Ptr.index p) ≡ Some (g.P.Ptr.generation p))) c.self.view_is c.found_at.ensures.live)
 
 pub returns-clause-bound : goal.returns-clause-bound
-returns-clause-bound g c = few _ _ _ _ c.seek-place.ensures.ordered c.seek-place.ensures.ticks
+returns-clause-bound g c = few _ _ _ _ c.seek-place.ensures.ordered c.seek-place.ensures.bound

@@ -1,4 +1,4 @@
-use Rattle.std.proofs.Common.{◌≡◌, ℕ, Some, IfSome, ap, sym, ◌∙◌, subst, option_map}
+use Rattle.std.proofs.Common.{◌≡◌, Some, IfSome, ap, sym, subst, option_map}
 use Rattle.triple_arena.specs.Entries.{generation_at}
 use Rattle.std.specs.declared.cmp.Ordering.TheVariants.{Equal}
 use Rattle.triple_arena_ord.specs.Near.{IsEndNear}

@@ -17,4 +17,4 @@ returns-clause-similar g c =
     (subst (λ z. IfSome c.similar_at.result (λ x. generation_at (entry_in z) (g.P.Ptr.index x.0) ≡ Some (g.P.Ptr.generation x.0))) c.self.view_is c.similar_at.ensures.live)
 
 pub returns-clause-bound : goal.returns-clause-bound
-returns-clause-bound g c = few _ _ _ _ c.seek-place.ensures.ordered c.seek-place.ensures.ticks
+returns-clause-bound g c = few _ _ _ _ c.seek-place.ensures.ordered c.seek-place.ensures.bound

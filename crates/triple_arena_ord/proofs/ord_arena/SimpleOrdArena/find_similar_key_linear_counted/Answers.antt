@@ -1,4 +1,4 @@
-use Rattle.std.proofs.Common.{◌≡◌, ◌+◌, Some, IfSome, subst, sym, ap, arith}
+use Rattle.std.proofs.Common.{◌≡◌, Some, IfSome, subst}
 use Rattle.triple_arena.specs.Entries.{generation_at}
 use Rattle.triple_arena_ord.specs.Ordered.{IsAscending, entry_in, asked_at}
 use Rattle.triple_arena_ord.proofs.SeekLemmas.{parts_at}

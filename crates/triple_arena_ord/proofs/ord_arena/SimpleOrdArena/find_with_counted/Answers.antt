@@ -1,6 +1,4 @@
-use Rattle.std.proofs.Common.{◌≡◌, Some, None, sym, ap, ◌∙◌}
-use Rattle.std.specs.declared.cmp.Ordering.{Ordering}
-use Rattle.std.specs.declared.cmp.Ordering.TheVariants.{Less, Equal, Greater}
+use Rattle.std.proofs.Common.{Some, None, sym, ap, ◌∙◌}
 use Rattle.triple_arena_ord.specs.Asked.{found_by}
 use Rattle.triple_arena_ord.proofs.FoundLemmas.{found_asked, found_by_other}
 use Rattle.triple_arena_ord.proofs.ord_arena.SimpleOrdArena.find_with_counted.Goals as goal

@@ -1,6 +1,6 @@
 use Rattle.std.proofs.Common.{◌+◌, refl, sym, ap, ◌∙◌, option_map, arith}
 use Rattle.triple_arena_ord.specs.Node.{knots_in}
-use Rattle.triple_arena_ord.proofs.Descents.{falls_down, descent_ends, descent_lives}
+use Rattle.triple_arena_ord.proofs.Descents.{falls_down, descent_ends, descent_asked, descent_lives}
 use Rattle.triple_arena_ord.proofs.SeekLemmas.{seek_begins, seek_step, seek_ends}
 use Rattle.triple_arena_ord.proofs.ord_arena.SimpleOrdArena.seek.Goals as goal
 
@@ -26,6 +26,20 @@ returns-in-Equal-clause-answer g c =
 
 pub returns-in-Equal-clause-ticks : goal.returns-in-Equal-clause-ticks
 returns-in-Equal-clause-ticks g c =
+    let s = seek_step g.P.Inx.PtrInx.number g.T.Key.Ord.cmp g.T.SimpleOrdItem.key_of c.args.k.now c.args.self.now _ c.self.view_is (g.P.Inx.PtrInx.number c.in-Some.i) _ _ refl c.get_inx_unwrap-node.ensures _ _ c.down.invariant.0 (ap (option_map g.P.Inx.PtrInx.number) c.in-Some.is) c.down.invariant.1.1 in
+    let before = c.down.invariant.1.0 in
+    let ticked = c.tick.ensures in
+    let all = s.here.all_asked (s.is ∙ ap (g.T.Key.Ord.cmp c.args.k.now) (sym c.key.ensures) ∙ sym c.cmp.ensures ∙ c.in-Equal.is) in
+    omega (arith, before, ticked, all)
+
+pub returns-clause-ticks : goal.returns-clause-ticks
+returns-clause-ticks g c =
+    let before = c.down.invariant.1.0 in
+    let all = descent_asked _ _ _ _ _ _ (ap (option_map g.P.Inx.PtrInx.number) c.in_default.is) c.down.invariant.1.1 in
+    omega (arith, before, all)
+
+pub returns-in-Equal-clause-bound : goal.returns-in-Equal-clause-bound
+returns-in-Equal-clause-bound g c =
     let s = seek_step g.P.Inx.PtrInx.number g.T.Key.Ord.cmp g.T.SimpleOrdItem.key_of c.args.k.now c.args.self.now _ c.self.view_is (g.P.Inx.PtrInx.number c.in-Some.i) _ _ refl c.get_inx_unwrap-node.ensures _ _ c.down.invariant.0 (ap (option_map g.P.Inx.PtrInx.number) c.in-Some.is) c.down.invariant.1.1 in
     let before = c.down.invariant.1.0 in
     let ticked = c.tick.ensures in

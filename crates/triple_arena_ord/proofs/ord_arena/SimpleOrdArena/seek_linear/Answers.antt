@@ -1,4 +1,4 @@
-use Rattle.std.proofs.Common.{ℕ, Some, not, ap, ◌∙◌, option_map}
+use Rattle.std.proofs.Common.{ℕ, not, ap, ◌∙◌, option_map}
 use Rattle.std.specs.declared.cmp.Ordering.{Ordering}
 use Rattle.triple_arena_ord.specs.Ordered.{Ordered}
 use Rattle.triple_arena_ord.proofs.LinearLemmas.{looked_up, on_chain, linear_answer, linear_near}

@@ -1,0 +1,44 @@
+-- Where the nodes and the interlinks stay, so does the list.
+use Rattle.std.proofs.Common.{◌≡◌, ℕ, ◌<◌, length, None, IsSome, sym, ap, ◌∙◌, subst}
+use Rattle.triple_arena.specs.Content.{live_count}
+use Rattle.triple_arena_chain.specs.Chains.{IsLinear}
+use Rattle.triple_arena_chain.specs.Links.{ends_in}
+use Rattle.triple_arena_chain.specs.Lists.{Linear}
+use Rattle.triple_arena_chain.specs.ListLaws.{chain_where}
+use Rattle.triple_arena_ord.specs.Node.{knots_in}
+use Rattle.triple_arena_ord.specs.Tree.{walk, IsRanked}
+use Rattle.triple_arena_ord.specs.Shape.{Stands, IsDistinct, count}
+use Rattle.triple_arena_ord.specs.Ordered.{Ordered, IsOrdered, tree_in, order_in}
+use Rattle.triple_arena_ord.proofs.Frames.{Represents-keep}
+use Rattle.triple_arena_ord.proofs.Unique.{tree_is}
+
+module _ {I T : Type 0} (number : I → ℕ) where
+  -- the list is the same, and as it must be
+  pub record Reordered (o p : Ordered I T) : Type 0 where
+    pub ordered : IsOrdered number p
+    pub order : order_in number p ≡ order_in number o
+
+  pub same_list : (o p : Ordered I T) → p.root ≡ o.root → ((k : ℕ) → knots_in number p.chains k ≡ knots_in number o.chains k)
+      → ((k : ℕ) → ends_in number p.chains k ≡ ends_in number o.chains k) → live_count p.chains ≡ live_count o.chains
+      → IsOrdered number o → Reordered o p
+  same_list o p root knots ends live is =
+      let n = knots_in number p.chains in
+      let tree = tree_in number o in
+      let stands : Stands n p.root tree =
+      (root ∙ is.whole.stands.0, Represents-keep (knots_in number o.chains) n None tree (λ j c. knots j) is.whole.stands.1) in
+      let same : tree_in number p ≡ tree = tree_is n p.root tree stands is.whole.ranked in
+      let order : order_in number p ≡ order_in number o = ap walk same in
+      let linear = chain_where (ends_in number o.chains) (ends_in number p.chains) (Linear (order_in number o)) (λ i on. ends i) is.linear in
+      record {
+        ordered = record {
+          whole = record {
+            stands = subst (Stands n p.root) (sym same) stands;
+            distinct = subst IsDistinct (sym same) is.whole.distinct;
+            ranked = subst IsRanked (sym same) is.whole.ranked;
+          };
+          linear = subst (IsLinear (ends_in number p.chains)) (sym order) linear;
+          all = λ i lives. subst (λ t. 0 < count i t) (sym same) (is.all i (subst IsSome (knots i) lives));
+          counted = ap length order ∙ is.counted ∙ sym live;
+        };
+        order = order;
+      }

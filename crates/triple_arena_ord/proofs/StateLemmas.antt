@@ -1,0 +1,110 @@
+-- The exact states of the calls that leave the list as it is, and of those that leave no entry.
+use Rattle.std.proofs.Common.{◌≡◌, ℕ, Option, Some, None, IfNone, OnSome, is_some, count_by, refl, sym, ap, ◌∙◌, inl, inr}
+use Rattle.std.specs.Option.{option_map}
+use Rattle.std.proofs.lemmas.Bool.Decides.{eqb_tells}
+use Rattle.triple_arena.specs.Content.{Content, entry_at, live_count, invalidated}
+use Rattle.triple_arena.specs.ContentLaws.{entry-same_slots}
+use Rattle.triple_arena.specs.Changes.{IsInvalidated}
+use Rattle.triple_arena.specs.Entries.{with_generation_at}
+use Rattle.triple_arena.specs.GenerationLaws.{entry-invalidated, live-invalidated, counter-invalidated, room-invalidated}
+use Rattle.triple_arena_ptr.specs.Generation.{next_generation}
+use Rattle.triple_arena_chain.specs.declared.link.IndexLink.{IndexLink}
+use Rattle.triple_arena_chain.specs.Links.{ends_in, values_in, valued, with_link, with_link_of, with_value_in}
+use Rattle.triple_arena_chain.specs.SameLinksLaws.{ends-same_slots, ends-invalidated}
+use Rattle.triple_arena_ord.specs.declared.node.IndexNode.{IndexNode}
+use Rattle.triple_arena_ord.specs.Node.{knots_in, knot_of, items_in, itemed}
+use Rattle.triple_arena_ord.specs.Ordered.{Ordered, IsOrdered, entry_in, size_in, counter_in, room_in}
+use Rattle.triple_arena_ord.specs.States.{invalidated_in}
+use Rattle.triple_arena_ord.proofs.SameListLemmas.{Reordered, same_list}
+use Rattle.triple_arena_ord.proofs.InsertLemmas.{renewed, renewed_ordered}
+
+module _ {I T : Type 0} where
+  -- a node with another item, as it is lent
+  pub item_lent : (c : Content (IndexLink I (IndexNode I T))) (i : ℕ) (v : IndexNode I T) (w : T) → option_map (λ e. e.1) (values_in c i) ≡ Some v
+      → with_value_in c i (record v { t = w }) ≡ with_link c i (λ link. record link { t = record link.t { t = w } })
+  item_lent c i v w is = by (entry_at c i) refl
+    where
+      by : (o : Option (ℕ × IndexLink I (IndexNode I T))) → entry_at c i ≡ o
+          → with_value_in c i (record v { t = w }) ≡ with_link c i (λ link. record link { t = record link.t { t = w } })
+      by None at = ap (with_link_of c i (λ link. record link { t = record v { t = w } })) at ∙ sym (ap (with_link_of c i (λ link. record link { t = record link.t { t = w } })) at)
+      by (Some e) at =
+          let found : Some e.1.t ≡ Some v = sym (ap (λ o. option_map (λ e. e.1) (option_map valued o)) at) ∙ is in
+          let node : e.1.t ≡ v = cc found in
+          ap (with_link_of c i (λ link. record link { t = record v { t = w } })) at
+          ∙ ap (λ (n : IndexNode I T). with_link_of c i (λ link. record link { t = record n { t = w } }) (Some e)) (sym node)
+          ∙ sym (ap (with_link_of c i (λ link. record link { t = record link.t { t = w } })) at)
+
+  items-invalidated : (last : Option ℕ) (c : Content (IndexLink I (IndexNode I T))) (i j : ℕ)
+      → items_in (invalidated last c i) j ≡ with_generation_at (items_in c) i (next_generation last c.counter) j
+  items-invalidated last c i j =
+      ap (λ o. option_map itemed (option_map valued o)) (entry-invalidated last c i j)
+      ∙ elim (eqb_tells j i) [
+        | inl same ↦ rw same.0 (by (entry_at c i))
+        | inr other ↦ rw other.0 refl
+      ]
+    where
+      by : (o : Option (ℕ × IndexLink I (IndexNode I T)))
+          → option_map itemed (option_map valued (option_map (λ e. (next_generation last c.counter, e.1)) o))
+          ≡ option_map (λ e. (next_generation last c.counter, e.1)) (option_map itemed (option_map valued o))
+      by None = refl
+      by (Some e) = refl
+
+  pub invalidated_is : (last : Option ℕ) (o : Ordered I T) (i : ℕ)
+      → IsInvalidated entry_in size_in counter_in room_in last i (next_generation last o.chains.counter) o (invalidated_in last o i)
+  invalidated_is last o i = record {
+    entries = items-invalidated last o.chains i;
+    live = live-invalidated last o.chains i;
+    counter = ap Some (counter-invalidated last o.chains i);
+    room = room-invalidated last o.chains i;
+  }
+
+module _ {I T : Type 0} (number : I → ℕ) where
+  knots-invalidated : (last : Option ℕ) (c : Content (IndexLink I (IndexNode I T))) (i j : ℕ) → knots_in number (invalidated last c i) j ≡ knots_in number c j
+  knots-invalidated last c i j =
+      ap (λ o. option_map (λ e. knot_of number e.1) (option_map valued o)) (entry-invalidated last c i j)
+      ∙ elim (eqb_tells j i) [
+        | inl same ↦ rw same.0 (by (entry_at c i) ∙ ap (λ k. knots_in number c k) (sym same.1))
+        | inr other ↦ rw other.0 refl
+      ]
+    where
+      by : (o : Option (ℕ × IndexLink I (IndexNode I T)))
+          → option_map (λ e. knot_of number e.1) (option_map valued (option_map (λ e. (next_generation last c.counter, e.1)) o))
+          ≡ option_map (λ e. knot_of number e.1) (option_map valued o)
+      by None = refl
+      by (Some e) = refl
+
+  pub invalidated_list : (last : Option ℕ) (o : Ordered I T) (i : ℕ) → IsOrdered number o → Reordered number o (invalidated_in last o i)
+  invalidated_list last o i is =
+      same_list number o (invalidated_in last o i) refl (knots-invalidated last o.chains i) (ends-invalidated number last o.chains i)
+      (live-invalidated last o.chains i) is
+
+  -- the same slots
+  pub same_slots_list : (o p : Ordered I T) → p.root ≡ o.root → p.chains.slots ≡ o.chains.slots → IsOrdered number o → Reordered number o p
+  same_slots_list o p root slots is =
+      same_list number o p root (λ k. ap (λ e. option_map (λ e. knot_of number e.1) (option_map valued e)) (entry-same_slots p.chains o.chains slots k))
+      (ends-same_slots number o.chains p.chains slots) (ap (count_by is_some) slots) is
+
+  -- whether or not there is an entry at the pointer
+  pub invalidates_list : {A : Type 0} (last : Option ℕ) (o p : Ordered I T) (i : ℕ) (r : Option A) → p.root ≡ o.root
+      → OnSome r (p.chains ≡ invalidated last o.chains i) → IfNone r (p.chains ≡ o.chains) → IsOrdered number o → Reordered number o p
+  invalidates_list last o p i None root some none is =
+      same_list number o p root (λ k. ap (λ c. knots_in number c k) none) (λ k. ap (λ c. ends_in number c k) none) (ap live_count none) is
+  invalidates_list last o p i (Some a) root some none is =
+      same_list number o p root (λ k. ap (λ c. knots_in number c k) some ∙ knots-invalidated last o.chains i k)
+      (λ k. ap (λ c. ends_in number c k) some ∙ ends-invalidated number last o.chains i k) (ap live_count some ∙ live-invalidated last o.chains i) is
+
+  -- an item that is lent leaves the list, whatever is written
+  pub lent_list : (o : Ordered I T) (i : ℕ) (v : IndexNode I T) (w : T) → option_map (λ e. e.1) (values_in o.chains i) ≡ Some v
+      → IsOrdered number o → Reordered number o (record o { chains = with_value_in o.chains i (record v { t = w }) })
+  lent_list o i v w is ordered = by (values_in o.chains i) refl
+    where
+      p : Ordered I T
+      p = record o { chains = with_value_in o.chains i (record v { t = w }) }
+
+      by : (e : Option (ℕ × IndexNode I T)) → values_in o.chains i ≡ e → Reordered number o p
+      by None at = absurd (let no : None ≡ Some v = sym (ap (option_map (λ e. e.1)) at) ∙ is in cc no)
+      by (Some e) at =
+          let found : Some e.1 ≡ Some v = sym (ap (option_map (λ e. e.1)) at) ∙ is in
+          let node : e.1 ≡ v = cc found in
+          let here : values_in o.chains i ≡ Some (e.0, v) = at ∙ ap (λ n. Some (e.0, n)) node in
+          renewed_ordered number o p i e.0 w v.t refl (renewed number o.chains i e.0 v (record v { t = w }) here refl) ordered

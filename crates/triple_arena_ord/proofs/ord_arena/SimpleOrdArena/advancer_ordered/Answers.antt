@@ -1,0 +1,10 @@
+use Rattle.std.proofs.Common.{rules, ◌≡◌}
+use Rattle.triple_arena_ord.specs.OrderedWalks.{walk_at}
+use Rattle.triple_arena_ord.proofs.OrderedWalkLemmas.{begins}
+use Rattle.triple_arena_ord.proofs.ord_arena.SimpleOrdArena.advancer_ordered.Goals as goal
+
+pub returns-then-finds-clause-along : goal.returns-then-finds-clause-along
+returns-then-finds-clause-along g c =
+    let starts : c.from.result ≡ walk_at (g.P.Ptr.index c.args.p) c.args.rev = search rules in
+    begins g.P.Inx.PtrInx.number c.args.self.now c.finds.ensures.ordered c.from.result (g.P.Ptr.index c.args.p) (g.P.Ptr.generation c.args.p) c.args.rev
+    (c.finds.ensures.found.0 c.if-finds.true) starts

@@ -1,0 +1,77 @@
+-- The ends of the list, and walks along it.
+use Rattle.std.specs.Prelude.{◌≡◌, ◌↔◌, ◌==◌, if◌then◌else◌, ℕ, Bool, List, [], ◌∷◌, ◌++◌, reverse, filter_map, Option, Some, None, IfSome}
+use Rattle.std.specs.Borrow.{Bor}
+use Rattle.std.specs.Option.{option_map}
+use Rattle.triple_arena.specs.Entries.{generation_at}
+use Rattle.triple_arena_chain.specs.Chains.{first_or}
+use Rattle.triple_arena_chain.specs.declared.link.IndexLink.{IndexLink}
+use Rattle.triple_arena_ord.specs.Ordered.{Ordered, order_in, entry_in, size_in}
+
+-- the index that a walk gives next, if there is one, and whether it goes backward
+pub record OrderedWalk : Type 0 where
+  pub at : Option ℕ
+  pub back : Bool
+
+-- the walk that begins at an index
+abbrev pub walk_at : ℕ → Bool → OrderedWalk
+walk_at i back = record { at = Some i; back = back }
+
+-- a list from an index on, if it stands there
+abbrev pub from_index : List ℕ → ℕ → List ℕ
+from_index [] i = []
+from_index (x ∷ xs) i = if x == i then x ∷ xs else from_index xs i
+
+abbrev pub from_where : List ℕ → Option ℕ → List ℕ
+from_where w None = []
+from_where w (Some i) = from_index w i
+
+-- a list as a walk goes along it
+abbrev pub along : Bool → List ℕ → List ℕ
+along back w = if back then reverse w else w
+
+-- an index of a list, before those that follow it, or with `back` before those that precede it
+pub record IsFrom (w : List ℕ) (i : ℕ) (back : Bool) (left : List ℕ) : Type 0 where
+  pub before : List ℕ
+  pub after : List ℕ
+  pub is : w ≡ before ++ i ∷ after
+  pub left_is : left ≡ i ∷ (if back then reverse before else after)
+
+module _ {I T : Type 0} where
+  -- a link with the value that it lends
+  abbrev pub read_link : IndexLink I (Bor T) → IndexLink I T
+  read_link link = record { prev = link.prev; next = link.next; t = link.t.now }
+
+  -- the entries at these indexes, each beside its index
+  abbrev pub listed_at : Ordered I T → List ℕ → List (ℕ × (ℕ × T))
+  listed_at o w = filter_map (λ i. option_map (λ e. (i, e)) (entry_in o i)) w
+
+  module _ {P : Type 0} (index generation : P → ℕ) where
+    -- the pointer to the entry at an end of the list, exactly where there is an entry
+    pub record IsEnd (end : Option ℕ) (result : Option P) (o : Ordered I T) : Type 0 where
+      pub at : option_map index result ≡ end
+      pub live : IfSome result (λ p. generation_at (entry_in o) (index p) ≡ Some (generation p))
+      pub none : (result ≡ None) ↔ (size_in o ≡ 0)
+
+  module _ (number : I → ℕ) where
+    -- the indexes that are left to a walk over an arena that stays: a loop over them is measured by their number
+    abbrev pub left_over : Ordered I T → OrderedWalk → List ℕ
+    left_over o w = from_where (along w.back (order_in number o)) w.at
+
+    -- a step gives the entry where the walk is, and notes the index that comes next
+    pub record IsGiven (i g : ℕ) (o : Ordered I T) (before after : OrderedWalk) : Type 0 where
+      pub at : before.at ≡ Some i
+      pub live : generation_at (entry_in o) i ≡ Some g
+      pub left : left_over o before ≡ i ∷ left_over o after
+      pub next : after.at ≡ first_or (left_over o after) None
+      pub same : after.back ≡ before.back
+
+    -- a step where no entry lives ends the walk
+    pub record IsOver (o : Ordered I T) (before after : OrderedWalk) : Type 0 where
+      pub vacant : IfSome before.at (λ i. entry_in o i ≡ None)
+      pub left : left_over o before ≡ []
+      pub ended : after.at ≡ None
+      pub same : after.back ≡ before.back
+
+    abbrev pub OrderedSteps : Ordered I T → OrderedWalk → Option (ℕ × ℕ) → OrderedWalk → Type 0
+    OrderedSteps o before None after = IsOver o before after
+    OrderedSteps o before (Some p) after = IsGiven p.0 p.1 o before after

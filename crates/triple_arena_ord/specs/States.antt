@@ -1,0 +1,26 @@
+-- What exactly an ordered arena is after the calls that leave its list as it is, and after one that leaves no entry.
+use Rattle.std.specs.Prelude.{ℕ, Option, None}
+use Rattle.triple_arena.specs.Content.{cleared, invalidated, stepped, with_counter}
+use Rattle.triple_arena_chain.specs.Links.{with_link}
+use Rattle.triple_arena_ord.specs.Ordered.{Ordered}
+
+module _ {I T : Type 0} where
+  -- with another item at an index, if there is one
+  abbrev pub with_item : Ordered I T → ℕ → T → Ordered I T
+  with_item o i t = record o { chains = with_link o.chains i (λ link. record link { t = record link.t { t = t } }) }
+
+  -- with the next counter, and the entry at an index under it, whose pointer ended
+  abbrev pub invalidated_in : Option ℕ → Ordered I T → ℕ → Ordered I T
+  invalidated_in last o i = record o { chains = invalidated last o.chains i }
+
+  -- with this counter
+  abbrev pub with_counter_in : Ordered I T → ℕ → Ordered I T
+  with_counter_in o g = record o { chains = with_counter o.chains g }
+
+  -- with the next counter
+  abbrev pub stepped_in : Option ℕ → Ordered I T → Ordered I T
+  stepped_in last o = record o { chains = stepped last o.chains }
+
+  -- with no entry and no slot, and the next counter
+  abbrev pub cleared_in : Option ℕ → Ordered I T → Ordered I T
+  cleared_in last o = record { chains = cleared last o.chains; root = None }

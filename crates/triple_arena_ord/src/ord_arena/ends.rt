@@ -1,0 +1,63 @@
+//! The ends of the list.
+ghost use Rattle.std.specs.Prelude.{◌≡◌, None, IsSome};
+ghost use Rattle.std.specs.Option.{option_map};
+ghost use Rattle.triple_arena.specs.Entries.{generation_at};
+ghost use Rattle.triple_arena_chain.specs.Chains.{first_or, last_or};
+ghost use Rattle.triple_arena_ord.specs.Ordered.{IsOrdered, order_in, entry_in};
+ghost use Rattle.triple_arena_ord.specs.OrderedWalks.{IsEnd};
+
+use crate::ord_arena::found::ptr_at;
+use crate::{SimpleOrdArena, SimpleOrdArenaNode};
+use triple_arena::{ArenaSlot, NonZeroInxGenericStack, Ptr};
+use triple_arena_chain::LinkNoGen;
+
+impl<
+    P: Ptr,
+    T: Drop,
+    S: NonZeroInxGenericStack<ArenaSlot<P, LinkNoGen<P, SimpleOrdArenaNode<P, T>>>> + Drop,
+> SimpleOrdArena<P, T, S> {
+    // The index of the first entry.
+    pub(crate) fn first_index(&self) -> Option<P::Inx>
+        ensures at { option_map P.Inx.number result ≡ first_or (order_in P.Inx.number self.now) None }
+        ensures ordered { IsOrdered P.Inx.number self.now }
+    {
+        self.first
+    }
+
+    // The index of the last entry.
+    fn last_index(&self) -> Option<P::Inx>
+        ensures at { option_map P.Inx.number result ≡ last_or None (order_in P.Inx.number self.now) }
+        ensures ordered { IsOrdered P.Inx.number self.now }
+    {
+        self.last
+    }
+
+    // The pointer to the entry at an index that is live.
+    fn ptr_to(&self, i: P::Inx) -> P
+        requires { IsSome (entry_in self.now (P.Inx.number i)) }
+        ensures index { P.index result ≡ P.Inx.number i }
+        ensures live { generation_at (entry_in self.now) (P.index result) ≡ Some (P.generation result) }
+    {
+        ptr_at(&self.chains, i)
+    }
+
+    /// The pointer to the first entry of the list, or `None` where there is no entry.
+    pub fn first(&self) -> Option<P>
+        ensures { IsEnd P.index P.generation (first_or (order_in P.Inx.number self.now) None) result self.now }
+    {
+        match self.first_index() {
+            Some(i) => Some(self.ptr_to(i)),
+            None => None,
+        }
+    }
+
+    /// The pointer to the last entry of the list, or `None` where there is no entry.
+    pub fn last(&self) -> Option<P>
+        ensures { IsEnd P.index P.generation (last_or None (order_in P.Inx.number self.now)) result self.now }
+    {
+        match self.last_index() {
+            Some(i) => Some(self.ptr_to(i)),
+            None => None,
+        }
+    }
+}

@@ -1,0 +1,48 @@
+//! The counter of an ordered arena.
+ghost use Rattle.std.specs.Prelude.{◌≡◌};
+ghost use Rattle.std.specs.Option.{option_map};
+ghost use Rattle.triple_arena_ptr.specs.Generation.{next_wraps};
+ghost use Rattle.triple_arena_ptr.specs.InvalidationOption.{overflowed};
+ghost use Rattle.triple_arena_ord.specs.Ordered.{IsOrdered, counter_in};
+ghost use Rattle.triple_arena_ord.specs.States.{with_counter_in, stepped_in};
+
+use crate::{SimpleOrdArena, SimpleOrdArenaNode};
+use triple_arena::{ArenaSlot, ArenaTrait, InvalidationOption, NonZeroInxGenericStack, Ptr};
+use triple_arena_chain::LinkNoGen;
+
+impl<
+    P: Ptr,
+    T: Drop,
+    S: NonZeroInxGenericStack<ArenaSlot<P, LinkNoGen<P, SimpleOrdArenaNode<P, T>>>> + Drop,
+> SimpleOrdArena<P, T, S> {
+    /// The counter, which is the generation of the next entry.
+    pub fn generation(&self) -> P::Gen
+        ensures { P.Gen.number result ≡ self.now.chains.counter }
+    {
+        self.chains.generation()
+    }
+
+    /// The counter, in an arena that has one, as each ordered arena does.
+    pub fn singular_generation(&self) -> Option<P::Gen>
+        ensures { option_map P.Gen.number result ≡ counter_in self.now }
+    {
+        self.chains.singular_generation()
+    }
+
+    /// Sets the counter. A pointer that ended long ago may be given again where the counter goes back.
+    pub fn set_generation(&mut self, generation: P::Gen)
+        ensures exact { self.new ≡ with_counter_in self.old (P.Gen.number generation) }
+        ensures ordered { IsOrdered P.Inx.number self.new }
+    {
+        self.chains.set_generation(generation);
+    }
+
+    /// Steps the counter once, as a removal does, and says whether the generations started again.
+    pub fn inc_generation(&mut self) -> InvalidationOption<()>
+        ensures exact { self.new ≡ stepped_in P.Gen.last self.old }
+        ensures overflow { overflowed result ≡ next_wraps P.Gen.last self.old.chains.counter }
+        ensures ordered { IsOrdered P.Inx.number self.new }
+    {
+        self.chains.inc_generation()
+    }
+}

@@ -1,0 +1,147 @@
+//! The room for entries, and how it grows.
+ghost use Rattle.std.specs.Prelude.{◌≡◌, ◌^◌, ◌<◌, ◌≤◌, ◌↔◌, ℕ, None, IsTrue, IsSome, IfOk, OnOk, OnErr};
+ghost use Rattle.triple_arena_ptr.specs.Generation.{second_generation};
+ghost use Rattle.triple_arena_ptr.specs.Index.{max_index_of};
+ghost use Rattle.triple_arena_stack.specs.Push.{IsRefusal};
+ghost use Rattle.triple_arena_stack.specs.Room.{grown, room_after};
+ghost use Rattle.triple_arena.specs.ArenaRoom.{room_of, room_with};
+ghost use Rattle.triple_arena.specs.Content.{live_count, arena_capacity, in_room, empty, grown_if_full};
+ghost use Rattle.triple_arena_ord.specs.Growth.{IsInRoom, IsRoomRefusal};
+ghost use Rattle.triple_arena_ord.specs.Ordered.{IsOrdered, entry_in, size_in};
+
+use crate::{SimpleOrdArena, SimpleOrdArenaNode};
+use triple_arena::{ArenaSlot, ArenaTrait, NonZeroInxGenericStack, Ptr, ReallocationError};
+use triple_arena_chain::{ChainArena, LinkNoGen};
+
+// How many links fit with no growth. Twice as many can be counted, where there is no limit.
+fn capacity_to_double<
+    P: Ptr,
+    T: Drop,
+    S: NonZeroInxGenericStack<ArenaSlot<P, LinkNoGen<P, SimpleOrdArenaNode<P, T>>>> + Drop,
+>(chains: &ChainArena<P, SimpleOrdArenaNode<P, T>, S>) -> usize
+    ensures value { result ≡ arena_capacity chains.now }
+    ensures holds_all { live_count chains.now ≤ result }
+    ensures can_double { chains.now.room.limit ≡ None → result < 2 ^ 63 }
+{
+    // A stack without a limit has less than half of all numbers.
+    let _ = chains.backing().capacity();
+    chains.capacity()
+}
+
+// Makes room for one link more than there are, which is as many as fit: for 4 at first, then for the double, and never past
+// the greatest capacity.
+fn grow<
+    P: Ptr,
+    T: Drop,
+    S: NonZeroInxGenericStack<ArenaSlot<P, LinkNoGen<P, SimpleOrdArenaNode<P, T>>>> + Drop,
+>(
+    chains: &mut ChainArena<P, SimpleOrdArenaNode<P, T>, S>,
+    capacity: usize,
+) -> Result<(), ReallocationError>
+    requires value { capacity ≡ arena_capacity chains.old }
+    requires full { capacity ≡ live_count chains.old }
+    requires can_double { chains.old.room.limit ≡ None → capacity < 2 ^ 63 }
+    ensures refusal { IsRefusal S.takes_memory (live_count chains.old) chains.old.room result }
+    ensures grown { OnOk result (chains.new ≡ in_room chains.old (grown chains.old.room)) }
+    ensures fits { OnOk result (live_count chains.new < arena_capacity chains.new) }
+    ensures err { OnErr result (chains.new ≡ chains.old) }
+{
+    let wanted = capacity.saturating_mul(2).max(4);
+    match chains.max_capacity() {
+        None => chains.reallocate_min_capacity(wanted),
+        Some(limit) if capacity < limit => chains.reallocate_min_capacity(wanted.min(limit)),
+        Some(_) => Err(ReallocationError::BeyondMaxCapacity),
+    }
+}
+
+// Makes room for one link more, where there is none.
+fn grow_if_full<
+    P: Ptr,
+    T: Drop,
+    S: NonZeroInxGenericStack<ArenaSlot<P, LinkNoGen<P, SimpleOrdArenaNode<P, T>>>> + Drop,
+>(chains: &mut ChainArena<P, SimpleOrdArenaNode<P, T>, S>) -> Result<(), ReallocationError>
+    ensures refusal { IsRefusal S.takes_memory (live_count chains.old) chains.old.room result }
+    ensures grown { OnOk result (chains.new ≡ grown_if_full chains.old) }
+    ensures fits { OnOk result (live_count chains.new < arena_capacity chains.new) }
+    ensures err { OnErr result (chains.new ≡ chains.old) }
+{
+    let capacity = capacity_to_double(chains);
+    if chains.len() < capacity {
+        return Ok(());
+    }
+    grow(chains, capacity)
+}
+
+impl<
+    P: Ptr,
+    T: Drop,
+    S: NonZeroInxGenericStack<ArenaSlot<P, LinkNoGen<P, SimpleOrdArenaNode<P, T>>>> + Drop,
+> SimpleOrdArena<P, T, S> {
+    /// An arena without an entry, with room for `min` of them. It answers `BeyondMaxCapacity` where no arena of this type has
+    /// so much, and `AllocError` where the memory was refused.
+    pub fn with_min_capacity(alloc: S::Alloc, min: usize) -> Result<Self, ReallocationError>
+        ensures exact { IfOk result (λ a. a.chains
+            ≡ empty (second_generation P.Gen.last) (room_of P.Inx.greatest (S.room_at min))) }
+        ensures refusal { IsRoomRefusal S.takes_memory min (room_of P.Inx.greatest (S.room_at 0))
+            (room_of P.Inx.greatest (S.room_at min)).limit result }
+        ensures fits { IfOk result (λ a. min ≤ arena_capacity a.chains) }
+        ensures ordered { IfOk result (λ a. IsOrdered P.Inx.number a) }
+    {
+        let chains = ChainArena::with_min_capacity(alloc, min)?;
+        Ok(SimpleOrdArena {
+            chains,
+            root: None,
+            first: None,
+            last: None,
+        })
+    }
+
+    /// How many entries fit with no growth.
+    pub fn capacity(&self) -> usize
+        ensures value { result ≡ arena_capacity self.now.chains }
+        ensures holds_all { size_in self.now ≤ result }
+        ensures indexes { (i : ℕ) → IsSome (entry_in self.now i) → i ≤ result }
+        ensures bounded { result ≤ max_index_of P.Inx.greatest }
+    {
+        self.chains.capacity()
+    }
+
+    /// The capacity that no growth passes, if there is one.
+    pub fn max_capacity(&self) -> Option<usize>
+        ensures { result ≡ self.now.chains.room.limit }
+    {
+        self.chains.max_capacity()
+    }
+
+    /// Whether there is no entry.
+    pub fn is_empty(&self) -> bool
+        ensures { IsTrue result ↔ (size_in self.now ≡ 0) }
+    {
+        self.chains.is_empty()
+    }
+
+    /// Makes room for `min` entries, by a growth to exactly that where there is less. It answers `BeyondMaxCapacity` where
+    /// `min` is past the greatest capacity, and `AllocError` where the memory was refused. An error leaves the arena as it
+    /// was, its capacity too.
+    pub fn reallocate_min_capacity(&mut self, min: usize) -> Result<(), ReallocationError>
+        ensures reallocated { OnOk result (IsInRoom P.Inx.number (room_with min self.old.chains.room) self.old self.new) }
+        ensures refusal { IsRoomRefusal S.takes_memory min self.old.chains.room self.old.chains.room.limit result }
+        ensures fits { OnOk result (min ≤ arena_capacity self.new.chains) }
+        ensures ordered { IsOrdered P.Inx.number self.new }
+        ensures err { OnErr result (self.new ≡ self.old) }
+    {
+        self.chains.reallocate_min_capacity(min)
+    }
+
+    // Makes room for one entry more, where there is none.
+    pub(crate) fn make_room(&mut self) -> Result<(), ReallocationError>
+        ensures refusal { IsRefusal S.takes_memory (size_in self.old) self.old.chains.room result }
+        ensures grown { OnOk result
+            (IsInRoom P.Inx.number (room_after (size_in self.old) self.old.chains.room) self.old self.new) }
+        ensures fits { OnOk result (size_in self.new < arena_capacity self.new.chains) }
+        ensures ordered { IsOrdered P.Inx.number self.new }
+        ensures err { OnErr result (self.new ≡ self.old) }
+    {
+        grow_if_full(&mut self.chains)
+    }
+}

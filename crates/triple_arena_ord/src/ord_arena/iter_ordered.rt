@@ -1,0 +1,100 @@
+//! Going over the entries of an arena that is lent for reading, along the list.
+ghost use Rattle.std.specs.Prelude.{◌≡◌};
+ghost use Rattle.std.specs.Iterator.{YieldsFirstBy, item_count};
+ghost use Rattle.triple_arena_ord.specs.Ordered.{listed};
+
+use crate::ord_arena::walk::OrderedPtrAdvancer;
+use crate::{SimpleOrdArena, SimpleOrdArenaNode};
+use std::marker::Model;
+use triple_arena::{ArenaSlot, NonZeroInxGenericStack, Ptr};
+use triple_arena_chain::LinkNoGen;
+
+/// The pointers and the items of the entries, from the first of the list to the last, seen as the list of the entries that
+/// are left.
+#[derive(Drop)]
+pub struct Iter<
+    'a,
+    P: Ptr,
+    T: Drop,
+    S: NonZeroInxGenericStack<ArenaSlot<P, LinkNoGen<P, SimpleOrdArenaNode<P, T>>>> + Drop,
+>
+where
+    P::Inx: 'a,
+{
+    arena: &'a SimpleOrdArena<P, T, S>,
+    advancer: OrderedPtrAdvancer<P>,
+}
+
+impl<
+    'a,
+    P: Ptr,
+    T: Drop,
+    S: NonZeroInxGenericStack<ArenaSlot<P, LinkNoGen<P, SimpleOrdArenaNode<P, T>>>> + Drop,
+> Model for Iter<'a, P, T, S>
+where
+    P::Inx: 'a,
+{
+    ghost use Rattle.std.specs.Prelude.{ℕ, List};
+    ghost use Rattle.triple_arena_ord.specs.OrderedWalks.{listed_at, left_over};
+
+    ghost Value = { List (ℕ × (ℕ × T)) };
+
+    ghost view = { λ it. listed_at it.arena.now (left_over P.Inx.number it.arena.now it.advancer) };
+}
+
+impl<
+    'a,
+    P: Ptr,
+    T: Drop,
+    S: NonZeroInxGenericStack<ArenaSlot<P, LinkNoGen<P, SimpleOrdArenaNode<P, T>>>> + Drop,
+> Iterator for Iter<'a, P, T, S>
+where
+    P::Inx: 'a,
+{
+    type Item = (P, &'a T);
+
+    ghost next_gives = { YieldsFirstBy (λ e. (P.index e.0, (P.generation e.0, e.1.now))) (λ left. left) };
+
+    ghost remaining = { item_count (λ left. left) };
+
+    fn next(&mut self) -> Option<(P, &'a T)> {
+        let (p, item) = self.advancer.step(self.arena)?;
+        Some((p, item))
+    }
+}
+
+impl<
+    P: Ptr,
+    T: Drop,
+    S: NonZeroInxGenericStack<ArenaSlot<P, LinkNoGen<P, SimpleOrdArenaNode<P, T>>>> + Drop,
+> SimpleOrdArena<P, T, S> {
+    /// The pointers and the items of the entries, from the first of the list to the last.
+    pub fn iter_ordered(&self) -> Iter<'_, P, T, S>
+        ensures { result ≡ listed P.Inx.number self.now }
+    {
+        Iter {
+            advancer: OrderedPtrAdvancer::from(self.first_index(), false),
+            arena: self,
+        }
+    }
+}
+
+impl<
+    'a,
+    P: Ptr,
+    T: Drop,
+    S: NonZeroInxGenericStack<ArenaSlot<P, LinkNoGen<P, SimpleOrdArenaNode<P, T>>>> + Drop,
+> IntoIterator for &'a SimpleOrdArena<P, T, S>
+where
+    P::Inx: 'a,
+{
+    type Item = (P, &'a T);
+
+    type IntoIter = Iter<'a, P, T, S>;
+
+    ghost into_iter_gives = { λ arena it. it ≡ listed P.Inx.number arena.now };
+
+    fn into_iter(self) -> Iter<'a, P, T, S> {
+        self.iter_ordered()
+    }
+}
