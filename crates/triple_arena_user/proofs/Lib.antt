@@ -1,4 +1,5 @@
 mod DocumentLemmas
+pub mod OrderBookLemmas
 pub mod MirrorLemmas
 pub mod MoveLemmas
 pub mod PlaylistLemmas

@@ -3,3 +3,4 @@ pub mod Nodes
 pub mod Documents
 pub mod Playlists
 pub mod Histories
+pub mod OrderBooks

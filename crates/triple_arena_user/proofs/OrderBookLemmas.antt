@@ -1,0 +1,316 @@
+-- What insertions and removals make of an order book.
+use Rattle.std.proofs.Common.{◌≡◌, ◌≢◌, ℕ, ◌==◌, ◌≤◌, List, [], ◌∷◌, ◌++◌, Option, Some, None, Result, Ok, Err, option_map, refl, sym, ap, subst, ◌∙◌, inl, inr, IsSome, OnSome, arith, IsErrOf, OnErr, IfOk, ◌↔◌}
+use Rattle.std.specs.Cmp.{ranked, nat_cmp_is}
+use Rattle.std.specs.Ordering.{nat_cmp}
+use Rattle.std.specs.declared.cmp.Ordering.{Ordering}
+use Rattle.std.specs.declared.cmp.Ordering.TheVariants.{Less, Equal, Greater}
+use Rattle.std.proofs.lemmas.Bool.Decides.{eqb_tells}
+use Rattle.triple_arena.specs.Content.{live_count, arena_capacity}
+use Rattle.triple_arena.specs.Entries.{with_entry, without}
+use Rattle.triple_arena_ptr.specs.declared.errors.OrdInsertionError.{OrdInsertionError}
+use Rattle.triple_arena_ptr.specs.declared.errors.OrdInsertionError.TheVariants.{NotWithinCapacity}
+use Rattle.triple_arena_chain.specs.Chains.{On}
+use Rattle.triple_arena_ord.specs.declared.pair.OrdPair.{OrdPair}
+use Rattle.triple_arena_ord.specs.Inserted.{IsInserted, IsPlacedByKey}
+use Rattle.triple_arena_ord.specs.Ordered.{Ordered, IsAscending, order_in, entry_in, asked_at}
+use Rattle.triple_arena_ord.specs.Removal.{IsRemoved}
+use Rattle.triple_arena_ord.specs.Search.{AllIn}
+use Rattle.triple_arena_user.specs.OrderBooks.{orders_in, price_in, IsFreePrice, IsBook, as_order}
+
+-- what holds of each of a list holds of one that is on it
+at_of : (Q : ℕ → Type 0) (front : List ℕ) (i : ℕ) (back : List ℕ) → AllIn Q (front ++ i ∷ back) → Q i
+at_of Q [] i back all = all.0
+at_of Q (x ∷ xs) i back all = at_of Q xs i back all.1
+
+joined : (Q : ℕ → Type 0) (xs ys : List ℕ) → AllIn Q xs → AllIn Q ys → AllIn Q (xs ++ ys)
+joined Q [] ys first second = second
+joined Q (x ∷ xs) ys first second = (first.0, joined Q xs ys first.1 second)
+
+weaker : (Q R : ℕ → Type 0) → ((i : ℕ) → Q i → R i) → (xs : List ℕ) → AllIn Q xs → AllIn R xs
+weaker Q R so [] all = tt
+weaker Q R so (x ∷ xs) all = (so x all.0, weaker Q R so xs all.1)
+
+greater_is_not_equal : (d : Ordering) → d ≡ Greater → d ≢ Equal
+greater_is_not_equal d is same = (let no : Greater ≡ Equal = sym is ∙ same in cc)
+
+less_is_not_equal : (d : Ordering) → d ≡ Less → d ≢ Equal
+less_is_not_equal d is same = (let no : Less ≡ Equal = sym is ∙ same in cc)
+
+module _ {A B E : Type 0} where
+  abbrev second_of : Result (A × Option B) E → Option B
+  second_of (Ok r) = r.1
+  second_of (Err e) = None
+
+  abbrev first_of : A → Result (A × Option B) E → A
+  first_of a (Ok r) = r.0
+  first_of a (Err e) = a
+
+some_is : {B : Type 0} (a b : B) → Some a ≡ Some b → a ≡ b
+some_is a b is = cc
+
+module _ {V : Type 0} where
+  -- the key of a pair
+  abbrev pub price_of : OrdPair ℕ V → ℕ
+  price_of pair = pair.k
+
+  -- an entry more in the orders
+  orders-with : (e : ℕ → Option (ℕ × OrdPair ℕ V)) (i g : ℕ) (t : OrdPair ℕ V) (k : ℕ)
+      → option_map (λ (e : ℕ × OrdPair ℕ V). (let order : ℕ × (ℕ × V) = (e.0, (e.1.k, e.1.v)) in order)) (with_entry e i (g, t) k)
+      ≡ with_entry (λ j. option_map (λ (e : ℕ × OrdPair ℕ V). (let order : ℕ × (ℕ × V) = (e.0, (e.1.k, e.1.v)) in order)) (e j)) i (g, (t.k, t.v)) k
+  orders-with e i g t k = elim (eqb_tells k i) [
+    | inl at ↦ rw at.0 refl
+    | inr other ↦ rw other.0 refl
+  ]
+
+  orders-without : (e : ℕ → Option (ℕ × OrdPair ℕ V)) (i k : ℕ)
+      → option_map (λ (e : ℕ × OrdPair ℕ V). (let order : ℕ × (ℕ × V) = (e.0, (e.1.k, e.1.v)) in order)) (without e i k)
+      ≡ without (λ j. option_map (λ (e : ℕ × OrdPair ℕ V). (let order : ℕ × (ℕ × V) = (e.0, (e.1.k, e.1.v)) in order)) (e j)) i k
+  orders-without e i k = elim (eqb_tells k i) [
+    | inl at ↦ rw at.0 refl
+    | inr other ↦ rw other.0 refl
+  ]
+
+  -- an order that takes the place of one with its price changes no price
+  same_price : (e : ℕ → Option (ℕ × OrdPair ℕ V)) (i g : ℕ) (t : OrdPair ℕ V) → option_map (λ (e : ℕ × OrdPair ℕ V). e.1.k) (e i) ≡ Some t.k
+      → (k : ℕ) → option_map (λ (e : ℕ × OrdPair ℕ V). e.1.k) (with_entry e i (g, t) k) ≡ option_map (λ (e : ℕ × OrdPair ℕ V). e.1.k) (e k)
+  same_price e i g t was k = elim (eqb_tells k i) [
+    | inl at ↦ rw (at.0, at.1) (sym was)
+    | inr other ↦ rw other.0 refl
+  ]
+
+  -- two prices that are the same stand at one index, also after an order with a new price is put in
+  apart_with : (e : ℕ → Option (ℕ × OrdPair ℕ V)) (n g : ℕ) (t : OrdPair ℕ V)
+      → ((i : ℕ) → option_map (λ (e : ℕ × OrdPair ℕ V). e.1.k) (e i) ≢ Some t.k)
+      → ((i j price : ℕ) → option_map (λ (e : ℕ × OrdPair ℕ V). e.1.k) (e i) ≡ Some price → option_map (λ (e : ℕ × OrdPair ℕ V). e.1.k) (e j) ≡ Some price → i ≡ j)
+      → (i j price : ℕ) → option_map (λ (e : ℕ × OrdPair ℕ V). e.1.k) (with_entry e n (g, t) i) ≡ Some price
+      → option_map (λ (e : ℕ × OrdPair ℕ V). e.1.k) (with_entry e n (g, t) j) ≡ Some price → i ≡ j
+  apart_with e n g t free apart i j price first second = elim (eqb_tells i n) [
+    | inl at ↦ elim (eqb_tells j n) [
+      | inl at' ↦ at.1 ∙ sym at'.1
+      | inr other ↦ absurd (
+          let own : Some t.k ≡ Some price = rw at.0 at first in
+          let there : option_map (λ (e : ℕ × OrdPair ℕ V). e.1.k) (e j) ≡ Some price = rw other.0 at second in
+          free j (there ∙ sym own))
+    ]
+    | inr other ↦ elim (eqb_tells j n) [
+      | inl at ↦ absurd (
+          let own : Some t.k ≡ Some price = rw at.0 at second in
+          let there : option_map (λ (e : ℕ × OrdPair ℕ V). e.1.k) (e i) ≡ Some price = rw other.0 at first in
+          free i (there ∙ sym own))
+      | inr other' ↦
+          let here : option_map (λ (e : ℕ × OrdPair ℕ V). e.1.k) (e i) ≡ Some price = rw other.0 at first in
+          let there : option_map (λ (e : ℕ × OrdPair ℕ V). e.1.k) (e j) ≡ Some price = rw other'.0 at second in
+          apart i j price here there
+    ]
+  ]
+
+  -- nor where an order is taken out
+  apart_without : (e : ℕ → Option (ℕ × OrdPair ℕ V)) (n : ℕ)
+      → ((i j price : ℕ) → option_map (λ (e : ℕ × OrdPair ℕ V). e.1.k) (e i) ≡ Some price → option_map (λ (e : ℕ × OrdPair ℕ V). e.1.k) (e j) ≡ Some price → i ≡ j)
+      → (i j price : ℕ) → option_map (λ (e : ℕ × OrdPair ℕ V). e.1.k) (without e n i) ≡ Some price
+      → option_map (λ (e : ℕ × OrdPair ℕ V). e.1.k) (without e n j) ≡ Some price → i ≡ j
+  apart_without e n apart i j price first second = elim (eqb_tells i n) [
+    | inl at ↦ absurd (let no : None ≡ Some price = rw at.0 at first in cc)
+    | inr other ↦ elim (eqb_tells j n) [
+      | inl at ↦ absurd (let no : None ≡ Some price = rw at.0 at second in cc)
+      | inr other' ↦
+          let here : option_map (λ (e : ℕ × OrdPair ℕ V). e.1.k) (e i) ≡ Some price = rw other.0 at first in
+          let there : option_map (λ (e : ℕ × OrdPair ℕ V). e.1.k) (e j) ≡ Some price = rw other'.0 at second in
+          apart i j price here there
+    ]
+  ]
+
+module _ {I V : Type 0} where
+  -- the price of an order is how it compares
+  asked_price : (o : Ordered I (OrdPair ℕ V)) (price i : ℕ) → price_in o i ≡ Some price → asked_at nat_cmp price_of price o i ≡ Equal
+  asked_price o price i = by (entry_in o i)
+    where
+      by : (e : Option (ℕ × OrdPair ℕ V)) → option_map (λ (e : ℕ × OrdPair ℕ V). e.1.k) e ≡ Some price
+          → Rattle.triple_arena_ord.specs.Ordered.asked_of nat_cmp price_of price e ≡ Equal
+      by None is = refl
+      by (Some e) is = (let same : e.1.k ≡ price = cc in subst (λ k. nat_cmp price k ≡ Equal) (sym same) (sym (nat_cmp_is price price Equal refl)))
+
+  price_there : (o : Ordered I (OrdPair ℕ V)) (price i : ℕ) → price_in o i ≡ Some price → IsSome (entry_in o i)
+  price_there o price i = by (entry_in o i)
+    where
+      by : (e : Option (ℕ × OrdPair ℕ V)) → option_map (λ (e : ℕ × OrdPair ℕ V). e.1.k) e ≡ Some price → IsSome e
+      by None is = absurd (cc)
+      by (Some e) is = refl
+
+  module _ (number : I → ℕ) (old new : Ordered I (OrdPair ℕ V)) where
+    -- a price before which all others are less, and after which all are greater, is no order's
+    free_by_key : (price i : ℕ) → ((j : ℕ) → IsSome (entry_in old j) → On (order_in number old) j) → IsAscending number nat_cmp price_of old
+        → IsPlacedByKey number nat_cmp price_of price i old new → IsFreePrice old price
+    free_by_key price i listed ascending placed j is =
+        let Q : ℕ → Type 0 = λ k. asked_at nat_cmp price_of price old k ≢ Equal in
+        let low : AllIn Q placed.before = weaker (λ k. asked_at nat_cmp price_of price old k ≡ Greater) Q
+        (λ k at. greater_is_not_equal (asked_at nat_cmp price_of price old k) at) placed.before (placed.greater ascending) in
+        let high : AllIn Q placed.after = weaker (λ k. asked_at nat_cmp price_of price old k ≡ Less) Q
+        (λ k at. less_is_not_equal (asked_at nat_cmp price_of price old k) at) placed.after (placed.less ascending) in
+        let on : On (order_in number old) j = listed j (price_there old price j is) in
+        at_of Q on.front j on.back (subst (AllIn Q) (sym placed.was ∙ on.is) (joined Q placed.before placed.after low high)) (asked_price old price j is)
+
+    -- the book without an order
+    pub removed_book : (last : Option ℕ) (i : ℕ) → IsBook number old → IsRemoved number last i old new
+        → (IsAscending number nat_cmp price_of old → IsAscending number nat_cmp price_of new) → IsBook number new
+    removed_book last i book removed ascending = record {
+      ascending = ascending book.ascending;
+      apart = λ j k price first second. apart_without (entry_in old) i book.apart j k price
+          (sym (ap (option_map (λ (e : ℕ × OrdPair ℕ V). e.1.k)) (removed.entries j)) ∙ first)
+          (sym (ap (option_map (λ (e : ℕ × OrdPair ℕ V). e.1.k)) (removed.entries k)) ∙ second);
+    }
+
+    pub removed_orders : (last : Option ℕ) (i : ℕ) → IsRemoved number last i old new
+        → (k : ℕ) → orders_in new k ≡ without (orders_in old) i k
+    removed_orders last i removed k = ap (option_map (λ (e : ℕ × OrdPair ℕ V). (let order : ℕ × (ℕ × V) = (e.0, (e.1.k, e.1.v)) in order))) (removed.entries k)
+        ∙ orders-without (entry_in old) i k
+
+    module _ {P : Type 0} (index generation : P → ℕ) (t : OrdPair ℕ V) (result : Result (P × Option (OrdPair ℕ V)) OrdInsertionError) where
+      -- the book where an order took the place of one with its price
+      pub record Replaced (p : P) (u : OrdPair ℕ V) : Type 0 where
+        pub orders : (k : ℕ) → orders_in new k ≡ with_entry (orders_in old) (index p) (generation p, (t.k, t.v)) k
+        pub was : orders_in old (index p) ≡ Some (generation p, (t.k, u.v))
+        pub taken : IsFreePrice old t.k → ⊥
+        pub book : IsBook number new
+
+      pub replaced : IsInserted number nat_cmp price_of index generation t result old new
+          → (IsAscending number nat_cmp price_of old → IsAscending number nat_cmp price_of new) → IsBook number old
+          → (p : P) (u : OrdPair ℕ V) → result ≡ Ok (p, Some u) → Replaced p u
+      replaced inserted ascending book p u is =
+          let both = inserted.replaced p u is in
+          let own : t.k ≡ u.k = ranked t.k u.k Equal (sym both.0) in
+          let price : price_in old (index p) ≡ Some t.k = ap (option_map (λ (e : ℕ × OrdPair ℕ V). e.1.k)) both.1.was ∙ ap Some (sym own) in
+          let same : (k : ℕ) → price_in new k ≡ price_in old k = λ k.
+          ap (option_map (λ (e : ℕ × OrdPair ℕ V). e.1.k)) (both.1.entries k) ∙ same_price (entry_in old) (index p) (generation p) t price k in
+          record {
+            orders = λ k. ap (option_map (λ (e : ℕ × OrdPair ℕ V). (let order : ℕ × (ℕ × V) = (e.0, (e.1.k, e.1.v)) in order))) (both.1.entries k)
+                ∙ orders-with (entry_in old) (index p) (generation p) t k;
+            was = ap (option_map (λ (e : ℕ × OrdPair ℕ V). (let order : ℕ × (ℕ × V) = (e.0, (e.1.k, e.1.v)) in order))) both.1.was
+                ∙ ap (λ (k : ℕ). (let o : Option (ℕ × (ℕ × V)) = Some (generation p, (k, u.v)) in o)) (sym own);
+            taken = λ free. free (index p) price;
+            book = record {
+              ascending = ascending book.ascending;
+              apart = λ i j k first second. book.apart i j k (sym (same i) ∙ first) (sym (same j) ∙ second);
+            };
+          }
+
+      -- the book with one order more
+      pub record Grown (p : P) : Type 0 where
+        pub orders : (k : ℕ) → orders_in new k ≡ with_entry (orders_in old) (index p) (generation p, (t.k, t.v)) k
+        pub free : IsFreePrice old t.k
+        pub fits : arena_capacity old.chains ≤ live_count old.chains → ⊥
+        pub book : IsBook number new
+
+      pub grown : IsInserted number nat_cmp price_of index generation t result old new
+          → ((j : ℕ) → IsSome (entry_in old j) → On (order_in number old) j)
+          → (IsAscending number nat_cmp price_of old → IsAscending number nat_cmp price_of new) → IsBook number old
+          → (p : P) → result ≡ Ok (p, None) → Grown p
+      grown inserted listed ascending book p is =
+          let both = inserted.added p is in
+          let free : IsFreePrice old t.k = free_by_key t.k (index p) listed book.ascending both.0 in
+          record {
+            orders = λ k. ap (option_map (λ (e : ℕ × OrdPair ℕ V). (let order : ℕ × (ℕ × V) = (e.0, (e.1.k, e.1.v)) in order))) (both.1.entries k)
+                ∙ orders-with (entry_in old) (index p) (generation p) t k;
+            free = free;
+            fits = λ full. omega (arith, both.1.within, full);
+            book = record {
+              ascending = ascending book.ascending;
+              apart = λ i j price first second. apart_with (entry_in old) (index p) (generation p) t free book.apart i j price
+                  (sym (ap (option_map (λ (e : ℕ × OrdPair ℕ V). e.1.k)) (both.1.entries i)) ∙ first)
+                  (sym (ap (option_map (λ (e : ℕ × OrdPair ℕ V). e.1.k)) (both.1.entries j)) ∙ second);
+            };
+          }
+
+      -- why an order is refused
+      pub record Full (error : OrdInsertionError) : Type 0 where
+        pub error_is : error ≡ NotWithinCapacity
+        pub free : IsFreePrice old t.k
+        pub full : arena_capacity old.chains ≤ live_count old.chains
+        pub same : new ≡ old
+
+      pub refused : IsInserted number nat_cmp price_of index generation t result old new → IsBook number old
+          → (error : OrdInsertionError) → result ≡ Err error → Full error
+      refused inserted book error is =
+          let why = inserted.refused error is in
+          record {
+            error_is = why.is;
+            free = λ i price. inserted.absent error is book.ascending i (by i (entry_in old i) price);
+            full = why.full;
+            same = why.same;
+          }
+        where
+          by : (i : ℕ) (e : Option (ℕ × OrdPair ℕ V)) → option_map (λ (e : ℕ × OrdPair ℕ V). e.1.k) e ≡ Some t.k
+              → option_map (λ (e : ℕ × OrdPair ℕ V). nat_cmp t.k e.1.k) e ≡ Some Equal
+          by i None price = absurd (cc)
+          by i (Some e) price = (let same : e.1.k ≡ t.k = cc in
+              ap Some (subst (λ k. nat_cmp t.k k ≡ Equal) (sym same) (sym (nat_cmp_is t.k t.k Equal refl))))
+
+-- what an order that is put in at a price comes to
+pub record Answered {P I V : Type 0} (index generation : P → ℕ) (number : I → ℕ) (old new : Ordered I (OrdPair ℕ V)) (price : ℕ) (order : V) (answer : Result (P × Option V) OrdInsertionError) : Type 0 where
+  pub added : IfOk answer (λ r. (k : ℕ) → orders_in new k ≡ with_entry (orders_in old) (index r.0) (generation r.0, (price, order)) k)
+  pub replaced : (p : P) (was : V) → answer ≡ Ok (p, Some was) → orders_in old (index p) ≡ Some (generation p, (price, was))
+  pub fresh : (p : P) → answer ≡ Ok (p, None) → IsFreePrice old price
+  pub full : IsErrOf answer NotWithinCapacity ↔ (IsFreePrice old price × (arena_capacity old.chains ≤ live_count old.chains))
+  pub book : IsBook number new
+  pub err : OnErr answer (new ≡ old)
+
+module _ {P I V : Type 0} (index generation : P → ℕ) (number : I → ℕ) (old new : Ordered I (OrdPair ℕ V)) (t : OrdPair ℕ V) where
+  answered_ok : (p : P) (o : Option (OrdPair ℕ V)) → IsInserted number nat_cmp price_of index generation t (Ok (p, o)) old new
+      → ((j : ℕ) → IsSome (entry_in old j) → On (order_in number old) j)
+      → (IsAscending number nat_cmp price_of old → IsAscending number nat_cmp price_of new) → IsBook number old
+      → Answered index generation number old new t.k t.v (Ok (p, option_map (λ (pair : OrdPair ℕ V). pair.v) o))
+  answered_ok p None inserted listed ascending book =
+      let now = grown number old new index generation t (Ok (p, None)) inserted listed ascending book p refl in
+      record {
+        added = now.orders;
+        replaced = λ q was is. absurd (let no : None ≡ Some was = ap second_of is in cc);
+        fresh = λ q is. now.free;
+        full = (λ is. absurd (cc), λ no. absurd (now.fits no.1));
+        book = now.book;
+        err = tt;
+      }
+  answered_ok p (Some u) inserted listed ascending book =
+      let now = replaced number old new index generation t (Ok (p, Some u)) inserted ascending book p u refl in
+      record {
+        added = now.orders;
+        replaced = λ q was is. (
+            subst (λ x. orders_in old (index x) ≡ Some (generation x, (t.k, was))) (ap (first_of p) is)
+            (subst (λ v. orders_in old (index p) ≡ Some (generation p, (t.k, v))) (some_is u.v was (ap second_of is)) now.was));
+        fresh = λ q is. absurd (let no : Some u.v ≡ None = ap second_of is in cc);
+        full = (λ is. absurd (cc), λ no. absurd (now.taken no.0));
+        book = now.book;
+        err = tt;
+      }
+
+  answered : (r : Result (P × Option (OrdPair ℕ V)) OrdInsertionError) → IsInserted number nat_cmp price_of index generation t r old new
+      → ((j : ℕ) → IsSome (entry_in old j) → On (order_in number old) j)
+      → (IsAscending number nat_cmp price_of old → IsAscending number nat_cmp price_of new) → IsBook number old
+      → Answered index generation number old new t.k t.v (as_order r)
+  answered (Ok r) inserted listed ascending book = answered_ok r.0 r.1 inserted listed ascending book
+  answered (Err e) inserted listed ascending book =
+      let now = refused number old new index generation t (Err e) inserted book e refl in
+      record {
+        added = tt;
+        replaced = λ q was is. absurd (cc);
+        fresh = λ q is. absurd (cc);
+        full = (λ is. (now.free, now.full), λ no. ap Err now.error_is);
+        book = subst (IsBook number) (sym now.same) book;
+        err = now.same;
+      }
+
+  -- the same, of an order at a price
+  pub answered_as : (price : ℕ) (order : V) (answer : Result (P × Option V) OrdInsertionError) (r : Result (P × Option (OrdPair ℕ V)) OrdInsertionError)
+      → t.k ≡ price → t.v ≡ order → answer ≡ as_order r
+      → IsInserted number nat_cmp price_of index generation t r old new
+      → ((j : ℕ) → IsSome (entry_in old j) → On (order_in number old) j)
+      → (IsAscending number nat_cmp price_of old → IsAscending number nat_cmp price_of new) → IsBook number old
+      → Answered index generation number old new price order answer
+  answered_as price order answer r own value is inserted listed ascending book =
+      subst (λ k. Answered index generation number old new k order answer) own
+      (subst (λ v. Answered index generation number old new t.k v answer) value
+      (subst (λ a. Answered index generation number old new t.k t.v a) (sym is) (answered r inserted listed ascending book)))
+
+-- what holds where there is an answer
+pub where_some : {A B Q : Type 0} (f : A → B) (o : Option A) (b : B) → option_map f o ≡ Some b → OnSome o Q → Q
+where_some f None b is holds = absurd (cc)
+where_some f (Some a) b is holds = holds

@@ -1,0 +1,75 @@
+//! Order books: orders by their prices in an ordered arena, one at a price at most, of which all is said by pointers and prices.
+ghost use Rattle.std.specs.Prelude.{◌≡◌, ◌≢◌, ◌≤◌, ◌↔◌, ℕ, None, Some, Ok, IsSome, IfOk, IfNone, OnErr, OnSome, IsErrOf};
+ghost use Rattle.triple_arena.specs.Content.{live_count, arena_capacity};
+ghost use Rattle.triple_arena.specs.Entries.{with_entry, without, value_if};
+ghost use Rattle.triple_arena_ptr.specs.Generation.{next_generation};
+ghost use Rattle.triple_arena_user.specs.OrderBooks.{orders_in, IsFreePrice, IsBook, as_order};
+
+use triple_arena::{ArenaSlot, NonZeroInxGenericStack, Ptr};
+use triple_arena_chain::LinkNoGen;
+use triple_arena_ord::laws::{entries_stand_in_the_list, removals_keep_keys_ascending};
+use triple_arena_ord::{OrdPair, SimpleOrdArena, SimpleOrdArenaNode};
+use triple_arena_ptr::OrdInsertionError;
+
+/// Orders by their prices.
+pub type OrderBook<P, V, S> = SimpleOrdArena<P, OrdPair<u64, V>, S>;
+
+/// A slot of an order book.
+pub type OrderSlot<P, V> = ArenaSlot<P, LinkNoGen<P, SimpleOrdArenaNode<P, OrdPair<u64, V>>>>;
+
+// What an insertion answers, with the order that it replaces alone.
+fn as_order<P: Ptr, V: Drop>(
+    inserted: Result<(P, Option<OrdPair<u64, V>>), OrdInsertionError>,
+) -> Result<(P, Option<V>), OrdInsertionError>
+    ensures { result ≡ as_order inserted }
+{
+    let (p, was) = inserted?;
+    match was {
+        Some(pair) => Ok((p, Some(pair.into_k_v().1))),
+        None => Ok((p, None)),
+    }
+}
+
+/// Puts an order in at a price, and answers its pointer, with the order that it replaces, if one stands at the price. It
+/// answers `NotWithinCapacity` where none does and there is no room; the book stays as it is then.
+pub fn add_order<P: Ptr, V: Drop, S: NonZeroInxGenericStack<OrderSlot<P, V>> + Drop>(
+    book: &mut OrderBook<P, V, S>,
+    price: u64,
+    order: V,
+) -> Result<(P, Option<V>), OrdInsertionError>
+    requires { IsBook P.Inx.number book.old }
+    ensures added { IfOk result (λ r. (i : ℕ) → orders_in book.new i
+        ≡ with_entry (orders_in book.old) (P.index r.0) (P.generation r.0, (price, order)) i) }
+    ensures replaced { (p : P) (was : V) → result ≡ Ok (p, Some was)
+        → orders_in book.old (P.index p) ≡ Some (P.generation p, (price, was)) }
+    ensures fresh { (p : P) → result ≡ Ok (p, None) → IsFreePrice book.old price }
+    ensures full { IsErrOf result OrdInsertionError.NotWithinCapacity
+        ↔ (IsFreePrice book.old price × (arena_capacity book.old.chains ≤ live_count book.old.chains)) }
+    ensures room { book.new.chains.room ≡ book.old.chains.room }
+    ensures book { IsBook P.Inx.number book.new }
+    ensures err { OnErr result (book.new ≡ book.old) }
+{
+    entries_stand_in_the_list::<P, OrdPair<u64, V>>();
+    // The book is ordered.
+    let _ = book.len();
+    as_order(book.insert_within_capacity(OrdPair::new(price, order)))
+}
+
+/// Takes the order that `p` points to out, with its price. All other pointers find their orders. It answers `None`, and changes
+/// nothing, where `p` points to none.
+pub fn cancel_order<P: Ptr, V: Drop, S: NonZeroInxGenericStack<OrderSlot<P, V>> + Drop>(
+    book: &mut OrderBook<P, V, S>,
+    p: P,
+) -> Option<(u64, V)>
+    requires { IsBook P.Inx.number book.old }
+    ensures order { result ≡ value_if (P.generation p) (orders_in book.old (P.index p)) }
+    ensures gone { OnSome result ((i : ℕ) → orders_in book.new i ≡ without (orders_in book.old) (P.index p) i) }
+    ensures counter { OnSome result (book.new.chains.counter ≡ next_generation P.Gen.last book.old.chains.counter) }
+    ensures room { book.new.chains.room ≡ book.old.chains.room }
+    ensures book { IsBook P.Inx.number book.new }
+    ensures none { IfNone result (book.new ≡ book.old) }
+{
+    removals_keep_keys_ascending::<P, OrdPair<u64, V>>();
+    let pair = book.remove(p).allow()?;
+    Some(pair.into_k_v())
+}
