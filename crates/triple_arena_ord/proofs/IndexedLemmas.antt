@@ -62,7 +62,8 @@ module _ {E : Type 0} where
             let rest = by_look_up (x.0 + 1) xs ys rx.1 (subst (λ k. Rises (k + 1) ys) (sym is) ry.1) (others is) in
             ap (λ k. (k, x.1) ∷ xs) is ∙ ap (λ e. (y.0, e) ∷ xs) first ∙ ap (λ l. y ∷ l) rest
         | inr (inl less) ↦ absurd (some_none (sym (look_up_here x xs) ∙ same x.0 ∙ not_below (x.0 + 1) x.0 (y ∷ ys) (omega (arith, less), ry.1) (omega arith)))
-        | inr (inr more) ↦ absurd (some_none (sym (look_up_here y ys) ∙ sym (same y.0) ∙ not_below (y.0 + 1) y.0 (x ∷ xs) (omega (arith, more), rx.1) (omega arith)))
+        | inr (inr more) ↦ absurd (some_none (sym (look_up_here y ys) ∙ sym (same y.0)
+            ∙ not_below (y.0 + 1) y.0 (x ∷ xs) (omega (arith, more), rx.1) (omega arith)))
       ]
     where
       others : x.0 ≡ y.0 → (i : ℕ) → look_up xs i ≡ look_up ys i
@@ -188,7 +189,8 @@ module _ {I T : Type 0} where
   none_before o w i g ahead first j below =
       no_item (entry_at o.chains j) (λ some.
       let is = ahead j some in
-      let comes : ComesBefore false j i → values_in o.chains j ≡ None = subst (λ b. ComesBefore b j i → values_in o.chains j ≡ None) is.0 (first.first j is.1) in
+      let comes : ComesBefore false j i → values_in o.chains j ≡ None =
+      subst (λ b. ComesBefore b j i → values_in o.chains j ≡ None) is.0 (first.first j is.1) in
       comes below)
 
   -- and where nothing is found ahead none is live
@@ -229,13 +231,15 @@ module _ {I T : Type 0} where
         → IsRemoved number last (index p) old new → Stepped old item new
     stepped old new w p item ahead first pointer value told removed =
         let found = item_of_value (entry_in old (index p)) (generation p) (value_of item).1 value in
-        let gone = index_gone old new (index p) (generation p, (value_of item).1) (none_before old w (index p) (generation p) ahead first) found removed.entries in
+        let lower = none_before old w (index p) (generation p) ahead first in
+        let gone = index_gone old new (index p) (generation p, (value_of item).1) lower found removed.entries in
         let fewer = removed.size in
         let more : suc (size_in new) ≡ size_in old = omega (arith, fewer) in
         record {
           first =
               ap (removals last old.chains.counter) gone
-              ∙ ap (λ c. (((index p, (generation p, (value_of item).1)), next_wraps last old.chains.counter) ∷ removals last c (indexed new))) (sym removed.counter)
+              ∙ ap (λ c. (((index p, (generation p, (value_of item).1)), next_wraps last old.chains.counter) ∷ removals last c (indexed new)))
+              (sym removed.counter)
               ∙ ap (λ b. ((index p, (generation p, (value_of item).1)), b) ∷ removals last new.chains.counter (indexed new)) (sym told)
               ∙ ap (λ q. ((index q, (generation q, (value_of item).1)), overflowed item) ∷ removals last new.chains.counter (indexed new)) (sym pointer);
           leaves = emptied_next number last (size_in new) (index p) old new removed ∙ ap (λ n. emptied_after last n old) more;

@@ -65,7 +65,8 @@ module _ {I T : Type 0} where
 
   module _ {P G : Type 0} (stamp : G → ℕ) (number : I → ℕ) (last : Option ℕ) (index generation : P → ℕ) where
     -- a removal that is given as an item
-    pub taken_by : (o p : Ordered I T) (h : ℕ) (r : Option (InvalidationOption (G × T))) (q : P) (gen : G) (t : T) (wrapped : Bool) (item : InvalidationOption (P × T))
+    pub taken_by : (o p : Ordered I T) (h : ℕ) (r : Option (InvalidationOption (G × T))) (q : P) (gen : G) (t : T) (wrapped : Bool)
+        (item : InvalidationOption (P × T))
         → IsOrdered number o → first_or (order_in number o) None ≡ Some h → index q ≡ h → generation q ≡ stamp gen
         → value_of item ≡ (q, t) → overflowed item ≡ wrapped
         → (let u : Option ((G × T) × Bool) = Some ((gen, t), wrapped) in u) ≡ option_map (λ a. (let v : (G × T) × Bool = (value_of a, overflowed a) in v)) r
@@ -127,7 +128,8 @@ module _ {P T S Inx Gen Alloc : Type 0} (last : Option ℕ) (number : Inx → �
       }
     where
       go : (n : ℕ) → next_generation last (drain_arena mid).chains.counter ≡ next_generation last (next_generation last (drain_arena old).chains.counter)
-          → (drain_arena mid).chains.room ≡ (drain_arena old).chains.room → emptied_after last (suc n) (drain_arena mid) ≡ emptied_after last (suc (suc n)) (drain_arena old)
+          → (drain_arena mid).chains.room ≡ (drain_arena old).chains.room
+          → emptied_after last (suc n) (drain_arena mid) ≡ emptied_after last (suc (suc n)) (drain_arena old)
       go n counter room = rw (counter, room) refl
 
   pub keeps_along : (first : OrderedDrain P T S Inx Gen Alloc) → DrainKeepsAlong last number index generation first

@@ -216,7 +216,8 @@ module _ {I T : Type 0} (number : I → ℕ) (o : Ordered I T) (is : IsOrdered n
   last_lives i at = on_lives i (last_on_list e w i at)
 
   -- there is an end exactly where there is an entry
-  module _ {P : Type 0} (index generation : P → ℕ) (result : Option P) (live : IfSome result (λ p. generation_at (entry_in o) (index p) ≡ Some (generation p))) where
+  module _ {P : Type 0} (index generation : P → ℕ) (result : Option P)
+      (live : IfSome result (λ p. generation_at (entry_in o) (index p) ≡ Some (generation p))) where
     end_is : (end : Option ℕ) → ((end ≡ None) ↔ (w ≡ [])) → option_map index result ≡ end → IsEnd index generation end result o
     end_is end nil at = record {
       at = at;
