@@ -1,5 +1,5 @@
 -- What insertions and removals make of an order book.
-use Rattle.std.proofs.Common.{◌≡◌, ◌≢◌, ℕ, ◌==◌, ◌≤◌, List, [], ◌∷◌, ◌++◌, Option, Some, None, Result, Ok, Err, option_map, refl, sym, ap, subst, ◌∙◌, inl, inr, IsSome, OnSome, arith, IsErrOf, OnErr, IfOk, ◌↔◌}
+use Rattle.std.proofs.Common.{◌≡◌, ◌≢◌, ℕ, ◌≤◌, List, [], ◌∷◌, ◌++◌, Option, Some, None, Result, Ok, Err, option_map, refl, sym, ap, subst, ◌∙◌, inl, inr, IsSome, OnSome, arith, IsErrOf, OnErr, IfOk, IfSome, ◌↔◌}
 use Rattle.std.specs.Cmp.{ranked, nat_cmp_is}
 use Rattle.std.specs.Ordering.{nat_cmp}
 use Rattle.std.specs.declared.cmp.Ordering.{Ordering}
@@ -9,10 +9,10 @@ use Rattle.triple_arena.specs.Content.{live_count, arena_capacity}
 use Rattle.triple_arena.specs.Entries.{with_entry, without}
 use Rattle.triple_arena_ptr.specs.declared.errors.OrdInsertionError.{OrdInsertionError}
 use Rattle.triple_arena_ptr.specs.declared.errors.OrdInsertionError.TheVariants.{NotWithinCapacity}
-use Rattle.triple_arena_chain.specs.Chains.{On}
+use Rattle.triple_arena_chain.specs.Chains.{On, first_or}
 use Rattle.triple_arena_ord.specs.declared.pair.OrdPair.{OrdPair}
-use Rattle.triple_arena_ord.specs.Inserted.{IsInserted, IsPlacedByKey}
-use Rattle.triple_arena_ord.specs.Ordered.{Ordered, IsAscending, order_in, entry_in, asked_at}
+use Rattle.triple_arena_ord.specs.Inserted.{IsInserted, IsPlacedByKey, within_room}
+use Rattle.triple_arena_ord.specs.Ordered.{Ordered, IsAscending, order_in, entry_in, asked_at, size_in}
 use Rattle.triple_arena_ord.specs.Removal.{IsRemoved}
 use Rattle.triple_arena_ord.specs.Search.{AllIn}
 use Rattle.triple_arena_user.specs.OrderBooks.{orders_in, price_in, IsFreePrice, IsBook, as_order}
@@ -173,7 +173,7 @@ module _ {I V : Type 0} where
         pub taken : IsFreePrice old t.k → ⊥
         pub book : IsBook number new
 
-      pub replaced : IsInserted number nat_cmp price_of index generation t result old new
+      pub replaced : IsInserted number nat_cmp price_of index generation (within_room (size_in old) old.chains.room) t result old new
           → (IsAscending number nat_cmp price_of old → IsAscending number nat_cmp price_of new) → IsBook number old
           → (p : P) (u : OrdPair ℕ V) → result ≡ Ok (p, Some u) → Replaced p u
       replaced inserted ascending book p u is =
@@ -201,7 +201,7 @@ module _ {I V : Type 0} where
         pub fits : arena_capacity old.chains ≤ live_count old.chains → ⊥
         pub book : IsBook number new
 
-      pub grown : IsInserted number nat_cmp price_of index generation t result old new
+      pub grown : IsInserted number nat_cmp price_of index generation (within_room (size_in old) old.chains.room) t result old new
           → ((j : ℕ) → IsSome (entry_in old j) → On (order_in number old) j)
           → (IsAscending number nat_cmp price_of old → IsAscending number nat_cmp price_of new) → IsBook number old
           → (p : P) → result ≡ Ok (p, None) → Grown p
@@ -212,7 +212,7 @@ module _ {I V : Type 0} where
             orders = λ k. ap (option_map (λ (e : ℕ × OrdPair ℕ V). (let order : ℕ × (ℕ × V) = (e.0, (e.1.k, e.1.v)) in order))) (both.1.entries k)
                 ∙ orders-with (entry_in old) (index p) (generation p) t k;
             free = free;
-            fits = λ full. omega (arith, both.1.within, full);
+            fits = λ full. omega (arith, inserted.fits p is, full);
             book = record {
               ascending = ascending book.ascending;
               apart = λ i j price first second. apart_with (entry_in old) (index p) (generation p) t free book.apart i j price
@@ -228,15 +228,15 @@ module _ {I V : Type 0} where
         pub full : arena_capacity old.chains ≤ live_count old.chains
         pub same : new ≡ old
 
-      pub refused : IsInserted number nat_cmp price_of index generation t result old new → IsBook number old
+      pub refused : IsInserted number nat_cmp price_of index generation (within_room (size_in old) old.chains.room) t result old new → IsBook number old
           → (error : OrdInsertionError) → result ≡ Err error → Full error
       refused inserted book error is =
           let why = inserted.refused error is in
           record {
-            error_is = why.is;
+            error_is = why.0;
             free = λ i price. inserted.absent error is book.ascending i (by i (entry_in old i) price);
-            full = why.full;
-            same = why.same;
+            full = why.1;
+            same = inserted.same error is;
           }
         where
           by : (i : ℕ) (e : Option (ℕ × OrdPair ℕ V)) → option_map (λ (e : ℕ × OrdPair ℕ V). e.1.k) e ≡ Some t.k
@@ -255,7 +255,7 @@ pub record Answered {P I V : Type 0} (index generation : P → ℕ) (number : I 
   pub err : OnErr answer (new ≡ old)
 
 module _ {P I V : Type 0} (index generation : P → ℕ) (number : I → ℕ) (old new : Ordered I (OrdPair ℕ V)) (t : OrdPair ℕ V) where
-  answered_ok : (p : P) (o : Option (OrdPair ℕ V)) → IsInserted number nat_cmp price_of index generation t (Ok (p, o)) old new
+  answered_ok : (p : P) (o : Option (OrdPair ℕ V)) → IsInserted number nat_cmp price_of index generation (within_room (size_in old) old.chains.room) t (Ok (p, o)) old new
       → ((j : ℕ) → IsSome (entry_in old j) → On (order_in number old) j)
       → (IsAscending number nat_cmp price_of old → IsAscending number nat_cmp price_of new) → IsBook number old
       → Answered index generation number old new t.k t.v (Ok (p, option_map (λ (pair : OrdPair ℕ V). pair.v) o))
@@ -282,7 +282,7 @@ module _ {P I V : Type 0} (index generation : P → ℕ) (number : I → ℕ) (o
         err = tt;
       }
 
-  answered : (r : Result (P × Option (OrdPair ℕ V)) OrdInsertionError) → IsInserted number nat_cmp price_of index generation t r old new
+  answered : (r : Result (P × Option (OrdPair ℕ V)) OrdInsertionError) → IsInserted number nat_cmp price_of index generation (within_room (size_in old) old.chains.room) t r old new
       → ((j : ℕ) → IsSome (entry_in old j) → On (order_in number old) j)
       → (IsAscending number nat_cmp price_of old → IsAscending number nat_cmp price_of new) → IsBook number old
       → Answered index generation number old new t.k t.v (as_order r)
@@ -301,7 +301,7 @@ module _ {P I V : Type 0} (index generation : P → ℕ) (number : I → ℕ) (o
   -- the same, of an order at a price
   pub answered_as : (price : ℕ) (order : V) (answer : Result (P × Option V) OrdInsertionError) (r : Result (P × Option (OrdPair ℕ V)) OrdInsertionError)
       → t.k ≡ price → t.v ≡ order → answer ≡ as_order r
-      → IsInserted number nat_cmp price_of index generation t r old new
+      → IsInserted number nat_cmp price_of index generation (within_room (size_in old) old.chains.room) t r old new
       → ((j : ℕ) → IsSome (entry_in old j) → On (order_in number old) j)
       → (IsAscending number nat_cmp price_of old → IsAscending number nat_cmp price_of new) → IsBook number old
       → Answered index generation number old new price order answer
@@ -309,6 +309,61 @@ module _ {P I V : Type 0} (index generation : P → ℕ) (number : I → ℕ) (o
       subst (λ k. Answered index generation number old new k order answer) own
       (subst (λ v. Answered index generation number old new t.k v answer) value
       (subst (λ a. Answered index generation number old new t.k t.v a) (sym is) (answered r inserted listed ascending book)))
+
+-- the ends of a book
+not_greater : (x y : ℕ) → nat_cmp x y ≢ Greater → x ≤ y
+not_greater x y never = by (nat_cmp x y) refl
+  where
+    by : (d : Ordering) → d ≡ nat_cmp x y → x ≤ y
+    by Less is = omega (arith, ranked x y Less is)
+    by Equal is = omega (arith, ranked x y Equal is)
+    by Greater is = absurd (never (sym is))
+
+module _ {I V : Type 0} (number : I → ℕ) (o : Ordered I (OrdPair ℕ V)) where
+  -- where each one on a list is not less, none on the list is
+  pub least : (i j own price : ℕ) (back : List ℕ) → order_in number o ≡ i ∷ back
+      → ((k : ℕ) → IsSome (entry_in o k) → On (order_in number o) k)
+      → AllIn (λ k. asked_at nat_cmp price_of own o k ≢ Greater) back
+      → price_in o i ≡ Some own → price_in o j ≡ Some price → own ≤ price
+  least i j own price back is listed all here there = by on.front (sym is ∙ on.is)
+    where
+      on : On (order_in number o) j
+      on = listed j (price_there o price j there)
+
+      asked : (e : Option (ℕ × OrdPair ℕ V)) → option_map (λ (e : ℕ × OrdPair ℕ V). e.1.k) e ≡ Some price
+          → Rattle.triple_arena_ord.specs.Ordered.asked_of nat_cmp price_of own e ≢ Greater → own ≤ price
+      asked None none never = absurd (cc)
+      asked (Some e) same never = (let k : e.1.k ≡ price = cc in subst (λ k. own ≤ k) k (not_greater own e.1.k never))
+
+      by : (front : List ℕ) → i ∷ back ≡ front ++ j ∷ on.back → own ≤ price
+      by [] same = (let at : i ≡ j = cc in let one : Some own ≡ Some price = sym here ∙ ap (price_in o) at ∙ there in omega (arith, some_is own price one))
+      by (x ∷ front) same = (let rest : back ≡ front ++ j ∷ on.back = cc in
+          asked (entry_in o j) there (at_of (λ k. asked_at nat_cmp price_of own o k ≢ Greater) front j on.back
+          (subst (AllIn (λ k. asked_at nat_cmp price_of own o k ≢ Greater)) rest all)))
+
+starts : (w : List ℕ) (i : ℕ) → first_or w None ≡ Some i → (back : List ℕ) × (w ≡ i ∷ back)
+starts [] i is = absurd (cc)
+starts (x ∷ xs) i is = (xs, ap (λ y. y ∷ xs) (some_is x i is))
+
+module _ {P I V : Type 0} (index : P → ℕ) (number : I → ℕ) (o : Ordered I (OrdPair ℕ V)) where
+  -- the first of the list has the least price
+  pub best_of : (r : Option P) → option_map index r ≡ first_or (order_in number o) None
+      → ((k : ℕ) → IsSome (entry_in o k) → On (order_in number o) k)
+      → ((back : List ℕ) (i : ℕ) (entry : ℕ × OrdPair ℕ V) → order_in number o ≡ i ∷ back → entry_in o i ≡ Some entry
+      → AllIn (λ k. asked_at nat_cmp price_of entry.1.k o k ≢ Greater) back)
+      → IfSome r (λ p. (j own price : ℕ) → price_in o (index p) ≡ Some own → price_in o j ≡ Some price → own ≤ price)
+  best_of None at listed after = tt
+  best_of (Some p) at listed after = λ j own price here there.
+      by j own price here there (starts (order_in number o) (index p) (sym at)) (entry_in o (index p)) refl
+    where
+      by : (j own price : ℕ) → price_in o (index p) ≡ Some own → price_in o j ≡ Some price
+          → ((back : List ℕ) × (order_in number o ≡ index p ∷ back)) → (e : Option (ℕ × OrdPair ℕ V)) → entry_in o (index p) ≡ e → own ≤ price
+      by j own price here there first None is =
+          absurd (let no : None ≡ Some own = sym (ap (option_map (λ (e : ℕ × OrdPair ℕ V). e.1.k)) is) ∙ here in cc)
+      by j own price here there first (Some e) is =
+          let k : e.1.k ≡ own = some_is e.1.k own (sym (ap (option_map (λ (e : ℕ × OrdPair ℕ V). e.1.k)) is) ∙ here) in
+          least number o (index p) j own price first.0 first.1 listed
+          (subst (λ k. AllIn (λ i. asked_at nat_cmp price_of k o i ≢ Greater) first.0) k (after first.0 (index p) e first.1 is)) here there
 
 -- what holds where there is an answer
 pub where_some : {A B Q : Type 0} (f : A → B) (o : Option A) (b : B) → option_map f o ≡ Some b → OnSome o Q → Q

@@ -1,13 +1,15 @@
 //! Order books: orders by their prices in an ordered arena, one at a price at most, of which all is said by pointers and prices.
-ghost use Rattle.std.specs.Prelude.{◌≡◌, ◌≢◌, ◌≤◌, ◌↔◌, ℕ, None, Some, Ok, IsSome, IfOk, IfNone, OnErr, OnSome, IsErrOf};
+ghost use Rattle.std.specs.Prelude.{◌≡◌, ◌≢◌, ◌≤◌, ◌↔◌, ℕ, None, Some, Ok, IfOk, IfSome, IfNone, OnErr, OnSome, IsErrOf};
 ghost use Rattle.triple_arena.specs.Content.{live_count, arena_capacity};
-ghost use Rattle.triple_arena.specs.Entries.{with_entry, without, value_if};
+ghost use Rattle.triple_arena.specs.Entries.{with_entry, without, value_if, generation_at};
 ghost use Rattle.triple_arena_ptr.specs.Generation.{next_generation};
-ghost use Rattle.triple_arena_user.specs.OrderBooks.{orders_in, IsFreePrice, IsBook, as_order};
+ghost use Rattle.triple_arena_user.specs.OrderBooks.{orders_in, price_in, IsFreePrice, IsBook, as_order};
 
 use triple_arena::{ArenaSlot, NonZeroInxGenericStack, Ptr};
 use triple_arena_chain::LinkNoGen;
-use triple_arena_ord::laws::{entries_stand_in_the_list, removals_keep_keys_ascending};
+use triple_arena_ord::laws::{
+    entries_stand_in_the_list, keys_ascend_along_the_list, removals_keep_keys_ascending,
+};
 use triple_arena_ord::{OrdPair, SimpleOrdArena, SimpleOrdArenaNode};
 use triple_arena_ptr::OrdInsertionError;
 
@@ -72,4 +74,21 @@ pub fn cancel_order<P: Ptr, V: Drop, S: NonZeroInxGenericStack<OrderSlot<P, V>> 
     removals_keep_keys_ascending::<P, OrdPair<u64, V>>();
     let pair = book.remove(p).allow()?;
     Some(pair.into_k_v())
+}
+
+/// The pointer to the order with the least price, or `None` where there is no order.
+pub fn best_order<P: Ptr, V: Drop, S: NonZeroInxGenericStack<OrderSlot<P, V>> + Drop>(
+    book: &OrderBook<P, V, S>,
+) -> Option<P>
+    requires { IsBook P.Inx.number book.now }
+    ensures live { IfSome result (λ p. generation_at (orders_in book.now) (P.index p) ≡ Some (P.generation p)) }
+    ensures best { IfSome result (λ p. (j own price : ℕ) → price_in book.now (P.index p) ≡ Some own
+        → price_in book.now j ≡ Some price → own ≤ price) }
+    ensures none { IfNone result ((j : ℕ) → orders_in book.now j ≡ None) }
+{
+    entries_stand_in_the_list::<P, OrdPair<u64, V>>();
+    keys_ascend_along_the_list::<P, OrdPair<u64, V>>();
+    // The book is ordered.
+    let _ = book.len();
+    book.first()
 }

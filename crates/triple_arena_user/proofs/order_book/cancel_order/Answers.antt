@@ -1,4 +1,4 @@
-use Rattle.std.proofs.Common.{◌≡◌, ℕ, Some, sym, ◌∙◌, option_map}
+use Rattle.std.proofs.Common.{sym, ◌∙◌}
 use Rattle.triple_arena_ptr.specs.InvalidationOption.{value_of}
 use Rattle.triple_arena_ptr.specs.InvalidationResult.{answer_of}
 use Rattle.triple_arena_ord.specs.Removal.{IsRemoved}

@@ -1,0 +1,219 @@
+//! usage: ordered map|slab insert|find|remove|cancel|walk LEN STEPS, with the operations of the Rattle program `ord_bench`, over
+//! std's `BTreeMap` from keys to values, or over one from keys to the indexes of a slab that holds the entries.
+use std::collections::BTreeMap;
+use std::env;
+use std::process::ExitCode;
+
+/// The key that is put in as the nth. No two are the same, and they come shuffled.
+fn key(n: usize) -> u64 {
+    let z = (n as u64).wrapping_mul(0x9e37_79b9_7f4a_7c15);
+    let z = (z ^ (z >> 30)).wrapping_mul(0xbf58_476d_1ce4_e5b9);
+    let z = (z ^ (z >> 27)).wrapping_mul(0x94d0_49bb_1331_11eb);
+    z ^ (z >> 31)
+}
+
+/// A checksum with a number more.
+fn with(sum: u64, number: u64) -> u64 {
+    sum.wrapping_mul(31).wrapping_add(number)
+}
+
+/// No slot.
+const NONE: usize = usize::MAX;
+
+/// A slot of a slab, which is taken, or names the next free one.
+enum Slot {
+    Taken { key: u64, value: u64 },
+    Free { next: usize },
+}
+
+/// Entries that stay where they are, and the index of each by its key.
+struct Slab {
+    slots: Vec<Slot>,
+    free: usize,
+    indexes: BTreeMap<u64, usize>,
+}
+
+impl Slab {
+    fn new() -> Self {
+        Slab {
+            slots: Vec::new(),
+            free: NONE,
+            indexes: BTreeMap::new(),
+        }
+    }
+
+    fn insert(&mut self, key: u64, value: u64) -> usize {
+        let slot = Slot::Taken { key, value };
+        let index = match self.slots.get_mut(self.free) {
+            Some(place) => {
+                let index = self.free;
+                if let Slot::Free { next } = *place {
+                    self.free = next;
+                }
+                *place = slot;
+                index
+            }
+            None => {
+                self.slots.push(slot);
+                self.slots.len() - 1
+            }
+        };
+        self.indexes.insert(key, index);
+        index
+    }
+
+    fn value(&self, index: usize) -> Option<u64> {
+        match self.slots.get(index) {
+            Some(Slot::Taken { value, .. }) => Some(*value),
+            _ => None,
+        }
+    }
+
+    fn take(&mut self, index: usize) -> Option<(u64, u64)> {
+        match self.slots.get_mut(index) {
+            Some(place) => {
+                if let Slot::Taken { key, value } = *place {
+                    *place = Slot::Free { next: self.free };
+                    self.free = index;
+                    Some((key, value))
+                } else {
+                    None
+                }
+            }
+            None => None,
+        }
+    }
+}
+
+fn in_map(operation: &str, len: usize, steps: usize) -> Option<u64> {
+    let mut map = BTreeMap::new();
+    let mut keys = Vec::with_capacity(len);
+    for n in 0..len {
+        let key = key(n);
+        map.insert(key, n as u64);
+        keys.push(key);
+    }
+    let mut sum = 0u64;
+    match operation {
+        "insert" => sum = map.len() as u64,
+        "find" => {
+            let mut n = 0;
+            for _ in 0..steps {
+                if let Some(value) = map.get(&key(n)) {
+                    sum = with(sum, *value);
+                }
+                n += 1;
+                if n == len {
+                    n = 0;
+                }
+            }
+        }
+        "remove" => {
+            for n in 0..steps {
+                if let Some(value) = map.remove(&key(n)) {
+                    sum = with(sum, value);
+                }
+            }
+        }
+        // A map has no other reference to an entry than its key.
+        "cancel" => {
+            for key in keys.iter().take(steps) {
+                if let Some(value) = map.remove(key) {
+                    sum = with(sum, value);
+                }
+            }
+        }
+        "walk" => {
+            let mut left = steps;
+            while left > 0 {
+                for value in map.values().take(left) {
+                    left -= 1;
+                    sum = with(sum, *value);
+                }
+            }
+        }
+        _ => return None,
+    }
+    Some(sum)
+}
+
+fn in_slab(operation: &str, len: usize, steps: usize) -> Option<u64> {
+    let mut slab = Slab::new();
+    let mut places = Vec::with_capacity(len);
+    for n in 0..len {
+        places.push(slab.insert(key(n), n as u64));
+    }
+    let mut sum = 0u64;
+    match operation {
+        "insert" => sum = slab.indexes.len() as u64,
+        "find" => {
+            let mut n = 0;
+            for _ in 0..steps {
+                if let Some(index) = slab.indexes.get(&key(n)) {
+                    if let Some(value) = slab.value(*index) {
+                        sum = with(sum, value);
+                    }
+                }
+                n += 1;
+                if n == len {
+                    n = 0;
+                }
+            }
+        }
+        "remove" => {
+            for n in 0..steps {
+                if let Some(index) = slab.indexes.remove(&key(n)) {
+                    if let Some((_, value)) = slab.take(index) {
+                        sum = with(sum, value);
+                    }
+                }
+            }
+        }
+        "cancel" => {
+            for index in places.iter().take(steps) {
+                if let Some((key, value)) = slab.take(*index) {
+                    slab.indexes.remove(&key);
+                    sum = with(sum, value);
+                }
+            }
+        }
+        "walk" => {
+            let mut left = steps;
+            while left > 0 {
+                for index in slab.indexes.values().take(left) {
+                    left -= 1;
+                    if let Some(value) = slab.value(*index) {
+                        sum = with(sum, value);
+                    }
+                }
+            }
+        }
+        _ => return None,
+    }
+    Some(sum)
+}
+
+fn main() -> ExitCode {
+    let args: Vec<String> = env::args().collect();
+    let sum = match args.as_slice() {
+        [_, kind, operation, len, steps] => match (len.parse(), steps.parse()) {
+            (Ok(len), Ok(steps)) => match kind.as_str() {
+                "map" => in_map(operation, len, steps),
+                "slab" => in_slab(operation, len, steps),
+                _ => None,
+            },
+            _ => None,
+        },
+        _ => None,
+    };
+    match sum {
+        Some(sum) => {
+            println!("{sum}");
+            ExitCode::SUCCESS
+        }
+        None => {
+            eprintln!("usage: ordered map|slab insert|find|remove|cancel|walk LEN STEPS");
+            ExitCode::from(2)
+        }
+    }
+}
