@@ -44,7 +44,11 @@ fn texts_of_links(rt: HostRuntime) -> Result<(), Fail> {
         Some(link) => {
             displays(&rt, &link, "(-, P0[2](2)) test");
             displays(&rt, &link.no_gen(), "(-, 2) test");
-            reads(&rt, &link.no_gen(), "IndexLink { prev: None, next: Some(2), t: \"test\" }");
+            reads(
+                &rt,
+                &link.no_gen(),
+                "IndexLink { prev: None, next: Some(2), t: \"test\" }",
+            );
         }
         None => panic!(rt; "the link is not there"),
     }
