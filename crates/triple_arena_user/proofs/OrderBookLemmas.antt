@@ -1,5 +1,5 @@
 -- What insertions and removals make of an order book.
-use Rattle.std.proofs.Common.{◌≡◌, ◌≢◌, ℕ, ◌≤◌, List, [], ◌∷◌, ◌++◌, Option, Some, None, Result, Ok, Err, option_map, refl, sym, ap, subst, ◌∙◌, inl, inr, IsSome, OnSome, arith, IsErrOf, OnErr, IfOk, IfSome, ◌↔◌}
+use Rattle.std.proofs.Common.{◌≡◌, ◌≢◌, ℕ, ◌≤◌, List, [], ◌∷◌, ◌++◌, Option, Some, None, Result, Ok, Err, option_map, refl, sym, ap, subst, ◌∙◌, inl, inr, IsSome, OnSome, arith, IsErrOf, OnErr, IfOk, IfSome, IfNone, ◌↔◌, ◌<◌}
 use Rattle.std.specs.Cmp.{ranked, nat_cmp_is}
 use Rattle.std.specs.Ordering.{nat_cmp}
 use Rattle.std.specs.declared.cmp.Ordering.{Ordering}
@@ -9,13 +9,14 @@ use Rattle.triple_arena.specs.Content.{live_count, arena_capacity}
 use Rattle.triple_arena.specs.Entries.{with_entry, without}
 use Rattle.triple_arena_ptr.specs.declared.errors.OrdInsertionError.{OrdInsertionError}
 use Rattle.triple_arena_ptr.specs.declared.errors.OrdInsertionError.TheVariants.{NotWithinCapacity}
-use Rattle.triple_arena_chain.specs.Chains.{On, first_or}
+use Rattle.triple_arena_chain.specs.Chains.{On, Apart, first_or}
 use Rattle.triple_arena_ord.specs.declared.pair.OrdPair.{OrdPair}
 use Rattle.triple_arena_ord.specs.Inserted.{IsInserted, IsPlacedByKey, within_room}
 use Rattle.triple_arena_ord.specs.Ordered.{Ordered, IsAscending, order_in, entry_in, asked_at, size_in}
+use Rattle.triple_arena_ord.specs.OrderedWalks.{OrderedWalk, OrderedSteps, left_over}
 use Rattle.triple_arena_ord.specs.Removal.{IsRemoved}
 use Rattle.triple_arena_ord.specs.Search.{AllIn}
-use Rattle.triple_arena_user.specs.OrderBooks.{orders_in, price_in, IsFreePrice, IsBook, as_order}
+use Rattle.triple_arena_user.specs.OrderBooks.{orders_in, price_in, IsFreePrice, IsBook, IsNextPrice, IsLastPrice, as_order}
 
 -- what holds of each of a list holds of one that is on it
 at_of : (Q : ℕ → Type 0) (front : List ℕ) (i : ℕ) (back : List ℕ) → AllIn Q (front ++ i ∷ back) → Q i
@@ -364,6 +365,112 @@ module _ {P I V : Type 0} (index : P → ℕ) (number : I → ℕ) (o : Ordered 
           let k : e.1.k ≡ own = some_is e.1.k own (sym (ap (option_map (λ (e : ℕ × OrdPair ℕ V). e.1.k)) is) ∙ here) in
           least number o (index p) j own price first.0 first.1 listed
           (subst (λ k. AllIn (λ i. asked_at nat_cmp price_of k o i ≢ Greater) first.0) k (after first.0 (index p) e first.1 is)) here there
+
+not_less : (x y : ℕ) → nat_cmp x y ≢ Less → y ≤ x
+not_less x y never = by (nat_cmp x y) refl
+  where
+    by : (d : Ordering) → d ≡ nat_cmp x y → y ≤ x
+    by Less is = absurd (never (sym is))
+    by Equal is = omega (arith, ranked x y Equal is)
+    by Greater is = omega (arith, ranked x y Greater is)
+
+neighbors_differ : (front rest : List ℕ) (i j : ℕ) → Apart (front ++ i ∷ j ∷ rest) → i ≢ j
+neighbors_differ [] rest i j apart = λ same. apart.0.0 (sym same)
+neighbors_differ (x ∷ front) rest i j apart = neighbors_differ front rest i j apart.1
+
+regroup : (front rest : List ℕ) (i j : ℕ) → front ++ i ∷ j ∷ rest ≡ (front ++ i ∷ []) ++ j ∷ rest
+regroup [] rest i j = refl
+regroup (x ∷ front) rest i j = ap (λ l. x ∷ l) (regroup front rest i j)
+
+tail_is : (x y : ℕ) (xs ys : List ℕ) → x ∷ xs ≡ y ∷ ys → xs ≡ ys
+tail_is x y xs ys is = cc
+
+module _ {P I V : Type 0} (index generation : P → ℕ) (number : I → ℕ) (o : Ordered I (OrdPair ℕ V)) where
+  -- what a step leaves of a walk
+  pub stepped : (before after : OrderedWalk) (given : Option P) (i : ℕ) (rest : List ℕ)
+      → OrderedSteps number o before (option_map (λ p. (index p, generation p)) given) after
+      → left_over number o before ≡ i ∷ rest → left_over number o after ≡ rest
+  stepped before after None i rest over is = absurd (let none : i ∷ rest ≡ [] = sym is ∙ over.left in cc)
+  stepped before after (Some p) i rest given is = sym (tail_is i (index p) rest (left_over number o after) (sym is ∙ given.left))
+
+  -- how the prices along the list compare with that at an index
+  pub record Compared : Type 0 where
+    pub listed : (k : ℕ) → IsSome (entry_in o k) → On (order_in number o) k
+    pub before : (front back : List ℕ) (i : ℕ) (entry : ℕ × OrdPair ℕ V) → order_in number o ≡ front ++ i ∷ back → entry_in o i ≡ Some entry
+        → AllIn (λ k. asked_at nat_cmp price_of entry.1.k o k ≢ Less) front
+    pub after : (front back : List ℕ) (i : ℕ) (entry : ℕ × OrdPair ℕ V) → order_in number o ≡ front ++ i ∷ back → entry_in o i ≡ Some entry
+        → AllIn (λ k. asked_at nat_cmp price_of entry.1.k o k ≢ Greater) back
+
+  asked_as : (Q : ℕ → Type 0) (d : Ordering) (own k price : ℕ) → price_in o k ≡ Some price → asked_at nat_cmp price_of own o k ≢ d
+      → nat_cmp own price ≢ d
+  asked_as Q d own k price there never = by (entry_in o k) there never
+    where
+      by : (e : Option (ℕ × OrdPair ℕ V)) → option_map (λ (e : ℕ × OrdPair ℕ V). e.1.k) e ≡ Some price
+          → Rattle.triple_arena_ord.specs.Ordered.asked_of nat_cmp price_of own e ≢ d → nat_cmp own price ≢ d
+      by None none never = absurd (cc)
+      by (Some e) same never = subst (λ k. nat_cmp own k ≢ d) (some_is e.1.k price same) never
+
+  entry_of_price : (i own : ℕ) → price_in o i ≡ Some own → (entry : ℕ × OrdPair ℕ V) × (entry_in o i ≡ Some entry) × (entry.1.k ≡ own)
+  entry_of_price i own is = by (entry_in o i) refl
+    where
+      by : (e : Option (ℕ × OrdPair ℕ V)) → entry_in o i ≡ e → (entry : ℕ × OrdPair ℕ V) × (entry_in o i ≡ Some entry) × (entry.1.k ≡ own)
+      by None none = absurd (let never : None ≡ Some own = sym (ap (option_map (λ (e : ℕ × OrdPair ℕ V). e.1.k)) none) ∙ is in cc)
+      by (Some e) there = (e, there, some_is e.1.k own (sym (ap (option_map (λ (e : ℕ × OrdPair ℕ V). e.1.k)) there) ∙ is))
+
+  below : (c : Compared) (front back : List ℕ) (i own : ℕ) → order_in number o ≡ front ++ i ∷ back → price_in o i ≡ Some own
+      → AllIn (λ k. (price : ℕ) → price_in o k ≡ Some price → price ≤ own) front
+  below c front back i own is here =
+      let e = entry_of_price i own here in
+      weaker (λ k. asked_at nat_cmp price_of e.0.1.k o k ≢ Less) (λ k. (price : ℕ) → price_in o k ≡ Some price → price ≤ own)
+      (λ k never price there. subst (λ x. price ≤ x) e.2 (not_less e.0.1.k price (asked_as (λ k. Unit {0}) Less e.0.1.k k price there never)))
+      front (c.before front back i e.0 is e.1)
+
+  above : (c : Compared) (front back : List ℕ) (i own : ℕ) → order_in number o ≡ front ++ i ∷ back → price_in o i ≡ Some own
+      → AllIn (λ k. (price : ℕ) → price_in o k ≡ Some price → own ≤ price) back
+  above c front back i own is here =
+      let e = entry_of_price i own here in
+      weaker (λ k. asked_at nat_cmp price_of e.0.1.k o k ≢ Greater) (λ k. (price : ℕ) → price_in o k ≡ Some price → own ≤ price)
+      (λ k never price there. subst (λ x. x ≤ price) e.2 (not_greater e.0.1.k price (asked_as (λ k. Unit {0}) Greater e.0.1.k k price there never)))
+      back (c.after front back i e.0 is e.1)
+
+  pub last_price : Compared → (front : List ℕ) (i : ℕ) → order_in number o ≡ front ++ i ∷ [] → IsLastPrice o i
+  last_price c front i is = λ own k price here there.
+      let Q : ℕ → Type 0 = λ k. (price : ℕ) → price_in o k ≡ Some price → price ≤ own in
+      let own_is : Q i = λ price there. omega (arith, some_is own price (sym here ∙ there)) in
+      let all : AllIn Q (front ++ i ∷ []) = joined Q front (i ∷ []) (below c front [] i own is here) (own_is, tt) in
+      let on = c.listed k (price_there o price k there) in
+      at_of Q on.front k on.back (subst (AllIn Q) (sym is ∙ on.is) all) price there
+
+  pub next_price : Compared → Apart (order_in number o) → ((i j price : ℕ) → price_in o i ≡ Some price → price_in o j ≡ Some price → i ≡ j)
+      → (front rest : List ℕ) (i j : ℕ) → order_in number o ≡ front ++ i ∷ j ∷ rest → IsNextPrice o i j
+  next_price c once apart front rest i j is = λ own next here there.
+      let up = (above c front (j ∷ rest) i own is here).0 next there in
+      let differ : own ≢ next = λ same. neighbors_differ front rest i j (subst Apart is once) (apart i j next (here ∙ ap Some same) there) in
+      let less : own < next = omega (arith, up, differ) in
+      let is' : order_in number o ≡ (front ++ i ∷ []) ++ j ∷ rest = is ∙ regroup front rest i j in (
+        less,
+        λ k price at over.
+            let Q : ℕ → Type 0 = λ k. (price : ℕ) → price_in o k ≡ Some price → own < price → next ≤ price in
+            let low : AllIn Q front = weaker (λ k. (price : ℕ) → price_in o k ≡ Some price → price ≤ own) Q
+            (λ k most price at over. absurd (omega (arith, most price at, over))) front (below c front (j ∷ rest) i own is here) in
+            let own_is : Q i = λ price at over. absurd (omega (arith, some_is own price (sym here ∙ at), over)) in
+            let next_is : Q j = λ price at over. omega (arith, some_is next price (sym there ∙ at)) in
+            let high : AllIn Q rest = weaker (λ k. (price : ℕ) → price_in o k ≡ Some price → next ≤ price) Q
+            (λ k least price at over. least price at) rest (above c (front ++ i ∷ []) rest j next is' there) in
+            let all : AllIn Q (front ++ i ∷ j ∷ rest) = joined Q front (i ∷ j ∷ rest) low (own_is, (next_is, high)) in
+            let on = c.listed k (price_there o price k at) in
+            at_of Q on.front k on.back (subst (AllIn Q) (sym is ∙ on.is) all) price at over,
+      )
+
+  -- what the step after that of an order gives
+  pub next_given : (Valid : Type 0) → Compared → Apart (order_in number o) → ((i j price : ℕ) → price_in o i ≡ Some price → price_in o j ≡ Some price → i ≡ j)
+      → (front back : List ℕ) (i : ℕ) → order_in number o ≡ front ++ i ∷ back → (before after : OrderedWalk) (given : Option P)
+      → OrderedSteps number o before (option_map (λ p. (index p, generation p)) given) after → left_over number o before ≡ back
+      → IfSome given (λ q. IsNextPrice o i (index q)) × IfNone given (Valid → IsLastPrice o i)
+  next_given Valid c once apart front back i is before after None over left =
+      (tt, λ valid. last_price c front i (is ∙ ap (λ l. front ++ i ∷ l) (sym left ∙ over.left)))
+  next_given Valid c once apart front back i is before after (Some q) given left =
+      (next_price c once apart front (left_over number o after) i (index q) (is ∙ ap (λ l. front ++ i ∷ l) (sym left ∙ given.left)), tt)
 
 -- what holds where there is an answer
 pub where_some : {A B Q : Type 0} (f : A → B) (o : Option A) (b : B) → option_map f o ≡ Some b → OnSome o Q → Q

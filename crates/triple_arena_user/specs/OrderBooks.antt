@@ -1,5 +1,5 @@
 -- Order books: orders by their prices, of which each price has one at most.
-use Rattle.std.specs.Prelude.{◌≡◌, ◌≢◌, ℕ, Option, Some, Result, Ok, Err}
+use Rattle.std.specs.Prelude.{◌≡◌, ◌≢◌, ℕ, ◌<◌, ◌≤◌, Option, Some, Result, Ok, Err}
 use Rattle.std.specs.Option.{option_map}
 use Rattle.std.specs.Ordering.{nat_cmp}
 use Rattle.triple_arena_ord.specs.declared.pair.OrdPair.{OrdPair}
@@ -17,6 +17,15 @@ module _ {I V : Type 0} where
   -- no order has this price
   abbrev pub IsFreePrice : Ordered I (OrdPair ℕ V) → ℕ → Type 0
   IsFreePrice o price = (i : ℕ) → price_in o i ≢ Some price
+
+  -- the price at the second index is the next greater one after that at the first
+  abbrev pub IsNextPrice : Ordered I (OrdPair ℕ V) → ℕ → ℕ → Type 0
+  IsNextPrice o i j = (own next : ℕ) → price_in o i ≡ Some own → price_in o j ≡ Some next
+      → (own < next) × ((k price : ℕ) → price_in o k ≡ Some price → own < price → next ≤ price)
+
+  -- no price is greater than that at an index
+  abbrev pub IsLastPrice : Ordered I (OrdPair ℕ V) → ℕ → Type 0
+  IsLastPrice o i = (own k price : ℕ) → price_in o i ≡ Some own → price_in o k ≡ Some price → price ≤ own
 
   -- the prices ascend, and no two are the same
   pub record IsBook (number : I → ℕ) (o : Ordered I (OrdPair ℕ V)) : Type 0 where

@@ -1,11 +1,11 @@
 //! Order books: orders by their prices in an ordered arena, one at a price at most, of which all is said by pointers and prices.
-ghost use Rattle.std.specs.Prelude.{◌≡◌, ◌≢◌, ◌≤◌, ◌↔◌, ℕ, None, Some, Ok, IfOk, IfSome, IfNone, OnErr, OnSome, IsErrOf};
+ghost use Rattle.std.specs.Prelude.{◌≡◌, ◌≢◌, ◌≤◌, ◌↔◌, ℕ, None, Some, Ok, IsSome, IfOk, IfSome, IfNone, OnErr, OnSome, IsErrOf};
 ghost use Rattle.triple_arena.specs.Content.{live_count, arena_capacity};
 ghost use Rattle.triple_arena.specs.Entries.{with_entry, without, value_if, generation_at};
 ghost use Rattle.triple_arena_ptr.specs.Generation.{next_generation};
-ghost use Rattle.triple_arena_user.specs.OrderBooks.{orders_in, price_in, IsFreePrice, IsBook, as_order};
+ghost use Rattle.triple_arena_user.specs.OrderBooks.{orders_in, price_in, IsFreePrice, IsBook, IsNextPrice, IsLastPrice, as_order};
 
-use triple_arena::{ArenaSlot, NonZeroInxGenericStack, Ptr};
+use triple_arena::{Advancer, ArenaSlot, NonZeroInxGenericStack, Ptr};
 use triple_arena_chain::LinkNoGen;
 use triple_arena_ord::laws::{
     entries_stand_in_the_list, keys_ascend_along_the_list, removals_keep_keys_ascending,
@@ -91,4 +91,23 @@ pub fn best_order<P: Ptr, V: Drop, S: NonZeroInxGenericStack<OrderSlot<P, V>> + 
     // The book is ordered.
     let _ = book.len();
     book.first()
+}
+
+/// The pointer to the order with the next greater price after that of the order that `p` points to. It answers `None` where
+/// `p` points to none, or no order has a greater price.
+pub fn next_order<P: Ptr, V: Drop, S: NonZeroInxGenericStack<OrderSlot<P, V>> + Drop>(
+    book: &OrderBook<P, V, S>,
+    p: P,
+) -> Option<P>
+    requires { IsBook P.Inx.number book.now }
+    ensures live { IfSome result (λ q. generation_at (orders_in book.now) (P.index q) ≡ Some (P.generation q)) }
+    ensures next { IfSome result (λ q. IsNextPrice book.now (P.index p) (P.index q)) }
+    ensures none { IfNone result (IsSome (value_if (P.generation p) (orders_in book.now (P.index p)))
+        → IsLastPrice book.now (P.index p)) }
+{
+    entries_stand_in_the_list::<P, OrdPair<u64, V>>();
+    keys_ascend_along_the_list::<P, OrdPair<u64, V>>();
+    let mut walk = book.advancer_ordered(p, false)?;
+    walk.advance(book)?;
+    walk.advance(book)
 }
