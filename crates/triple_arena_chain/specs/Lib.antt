@@ -23,4 +23,5 @@ pub mod Renaming
 pub mod Copying
 pub mod LinkRecasting
 pub mod SameLinksLaws
+pub mod LinkText
 pub mod IndexDrains

@@ -1,4 +1,8 @@
 //! The text of links: the neighbours in parentheses, `-` where there is none, and the value, as `(-, 2) hello`.
+ghost use Rattle.std.specs.Prelude.{Some};
+ghost use Rattle.triple_arena_ptr.specs.Hexadecimal.{hexadecimal};
+ghost use Rattle.triple_arena_chain.specs.LinkText.{neighbour_text, index_link_text, link_text};
+
 use crate::{IndexLink, Link};
 use std::fmt;
 use triple_arena_ptr::{Ptr, PtrInx};
@@ -8,6 +12,8 @@ use triple_arena_ptr::{Ptr, PtrInx};
 struct InxText<I>(Option<I>);
 
 impl<I: PtrInx> fmt::Display for InxText<I> {
+    ghost output = { λ x. neighbour_text (λ i. Some (hexadecimal (I.number i))) x.0 };
+
     fn fmt<W: fmt::Write>(&self, f: &mut fmt::Formatter<W>) -> fmt::Result {
         match self.0 {
             Some(i) => i.fmt_hex(f),
@@ -21,6 +27,8 @@ impl<I: PtrInx> fmt::Display for InxText<I> {
 struct PtrText<P>(Option<P>);
 
 impl<P: Ptr> fmt::Display for PtrText<P> {
+    ghost output = { λ x. neighbour_text P.debug_output x.0 };
+
     fn fmt<W: fmt::Write>(&self, f: &mut fmt::Formatter<W>) -> fmt::Result {
         match self.0 {
             Some(p) => write!(f, "{p:?}"),
@@ -31,6 +39,8 @@ impl<P: Ptr> fmt::Display for PtrText<P> {
 
 /// The indexes of the neighbours in lower-case hexadecimal digits, and the value: `(-, 2) hello`.
 impl<I: PtrInx, T: fmt::Display> fmt::Display for IndexLink<I, T> {
+    ghost output = { index_link_text (λ i. Some (hexadecimal (I.number i))) T.output };
+
     fn fmt<W: fmt::Write>(&self, f: &mut fmt::Formatter<W>) -> fmt::Result {
         let prev = InxText(self.prev);
         let next = InxText(self.next);
@@ -40,6 +50,8 @@ impl<I: PtrInx, T: fmt::Display> fmt::Display for IndexLink<I, T> {
 
 /// The pointers to the neighbours, and the value: `(-, P0[2](2)) hello`.
 impl<P: Ptr, T: fmt::Display> fmt::Display for Link<P, T> {
+    ghost output = { link_text P.debug_output T.output };
+
     fn fmt<W: fmt::Write>(&self, f: &mut fmt::Formatter<W>) -> fmt::Result {
         let prev = PtrText(self.prev());
         let next = PtrText(self.next());
