@@ -34,11 +34,11 @@ if_at : {X : Type 0} (P : X → Type 0) (o : Option X) (x : X) → o ≡ Some x 
 if_at P None x e h = absurd (cc)
 if_at P (Some y) x e h = let z : y ≡ x = cc in subst P z h
 
-root_size : (t : Tree) → root_of t ≡ None → size t ≡ 0
+pub root_size : (t : Tree) → root_of t ≡ None → size t ≡ 0
 root_size leaf e = refl
 root_size (node l i k r) e = absurd (cc)
 
-none_counted : (t : Tree) → size t ≡ 0 → (j : ℕ) → 0 < count j t → ⊥
+pub none_counted : (t : Tree) → size t ≡ 0 → (j : ℕ) → 0 < count j t → ⊥
 none_counted leaf e j h = absurd (omega arith)
 none_counted (node l i k r) e j h = absurd (omega arith)
 

@@ -39,7 +39,7 @@ pub unlimited : {P : Type 0} (takes : Bool) (len : ℕ) (room : Room) (made : Re
 unlimited takes len room made p is at u = let z = is.beyond.1 u in absurd (cc)
 
 -- nothing new stands at a place where an item is replaced
-never : (place : Option (ℕ × Ordering)) → Replaces place → (v w : List ℕ) (n : ℕ) → StandsAt place v w n → ⊥
+pub never : (place : Option (ℕ × Ordering)) → Replaces place → (v w : List ℕ) (n : ℕ) → StandsAt place v w n → ⊥
 never None h v w n s = h
 never (Some a) h v w n s = let z : StandsAt (Some (a.0, Equal)) v w n = subst (λ d. StandsAt (Some (a.0, d)) v w n) h s in z
 

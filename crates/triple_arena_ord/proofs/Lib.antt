@@ -28,6 +28,8 @@ pub mod LeafLemmas
 pub mod EndLemmas
 pub mod SameListLemmas
 pub mod InsertLemmas
+pub mod PlacingLemmas
+pub mod EntryLemmas
 pub mod StateLemmas
 pub mod GrowthLemmas
 pub mod SettleLemmas

@@ -64,6 +64,16 @@ abbrev pub room_made : {T : Type 0} → Option T → ℕ → Room → Room
 room_made None len room = room_after len room
 room_made (Some _) len room = room
 
+-- the room with a place for an item: an item in place of another wants none
+abbrev pub room_for : Option (ℕ × Ordering) → ℕ → Room → Room
+room_for None len room = room_after len room
+room_for (Some place) len room = by place.1
+  where
+    by : Ordering → Room
+    by Less = room_after len room
+    by Equal = room
+    by Greater = room_after len room
+
 module _ {I T : Type 0} (number : I → ℕ) where
   -- the node at an index has another item, and all else is as it was
   pub record IsRenewed (i g : ℕ) (t u : T) (old new : Content (IndexLink I (IndexNode I T))) : Type 0 where

@@ -12,6 +12,8 @@ pub mod Ordered
 pub mod States
 pub mod Canonical
 pub mod Inserted
+pub mod Placing
+pub mod InsertEntry
 pub mod Growth
 pub mod Removal
 pub mod Found

@@ -42,4 +42,5 @@ pub use item::SimpleOrdItem;
 pub use kind::{InsertKind, OrdEntryKind, OrdInsertKind};
 pub use node::{IndexNode, SimpleOrdArenaNode};
 pub use ord_arena::SimpleOrdArena;
+pub use ord_arena::entry::SimpleOrdArenaInsertEntry;
 pub use pair::OrdPair;

@@ -66,8 +66,8 @@ impl<P: Ptr, T: Drop, S: NonZeroInxGenericStack<ArenaSlot<P, LinkNoGen<P, T>>> +
 > {
     ghost use Rattle.triple_arena_chain.specs.contracts.chain_arena.ChainArena.{the_row};
 
-    // The pointer of the next link, where there is room.
-    fn next_ptr(&mut self) -> Option<P>
+    /// The pointer that the next insertion gives, if there is room for one link more.
+    pub fn next_ptr(&mut self) -> Option<P>
         ensures variant { IsSome result ↔ (live_count self.old < arena_capacity self.old) }
         ensures has_index { IfSome result (λ p. P.index p ≡ next_index self.old) }
         ensures has_generation { IfSome result (λ p. P.generation p ≡ self.old.counter) }

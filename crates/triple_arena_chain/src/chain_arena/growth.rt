@@ -20,8 +20,10 @@ impl<P: Ptr, T: Drop, S: NonZeroInxGenericStack<ArenaSlot<P, LinkNoGen<P, T>>> +
     T,
     S,
 > {
-    // Makes room for one link more, where there is none, and answers its pointer.
-    pub(crate) fn make_room(&mut self) -> Result<P, ReallocationError>
+    /// Makes room for one link more, where there is none, and answers the pointer that the next insertion gives. It answers
+    /// `BeyondMaxCapacity` where as many links are live as the greatest capacity, and `AllocError` where the memory was
+    /// refused; both change nothing.
+    pub fn make_room(&mut self) -> Result<P, ReallocationError>
         ensures has_index { IfOk result (λ p. P.index p ≡ next_index self.new) }
         ensures has_generation { IfOk result (λ p. P.generation p ≡ self.new.counter) }
         ensures grown { OnOk result (self.new ≡ grown_if_full self.old) }
