@@ -1,5 +1,5 @@
--- A list whose keys ascend still does after an insertion by key, and after a removal.
-use Rattle.std.proofs.Common.{◌≡◌, ℕ, zero, suc, ◌+◌, List, [], ◌∷◌, ◌++◌, get_or, filter_map, Option, Some}
+-- A list whose keys ascend still does after an insertion where the key belongs, and after a removal.
+use Rattle.std.proofs.Common.{◌≡◌, ◌≢◌, ℕ, zero, suc, ◌+◌, List, [], ◌∷◌, ◌++◌, get_or, filter_map, Option, Some}
 use Rattle.std.proofs.Common.{None, Result, Ok, Err, arith, refl, sym, ap, ◌∙◌, subst, false, true, inl, inr}
 use Rattle.std.specs.Option.{option_map}
 use Rattle.std.proofs.lemmas.Bool.{eq-eqb, ne_eqb}
@@ -20,7 +20,7 @@ use Rattle.triple_arena_chain.specs.Links.{ends_in}
 use Rattle.triple_arena_chain.specs.UniquenessLaws.{linear_apart}
 use Rattle.triple_arena_ord.specs.Search.{AllIn}
 use Rattle.triple_arena_ord.specs.Ordered.{Ordered, IsOrdered, IsAscending, order_in, entry_in, asked_of}
-use Rattle.triple_arena_ord.specs.Inserted.{IsInserted}
+use Rattle.triple_arena_ord.specs.Inserted.{StandsAt, IsReplaced, IsAdded, IsInsertedAt}
 use Rattle.triple_arena_ord.specs.Removal.{IsRemoved}
 use Rattle.triple_arena_ord.proofs.SortedLemmas.{parts}
 
@@ -106,6 +106,15 @@ module _ {X : Type 0} (R : X → X → Ordering) where
       let h : R a x ≡ R b y = p.1.0.left x ∙ p.0.right b in
       cons y b ys (ap is_lt (sym h) ∙ first x a xs s) (carried (a ∷ xs) (b ∷ ys) p.1 (tail x (a ∷ xs) s))
 
+-- one more index in the list, between entries whose keys are not greater and entries whose keys are not less
+pub record IsBetween {K T : Type 0} (R : K → K → Ordering) (key : T → K) (k : K) (entry : ℕ → Option (ℕ × T)) (i : ℕ) (old new : List ℕ) : Type 0 where
+  pub before : List ℕ
+  pub after : List ℕ
+  pub was : old ≡ before ++ after
+  pub is : new ≡ before ++ i ∷ after
+  pub low : AllIn (λ j. asked_of R key k (entry j) ≢ Less) before
+  pub high : AllIn (λ j. asked_of R key k (entry j) ≢ Greater) after
+
 module _ {K T : Type 0} (R : K → K → Ordering) (key : T → K) (total : IsTotalOrder R) where
   abbrev below : ℕ × (ℕ × T) → ℕ × (ℕ × T) → Ordering
   below x y = R (key x.1.1) (key y.1.1)
@@ -130,27 +139,37 @@ module _ {K T : Type 0} (R : K → K → Ordering) (key : T → K) (total : IsTo
       by (Some o) at rest = rw (other, at) (ap (λ l. (x, o) ∷ l) rest)
 
   -- what is asked of each index holds of each that is listed
-  listed-all : (entry : ℕ → Option (ℕ × T)) (k : K) (d : Ordering) (Q : ℕ × (ℕ × T) → Type 0) → ((z : ℕ × (ℕ × T)) → R k (key z.1.1) ≡ d → Q z)
-      → (xs : List ℕ) → AllIn (λ j. asked_of R key k (entry j) ≡ d) xs → AllOf below Q (listed_of entry xs)
-  listed-all entry k d Q f [] all = tt
-  listed-all entry k d Q f (x ∷ xs) all = by (entry x) refl (listed-all entry k d Q f xs all.1)
+  listed-all : (entry : ℕ → Option (ℕ × T)) (k : K) (A : Ordering → Type 0) (Q : ℕ × (ℕ × T) → Type 0) → ((z : ℕ × (ℕ × T)) → A (R k (key z.1.1)) → Q z)
+      → (xs : List ℕ) → AllIn (λ j. A (asked_of R key k (entry j))) xs → AllOf below Q (listed_of entry xs)
+  listed-all entry k A Q f [] all = tt
+  listed-all entry k A Q f (x ∷ xs) all = by (entry x) refl (listed-all entry k A Q f xs all.1)
     where
       by : (o : Option (ℕ × T)) → entry x ≡ o → AllOf below Q (listed_of entry xs) → AllOf below Q (listed_of entry (x ∷ xs))
       by None at rest = rw at rest
       by (Some o) at rest =
-          let here : R k (key o.1) ≡ d = sym (ap (asked_of R key k) at) ∙ all.0 in
+          let here : A (R k (key o.1)) = subst (λ e. A (asked_of R key k e)) at all.0 in
           rw at (f (x, o) here, rest)
 
-  not_below : (x y : K) → R x y ≡ Less → is_lt (R y x) ≡ false
-  not_below x y e = let back : R y x ≡ Greater = total.antisymm y x ∙ ap ordering_reverse e in ap is_lt back
+  not_below : (x y : K) → R x y ≢ Greater → is_lt (R y x) ≡ false
+  not_below x y h = by (R y x) refl
+    where
+      by : (a : Ordering) → R y x ≡ a → is_lt (R y x) ≡ false
+      by Less e = absurd (h (total.antisymm x y ∙ ap ordering_reverse e))
+      by Equal e = ap is_lt e
+      by Greater e = ap is_lt e
 
-  not_above : (x y : K) → R x y ≡ Greater → is_lt (R x y) ≡ false
-  not_above x y e = ap is_lt e
+  not_above : (x y : K) → R x y ≢ Less → is_lt (R x y) ≡ false
+  not_above x y h = by (R x y) refl
+    where
+      by : (a : Ordering) → R x y ≡ a → is_lt (R x y) ≡ false
+      by Less e = absurd (h e)
+      by Equal e = ap is_lt e
+      by Greater e = ap is_lt e
 
-  -- one more entry between the lesser and the greater ones
+  -- one more entry between those that are not greater and those that are not less
   added : (entry new : ℕ → Option (ℕ × T)) (n g : ℕ) (t : T) (xs ys : List ℕ) → ((k : ℕ) → new k ≡ with_entry entry n (g, t) k) → Apart (xs ++ n ∷ ys)
       → IsSorted below (listed_of entry (xs ++ ys))
-      → AllIn (λ j. asked_of R key (key t) (entry j) ≡ Greater) xs → AllIn (λ j. asked_of R key (key t) (entry j) ≡ Less) ys
+      → AllIn (λ j. asked_of R key (key t) (entry j) ≢ Less) xs → AllIn (λ j. asked_of R key (key t) (entry j) ≢ Greater) ys
       → IsSorted below (listed_of new (xs ++ n ∷ ys))
   added entry new n g t xs ys is apart s low high =
       let off = (Apart-taken xs ys n apart).1 in
@@ -166,8 +185,8 @@ module _ {K T : Type 0} (R : K → K → Ordering) (key : T → K) (total : IsTo
       let whole : listed_of new (xs ++ n ∷ ys) ≡ listed_of entry xs ++ x ∷ listed_of entry ys =
       split ∙ ap (λ l. l ++ listed_of (with_entry entry n e) (n ∷ ys)) front ∙ ap (λ l. listed_of entry xs ++ l) here in
       let sorted = put below (listed_of entry xs) x (listed_of entry ys) (subst (IsSorted below) (filter_map-append h xs ys) s)
-      (listed-all entry (key t) Greater (λ z. is_lt (below x z) ≡ false) (λ z e. not_above (key t) (key z.1.1) e) xs low)
-      (listed-all entry (key t) Less (λ z. is_lt (below z x) ≡ false) (λ z e. not_below (key t) (key z.1.1) e) ys high) in
+      (listed-all entry (key t) (λ d. d ≢ Less) (λ z. is_lt (below x z) ≡ false) (λ z h. not_above (key t) (key z.1.1) h) xs low)
+      (listed-all entry (key t) (λ d. d ≢ Greater) (λ z. is_lt (below z x) ≡ false) (λ z h. not_below (key t) (key z.1.1) h) ys high) in
       subst (IsSorted below) (sym whole) sorted
 
   alike : (x g : ℕ) (t u : T) → R (key t) (key u) ≡ Equal → Alike below (x, (g, u)) (x, (g, t))
@@ -250,10 +269,30 @@ module _ {K T : Type 0} (R : K → K → Ordering) (key : T → K) (total : IsTo
         subst (λ v. IsSorted below (listed_of (entry_in p) v)) (sym s.order.is)
         (subst (IsSorted below) (ap (listed_of (entry_in p)) s.order.was ∙ same) left)
 
+  module _ {I : Type 0} (number : I → ℕ) (o p : Ordered I T) (i g : ℕ) (t : T) where
+    pub replaced_ascending : (u : T) → R (key t) (key u) ≡ Equal → IsReplaced number i g t u o p → IsAscending number R key o → IsAscending number R key p
+    replaced_ascending u equal r ascending =
+        let entries = listed-same (entry_in p) (with_entry (entry_in o) i (g, t)) r.entries (order_in number o) in
+        let sorted = carried below (listed_of (entry_in o) (order_in number o))
+        (listed_of (with_entry (entry_in o) i (g, t)) (order_in number o))
+        (paired (entry_in o) i g t u r.was equal (order_in number o)) ascending in
+        subst (λ w. IsSorted below (listed_of (entry_in p) w)) (sym r.order) (subst (IsSorted below) (sym entries) sorted)
+
+    pub added_ascending : IsOrdered number p → IsBetween R key (key t) (entry_in o) i (order_in number o) (order_in number p) → IsAdded number i g t o p
+        → IsAscending number R key o → IsAscending number R key p
+    added_ascending new_is s r ascending =
+        let apart : Apart (order_in number p) = linear_apart (ends_in number p.chains) None (order_in number p) new_is.linear in
+        let sorted = added (entry_in o) (entry_in p) i g t s.before s.after r.entries (subst Apart s.is apart)
+        (subst (λ w. IsSorted below (listed_of (entry_in o) w)) s.was ascending) s.low s.high in
+        subst (λ w. IsSorted below (listed_of (entry_in p) w)) (sym s.is) sorted
+
   module _ {I P : Type 0} (number : I → ℕ) (index generation : P → ℕ) (allows : Option OrdInsertionError → Type 0) where
-    pub stays_ascending : (o p : Ordered I T) (t : T) (result : Result (P × Option T) OrdInsertionError) → IsOrdered number p
-        → IsInserted number R key index generation allows t result o p → IsAscending number R key o → IsAscending number R key p
-    stays_ascending o p t result new_is put ascending = by result refl
+    -- an insertion in an entry with an equal key, or between the lesser and the greater ones
+    pub inserted_ascending : (o p : Ordered I T) (t : T) (place : Option (ℕ × Ordering)) (result : Result (P × Option T) OrdInsertionError) → IsOrdered number p
+        → ((i g : ℕ) (u : T) → place ≡ Some (i, Equal) → entry_in o i ≡ Some (g, u) → R (key t) (key u) ≡ Equal)
+        → ((n : ℕ) → StandsAt place (order_in number o) (order_in number p) n → IsBetween R key (key t) (entry_in o) n (order_in number o) (order_in number p))
+        → IsInsertedAt number index generation allows place t result o p → IsAscending number R key o → IsAscending number R key p
+    inserted_ascending o p t place result new_is equal between put ascending = by result refl
       where
         by : (r : Result (P × Option T) OrdInsertionError) → result ≡ r → IsAscending number R key p
         by (Err e) at = subst (IsAscending number R key) (sym (put.same e at)) ascending
@@ -262,15 +301,7 @@ module _ {K T : Type 0} (R : K → K → Ordering) (key : T → K) (total : IsTo
             answered : (u : Option T) → a.1 ≡ u → IsAscending number R key p
             answered (Some u) e =
                 let r = put.replaced a.0 u (at ∙ ap (λ z. Ok (a.0, z)) e) in
-                let entries = listed-same (entry_in p) (with_entry (entry_in o) (index a.0) (generation a.0, t)) r.1.entries (order_in number o) in
-                let sorted = carried below (listed_of (entry_in o) (order_in number o))
-                (listed_of (with_entry (entry_in o) (index a.0) (generation a.0, t)) (order_in number o))
-                (paired (entry_in o) (index a.0) (generation a.0) t u r.1.was r.0 (order_in number o)) ascending in
-                subst (λ w. IsSorted below (listed_of (entry_in p) w)) (sym r.1.order) (subst (IsSorted below) (sym entries) sorted)
+                replaced_ascending number o p (index a.0) (generation a.0) t u (equal (index a.0) (generation a.0) u r.0 r.1.was) r.1 ascending
             answered None e =
                 let r = put.added a.0 (at ∙ ap (λ z. Ok (a.0, z)) e) in
-                let apart : Apart (order_in number p) = linear_apart (ends_in number p.chains) None (order_in number p) new_is.linear in
-                let s = r.0 in
-                let sorted = added (entry_in o) (entry_in p) (index a.0) (generation a.0) t s.before s.after r.1.entries (subst Apart s.is apart)
-                (subst (λ w. IsSorted below (listed_of (entry_in o) w)) s.was ascending) (s.greater ascending) (s.less ascending) in
-                subst (λ w. IsSorted below (listed_of (entry_in p) w)) (sym s.is) sorted
+                added_ascending number o p (index a.0) (generation a.0) t new_is (between (index a.0) r.0) r.1 ascending

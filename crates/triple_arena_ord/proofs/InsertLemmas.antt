@@ -19,8 +19,10 @@ use Rattle.triple_arena_ord.specs.Knot.{Knot}
 use Rattle.triple_arena_ord.specs.Node.{knots_in, knot_of, itemed}
 use Rattle.triple_arena_ord.specs.Search.{AllIn, Before, IsParted, IsAnswer}
 use Rattle.triple_arena_ord.specs.Ordered.{Ordered, IsOrdered, tree_in, order_in, size_in, asked_of, asked_at}
+use Rattle.triple_arena_ord.specs.Placing.{IsPlaceByKey}
 use Rattle.triple_arena_ord.specs.Inserted.{Replaces, StandsAt, IsRenewed, IsReplaced, IsInsertedAt, IsPlacedByKey, IsInserted}
 use Rattle.triple_arena_ord.proofs.Descents.{AllIn-append, AllIn-map, parted-after, parted-before}
+use Rattle.triple_arena_ord.proofs.PlacingLemmas.{placed_by_key}
 use Rattle.triple_arena_ord.proofs.SeekLemmas.{parts_at, absent}
 use Rattle.triple_arena_ord.proofs.SameListLemmas.{Reordered, same_list}
 
@@ -85,10 +87,10 @@ module _ {I T : Type 0} (number : I → ℕ) where
 
   module _ {K : Type 0} (cmp : K → K → Ordering) (key : T → K) (total : IsTotalOrder cmp) where
     -- where a search ended is where the key belongs
-    by_key : (o p : Ordered I T) (k : K) (n : ℕ) (place : Option (ℕ × Ordering)) → IsOrdered number o → IsAnswer (asked_at cmp key k o) (tree_in number o) place
+    pub by_key : (o p : Ordered I T) (k : K) (n : ℕ) (place : Option (ℕ × Ordering)) → IsOrdered number o → IsPlaceByKey number cmp key k o place
         → StandsAt place (order_in number o) (order_in number p) n → IsPlacedByKey number cmp key k n o p
-    by_key o p k n None is answer s = record { before = []; after = []; was = s.0; is = s.1; greater = λ a. tt; less = λ a. tt }
-    by_key o p k n (Some a) is answer s = by a.1 refl s
+    by_key o p k n None is found s = record { before = []; after = []; was = s.0; is = s.1; greater = λ a. tt; less = λ a. tt }
+    by_key o p k n (Some a) is found s = by a.1 refl s
       where
         f : ℕ → Ordering
         f = asked_at cmp key k o
@@ -102,14 +104,14 @@ module _ {I T : Type 0} (number : I → ℕ) where
         by : (d : Ordering) → a.1 ≡ d → StandsAt (Some (h, d)) (order_in number o) (order_in number p) n → IsPlacedByKey number cmp key k n o p
         by Less e s =
             let at : ◌≡◌ {A = Option (ℕ × Ordering)} (Some a) (Some (h, Less)) = ap (λ d. Some (h, d)) e in
-            let here : f h ≡ Less = answer.asked h Less at in
+            let here : f h ≡ Less = found.way h Less at in
             record {
               before = s.before;
               after = h ∷ s.after;
               was = s.was;
               is = s.is;
               greater = λ ascending.
-                  let places = answer.parted h Less at (parts_at number cmp key k total o is ascending) in
+                  let places = found.places ascending h Less at in
                   let split = split_same s.before h s.after places.before places.after (subst Apart s.was apart) (sym s.was ∙ places.is) in
                   subst (AllIn (λ j. f j ≡ Greater)) (sym split.0) (places.less refl);
               less = λ ascending.
@@ -119,7 +121,7 @@ module _ {I T : Type 0} (number : I → ℕ) where
         by Equal e s = absurd s
         by Greater e s =
             let at : ◌≡◌ {A = Option (ℕ × Ordering)} (Some a) (Some (h, Greater)) = ap (λ d. Some (h, d)) e in
-            let here : f h ≡ Greater = answer.asked h Greater at in
+            let here : f h ≡ Greater = found.way h Greater at in
             record {
               before = s.before ++ h ∷ [];
               after = s.after;
@@ -131,7 +133,7 @@ module _ {I T : Type 0} (number : I → ℕ) where
                   (AllIn-map (λ y. Before (f y) (f h)) (λ y. f y ≡ Greater) (λ y z. z.greater here) s.before
                   (parted-before f s.before h s.after parted)) (here, tt);
               less = λ ascending.
-                  let places = answer.parted h Greater at (parts_at number cmp key k total o is ascending) in
+                  let places = found.places ascending h Greater at in
                   let split = split_same s.before h s.after places.before places.after (subst Apart s.was apart) (sym s.was ∙ places.is) in
                   subst (AllIn (λ j. f j ≡ Less)) (sym split.1) (places.greater refl);
             }
@@ -156,14 +158,15 @@ module _ {I T : Type 0} (number : I → ℕ) where
       inserted_by_key o p t k k_is place result is new_is found put =
           let answer : IsAnswer (asked_at cmp key (key t) o) (tree_in number o) place =
           subst (λ z. IsAnswer (asked_at cmp key z o) (tree_in number o) place) k_is found in
+          let at = placed_by_key number cmp key (key t) o total is place answer in
           record {
             replaced = λ q u e.
                 let r = put.replaced q u e in
-                (sym (ap (asked_of cmp key (key t)) r.1.was) ∙ answer.asked (index q) Equal r.0, r.1);
-            added = λ q e. let r = put.added q e in (by_key o p (key t) (index q) place is answer r.0, r.1);
+                (sym (ap (asked_of cmp key (key t)) r.1.was) ∙ at.way (index q) Equal r.0, r.1);
+            added = λ q e. let r = put.added q e in (by_key o p (key t) (index q) place is at r.0, r.1);
             grown = λ q e.
                 let r = put.added q e in
-                grows o p (index q) is new_is (by_key o p (key t) (index q) place is answer r.0);
+                grows o p (index q) is new_is (by_key o p (key t) (index q) place is at r.0);
             fits = put.fits;
             refused = λ error e. (put.refused error e).1;
             same = put.same;

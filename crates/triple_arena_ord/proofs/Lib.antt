@@ -27,8 +27,9 @@ pub mod LinearLemmas
 pub mod LeafLemmas
 pub mod EndLemmas
 pub mod SameListLemmas
-pub mod InsertLemmas
 pub mod PlacingLemmas
+pub mod InsertLemmas
+pub mod PlacedLemmas
 pub mod EntryLemmas
 pub mod StateLemmas
 pub mod GrowthLemmas

@@ -1,11 +1,14 @@
 //! What follows from the calls of an ordered arena.
-ghost use Rattle.std.specs.Prelude.{◌≡◌, ◌≢◌, ℕ, List, ◌∷◌, ◌++◌, Option, Some, None, IsSome};
+ghost use Rattle.std.specs.Prelude.{◌≡◌, ◌≢◌, ℕ, List, ◌∷◌, ◌++◌, Option, Some, None, IsSome, Result};
 ghost use Rattle.std.specs.List.{AllByRecursion};
 ghost use Rattle.std.specs.declared.cmp.Ordering.{Ordering as Way};
+ghost use Rattle.triple_arena_ptr.specs.declared.errors.OrdInsertionError.{OrdInsertionError as Refused};
 ghost use Rattle.triple_arena_chain.specs.Chains.{On};
 ghost use Rattle.triple_arena_ord.specs.Asked.{IsWay};
 ghost use Rattle.triple_arena_ord.specs.AskedLaws.{IsCutAt, last_greater, last_less};
-ghost use Rattle.triple_arena_ord.specs.Ordered.{Ordered, IsOrdered, IsAscending, order_in, entry_in, asked_at};
+ghost use Rattle.triple_arena_ord.specs.Inserted.{IsInsertedAt, within_room};
+ghost use Rattle.triple_arena_ord.specs.Ordered.{Ordered, IsOrdered, IsAscending, order_in, entry_in, size_in, asked_at};
+ghost use Rattle.triple_arena_ord.specs.Placing.{IsPlaceByKey, IsPlaceBeforeEqual};
 ghost use Rattle.triple_arena_ord.specs.Removal.{IsRemoved};
 ghost use Rattle.triple_arena_ord.specs.Search.{AllIn};
 
@@ -33,6 +36,21 @@ pub fn keys_ascend_along_the_list<P: Ptr, T: SimpleOrdItem>()
 /// A list whose keys ascend still does after a removal.
 pub fn removals_keep_keys_ascending<P: Ptr, T: SimpleOrdItem>()
     ensures { (last : Option ℕ) (i : ℕ) (old new : Ordered P.Inx T) → IsRemoved P.Inx.number last i old new
+        → IsAscending P.Inx.number T.Key.cmp T.key_of old → IsAscending P.Inx.number T.Key.cmp T.key_of new }
+{}
+
+/// A list whose keys ascend still does after an insertion at the place that was found for the item's key, and after one that goes
+/// directly before an entry with an equal key there.
+pub fn insertions_keep_keys_ascending<P: Ptr, T: SimpleOrdItem>()
+    ensures by_key { (place : Option (ℕ × Way)) (t : T) (result : Result (P × Option T) Refused) (old new : Ordered P.Inx T)
+        → IsOrdered P.Inx.number old → IsOrdered P.Inx.number new
+        → IsPlaceByKey P.Inx.number T.Key.cmp T.key_of (T.key_of t) old place
+        → IsInsertedAt P.Inx.number P.index P.generation (within_room (size_in old) old.chains.room) place t result old new
+        → IsAscending P.Inx.number T.Key.cmp T.key_of old → IsAscending P.Inx.number T.Key.cmp T.key_of new }
+    ensures before_equal { (place : Option (ℕ × Way)) (t : T) (result : Result (P × Option T) Refused) (old new : Ordered P.Inx T)
+        → IsOrdered P.Inx.number old → IsOrdered P.Inx.number new
+        → IsPlaceBeforeEqual P.Inx.number T.Key.cmp T.key_of (T.key_of t) old place
+        → IsInsertedAt P.Inx.number P.index P.generation (within_room (size_in old) old.chains.room) place t result old new
         → IsAscending P.Inx.number T.Key.cmp T.key_of old → IsAscending P.Inx.number T.Key.cmp T.key_of new }
 {}
 

@@ -120,10 +120,7 @@ impl<
         match found_at(&self.chains, place) {
             Some(p) => Ok(p),
             None => match self.make_room() {
-                Ok(()) => match self.chains.next_ptr() {
-                    Some(p) => Ok(p),
-                    None => unreachable!(),
-                },
+                Ok(p) => Ok(p),
                 Err(error) => Err(grown_error(error)),
             },
         }

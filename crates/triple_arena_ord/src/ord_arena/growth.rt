@@ -1,76 +1,17 @@
 //! The room for entries, and how it grows.
-ghost use Rattle.std.specs.Prelude.{◌≡◌, ◌^◌, ◌<◌, ◌≤◌, ◌↔◌, ℕ, None, IsTrue, IsSome, IfOk, OnOk, OnErr};
+ghost use Rattle.std.specs.Prelude.{◌≡◌, ◌<◌, ◌≤◌, ◌↔◌, ℕ, IsTrue, IsSome, IfOk, OnOk, OnErr};
 ghost use Rattle.triple_arena_ptr.specs.Generation.{second_generation};
 ghost use Rattle.triple_arena_ptr.specs.Index.{max_index_of};
 ghost use Rattle.triple_arena_stack.specs.Push.{IsRefusal};
-ghost use Rattle.triple_arena_stack.specs.Room.{grown, room_after};
+ghost use Rattle.triple_arena_stack.specs.Room.{room_after};
 ghost use Rattle.triple_arena.specs.ArenaRoom.{room_of, room_with};
-ghost use Rattle.triple_arena.specs.Content.{live_count, arena_capacity, in_room, empty, grown_if_full};
+ghost use Rattle.triple_arena.specs.Content.{arena_capacity, next_index, empty};
 ghost use Rattle.triple_arena_ord.specs.Growth.{IsInRoom, IsRoomRefusal};
 ghost use Rattle.triple_arena_ord.specs.Ordered.{IsOrdered, entry_in, size_in};
 
 use crate::{SimpleOrdArena, SimpleOrdArenaNode};
 use triple_arena::{ArenaSlot, ArenaTrait, NonZeroInxGenericStack, Ptr, ReallocationError};
 use triple_arena_chain::{ChainArena, LinkNoGen};
-
-// How many links fit with no growth. Twice as many can be counted, where there is no limit.
-fn capacity_to_double<
-    P: Ptr,
-    T: Drop,
-    S: NonZeroInxGenericStack<ArenaSlot<P, LinkNoGen<P, SimpleOrdArenaNode<P, T>>>> + Drop,
->(chains: &ChainArena<P, SimpleOrdArenaNode<P, T>, S>) -> usize
-    ensures value { result ≡ arena_capacity chains.now }
-    ensures holds_all { live_count chains.now ≤ result }
-    ensures can_double { chains.now.room.limit ≡ None → result < 2 ^ 63 }
-{
-    // A stack without a limit has less than half of all numbers.
-    let _ = chains.backing().capacity();
-    chains.capacity()
-}
-
-// Makes room for one link more than there are, which is as many as fit: for 4 at first, then for the double, and never past
-// the greatest capacity.
-fn grow<
-    P: Ptr,
-    T: Drop,
-    S: NonZeroInxGenericStack<ArenaSlot<P, LinkNoGen<P, SimpleOrdArenaNode<P, T>>>> + Drop,
->(
-    chains: &mut ChainArena<P, SimpleOrdArenaNode<P, T>, S>,
-    capacity: usize,
-) -> Result<(), ReallocationError>
-    requires value { capacity ≡ arena_capacity chains.old }
-    requires full { capacity ≡ live_count chains.old }
-    requires can_double { chains.old.room.limit ≡ None → capacity < 2 ^ 63 }
-    ensures refusal { IsRefusal S.takes_memory (live_count chains.old) chains.old.room result }
-    ensures grown { OnOk result (chains.new ≡ in_room chains.old (grown chains.old.room)) }
-    ensures fits { OnOk result (live_count chains.new < arena_capacity chains.new) }
-    ensures err { OnErr result (chains.new ≡ chains.old) }
-{
-    let wanted = capacity.saturating_mul(2).max(4);
-    match chains.max_capacity() {
-        None => chains.reallocate_min_capacity(wanted),
-        Some(limit) if capacity < limit => chains.reallocate_min_capacity(wanted.min(limit)),
-        Some(_) => Err(ReallocationError::BeyondMaxCapacity),
-    }
-}
-
-// Makes room for one link more, where there is none.
-fn grow_if_full<
-    P: Ptr,
-    T: Drop,
-    S: NonZeroInxGenericStack<ArenaSlot<P, LinkNoGen<P, SimpleOrdArenaNode<P, T>>>> + Drop,
->(chains: &mut ChainArena<P, SimpleOrdArenaNode<P, T>, S>) -> Result<(), ReallocationError>
-    ensures refusal { IsRefusal S.takes_memory (live_count chains.old) chains.old.room result }
-    ensures grown { OnOk result (chains.new ≡ grown_if_full chains.old) }
-    ensures fits { OnOk result (live_count chains.new < arena_capacity chains.new) }
-    ensures err { OnErr result (chains.new ≡ chains.old) }
-{
-    let capacity = capacity_to_double(chains);
-    if chains.len() < capacity {
-        return Ok(());
-    }
-    grow(chains, capacity)
-}
 
 impl<
     P: Ptr,
@@ -133,8 +74,10 @@ impl<
         self.chains.reallocate_min_capacity(min)
     }
 
-    // Makes room for one entry more, where there is none.
-    pub(crate) fn make_room(&mut self) -> Result<(), ReallocationError>
+    // Makes room for one entry more, where there is none, and answers the pointer that the next insertion gives.
+    pub(crate) fn make_room(&mut self) -> Result<P, ReallocationError>
+        ensures has_index { IfOk result (λ p. P.index p ≡ next_index self.new.chains) }
+        ensures has_generation { IfOk result (λ p. P.generation p ≡ self.new.chains.counter) }
         ensures refusal { IsRefusal S.takes_memory (size_in self.old) self.old.chains.room result }
         ensures grown { OnOk result
             (IsInRoom P.Inx.number (room_after (size_in self.old) self.old.chains.room) self.old self.new) }
@@ -142,6 +85,6 @@ impl<
         ensures ordered { IsOrdered P.Inx.number self.new }
         ensures err { OnErr result (self.new ≡ self.old) }
     {
-        grow_if_full(&mut self.chains)
+        self.chains.make_room()
     }
 }

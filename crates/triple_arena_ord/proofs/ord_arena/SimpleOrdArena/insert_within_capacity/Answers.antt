@@ -1,5 +1,9 @@
+use Rattle.std.proofs.Common.{subst}
+use Rattle.triple_arena_ord.specs.Search.{IsAnswer}
+use Rattle.triple_arena_ord.specs.Ordered.{asked_at, tree_in}
 use Rattle.triple_arena_ord.proofs.InsertLemmas.{inserted_by_key}
-use Rattle.triple_arena_ord.proofs.AscendingLemmas.{stays_ascending}
+use Rattle.triple_arena_ord.proofs.PlacingLemmas.{placed_by_key}
+use Rattle.triple_arena_ord.proofs.PlacedLemmas.{placed_ascending}
 use Rattle.triple_arena_ord.proofs.ord_arena.SimpleOrdArena.insert_within_capacity.Goals as goal
 
 pub returns-clause-inserted : goal.returns-clause-inserted
@@ -10,8 +14,10 @@ returns-clause-inserted g c =
 
 pub returns-clause-ascending : goal.returns-clause-ascending
 returns-clause-ascending g c = λ ascending.
-    stays_ascending g.T.Key.Ord.cmp g.T.SimpleOrdItem.key_of g.met.T.Key.Ord.total g.P.Inx.PtrInx.number g.P.Ptr.index g.P.Ptr.generation _
-    c.args.self.now c.insert_at_within_capacity.new.self c.args.t c.insert_at_within_capacity.result c.insert_at_within_capacity.ensures.ordered
-    (inserted_by_key g.P.Inx.PtrInx.number g.T.Key.Ord.cmp g.T.SimpleOrdItem.key_of g.met.T.Key.Ord.total g.P.Ptr.index g.P.Ptr.generation _
-    c.args.self.now c.insert_at_within_capacity.new.self c.args.t _ c.key.ensures _ _
-    c.seek-place.ensures.ordered c.insert_at_within_capacity.ensures.ordered c.seek-place.ensures.answer c.insert_at_within_capacity.ensures.inserted) ascending
+    let number = g.P.Inx.PtrInx.number in
+    let key = g.T.SimpleOrdItem.key_of in
+    let at = subst (λ k. IsAnswer (asked_at g.T.Key.Ord.cmp key k c.args.self.now) (tree_in number c.args.self.now) _) c.key.ensures c.seek-place.ensures.answer in
+    placed_ascending number g.T.Key.Ord.cmp key g.met.T.Key.Ord.total c.args.self.now c.insert_at_within_capacity.new.self g.P.Ptr.index g.P.Ptr.generation _ c.args.t _
+    c.insert_at_within_capacity.result c.seek-place.ensures.ordered c.insert_at_within_capacity.ensures.ordered
+    (placed_by_key number g.T.Key.Ord.cmp key (key c.args.t) c.args.self.now g.met.T.Key.Ord.total c.seek-place.ensures.ordered _ at)
+    c.insert_at_within_capacity.ensures.inserted ascending

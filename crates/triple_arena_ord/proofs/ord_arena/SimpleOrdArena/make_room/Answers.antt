@@ -12,10 +12,10 @@ pub invariant_of-self : goal.invariant_of-self
 invariant_of-self g c =
     let number = g.P.Inx.PtrInx.number in
     let o : Ordered g.row.P-Inx.Denot g.row.T.Denot = record { chains = c.self.inside.chains; root = option_map number c.self.inside.root } in
-    let d = c.grow_if_full.new.chains in
+    let d = c.make_room.new.chains in
     let r = room_after (size_in o) o.chains.room in
-    let order = same_order number o d r c.grow_if_full.result c.grow_if_full.ensures.grown c.grow_if_full.ensures.err in (
-      still_ordered number o d r c.grow_if_full.result c.grow_if_full.ensures.grown c.grow_if_full.ensures.err c.self.invariant.0,
+    let order = same_order number o d r c.make_room.result c.make_room.ensures.grown c.make_room.ensures.err in (
+      still_ordered number o d r c.make_room.result c.make_room.ensures.grown c.make_room.ensures.err c.self.invariant.0,
       c.self.invariant.1 ∙ ap (λ w. first_or w None) order,
       c.self.invariant.2 ∙ ap (last_or None) order,
     )
@@ -24,12 +24,12 @@ pub returns-clause-grown : goal.returns-clause-grown
 returns-clause-grown g c =
     let number = g.P.Inx.PtrInx.number in
     let o : Ordered g.row.P-Inx.Denot g.row.T.Denot = record { chains = c.self.inside.chains; root = option_map number c.self.inside.root } in
-    let d = c.grow_if_full.new.chains in
-    subst (λ z. OnOk c.grow_if_full.result (IsInRoom number (room_after (size_in z) z.chains.room) z (record { chains = d; root = o.root }))) c.self.view_is
-    (ok_roomier number o d (room_after (size_in o) o.chains.room) c.grow_if_full.result c.grow_if_full.ensures.grown)
+    let d = c.make_room.new.chains in
+    subst (λ z. OnOk c.make_room.result (IsInRoom number (room_after (size_in z) z.chains.room) z (record { chains = d; root = o.root }))) c.self.view_is
+    (ok_roomier number o d (room_after (size_in o) o.chains.room) c.make_room.result c.make_room.ensures.grown)
 
 pub returns-clause-ordered : goal.returns-clause-ordered
 returns-clause-ordered g c =
     let number = g.P.Inx.PtrInx.number in
     let o : Ordered g.row.P-Inx.Denot g.row.T.Denot = record { chains = c.self.inside.chains; root = option_map number c.self.inside.root } in
-    still_ordered number o c.grow_if_full.new.chains (room_after (size_in o) o.chains.room) c.grow_if_full.result c.grow_if_full.ensures.grown c.grow_if_full.ensures.err c.self.invariant.0
+    still_ordered number o c.make_room.new.chains (room_after (size_in o) o.chains.room) c.make_room.result c.make_room.ensures.grown c.make_room.ensures.err c.self.invariant.0
