@@ -1,5 +1,6 @@
 -- An insertion at the place that was found for its key, or directly before the equal one there, leaves keys that ascend ascending.
 use Rattle.std.proofs.Common.{◌≡◌, ◌≢◌, ℕ, List, ◌∷◌, Option, Some, None, Result, sym, ap, ◌∙◌, subst, refl}
+use Rattle.std.specs.Option.{option_map}
 use Rattle.std.specs.Cmp.{IsTotalOrder}
 use Rattle.std.specs.declared.cmp.Ordering.{Ordering}
 use Rattle.std.specs.declared.cmp.Ordering.TheVariants.{Less, Equal, Greater}
@@ -16,7 +17,7 @@ use Rattle.triple_arena_ord.proofs.InsertLemmas.{by_key}
 
 module _ {I T K : Type 0} (number : I → ℕ) (cmp : K → K → Ordering) (key : T → K) (total : IsTotalOrder cmp) (o p : Ordered I T) where
   module _ (k : K) (is : IsOrdered number o) (ascending : IsAscending number cmp key o) (n : ℕ) where
-    f : ℕ → Ordering
+    abbrev f : ℕ → Ordering
     f = asked_at cmp key k o
 
     abbrev Between : Type 0
@@ -67,9 +68,9 @@ module _ {I T K : Type 0} (number : I → ℕ) (cmp : K → K → Ordering) (key
   never_equal (Some a) i e = by a.1 refl e
     where
       by : (d : Ordering) → a.1 ≡ d → before_equal (Some (a.0, d)) ≡ Some (i, Equal) → ⊥
-      by Less e is = absurd (cc)
-      by Equal e is = absurd (cc)
-      by Greater e is = absurd (cc)
+      by Less e is = let z : Some Less ≡ Some Equal = ap (option_map (λ x. x.1)) is in absurd (cc)
+      by Equal e is = let z : Some Less ≡ Some Equal = ap (option_map (λ x. x.1)) is in absurd (cc)
+      by Greater e is = let z : Some Greater ≡ Some Equal = ap (option_map (λ x. x.1)) is in absurd (cc)
 
   module _ {P : Type 0} (index generation : P → ℕ) (allows : Option OrdInsertionError → Type 0) (t : T) (place : Option (ℕ × Ordering))
       (result : Result (P × Option T) OrdInsertionError) (is : IsOrdered number o) (new_is : IsOrdered number p) where

@@ -1,4 +1,6 @@
-use Rattle.std.proofs.Common.{subst}
+use Rattle.std.proofs.Common.{ℕ, Option, subst}
+use Rattle.std.specs.Option.{option_map}
+use Rattle.std.specs.declared.cmp.Ordering.{Ordering}
 use Rattle.triple_arena_ord.specs.Search.{IsAnswer}
 use Rattle.triple_arena_ord.specs.Ordered.{asked_at, tree_in}
 use Rattle.triple_arena_ord.proofs.InsertLemmas.{inserted_by_key}
@@ -16,8 +18,9 @@ pub returns-clause-ascending : goal.returns-clause-ascending
 returns-clause-ascending g c = λ ascending.
     let number = g.P.Inx.PtrInx.number in
     let key = g.T.SimpleOrdItem.key_of in
-    let at = subst (λ k. IsAnswer (asked_at g.T.Key.Ord.cmp key k c.args.self.now) (tree_in number c.args.self.now) _) c.key.ensures c.seek-found.ensures.answer in
-    placed_ascending number g.T.Key.Ord.cmp key g.met.T.Key.Ord.total c.args.self.now c.insert_at_reallocating.new.self g.P.Ptr.index g.P.Ptr.generation _ c.args.t _
+    let place : Option (ℕ × Ordering) = option_map (λ a. (number a.0, a.1)) c.seek-found.result in
+    let at = subst (λ k. IsAnswer (asked_at g.T.Key.Ord.cmp key k c.args.self.now) (tree_in number c.args.self.now) place) c.key.ensures c.seek-found.ensures.answer in
+    placed_ascending number g.T.Key.Ord.cmp key g.met.T.Key.Ord.total c.args.self.now c.insert_at_reallocating.new.self g.P.Ptr.index g.P.Ptr.generation _ c.args.t place
     c.insert_at_reallocating.result c.seek-found.ensures.ordered c.insert_at_reallocating.ensures.ordered
-    (placed_by_key number g.T.Key.Ord.cmp key (key c.args.t) c.args.self.now g.met.T.Key.Ord.total c.seek-found.ensures.ordered _ at)
+    (placed_by_key number g.T.Key.Ord.cmp key (key c.args.t) c.args.self.now g.met.T.Key.Ord.total c.seek-found.ensures.ordered place at)
     c.insert_at_reallocating.ensures.inserted ascending
