@@ -4,7 +4,7 @@ use Rattle.std.specs.Option.{option_map}
 use Rattle.triple_arena.specs.ArenaRoom.{room_with}
 use Rattle.triple_arena_chain.specs.Chains.{first_or, last_or}
 use Rattle.triple_arena_ord.specs.Growth.{IsInRoom}
-use Rattle.triple_arena_ord.specs.Ordered.{Ordered, IsOrdered}
+use Rattle.triple_arena_ord.specs.Ordered.{Ordered}
 use Rattle.triple_arena_ord.proofs.GrowthLemmas.{still_ordered, same_order, ok_roomier}
 use Rattle.triple_arena_ord.proofs.ord_arena.SimpleOrdArena.reallocate_min_capacity.Goals as goal
 

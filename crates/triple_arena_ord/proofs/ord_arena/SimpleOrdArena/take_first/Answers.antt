@@ -1,4 +1,4 @@
-use Rattle.std.proofs.Common.{rules, ◌≡◌, refl, sym, ap}
+use Rattle.std.proofs.Common.{rules, refl, sym}
 use Rattle.triple_arena_ptr.specs.InvalidationResult.{answer_of}
 use Rattle.triple_arena_ord.proofs.OrderedDrainLemmas.{none_first, taken_by}
 use Rattle.triple_arena_ord.proofs.OrderedWalkLemmas.{first_knot}
