@@ -126,6 +126,14 @@ module _ {I T : Type 0} (number : I → ℕ) where
     pub free : IsFreeAt d (knots_in number o.chains j)
     pub same : (w : List ℕ) (n : ℕ) → StandsAt (Some (j, d)) (order_in number o) w n → StandsBeside side (order_in number o) w h n
 
+  -- the same of the index that a link is found to name, in the arena as it is seen
+  pub settled_at : (o seen : Ordered I T) (side : Side) (h : ℕ) (d : Ordering) (q : Option I) → (i : I) × ((q ≡ Some i) × Settled o side h (number i) d)
+      → (j : I) → q ≡ Some j → o ≡ seen → Settled seen side h (number j) d
+  settled_at o seen side h d q s j here same =
+      let there = s.1.0 in
+      let named : s.0 ≡ j = cc in
+      subst (λ z. Settled z side h (number j) d) same (subst (λ i. Settled o side h (number i) d) named s.1.1)
+
   record Before (o : Ordered I T) (h : ℕ) : Type 0 where
     index : ℕ
     is : prev_at (ends_in number o.chains) h ≡ Some index

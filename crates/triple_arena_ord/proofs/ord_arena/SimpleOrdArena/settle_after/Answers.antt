@@ -1,17 +1,16 @@
-use Rattle.std.proofs.Common.{◌≡◌, refl, subst}
+use Rattle.std.proofs.Common.{refl}
 use Rattle.std.specs.Option.{option_map}
 use Rattle.std.specs.declared.cmp.Ordering.TheVariants.{Less}
 use Rattle.triple_arena_ord.specs.declared.knots.Side.TheVariants.{Right}
 use Rattle.triple_arena_ord.specs.Ordered.{Ordered}
-use Rattle.triple_arena_ord.proofs.SettleLemmas.{Settled, settled_next}
+use Rattle.triple_arena_ord.proofs.SettleLemmas.{settled_next, settled_at}
 use Rattle.triple_arena_ord.proofs.ord_arena.SimpleOrdArena.settle_after.Goals as goal
 
 pub unreachable-requires : goal.unreachable-requires
 unreachable-requires g c =
     let number = g.P.Inx.PtrInx.number in
     let o : Ordered g.row.P-Inx.Denot g.row.T.Denot = record { chains = c.self.inside.chains; root = option_map number c.self.inside.root } in
-    let h = number c.args.i in
-    let s = settled_next number o c.self.invariant.0 h _ c.read.ensures c.read.result.right c.if-is_none.ensures refl c.neighbours_beside.result.1 c.neighbours_beside.ensures.next in
+    let s = settled_next number o c.self.invariant.0 (number c.args.i) _ c.read.ensures c.read.result.right c.if-is_none.ensures refl c.neighbours_beside.result.1 c.neighbours_beside.ensures.next in
     let here = c.in-None.is in
     let there = s.1.0 in
     absurd (cc)
@@ -20,24 +19,12 @@ pub returns-clause-free : goal.returns-clause-free
 returns-clause-free g c =
     let number = g.P.Inx.PtrInx.number in
     let o : Ordered g.row.P-Inx.Denot g.row.T.Denot = record { chains = c.self.inside.chains; root = option_map number c.self.inside.root } in
-    let h = number c.args.i in
-    let s = settled_next number o c.self.invariant.0 h _ c.read.ensures c.read.result.right c.if-is_none.ensures refl c.neighbours_beside.result.1 c.neighbours_beside.ensures.next in
-    let here = c.in-Some.is in
-    let there = s.1.0 in
-    let same : s.0 ≡ c.in-Some.next = cc in
-    let settled : Settled number c.args.self.now Right h (number c.in-Some.next) Less =
-    subst (λ z. Settled number z Right h (number c.in-Some.next) Less) c.self.view_is (subst (λ j. Settled number o Right h (number j) Less) same s.1.1) in
-    settled.free
+    let s = settled_next number o c.self.invariant.0 (number c.args.i) _ c.read.ensures c.read.result.right c.if-is_none.ensures refl c.neighbours_beside.result.1 c.neighbours_beside.ensures.next in
+    (settled_at number o c.args.self.now Right (number c.args.i) Less c.neighbours_beside.result.1 s c.in-Some.next c.in-Some.is c.self.view_is).free
 
 pub returns-clause-same : goal.returns-clause-same
 returns-clause-same g c =
     let number = g.P.Inx.PtrInx.number in
     let o : Ordered g.row.P-Inx.Denot g.row.T.Denot = record { chains = c.self.inside.chains; root = option_map number c.self.inside.root } in
-    let h = number c.args.i in
-    let s = settled_next number o c.self.invariant.0 h _ c.read.ensures c.read.result.right c.if-is_none.ensures refl c.neighbours_beside.result.1 c.neighbours_beside.ensures.next in
-    let here = c.in-Some.is in
-    let there = s.1.0 in
-    let same : s.0 ≡ c.in-Some.next = cc in
-    let settled : Settled number c.args.self.now Right h (number c.in-Some.next) Less =
-    subst (λ z. Settled number z Right h (number c.in-Some.next) Less) c.self.view_is (subst (λ j. Settled number o Right h (number j) Less) same s.1.1) in
-    settled.same
+    let s = settled_next number o c.self.invariant.0 (number c.args.i) _ c.read.ensures c.read.result.right c.if-is_none.ensures refl c.neighbours_beside.result.1 c.neighbours_beside.ensures.next in
+    (settled_at number o c.args.self.now Right (number c.args.i) Less c.neighbours_beside.result.1 s c.in-Some.next c.in-Some.is c.self.view_is).same
