@@ -1,5 +1,6 @@
 mod documents;
 mod examples;
+mod lists;
 mod order_books;
 mod playlists;
 mod searches;

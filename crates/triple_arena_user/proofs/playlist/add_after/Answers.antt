@@ -7,7 +7,7 @@ lists : (g : Over) (c : goal.After-insert_within_capacity g)
     c.insert_within_capacity.result
 lists g c =
     added g.P.Ptr.index g.P.Ptr.generation g.P.Inx.PtrInx.number c.args.songs.now c.insert_within_capacity.new.self c.args.p c.args.song
-    c.insert_within_capacity.result c.len.ensures.formed (λ ok. (c.insert_within_capacity.ensures.answer.succeeds.0 ok).0) c.insert_within_capacity.ensures.placed
+    c.insert_within_capacity.result c.len.ensures.formed.agreed (λ ok. (c.insert_within_capacity.ensures.answer.succeeds.0 ok).0) c.insert_within_capacity.ensures.placed
     c.insert_within_capacity.ensures.err
 
 pub returns-clause-linear : goal.returns-clause-linear
