@@ -6,7 +6,7 @@ use Rattle.std.proofs.lemmas.Bool.Decides.{eqb_tells}
 use Rattle.triple_arena.specs.Entries.{value_if, with_entry}
 use Rattle.triple_arena_chain.specs.Walks.{ChainWalk, ChainSteps, IsWalkFrom, left_over, IsEnding}
 use Rattle.triple_arena_chain.specs.WalkLaws.{left-after, left-none}
-use Rattle.triple_arena_user.specs.Playlists.{length_of, length_at, PlaysLonger, IsFirstWithin, IsMoved}
+use Rattle.triple_arena_user.specs.Playlists.{length_of, length_at, PlaysLonger, IsFirstWithin, IsAddedAfter, IsMoved}
 use Rattle.triple_arena.specs.Content.{Content, entry_at}
 use Rattle.triple_arena_chain.specs.declared.kind.InsertKind.TheVariants.{NextTo}
 use Rattle.triple_arena_chain.specs.declared.link.IndexLink.{IndexLink}
@@ -27,13 +27,10 @@ module _ {I T : Type 0} (number : I → ℕ) (c d : Content (IndexLink I T)) (i 
   told (Some place) there placed tell = tell place placed
 
 module _ {P E I T : Type 0} (index generation : P → ℕ) (number : I → ℕ) (c d : Content (IndexLink I T)) (p : P) (t : T) where
-  -- what an insertion directly after `p` makes of the lists
+  -- what an insertion directly after `p` makes of the songs and of the lists
   pub record Added (r : Result P E) : Type 0 where
     pub song : IfOk r (λ q. (j : ℕ) → values_in d j ≡ with_entry (values_in c) (index q) (generation q, t) j)
-    pub linear : IfOk r (λ q. (before after : List ℕ) → IsLinear (ends_in number c) (before ++ index p ∷ after)
-        → IsLinear (ends_in number d) (before ++ (index p ∷ index q ∷ after)))
-    pub ring : IfOk r (λ q. (after : List ℕ) → IsRing (ends_in number c) (index p ∷ after) → IsRing (ends_in number d) (index p ∷ index q ∷ after))
-    pub others : (l : Chain) → IsChainOf (ends_in number c) l → Off (members l) (index p) → IsChainOf (ends_in number d) l
+    pub after : IfOk r (λ q. IsAddedAfter (index p) (index q) (ends_in number c) (ends_in number d))
     pub counter : d.counter ≡ c.counter
 
   pub added : (r : Result P E) → IsAgreed (ends_in number c) → (IsOk r → IsSome (place_among index generation number c (NextTo p)))
@@ -42,9 +39,7 @@ module _ {P E I T : Type 0} (index generation : P → ℕ) (number : I → ℕ) 
   added (Err e) agreed there placed same =
       record {
         song = tt;
-        linear = tt;
-        ring = tt;
-        others = λ l chain off. subst (λ x. IsChainOf (ends_in number x) l) (sym same) chain;
+        after = tt;
         counter = ap (λ x. x.counter) same;
       }
   added (Ok q) agreed there placed same =
@@ -53,9 +48,11 @@ module _ {P E I T : Type 0} (index generation : P → ℕ) (number : I → ℕ) 
       let put = put-next_to index generation number c d p (index q) (generation q) t (there refl) placed in
       record {
         song = told number c d (index q) (generation q) t (place_among index generation number c (NextTo p)) (there refl) placed (λ place at. at.values);
-        linear = linear-put_after old new (index p) (index q) put;
-        ring = ring-put_after old new (index p) (index q) put;
-        others = others-put_after old new (index p) (index q) put agreed;
+        after = record {
+          linear = linear-put_after old new (index p) (index q) put;
+          ring = ring-put_after old new (index p) (index q) put;
+          others = others-put_after old new (index p) (index q) put agreed;
+        };
         counter = told number c d (index q) (generation q) t (place_among index generation number c (NextTo p)) (there refl) placed (λ place at. at.counter);
       }
 

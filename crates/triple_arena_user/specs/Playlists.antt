@@ -29,6 +29,13 @@ pub record IsFirstWithin {I : Type 0} (most : ℕ) (songs : List (ℕ × (ℕ ×
   pub plays : link.t ≤ most
   pub longer : AllByRecursion (PlaysLonger most) before
 
+-- one more stands directly after `p` now, as `n`
+pub record IsAddedAfter (p n : ℕ) (old new : ℕ → Option Ends) : Type 0 where
+  pub linear : (before after : List ℕ) → IsLinear old (before ++ p ∷ after) → IsLinear new (before ++ (p ∷ n ∷ after))
+  pub ring : (after : List ℕ) → IsRing old (p ∷ after) → IsRing new (p ∷ n ∷ after)
+  -- each other chain is as it was
+  pub others : (c : Chain) → IsChainOf old c → Off (members c) p → IsChainOf new c
+
 -- the song at `p` stands directly after `q` now, as `n`
 pub record IsMoved (p q n : ℕ) (old new : ℕ → Option Ends) : Type 0 where
   -- within one list: what is left of it without `p` has it after `q`

@@ -1,17 +1,15 @@
 //! Whole lists of songs: searched from a song on, taken out, and lists of bookmarks.
-ghost use Rattle.std.specs.Prelude.{◌≡◌, ◌<◌, ◌↔◌, ℕ, List, ◌∷◌, ◌++◌, None, Some, IsSome, IsTrue, IsOk, IfOk, IfSome, IfNone, OnSome, OnOk, OnErr, IsErrOf};
+ghost use Rattle.std.specs.Prelude.{◌≡◌, ◌<◌, ◌↔◌, ℕ, List, None, Some, IsSome, IsTrue, IsOk, IfOk, IfSome, IfNone, OnSome, OnOk, OnErr, IsErrOf};
 ghost use Rattle.std.specs.List.{AllByRecursion};
 ghost use Rattle.std.specs.Option.{option_map};
 ghost use Rattle.triple_arena.specs.Content.{get, entry_at, live_count, arena_capacity};
 ghost use Rattle.triple_arena.specs.Entries.{with_entry};
 ghost use Rattle.triple_arena_stack.specs.Room.{room_after};
-ghost use Rattle.triple_arena_chain.specs.Chains.{Off, IsLinear, IsRing};
 ghost use Rattle.triple_arena_chain.specs.Drains.{IsDrained};
 ghost use Rattle.triple_arena_chain.specs.IterChains.{links_along};
 ghost use Rattle.triple_arena_chain.specs.Links.{ends_in, values_in};
-ghost use Rattle.triple_arena_chain.specs.Lists.{Chain, members, IsChainOf};
 ghost use Rattle.triple_arena_chain.specs.Walks.{IsWalkFrom};
-ghost use Rattle.triple_arena_user.specs.Playlists.{IsFirstWithin, PlaysLonger};
+ghost use Rattle.triple_arena_user.specs.Playlists.{IsAddedAfter, IsFirstWithin, PlaysLonger};
 
 use triple_arena::{ArenaInsertEntryTrait, ArenaSlot, ArenaTrait, NonZeroInxGenericStack, Ptr};
 use triple_arena_chain::{ChainArena, LinkInsertKind, LinkNoGen};
@@ -79,14 +77,8 @@ pub fn add_bookmark<P: Ptr, S: NonZeroInxGenericStack<ArenaSlot<P, LinkNoGen<P, 
     ensures memory { IsErrOf result ChainInsertionError.AllocError → IsTrue S.takes_memory }
     ensures own { IfOk result (λ q. (j : ℕ) → values_in bookmarks.new j
         ≡ with_entry (values_in bookmarks.old) (P.index q) (P.generation q, q) j) }
-    ensures linear { IfOk result (λ q. (before after : List ℕ)
-        → IsLinear (ends_in P.Inx.number bookmarks.old) (before ++ P.index p ∷ after)
-        → IsLinear (ends_in P.Inx.number bookmarks.new) (before ++ (P.index p ∷ P.index q ∷ after))) }
-    ensures ring { IfOk result (λ q. (after : List ℕ)
-        → IsRing (ends_in P.Inx.number bookmarks.old) (P.index p ∷ after)
-        → IsRing (ends_in P.Inx.number bookmarks.new) (P.index p ∷ P.index q ∷ after)) }
-    ensures others { (c : Chain) → IsChainOf (ends_in P.Inx.number bookmarks.old) c
-        → Off (members c) (P.index p) → IsChainOf (ends_in P.Inx.number bookmarks.new) c }
+    ensures after { IfOk result (λ q. IsAddedAfter (P.index p) (P.index q)
+        (ends_in P.Inx.number bookmarks.old) (ends_in P.Inx.number bookmarks.new)) }
     ensures counter { bookmarks.new.counter ≡ bookmarks.old.counter }
     ensures room { OnOk result
         (bookmarks.new.room ≡ room_after (live_count bookmarks.old) bookmarks.old.room) }

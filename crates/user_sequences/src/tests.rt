@@ -1,6 +1,6 @@
+mod bookmarks;
 mod documents;
 mod examples;
-mod lists;
 mod order_books;
 mod playlists;
 mod searches;
