@@ -1,21 +1,20 @@
 -- What the calls of a playlist make of its lists.
-use Rattle.std.proofs.Common.{◌≡◌, ℕ, List, [], ◌∷◌, ◌++◌, append_assoc, append-nil, ◌≤◌, Option, Some, None, IsSome, IfSome, Result, Ok, Err, IsOk, IfOk, OnErr, option_map, refl, sym, ap, subst, ◌∙◌, ◌+◌, ◌%◌, ◌^◌, ◌<◌, length, map, arith, true≢false, inl, inr}
-use Rattle.std.specs.List.{sum, AllByRecursion}
+use Rattle.std.proofs.Common.{◌≡◌, ℕ, List, ◌∷◌, ◌++◌, Option, Some, None, IsSome, IfSome, Result, Ok, Err, IsOk, IfOk, OnErr, option_map, refl, sym, ap, subst, ◌∙◌, ◌+◌, ◌%◌, ◌^◌, ◌<◌, length, map, arith, true≢false, inl, inr}
+use Rattle.std.specs.List.{sum}
 use Rattle.std.proofs.lemmas.List.Sums.{sum_by-cons}
 use Rattle.std.proofs.lemmas.Bool.Decides.{eqb_tells}
 use Rattle.triple_arena.specs.Entries.{value_if, with_entry}
-use Rattle.triple_arena_chain.specs.Walks.{ChainWalk, ChainSteps, IsWalkFrom, left_over, IsEnding}
+use Rattle.triple_arena_chain.specs.Walks.{ChainWalk, ChainSteps, left_over, IsEnding}
 use Rattle.triple_arena_chain.specs.WalkLaws.{left-after, left-none}
-use Rattle.triple_arena_user.specs.Playlists.{length_of, length_at, PlaysLonger, IsFirstWithin, IsAddedAfter, IsMoved}
-use Rattle.triple_arena.specs.Content.{Content, entry_at}
+use Rattle.triple_arena_user.specs.Playlists.{length_of, length_at, IsMoved}
+use Rattle.triple_arena.specs.Content.{Content}
 use Rattle.triple_arena_chain.specs.declared.kind.InsertKind.TheVariants.{NextTo}
 use Rattle.triple_arena_chain.specs.declared.link.IndexLink.{IndexLink}
 use Rattle.triple_arena_chain.specs.declared.place.Place.{Place}
 use Rattle.triple_arena_chain.specs.Chains.{Ends, next_at, IsAgreed, Off, IsLinear, IsRing}
-use Rattle.triple_arena_chain.specs.IterChains.{links_along}
 use Rattle.triple_arena_chain.specs.InsertionListLaws.{linear-put_after, ring-put_after, others-put_after, linear-moved}
 use Rattle.triple_arena_chain.specs.KindLaws.{put-next_to}
-use Rattle.triple_arena_chain.specs.Links.{ends_in, values_in, place_among, IsPlaced}
+use Rattle.triple_arena_chain.specs.Links.{ends_in, values_in, place_among, IsChained, IsPlaced}
 use Rattle.triple_arena_chain.specs.ListLaws.{turned}
 use Rattle.triple_arena_chain.specs.Lists.{Chain, Linear, Cyclic, members, IsChainOf, IsPutIn, IsTaken}
 
@@ -27,32 +26,35 @@ module _ {I T : Type 0} (number : I → ℕ) (c d : Content (IndexLink I T)) (i 
   told (Some place) there placed tell = tell place placed
 
 module _ {P E I T : Type 0} (index generation : P → ℕ) (number : I → ℕ) (c d : Content (IndexLink I T)) (p : P) (t : T) where
-  -- what an insertion directly after `p` makes of the songs and of the lists
+  -- what an insertion directly after `p` makes of the lists
   pub record Added (r : Result P E) : Type 0 where
     pub song : IfOk r (λ q. (j : ℕ) → values_in d j ≡ with_entry (values_in c) (index q) (generation q, t) j)
-    pub after : IfOk r (λ q. IsAddedAfter (index p) (index q) (ends_in number c) (ends_in number d))
+    pub linear : IfOk r (λ q. (before after : List ℕ) → IsLinear (ends_in number c) (before ++ index p ∷ after)
+        → IsLinear (ends_in number d) (before ++ (index p ∷ index q ∷ after)))
+    pub ring : IfOk r (λ q. (after : List ℕ) → IsRing (ends_in number c) (index p ∷ after) → IsRing (ends_in number d) (index p ∷ index q ∷ after))
+    pub others : (l : Chain) → IsChainOf (ends_in number c) l → Off (members l) (index p) → IsChainOf (ends_in number d) l
     pub counter : d.counter ≡ c.counter
 
-  pub added : (r : Result P E) → IsAgreed (ends_in number c) → (IsOk r → IsSome (place_among index generation number c (NextTo p)))
+  pub added : (r : Result P E) → IsChained number c → (IsOk r → IsSome (place_among index generation number c (NextTo p)))
       → IfOk r (λ q. IfSome (place_among index generation number c (NextTo p)) (λ place. IsPlaced number place (index q) (generation q) t c d))
       → OnErr r (d ≡ c) → Added r
-  added (Err e) agreed there placed same =
+  added (Err e) chained there placed same =
       record {
         song = tt;
-        after = tt;
+        linear = tt;
+        ring = tt;
+        others = λ l chain off. subst (λ x. IsChainOf (ends_in number x) l) (sym same) chain;
         counter = ap (λ x. x.counter) same;
       }
-  added (Ok q) agreed there placed same =
+  added (Ok q) chained there placed same =
       let old = ends_in number c in
       let new = ends_in number d in
       let put = put-next_to index generation number c d p (index q) (generation q) t (there refl) placed in
       record {
         song = told number c d (index q) (generation q) t (place_among index generation number c (NextTo p)) (there refl) placed (λ place at. at.values);
-        after = record {
-          linear = linear-put_after old new (index p) (index q) put;
-          ring = ring-put_after old new (index p) (index q) put;
-          others = others-put_after old new (index p) (index q) put agreed;
-        };
+        linear = linear-put_after old new (index p) (index q) put;
+        ring = ring-put_after old new (index p) (index q) put;
+        others = others-put_after old new (index p) (index q) put chained.agreed;
         counter = told number c d (index q) (generation q) t (place_among index generation number c (NextTo p)) (there refl) placed (λ place at. at.counter);
       }
 
@@ -119,68 +121,3 @@ module _ {I : Type 0} (number : I → ℕ) (c : Content (IndexLink I ℕ)) (w on
   -- and none is left where none is given
   pub all_heard : IsEnding number c w → ChainSteps (ends_in number c) (values_in c) w None on → sum (map (length_at c) (left_over number c w)) ≡ 0
   all_heard ends step = ap (λ l. sum (map (length_at c) l)) (left-none number c w on ends step)
-
--- the song of a removed entry is that of its pointer
-pub song_of : {L : Type 0} (g h : ℕ) (link : L) (o : Option (ℕ × L)) → Some (h, link) ≡ o → IsSome (value_if g o) → value_if g o ≡ Some link
-song_of g h link None is there = absurd (cc)
-song_of g h link (Some e) is there =
-    let same : link ≡ e.1 = cc in
-    elim (eqb_tells e.0 g) [
-      | inl at ↦ rw (at.0, same) refl
-      | inr other ↦ absurd (let no : IsSome None = rw other.0 at there in cc)
-    ]
-
-module _ {I : Type 0} (number : I → ℕ) (c : Content (IndexLink I ℕ)) (i most : ℕ) where
-  abbrev Songs : Type 0
-  Songs = List (ℕ × (ℕ × IndexLink I ℕ))
-
-  -- these songs are left of a search along the walk from an index, after those that play longer
-  pub record Searches (left : Songs) : Type 0 where
-    pub walk : List ℕ
-    pub from : IsWalkFrom (ends_in number c) i walk
-    pub passed : Songs
-    pub split : links_along (entry_at c) walk ≡ passed ++ left
-    pub longer : AllByRecursion (PlaysLonger most) passed
-
-  longer_too : (passed : Songs) (song : ℕ × (ℕ × IndexLink I ℕ)) → AllByRecursion (PlaysLonger most) passed → PlaysLonger most song
-      → AllByRecursion (PlaysLonger most) (passed ++ song ∷ [])
-  longer_too [] song all more = (more, tt)
-  longer_too (first ∷ passed) song all more = (all.0, longer_too passed song all.1 more)
-
-  pub searches : (left : Songs) → (walk : List ℕ) × IsWalkFrom (ends_in number c) i walk × (left ≡ links_along (entry_at c) walk) → Searches left
-  searches left along = record { walk = along.0; from = along.1.0; passed = []; split = sym along.1.1; longer = tt }
-
-  -- the next song plays longer
-  pub searches_on : (left rest : Songs) (song : ℕ × (ℕ × IndexLink I ℕ)) → Searches left → left ≡ song ∷ rest → PlaysLonger most song → Searches rest
-  searches_on left rest song s next more =
-      record {
-        walk = s.walk;
-        from = s.from;
-        passed = s.passed ++ song ∷ [];
-        split = s.split ∙ ap (λ l. s.passed ++ l) next ∙ sym (append_assoc s.passed (song ∷ []) rest);
-        longer = longer_too s.passed song s.longer more;
-      }
-
-  -- or it is found
-  pub found : (left rest : Songs) (j g : ℕ) (link : IndexLink I ℕ) → Searches left → left ≡ (j, (g, link)) ∷ rest → link.t ≤ most
-      → (walk : List ℕ) × IsWalkFrom (ends_in number c) i walk × IsFirstWithin most (links_along (entry_at c) walk) j g
-  found left rest j g link s next plays = (
-    s.walk,
-    (
-      s.from,
-      record {
-        before = s.passed;
-        after = rest;
-        link = link;
-        is = s.split ∙ ap (λ l. s.passed ++ l) next;
-        plays = plays;
-        longer = s.longer;
-      },
-    ),
-  )
-
-  -- or none is left
-  pub all_longer : (left : Songs) → Searches left → left ≡ []
-      → (walk : List ℕ) × IsWalkFrom (ends_in number c) i walk × AllByRecursion (PlaysLonger most) (links_along (entry_at c) walk)
-  all_longer left s none =
-      (s.walk, (s.from, subst (AllByRecursion (PlaysLonger most)) (sym (s.split ∙ ap (λ l. s.passed ++ l) none ∙ append-nil s.passed)) s.longer))

@@ -1,6 +1,5 @@
 -- Songs by their lengths, and what becomes of the lists where a song is moved.
-use Rattle.std.specs.Prelude.{◌≡◌, ◌<◌, ◌≤◌, ℕ, List, ◌∷◌, ◌++◌, Option, Some, None}
-use Rattle.std.specs.List.{AllByRecursion}
+use Rattle.std.specs.Prelude.{◌≡◌, ℕ, List, ◌∷◌, ◌++◌, Option, Some, None}
 use Rattle.triple_arena.specs.Content.{Content}
 use Rattle.triple_arena_chain.specs.declared.link.IndexLink.{IndexLink}
 use Rattle.triple_arena_chain.specs.Chains.{Ends, Off, IsLinear, IsRing}
@@ -15,26 +14,6 @@ length_of (Some song) = song.1
 -- the length of the song at an index, or 0 where there is none
 abbrev pub length_at : {I : Type 0} → Content (IndexLink I ℕ) → ℕ → ℕ
 length_at c i = length_of (values_in c i)
-
--- a song of a list plays longer than so much
-abbrev pub PlaysLonger : {I : Type 0} → ℕ → ℕ × (ℕ × IndexLink I ℕ) → Type 0
-PlaysLonger most song = most < song.1.1.t
-
--- the first of these songs that plays no longer stands at this index, with this generation
-pub record IsFirstWithin {I : Type 0} (most : ℕ) (songs : List (ℕ × (ℕ × IndexLink I ℕ))) (i g : ℕ) : Type 0 where
-  pub before : List (ℕ × (ℕ × IndexLink I ℕ))
-  pub after : List (ℕ × (ℕ × IndexLink I ℕ))
-  pub link : IndexLink I ℕ
-  pub is : songs ≡ before ++ (i, (g, link)) ∷ after
-  pub plays : link.t ≤ most
-  pub longer : AllByRecursion (PlaysLonger most) before
-
--- one more stands directly after `p` now, as `n`
-pub record IsAddedAfter (p n : ℕ) (old new : ℕ → Option Ends) : Type 0 where
-  pub linear : (before after : List ℕ) → IsLinear old (before ++ p ∷ after) → IsLinear new (before ++ (p ∷ n ∷ after))
-  pub ring : (after : List ℕ) → IsRing old (p ∷ after) → IsRing new (p ∷ n ∷ after)
-  -- each other chain is as it was
-  pub others : (c : Chain) → IsChainOf old c → Off (members c) p → IsChainOf new c
 
 -- the song at `p` stands directly after `q` now, as `n`
 pub record IsMoved (p q n : ℕ) (old new : ℕ → Option Ends) : Type 0 where

@@ -6,7 +6,6 @@
 
 mod documents;
 mod each;
-mod lists;
 mod mirrors;
 mod nodes;
 mod order_book;
@@ -18,7 +17,6 @@ mod values;
 
 pub use documents::tidy;
 pub use each::raise_each;
-pub use lists::{add_bookmark, first_within, take_list};
 pub use mirrors::reflect;
 pub use nodes::{Node, Nodes};
 pub use order_book::{

@@ -9,7 +9,7 @@ ghost use Rattle.triple_arena_chain.specs.Chains.{Off, next_in, IsLinear, IsRing
 ghost use Rattle.triple_arena_chain.specs.Links.{ends_in, ends_found, values_in};
 ghost use Rattle.triple_arena_chain.specs.Lists.{Chain, members, IsChainOf};
 ghost use Rattle.triple_arena_chain.specs.Walks.{IsWalkFrom};
-ghost use Rattle.triple_arena_user.specs.Playlists.{length_at, IsAddedAfter, IsMoved};
+ghost use Rattle.triple_arena_user.specs.Playlists.{length_at, IsMoved};
 
 use triple_arena::{Advancer, ArenaSlot, ArenaTrait, NonZeroInxGenericStack, Ptr};
 use triple_arena_chain::{ChainArena, ChainArenaTrait, LinkInsertKind, LinkNoGen};
@@ -31,8 +31,14 @@ pub fn add_after<P: Ptr, T: Drop, S: NonZeroInxGenericStack<ArenaSlot<P, LinkNoG
         × (live_count songs.old < arena_capacity songs.old)) }
     ensures song { IfOk result (λ q. (j : ℕ) → values_in songs.new j
         ≡ with_entry (values_in songs.old) (P.index q) (P.generation q, song) j) }
-    ensures after { IfOk result (λ q. IsAddedAfter (P.index p) (P.index q)
-        (ends_in P.Inx.number songs.old) (ends_in P.Inx.number songs.new)) }
+    ensures linear { IfOk result (λ q. (before after : List ℕ)
+        → IsLinear (ends_in P.Inx.number songs.old) (before ++ P.index p ∷ after)
+        → IsLinear (ends_in P.Inx.number songs.new) (before ++ (P.index p ∷ P.index q ∷ after))) }
+    ensures ring { IfOk result (λ q. (after : List ℕ)
+        → IsRing (ends_in P.Inx.number songs.old) (P.index p ∷ after)
+        → IsRing (ends_in P.Inx.number songs.new) (P.index p ∷ P.index q ∷ after)) }
+    ensures others { (c : Chain) → IsChainOf (ends_in P.Inx.number songs.old) c
+        → Off (members c) (P.index p) → IsChainOf (ends_in P.Inx.number songs.new) c }
     ensures counter { songs.new.counter ≡ songs.old.counter }
     ensures room { songs.new.room ≡ songs.old.room }
     ensures err { OnErr result (songs.new ≡ songs.old) }

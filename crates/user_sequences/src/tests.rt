@@ -1,4 +1,3 @@
-mod bookmarks;
 mod documents;
 mod examples;
 mod order_books;

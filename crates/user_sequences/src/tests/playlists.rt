@@ -2,9 +2,7 @@
 use std::test::Fail;
 use triple_arena::{ArenaSlot, ArenaTrait, NonZeroInxArray, P0};
 use triple_arena_chain::{ChainArena, ChainArenaTrait, LinkInsertKind, LinkNoGen};
-use triple_arena_user::{
-    add_after, first_within, move_after, play_from, raise_each, reverse_pair, take_list,
-};
+use triple_arena_user::{add_after, move_after, play_from, raise_each, reverse_pair};
 
 type Songs = ChainArena<P0, u64, NonZeroInxArray<ArenaSlot<P0, LinkNoGen<P0, u64>>, 4>>;
 
@@ -60,24 +58,5 @@ fn songs_are_moved(rt: HostRuntime) -> Result<(), Fail> {
     assert!(rt; move_after(&mut songs, f, d).is_some());
     assert!(rt; play_from(&songs, e) == Some(320));
     assert!(rt; play_from(&songs, d) == Some(4001));
-    Ok(())
-}
-
-#[test]
-fn a_list_is_searched_and_taken_out(rt: HostRuntime) -> Result<(), Fail> {
-    let mut songs = Songs::default();
-    let a = songs.insert(LinkInsertKind::Disconnected, 1)?;
-    let b = add_after(&mut songs, a, 300)?;
-    let c = add_after(&mut songs, b, 20)?;
-    let alone = songs.insert(LinkInsertKind::SingleLinkCyclic, 5)?;
-    assert!(rt; first_within(&songs, b, 100) == Some(c));
-    // From the end on it goes backwards.
-    assert!(rt; first_within(&songs, c, 10) == Some(a));
-    assert!(rt; first_within(&songs, b, 0).is_none());
-    assert!(rt; take_list(&mut songs, b) == Some(300));
-    assert!(rt; take_list(&mut songs, b).is_none());
-    assert!(rt; first_within(&songs, a, 100).is_none());
-    assert!(rt; songs.len() == 1);
-    assert!(rt; play_from(&songs, alone) == Some(5));
     Ok(())
 }

@@ -7,11 +7,17 @@ lists : (g : Over) (c : goal.After-insert_within_capacity g)
     c.insert_within_capacity.result
 lists g c =
     added g.P.Ptr.index g.P.Ptr.generation g.P.Inx.PtrInx.number c.args.songs.now c.insert_within_capacity.new.self c.args.p c.args.song
-    c.insert_within_capacity.result c.len.ensures.formed.agreed (λ ok. (c.insert_within_capacity.ensures.answer.succeeds.0 ok).0) c.insert_within_capacity.ensures.placed
+    c.insert_within_capacity.result c.len.ensures.formed (λ ok. (c.insert_within_capacity.ensures.answer.succeeds.0 ok).0) c.insert_within_capacity.ensures.placed
     c.insert_within_capacity.ensures.err
 
-pub returns-clause-after : goal.returns-clause-after
-returns-clause-after g c = (lists g c).after
+pub returns-clause-linear : goal.returns-clause-linear
+returns-clause-linear g c = (lists g c).linear
+
+pub returns-clause-ring : goal.returns-clause-ring
+returns-clause-ring g c = (lists g c).ring
+
+pub returns-clause-others : goal.returns-clause-others
+returns-clause-others g c = (lists g c).others
 
 pub returns-clause-song : goal.returns-clause-song
 returns-clause-song g c = (lists g c).song
