@@ -2,6 +2,7 @@
 mod advancers;
 mod compress;
 mod entries;
+mod indexing;
 mod refusals;
 mod sequences;
 mod writes;

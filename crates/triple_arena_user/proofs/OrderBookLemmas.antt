@@ -1,22 +1,30 @@
 -- What insertions and removals make of an order book.
-use Rattle.std.proofs.Common.{◌≡◌, ◌≢◌, ℕ, ◌≤◌, List, [], ◌∷◌, ◌++◌, Option, Some, None, Result, Ok, Err, option_map, refl, sym, ap, subst, ◌∙◌, inl, inr, IsSome, OnSome, arith, IsErrOf, OnErr, IfOk, IfSome, IfNone, ◌↔◌, ◌<◌}
+use Rattle.std.proofs.Common.{◌≡◌, ◌≢◌, ℕ, zero, suc, ◌≤◌, List, [], ◌∷◌, ◌++◌, length, filter_map, Option, Some, None, Result, Ok, Err, option_map, refl, sym, ap, subst, ◌∙◌, inl, inr, IsSome, OnSome, arith, IsErrOf, OnErr, IfOk, IfSome, IfNone, ◌↔◌, ◌<◌}
+use Rattle.std.specs.List.Sorted.{IsSorted}
 use Rattle.std.specs.Cmp.{ranked, nat_cmp_is}
 use Rattle.std.specs.Ordering.{nat_cmp}
 use Rattle.std.specs.declared.cmp.Ordering.{Ordering}
 use Rattle.std.specs.declared.cmp.Ordering.TheVariants.{Less, Equal, Greater}
 use Rattle.std.proofs.lemmas.Bool.Decides.{eqb_tells}
-use Rattle.triple_arena.specs.Content.{live_count, arena_capacity}
+use Rattle.triple_arena_stack.specs.Room.{Room}
+use Rattle.triple_arena.specs.Content.{Content, live_count, arena_capacity, entry_at, empty}
 use Rattle.triple_arena.specs.Entries.{with_entry, without}
 use Rattle.triple_arena_ptr.specs.declared.errors.OrdInsertionError.{OrdInsertionError}
 use Rattle.triple_arena_ptr.specs.declared.errors.OrdInsertionError.TheVariants.{NotWithinCapacity}
 use Rattle.triple_arena_chain.specs.Chains.{On, Apart, first_or}
+use Rattle.triple_arena_chain.specs.ChainLaws.{Apart-taken}
+use Rattle.triple_arena_chain.specs.Links.{valued}
+use Rattle.triple_arena_chain.specs.ListLaws.{on_differs}
+use Rattle.triple_arena_chain.specs.declared.link.IndexLink.{IndexLink}
+use Rattle.triple_arena_ord.specs.declared.node.IndexNode.{IndexNode}
 use Rattle.triple_arena_ord.specs.declared.pair.OrdPair.{OrdPair}
 use Rattle.triple_arena_ord.specs.Inserted.{IsInserted, IsPlacedByKey, within_room}
-use Rattle.triple_arena_ord.specs.Ordered.{Ordered, IsAscending, order_in, entry_in, asked_at, size_in}
+use Rattle.triple_arena_ord.specs.Ordered.{Ordered, IsOrdered, IsAscending, order_in, entry_in, listed, asked_at, size_in}
 use Rattle.triple_arena_ord.specs.OrderedWalks.{OrderedWalk, OrderedSteps, left_over}
 use Rattle.triple_arena_ord.specs.Removal.{IsRemoved}
+use Rattle.triple_arena_ord.specs.Node.{itemed}
 use Rattle.triple_arena_ord.specs.Search.{AllIn}
-use Rattle.triple_arena_user.specs.OrderBooks.{orders_in, price_in, IsFreePrice, IsBook, IsNextPrice, IsLastPrice, as_order}
+use Rattle.triple_arena_user.specs.OrderBooks.{orders_in, price_in, IsFreePrice, IsNewOrder, IsBook, IsNextPrice, IsLastPrice, as_order}
 
 -- what holds of each of a list holds of one that is on it
 at_of : (Q : ℕ → Type 0) (front : List ℕ) (i : ℕ) (back : List ℕ) → AllIn Q (front ++ i ∷ back) → Q i
@@ -151,6 +159,18 @@ module _ {I V : Type 0} where
         let on : On (order_in number old) j = listed j (price_there old price j is) in
         at_of Q on.front j on.back (subst (AllIn Q) (sym placed.was ∙ on.is) (joined Q placed.before placed.after low high)) (asked_price old price j is)
 
+    -- an index that joins a list where each stands once had no order
+    vacant_by_key : (price i : ℕ) → ((j : ℕ) → IsSome (entry_in old j) → On (order_in number old) j) → Apart (order_in number new)
+        → IsPlacedByKey number nat_cmp price_of price i old new → orders_in old i ≡ None
+    vacant_by_key price i listed once placed = by (entry_in old i) (λ live.
+        on_differs (placed.before ++ placed.after) i i (subst (λ l. On l i) placed.was (listed i live))
+        (Apart-taken placed.before placed.after i (subst Apart placed.is once)).1 refl)
+      where
+        by : (e : Option (ℕ × OrdPair ℕ V)) → (IsSome e → ⊥)
+            → option_map (λ (e : ℕ × OrdPair ℕ V). (let order : ℕ × (ℕ × V) = (e.0, (e.1.k, e.1.v)) in order)) e ≡ None
+        by None live = refl
+        by (Some e) live = absurd (live refl)
+
     -- the book without an order
     pub removed_book : (last : Option ℕ) (i : ℕ) → IsBook number old → IsRemoved number last i old new
         → (IsAscending number nat_cmp price_of old → IsAscending number nat_cmp price_of new) → IsBook number new
@@ -198,21 +218,25 @@ module _ {I V : Type 0} where
       -- the book with one order more
       pub record Grown (p : P) : Type 0 where
         pub orders : (k : ℕ) → orders_in new k ≡ with_entry (orders_in old) (index p) (generation p, (t.k, t.v)) k
-        pub free : IsFreePrice old t.k
+        pub fresh : IsNewOrder old t.k (index p) (generation p)
         pub fits : arena_capacity old.chains ≤ live_count old.chains → ⊥
         pub book : IsBook number new
 
       pub grown : IsInserted number nat_cmp price_of index generation (within_room (size_in old) old.chains.room) t result old new
-          → ((j : ℕ) → IsSome (entry_in old j) → On (order_in number old) j)
+          → ((j : ℕ) → IsSome (entry_in old j) → On (order_in number old) j) → Apart (order_in number new)
           → (IsAscending number nat_cmp price_of old → IsAscending number nat_cmp price_of new) → IsBook number old
           → (p : P) → result ≡ Ok (p, None) → Grown p
-      grown inserted listed ascending book p is =
+      grown inserted listed once ascending book p is =
           let both = inserted.added p is in
           let free : IsFreePrice old t.k = free_by_key t.k (index p) listed book.ascending both.0 in
           record {
             orders = λ k. ap (option_map (λ (e : ℕ × OrdPair ℕ V). (let order : ℕ × (ℕ × V) = (e.0, (e.1.k, e.1.v)) in order))) (both.1.entries k)
                 ∙ orders-with (entry_in old) (index p) (generation p) t k;
-            free = free;
+            fresh = record {
+              free = free;
+              vacant = vacant_by_key t.k (index p) listed once both.0;
+              generation = both.1.generation;
+            };
             fits = λ full. omega (arith, inserted.fits p is, full);
             book = record {
               ascending = ascending book.ascending;
@@ -246,31 +270,60 @@ module _ {I V : Type 0} where
           by i (Some e) price = (let same : e.1.k ≡ t.k = cc in
               ap Some (subst (λ k. nat_cmp t.k k ≡ Equal) (sym same) (sym (nat_cmp_is t.k t.k Equal refl))))
 
+-- a book without an order
+pub record Opened {I V : Type 0} (number : I → ℕ) (o : Ordered I (OrdPair ℕ V)) : Type 0 where
+  pub vacant : (i : ℕ) → orders_in o i ≡ None
+  pub book : IsBook number o
+
+module _ {I V : Type 0} (number : I → ℕ) (g : ℕ) (room : Room) (o : Ordered I (OrdPair ℕ V)) (is : o.chains ≡ empty g room) where
+  unlinked : (i : ℕ) → entry_at {T = IndexLink I (IndexNode I (OrdPair ℕ V))} (empty g room) i ≡ None
+  unlinked zero = refl
+  unlinked (suc k) = refl
+
+  unpriced : (i : ℕ) → price_in o i ≡ None
+  unpriced i = ap (λ e. option_map (λ (e : ℕ × OrdPair ℕ V). e.1.k) (option_map itemed (option_map valued e))) (ap (λ c. entry_at c i) is ∙ unlinked i)
+
+  -- the list of one without an entry has no keys
+  no_keys : (w : List ℕ) → length w ≡ 0
+      → IsSorted (λ (x y : ℕ × (ℕ × OrdPair ℕ V)). nat_cmp x.1.1.k y.1.1.k) (filter_map (λ i. option_map (λ e. (i, e)) (entry_in o i)) w)
+  no_keys [] none = λ k d low high. absurd (omega arith)
+  no_keys (x ∷ w) none = absurd (cc)
+
+  pub opened : IsOrdered number o → Opened number o
+  opened ordered = record {
+    vacant = λ i. ap (λ e. option_map (λ (e : ℕ × OrdPair ℕ V). (let order : ℕ × (ℕ × V) = (e.0, (e.1.k, e.1.v)) in order)) (option_map itemed (option_map valued e)))
+        (ap (λ c. entry_at c i) is ∙ unlinked i);
+    book = record {
+      ascending = no_keys (order_in number o) (ordered.counted ∙ ap live_count is);
+      apart = λ i j price here there. absurd (let no : None ≡ Some price = sym (unpriced i) ∙ here in cc);
+    };
+  }
+
 -- what an order that is put in at a price comes to
 pub record Answered {P I V : Type 0} (index generation : P → ℕ) (number : I → ℕ) (old new : Ordered I (OrdPair ℕ V)) (price : ℕ) (order : V) (answer : Result (P × Option V) OrdInsertionError) : Type 0 where
   pub added : IfOk answer (λ r. (k : ℕ) → orders_in new k ≡ with_entry (orders_in old) (index r.0) (generation r.0, (price, order)) k)
   pub replaced : (p : P) (was : V) → answer ≡ Ok (p, Some was) → orders_in old (index p) ≡ Some (generation p, (price, was))
-  pub fresh : (p : P) → answer ≡ Ok (p, None) → IsFreePrice old price
+  pub fresh : (p : P) → answer ≡ Ok (p, None) → IsNewOrder old price (index p) (generation p)
   pub full : IsErrOf answer NotWithinCapacity ↔ (IsFreePrice old price × (arena_capacity old.chains ≤ live_count old.chains))
   pub book : IsBook number new
   pub err : OnErr answer (new ≡ old)
 
 module _ {P I V : Type 0} (index generation : P → ℕ) (number : I → ℕ) (old new : Ordered I (OrdPair ℕ V)) (t : OrdPair ℕ V) where
   answered_ok : (p : P) (o : Option (OrdPair ℕ V)) → IsInserted number nat_cmp price_of index generation (within_room (size_in old) old.chains.room) t (Ok (p, o)) old new
-      → ((j : ℕ) → IsSome (entry_in old j) → On (order_in number old) j)
+      → ((j : ℕ) → IsSome (entry_in old j) → On (order_in number old) j) → Apart (order_in number new)
       → (IsAscending number nat_cmp price_of old → IsAscending number nat_cmp price_of new) → IsBook number old
       → Answered index generation number old new t.k t.v (Ok (p, option_map (λ (pair : OrdPair ℕ V). pair.v) o))
-  answered_ok p None inserted listed ascending book =
-      let now = grown number old new index generation t (Ok (p, None)) inserted listed ascending book p refl in
+  answered_ok p None inserted listed once ascending book =
+      let now = grown number old new index generation t (Ok (p, None)) inserted listed once ascending book p refl in
       record {
         added = now.orders;
         replaced = λ q was is. absurd (let no : None ≡ Some was = ap second_of is in cc);
-        fresh = λ q is. now.free;
+        fresh = λ q is. subst (λ x. IsNewOrder old t.k (index x) (generation x)) (ap (first_of p) is) now.fresh;
         full = (λ is. absurd (cc), λ no. absurd (now.fits no.1));
         book = now.book;
         err = tt;
       }
-  answered_ok p (Some u) inserted listed ascending book =
+  answered_ok p (Some u) inserted listed once ascending book =
       let now = replaced number old new index generation t (Ok (p, Some u)) inserted ascending book p u refl in
       record {
         added = now.orders;
@@ -284,11 +337,11 @@ module _ {P I V : Type 0} (index generation : P → ℕ) (number : I → ℕ) (o
       }
 
   answered : (r : Result (P × Option (OrdPair ℕ V)) OrdInsertionError) → IsInserted number nat_cmp price_of index generation (within_room (size_in old) old.chains.room) t r old new
-      → ((j : ℕ) → IsSome (entry_in old j) → On (order_in number old) j)
+      → ((j : ℕ) → IsSome (entry_in old j) → On (order_in number old) j) → Apart (order_in number new)
       → (IsAscending number nat_cmp price_of old → IsAscending number nat_cmp price_of new) → IsBook number old
       → Answered index generation number old new t.k t.v (as_order r)
-  answered (Ok r) inserted listed ascending book = answered_ok r.0 r.1 inserted listed ascending book
-  answered (Err e) inserted listed ascending book =
+  answered (Ok r) inserted listed once ascending book = answered_ok r.0 r.1 inserted listed once ascending book
+  answered (Err e) inserted listed once ascending book =
       let now = refused number old new index generation t (Err e) inserted book e refl in
       record {
         added = tt;
@@ -303,13 +356,13 @@ module _ {P I V : Type 0} (index generation : P → ℕ) (number : I → ℕ) (o
   pub answered_as : (price : ℕ) (order : V) (answer : Result (P × Option V) OrdInsertionError) (r : Result (P × Option (OrdPair ℕ V)) OrdInsertionError)
       → t.k ≡ price → t.v ≡ order → answer ≡ as_order r
       → IsInserted number nat_cmp price_of index generation (within_room (size_in old) old.chains.room) t r old new
-      → ((j : ℕ) → IsSome (entry_in old j) → On (order_in number old) j)
+      → ((j : ℕ) → IsSome (entry_in old j) → On (order_in number old) j) → Apart (order_in number new)
       → (IsAscending number nat_cmp price_of old → IsAscending number nat_cmp price_of new) → IsBook number old
       → Answered index generation number old new price order answer
-  answered_as price order answer r own value is inserted listed ascending book =
+  answered_as price order answer r own value is inserted listed once ascending book =
       subst (λ k. Answered index generation number old new k order answer) own
       (subst (λ v. Answered index generation number old new t.k v answer) value
-      (subst (λ a. Answered index generation number old new t.k t.v a) (sym is) (answered r inserted listed ascending book)))
+      (subst (λ a. Answered index generation number old new t.k t.v a) (sym is) (answered r inserted listed once ascending book)))
 
 -- the ends of a book
 not_greater : (x y : ℕ) → nat_cmp x y ≢ Greater → x ≤ y

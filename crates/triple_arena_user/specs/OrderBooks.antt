@@ -1,5 +1,5 @@
 -- Order books: orders by their prices, of which each price has one at most.
-use Rattle.std.specs.Prelude.{◌≡◌, ◌≢◌, ℕ, ◌<◌, ◌≤◌, Option, Some, Result, Ok, Err}
+use Rattle.std.specs.Prelude.{◌≡◌, ◌≢◌, ℕ, ◌<◌, ◌≤◌, Option, Some, None, Result, Ok, Err}
 use Rattle.std.specs.Option.{option_map}
 use Rattle.std.specs.Ordering.{nat_cmp}
 use Rattle.triple_arena_ord.specs.declared.pair.OrdPair.{OrdPair}
@@ -17,6 +17,12 @@ module _ {I V : Type 0} where
   -- no order has this price
   abbrev pub IsFreePrice : Ordered I (OrdPair ℕ V) → ℕ → Type 0
   IsFreePrice o price = (i : ℕ) → price_in o i ≢ Some price
+
+  -- a price and an index without an order, for one with a new generation
+  pub record IsNewOrder (o : Ordered I (OrdPair ℕ V)) (price i g : ℕ) : Type 0 where
+    pub free : IsFreePrice o price
+    pub vacant : orders_in o i ≡ None
+    pub generation : g ≡ o.chains.counter
 
   -- the price at the second index is the next greater one after that at the first
   abbrev pub IsNextPrice : Ordered I (OrdPair ℕ V) → ℕ → ℕ → Type 0

@@ -19,7 +19,9 @@ pub use documents::tidy;
 pub use each::raise_each;
 pub use mirrors::reflect;
 pub use nodes::{Node, Nodes};
-pub use order_book::{OrderBook, OrderSlot, add_order, best_order, cancel_order, next_order};
+pub use order_book::{
+    OrderBook, OrderSlot, add_order, best_order, cancel_order, next_order, open_book,
+};
 pub use playlist::{add_after, move_after, play_from, reverse_pair};
 pub use reuse::replace;
 pub use searches::{find_equal, find_first};

@@ -1,11 +1,13 @@
 //! Order books: orders by their prices in an ordered arena, one at a price at most, of which all is said by pointers and prices.
-ghost use Rattle.std.specs.Prelude.{◌≡◌, ◌≢◌, ◌≤◌, ◌↔◌, ℕ, None, Some, Ok, IsSome, IfOk, IfSome, IfNone, OnErr, OnSome, IsErrOf};
+ghost use Rattle.std.specs.Prelude.{◌≡◌, ◌≤◌, ◌↔◌, ℕ, None, Some, Ok, IsSome, IfOk, IfSome, IfNone, OnErr, OnSome, IsErrOf};
+ghost use Rattle.triple_arena.specs.ArenaRoom.{room_of};
 ghost use Rattle.triple_arena.specs.Content.{live_count, arena_capacity};
 ghost use Rattle.triple_arena.specs.Entries.{with_entry, without, value_if, generation_at};
 ghost use Rattle.triple_arena_ptr.specs.Generation.{next_generation};
-ghost use Rattle.triple_arena_user.specs.OrderBooks.{orders_in, price_in, IsFreePrice, IsBook, IsNextPrice, IsLastPrice, as_order};
+ghost use Rattle.triple_arena_ord.specs.Growth.{IsRoomRefusal};
+ghost use Rattle.triple_arena_user.specs.OrderBooks.{orders_in, price_in, IsFreePrice, IsNewOrder, IsBook, IsNextPrice, IsLastPrice, as_order};
 
-use triple_arena::{Advancer, ArenaSlot, NonZeroInxGenericStack, Ptr};
+use triple_arena::{Advancer, ArenaSlot, NonZeroInxGenericStack, Ptr, ReallocationError};
 use triple_arena_chain::LinkNoGen;
 use triple_arena_ord::laws::{
     entries_stand_in_the_list, keys_ascend_along_the_list, removals_keep_keys_ascending,
@@ -32,6 +34,21 @@ fn as_order<P: Ptr, V: Drop>(
     }
 }
 
+/// A book without an order, with room for so many. It answers `BeyondMaxCapacity` where no book of this type has so much room,
+/// and `AllocError` where the memory was refused.
+pub fn open_book<P: Ptr, V: Drop, S: NonZeroInxGenericStack<OrderSlot<P, V>> + Drop>(
+    alloc: S::Alloc,
+    orders: usize,
+) -> Result<OrderBook<P, V, S>, ReallocationError>
+    ensures vacant { IfOk result (λ book. (i : ℕ) → orders_in book i ≡ None) }
+    ensures fits { IfOk result (λ book. orders ≤ arena_capacity book.chains) }
+    ensures refusal { IsRoomRefusal S.takes_memory orders (room_of P.Inx.greatest (S.room_at 0))
+        (room_of P.Inx.greatest (S.room_at orders)).limit result }
+    ensures book { IfOk result (λ book. IsBook P.Inx.number book) }
+{
+    SimpleOrdArena::with_min_capacity(alloc, orders)
+}
+
 /// Puts an order in at a price, and answers its pointer, with the order that it replaces, if one stands at the price. It
 /// answers `NotWithinCapacity` where none does and there is no room; the book stays as it is then.
 pub fn add_order<P: Ptr, V: Drop, S: NonZeroInxGenericStack<OrderSlot<P, V>> + Drop>(
@@ -44,9 +61,11 @@ pub fn add_order<P: Ptr, V: Drop, S: NonZeroInxGenericStack<OrderSlot<P, V>> + D
         ≡ with_entry (orders_in book.old) (P.index r.0) (P.generation r.0, (price, order)) i) }
     ensures replaced { (p : P) (was : V) → result ≡ Ok (p, Some was)
         → orders_in book.old (P.index p) ≡ Some (P.generation p, (price, was)) }
-    ensures fresh { (p : P) → result ≡ Ok (p, None) → IsFreePrice book.old price }
+    ensures fresh { (p : P) → result ≡ Ok (p, None)
+        → IsNewOrder book.old price (P.index p) (P.generation p) }
     ensures full { IsErrOf result OrdInsertionError.NotWithinCapacity
         ↔ (IsFreePrice book.old price × (arena_capacity book.old.chains ≤ live_count book.old.chains)) }
+    ensures counter { book.new.chains.counter ≡ book.old.chains.counter }
     ensures room { book.new.chains.room ≡ book.old.chains.room }
     ensures book { IsBook P.Inx.number book.new }
     ensures err { OnErr result (book.new ≡ book.old) }
@@ -100,6 +119,7 @@ pub fn next_order<P: Ptr, V: Drop, S: NonZeroInxGenericStack<OrderSlot<P, V>> + 
     p: P,
 ) -> Option<P>
     requires { IsBook P.Inx.number book.now }
+    ensures from { IsSome result → IsSome (value_if (P.generation p) (orders_in book.now (P.index p))) }
     ensures live { IfSome result (λ q. generation_at (orders_in book.now) (P.index q) ≡ Some (P.generation q)) }
     ensures next { IfSome result (λ q. IsNextPrice book.now (P.index p) (P.index q)) }
     ensures none { IfNone result (IsSome (value_if (P.generation p) (orders_in book.now (P.index p)))

@@ -1,5 +1,6 @@
 mod documents;
 mod examples;
+mod order_books;
 mod playlists;
 mod searches;
 mod values;
