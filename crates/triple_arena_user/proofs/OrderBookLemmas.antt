@@ -1,28 +1,22 @@
 -- What insertions and removals make of an order book.
-use Rattle.std.proofs.Common.{◌≡◌, ◌≢◌, ℕ, zero, suc, ◌≤◌, List, [], ◌∷◌, ◌++◌, length, filter_map, Option, Some, None, Result, Ok, Err, option_map, refl, sym, ap, subst, ◌∙◌, inl, inr, IsSome, OnSome, arith, IsErrOf, OnErr, IfOk, IfSome, IfNone, ◌↔◌, ◌<◌}
-use Rattle.std.specs.List.Sorted.{IsSorted}
+use Rattle.std.proofs.Common.{◌≡◌, ◌≢◌, ℕ, ◌≤◌, List, [], ◌∷◌, ◌++◌, Option, Some, None, Result, Ok, Err, option_map, refl, sym, ap, subst, ◌∙◌, inl, inr, IsSome, OnSome, arith, IsErrOf, OnErr, IfOk, IfSome, IfNone, ◌↔◌, ◌<◌}
 use Rattle.std.specs.Cmp.{ranked, nat_cmp_is}
 use Rattle.std.specs.Ordering.{nat_cmp}
 use Rattle.std.specs.declared.cmp.Ordering.{Ordering}
 use Rattle.std.specs.declared.cmp.Ordering.TheVariants.{Less, Equal, Greater}
 use Rattle.std.proofs.lemmas.Bool.Decides.{eqb_tells}
-use Rattle.triple_arena_stack.specs.Room.{Room}
-use Rattle.triple_arena.specs.Content.{Content, live_count, arena_capacity, entry_at, empty}
+use Rattle.triple_arena.specs.Content.{live_count, arena_capacity}
 use Rattle.triple_arena.specs.Entries.{with_entry, without}
 use Rattle.triple_arena_ptr.specs.declared.errors.OrdInsertionError.{OrdInsertionError}
 use Rattle.triple_arena_ptr.specs.declared.errors.OrdInsertionError.TheVariants.{NotWithinCapacity}
 use Rattle.triple_arena_chain.specs.Chains.{On, Apart, first_or}
 use Rattle.triple_arena_chain.specs.ChainLaws.{Apart-taken}
-use Rattle.triple_arena_chain.specs.Links.{valued}
 use Rattle.triple_arena_chain.specs.ListLaws.{on_differs}
-use Rattle.triple_arena_chain.specs.declared.link.IndexLink.{IndexLink}
-use Rattle.triple_arena_ord.specs.declared.node.IndexNode.{IndexNode}
 use Rattle.triple_arena_ord.specs.declared.pair.OrdPair.{OrdPair}
 use Rattle.triple_arena_ord.specs.Inserted.{IsInserted, IsPlacedByKey, within_room}
 use Rattle.triple_arena_ord.specs.Ordered.{Ordered, IsOrdered, IsAscending, order_in, entry_in, listed, asked_at, size_in}
 use Rattle.triple_arena_ord.specs.OrderedWalks.{OrderedWalk, OrderedSteps, left_over}
 use Rattle.triple_arena_ord.specs.Removal.{IsRemoved}
-use Rattle.triple_arena_ord.specs.Node.{itemed}
 use Rattle.triple_arena_ord.specs.Search.{AllIn}
 use Rattle.triple_arena_user.specs.OrderBooks.{orders_in, price_in, IsFreePrice, IsNewOrder, IsBook, IsNextPrice, IsLastPrice, as_order}
 
@@ -269,35 +263,6 @@ module _ {I V : Type 0} where
           by i None price = absurd (cc)
           by i (Some e) price = (let same : e.1.k ≡ t.k = cc in
               ap Some (subst (λ k. nat_cmp t.k k ≡ Equal) (sym same) (sym (nat_cmp_is t.k t.k Equal refl))))
-
--- a book without an order
-pub record Opened {I V : Type 0} (number : I → ℕ) (o : Ordered I (OrdPair ℕ V)) : Type 0 where
-  pub vacant : (i : ℕ) → orders_in o i ≡ None
-  pub book : IsBook number o
-
-module _ {I V : Type 0} (number : I → ℕ) (g : ℕ) (room : Room) (o : Ordered I (OrdPair ℕ V)) (is : o.chains ≡ empty g room) where
-  unlinked : (i : ℕ) → entry_at {T = IndexLink I (IndexNode I (OrdPair ℕ V))} (empty g room) i ≡ None
-  unlinked zero = refl
-  unlinked (suc k) = refl
-
-  unpriced : (i : ℕ) → price_in o i ≡ None
-  unpriced i = ap (λ e. option_map (λ (e : ℕ × OrdPair ℕ V). e.1.k) (option_map itemed (option_map valued e))) (ap (λ c. entry_at c i) is ∙ unlinked i)
-
-  -- the list of one without an entry has no keys
-  no_keys : (w : List ℕ) → length w ≡ 0
-      → IsSorted (λ (x y : ℕ × (ℕ × OrdPair ℕ V)). nat_cmp x.1.1.k y.1.1.k) (filter_map (λ i. option_map (λ e. (i, e)) (entry_in o i)) w)
-  no_keys [] none = λ k d low high. absurd (omega arith)
-  no_keys (x ∷ w) none = absurd (cc)
-
-  pub opened : IsOrdered number o → Opened number o
-  opened ordered = record {
-    vacant = λ i. ap (λ e. option_map (λ (e : ℕ × OrdPair ℕ V). (let order : ℕ × (ℕ × V) = (e.0, (e.1.k, e.1.v)) in order)) (option_map itemed (option_map valued e)))
-        (ap (λ c. entry_at c i) is ∙ unlinked i);
-    book = record {
-      ascending = no_keys (order_in number o) (ordered.counted ∙ ap live_count is);
-      apart = λ i j price here there. absurd (let no : None ≡ Some price = sym (unpriced i) ∙ here in cc);
-    };
-  }
 
 -- what an order that is put in at a price comes to
 pub record Answered {P I V : Type 0} (index generation : P → ℕ) (number : I → ℕ) (old new : Ordered I (OrdPair ℕ V)) (price : ℕ) (order : V) (answer : Result (P × Option V) OrdInsertionError) : Type 0 where
