@@ -2,6 +2,8 @@ mod calls;
 mod canonical;
 mod counted_keys;
 mod falling_keys;
+mod growing;
 mod insertions;
 mod pairs;
 mod removals;
+mod walks;
