@@ -1,6 +1,7 @@
 mod calls;
 mod canonical;
 mod counted_keys;
+mod entries;
 mod falling_keys;
 mod growing;
 mod insertions;

@@ -1,0 +1,223 @@
+//! Insertions by an entry: where each kind puts its item, what the entry tells before, and when there is none.
+use std::alloc::Global;
+use std::cmp::Ordering;
+use std::process::Abort;
+use std::test::Fail;
+use triple_arena::{
+    ArenaSlot, NonZeroInxArray, NonZeroInxGenericStack, NonZeroInxVec, P0, P5, Ptr,
+};
+use triple_arena_chain::LinkNoGen;
+use triple_arena_ord::{
+    InsertKind, OrdEntryKind, OrdInsertKind, OrdPair, SimpleOrdArena, SimpleOrdArenaNode,
+};
+use triple_arena_ptr::OrdInsertionError;
+
+type Item = OrdPair<u64, u64>;
+
+type Slot<P> = ArenaSlot<P, LinkNoGen<P, SimpleOrdArenaNode<P, Item>>>;
+
+type InVec<P> = NonZeroInxVec<Slot<P>, Global>;
+
+type InArray<P> = NonZeroInxArray<Slot<P>, 4>;
+
+// The values along the list, as digits.
+fn digits<P: Ptr, S: NonZeroInxGenericStack<Slot<P>> + Drop>(
+    pairs: &SimpleOrdArena<P, Item, S>,
+) -> u64 {
+    let mut digits: u64 = 0;
+    for (_, item) in pairs {
+        digits = digits.wrapping_mul(10).wrapping_add(*item.v());
+    }
+    digits
+}
+
+// What an entry tells, which is dropped then, and leaves the list.
+fn tells<P: Ptr, S: NonZeroInxGenericStack<Slot<P>> + Drop>(
+    rt: &impl Abort,
+    pairs: &mut SimpleOrdArena<P, Item, S>,
+    kind: OrdInsertKind<P, &u64>,
+) -> Result<OrdEntryKind<P>, OrdInsertionError> {
+    let list = digits(pairs);
+    let told = pairs.entry_insert_within_capacity(kind)?.ptr();
+    assert!(rt; digits(pairs) == list);
+    Ok(told)
+}
+
+// Puts an item in by an entry, which tells the pointer that the item then has, and whether it replaces another one.
+fn put<P: Ptr, S: NonZeroInxGenericStack<Slot<P>> + Drop>(
+    rt: &impl Abort,
+    pairs: &mut SimpleOrdArena<P, Item, S>,
+    kind: OrdInsertKind<P, &u64>,
+    item: Item,
+) -> Result<OrdEntryKind<P>, OrdInsertionError> {
+    let told = tells(rt, pairs, kind)?;
+    let entry = pairs.entry_insert_within_capacity(kind)?;
+    assert!(rt; entry.ptr() == told);
+    let replaced = entry.insert(item);
+    assert!(rt; pairs.get(told.any()) == Some(&item));
+    match told {
+        OrdEntryKind::New(_) => assert!(rt; replaced.is_none()),
+        OrdEntryKind::Replacing(_) => assert!(rt; replaced.is_some()),
+    }
+    Ok(told)
+}
+
+// The keys 10, 20 and 30, with the values 1, 2 and 3, and room for one entry more. It answers the pointer to that of 20, too.
+fn three<P: Ptr, H, S: NonZeroInxGenericStack<Slot<P>, Alloc = H> + Drop>(
+    rt: &impl Abort,
+    alloc: H,
+) -> Result<(SimpleOrdArena<P, Item, S>, P), OrdInsertionError> {
+    let Ok(mut pairs) = SimpleOrdArena::<P, Item, S>::with_min_capacity(alloc, 4) else {
+        panic!(rt; "there is no room for four")
+    };
+    let told = put(rt, &mut pairs, InsertKind::Empty, OrdPair::new(20, 2))?;
+    put(rt, &mut pairs, InsertKind::Normal(&10), OrdPair::new(10, 1))?;
+    put(rt, &mut pairs, InsertKind::Normal(&30), OrdPair::new(30, 3))?;
+    Ok((pairs, told.any()))
+}
+
+// A kind, the key of an item, and the values along the list, once the item is put there with the value 9: 123, where it is not.
+type Case<'a, P> = (OrdInsertKind<P, &'a u64>, u64, u64);
+
+// What each kind does in an arena of the three keys. The entry of 20 has the index `i`, and none has the index `gone`.
+fn cases<P: Ptr>(i: P::Inx, gone: P::Inx) -> [Case<'static, P>; 13] {
+    let linear = |num, k| InsertKind::Linear { p_init: i, num, k };
+    let before = |num, k| InsertKind::NonhereditaryLinear { p_init: i, num, k };
+    let manual = |p_target, direction| InsertKind::Manual {
+        p_target,
+        direction,
+    };
+    [
+        (InsertKind::Empty, 7, 123),
+        (InsertKind::Normal(&20), 20, 193),
+        (InsertKind::Normal(&25), 25, 1293),
+        (InsertKind::Nonhereditary(&20), 20, 1923),
+        (InsertKind::Nonhereditary(&35), 35, 1239),
+        (linear(1, &30), 30, 129),
+        (linear(2, &15), 15, 1923),
+        (before(2, &10), 10, 9123),
+        (before(0, &25), 25, 1293),
+        (manual(i, Ordering::Less), 90, 1923),
+        (manual(i, Ordering::Equal), 90, 193),
+        (manual(i, Ordering::Greater), 5, 1293),
+        (manual(gone, Ordering::Greater), 40, 123),
+    ]
+}
+
+// Each kind in an arena of the three keys.
+fn puts_each<P: Ptr, H: Copy, S: NonZeroInxGenericStack<Slot<P>, Alloc = H> + Drop>(
+    rt: &impl Abort,
+    alloc: H,
+) -> Result<(), OrdInsertionError> {
+    let (_, p) = three::<P, H, S>(rt, alloc)?;
+    for (kind, key, list) in cases::<P>(p.inx(), P::invalid().inx()) {
+        let (mut pairs, _) = three::<P, H, S>(rt, alloc)?;
+        let told = put(rt, &mut pairs, kind, OrdPair::new(key, 9));
+        assert!(rt; digits(&pairs) == list);
+        if list == 123 {
+            assert!(rt; told == Err(OrdInsertionError::FailedOrdRequirement));
+        }
+    }
+    Ok(())
+}
+
+// An arena without an entry takes each kind but that at an entry.
+fn puts_the_first<P: Ptr, H: Copy, S: NonZeroInxGenericStack<Slot<P>, Alloc = H> + Drop>(
+    rt: &impl Abort,
+    alloc: H,
+) -> Result<(), OrdInsertionError> {
+    let (_, p) = three::<P, H, S>(rt, alloc)?;
+    for (kind, key, _) in cases::<P>(p.inx(), P::invalid().inx()) {
+        let (mut pairs, _) = three::<P, H, S>(rt, alloc)?;
+        let _ = pairs.clear();
+        let told = put(rt, &mut pairs, kind, OrdPair::new(key, 9));
+        match kind {
+            InsertKind::Manual { .. } => {
+                assert!(rt; told == Err(OrdInsertionError::FailedOrdRequirement));
+            }
+            _ => assert!(rt; digits(&pairs) == 9),
+        }
+    }
+    Ok(())
+}
+
+// There is no entry by a kind: with the room that there is, and with all that there can be.
+fn refuses<P: Ptr, S: NonZeroInxGenericStack<Slot<P>> + Drop>(
+    rt: &impl Abort,
+    pairs: &mut SimpleOrdArena<P, Item, S>,
+    kind: OrdInsertKind<P, &u64>,
+    errors: (OrdInsertionError, OrdInsertionError),
+) {
+    assert!(rt; tells(rt, pairs, kind) == Err(errors.0));
+    assert!(rt; pairs.entry_insert_reallocating(kind).err() == Some(errors.1));
+    assert!(rt; pairs.entry_insert(kind).err() == Some(errors.1));
+}
+
+// Where four entries are all that can be, an item takes the place of another one, or there is no entry for it. The kind's
+// requirement is looked at first.
+fn fills<P: Ptr, S: NonZeroInxGenericStack<Slot<P>, Alloc = ()> + Drop>(
+    rt: &impl Abort,
+) -> Result<(), OrdInsertionError> {
+    let (mut pairs, p) = three::<P, (), S>(rt, ())?;
+    put(rt, &mut pairs, InsertKind::Normal(&40), OrdPair::new(40, 4))?;
+    let failed = OrdInsertionError::FailedOrdRequirement;
+    let full = OrdInsertionError::NotWithinCapacity;
+    let limited = OrdInsertionError::BeyondMaxCapacity;
+    for (kind, key, list) in cases::<P>(p.inx(), P::invalid().inx()) {
+        match list {
+            123 => refuses(rt, &mut pairs, kind, (failed, failed)),
+            129 | 193 => {
+                let told = put(rt, &mut pairs, kind, OrdPair::new(key, 9))?;
+                assert!(rt; told == OrdEntryKind::Replacing(told.any()));
+            }
+            _ => refuses(rt, &mut pairs, kind, (full, limited)),
+        }
+    }
+    assert!(rt; digits(&pairs) == 1994);
+    Ok(())
+}
+
+// Of equal keys the second stands before the first, and the keys ascend. An item that is put at an entry may have any key.
+fn puts_at_equal_keys<P: Ptr, H, S: NonZeroInxGenericStack<Slot<P>, Alloc = H> + Drop>(
+    rt: &impl Abort,
+    alloc: H,
+) -> Result<(), OrdInsertionError> {
+    let Ok(mut pairs) = SimpleOrdArena::<P, Item, S>::with_min_capacity(alloc, 3) else {
+        panic!(rt; "there is no room for three")
+    };
+    let told = put(rt, &mut pairs, InsertKind::Normal(&1), OrdPair::new(1, 1))?;
+    put(
+        rt,
+        &mut pairs,
+        InsertKind::Nonhereditary(&1),
+        OrdPair::new(1, 2),
+    )?;
+    assert!(rt; digits(&pairs) == 21);
+    assert!(rt; SimpleOrdArena::<P, Item, S>::_check_invariants(&pairs) == Ok(()));
+    let after = InsertKind::Manual {
+        p_target: told.any().inx(),
+        direction: Ordering::Greater,
+    };
+    put(rt, &mut pairs, after, OrdPair::new(0, 3))?;
+    assert!(rt; digits(&pairs) == 213);
+    let checked = SimpleOrdArena::<P, Item, S>::_check_invariants(&pairs);
+    assert!(rt; checked == Err("incorrect ordering"));
+    Ok(())
+}
+
+#[test]
+fn entries_in_an_array(rt: HostRuntime) -> Result<(), Fail> {
+    puts_each::<P0, (), InArray<P0>>(&rt, ())?;
+    puts_the_first::<P0, (), InArray<P0>>(&rt, ())?;
+    fills::<P0, InArray<P0>>(&rt)?;
+    puts_at_equal_keys::<P0, (), InArray<P0>>(&rt, ())?;
+    Ok(())
+}
+
+#[test]
+fn entries_in_a_vector(rt: HostRuntime) -> Result<(), Fail> {
+    puts_each::<P5, Global, InVec<P5>>(&rt, rt.alloc())?;
+    puts_the_first::<P5, Global, InVec<P5>>(&rt, rt.alloc())?;
+    puts_at_equal_keys::<P5, Global, InVec<P5>>(&rt, rt.alloc())?;
+    Ok(())
+}
