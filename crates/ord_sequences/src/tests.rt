@@ -6,5 +6,6 @@ mod falling_keys;
 mod growing;
 mod insertions;
 mod pairs;
+mod refusals;
 mod removals;
 mod walks;
