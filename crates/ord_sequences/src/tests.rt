@@ -8,4 +8,5 @@ mod insertions;
 mod pairs;
 mod refusals;
 mod removals;
+mod rows;
 mod walks;

@@ -1,4 +1,4 @@
-//! Five keys, the ends of their list, and the walks, the iterators and the drains along it.
+//! Five keys, the walks and the drains along their list, and those by their indexes.
 use std::process::Abort;
 use std::test::Fail;
 use triple_arena::{Advancer, ArenaSlot, InvalidationOption, NonZeroInxArray, P0, Ptr};
@@ -27,26 +27,6 @@ fn ptr_of(rt: &impl Abort, few: &Few, key: u64) -> P0 {
         Some(p) => p,
         None => panic!(rt; "a key is not found"),
     }
-}
-
-#[test]
-fn ends_and_neighbors(rt: HostRuntime) -> Result<(), Fail> {
-    let empty = Few::new(());
-    assert!(rt; empty.first().is_none());
-    assert!(rt; empty.last().is_none());
-    let few = five(&rt);
-    assert!(rt; few.first() == Some(ptr_of(&rt, &few, 10)));
-    assert!(rt; few.last() == Some(ptr_of(&rt, &few, 70)));
-    let before = ptr_of(&rt, &few, 50).inx();
-    let after = ptr_of(&rt, &few, 70).inx();
-    match few.get_inx_link_no_gen(ptr_of(&rt, &few, 60).inx()) {
-        Some((_, link)) => {
-            assert!(rt; link.prev_next() == (Some(before), Some(after)));
-            assert!(rt; *link.t.k() == 60);
-        }
-        None => panic!(rt; "an entry is not there"),
-    }
-    Ok(())
 }
 
 // A walk from a key gives these keys, and ends.
@@ -86,21 +66,6 @@ fn walks_note_the_next_index(rt: HostRuntime) -> Result<(), Fail> {
     assert!(rt; few.insert_within_capacity(OrdPair::new(90, 90)).is_ok());
     assert!(rt; advancer.advance(&few) == Some(ptr_of(&rt, &few, 90)));
     assert!(rt; advancer.advance(&few).is_none());
-    Ok(())
-}
-
-#[test]
-fn lists_in_order(rt: HostRuntime) -> Result<(), Fail> {
-    let mut few = five(&rt);
-    assert!(rt; few.remove(ptr_of(&rt, &few, 50)).is_success());
-    let mut iter = few.iter_ordered();
-    for key in [10, 30, 60, 70] {
-        match iter.next() {
-            Some((_, item)) => assert!(rt; *item.k() == key),
-            None => panic!(rt; "a key is not listed"),
-        }
-    }
-    assert!(rt; iter.next().is_none());
     Ok(())
 }
 
