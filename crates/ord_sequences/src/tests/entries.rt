@@ -21,9 +21,12 @@ type InVec<P> = NonZeroInxVec<Slot<P>, Global>;
 type InArray<P> = NonZeroInxArray<Slot<P>, 4>;
 
 // The values along the list, as digits.
-fn digits<P: Ptr, S: NonZeroInxGenericStack<Slot<P>> + Drop>(
-    pairs: &SimpleOrdArena<P, Item, S>,
-) -> u64 {
+pub(crate) fn digits<
+    P: Ptr,
+    K: Drop,
+    S: NonZeroInxGenericStack<ArenaSlot<P, LinkNoGen<P, SimpleOrdArenaNode<P, OrdPair<K, u64>>>>>
+        + Drop,
+>(pairs: &SimpleOrdArena<P, OrdPair<K, u64>, S>) -> u64 {
     let mut digits: u64 = 0;
     for (_, item) in pairs {
         digits = digits.wrapping_mul(10).wrapping_add(*item.v());

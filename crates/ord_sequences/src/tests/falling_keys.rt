@@ -5,6 +5,7 @@ ghost use Rattle.std.specs.Cmp.{partial_order_from_own_ties};
 ghost use Rattle.std.specs.Cmp.Rules.{comparing};
 ghost use Rattle.std.specs.Ordering.{nat_cmp, on, flip_args, as_partial_cmp};
 
+use crate::tests::entries::digits;
 use std::alloc::Global;
 use std::cell::Cell;
 use std::cmp::Ordering;
@@ -70,17 +71,6 @@ fn falls<P: Ptr, S: NonZeroInxGenericStack<Slot<P>> + Drop>(
         }
     }
     arena
-}
-
-// The values along the list, as digits.
-fn digits<P: Ptr, S: NonZeroInxGenericStack<Slot<P>> + Drop>(
-    arena: &SimpleOrdArena<P, Item, S>,
-) -> u64 {
-    let mut digits: u64 = 0;
-    for (_, item) in arena.iter_ordered() {
-        digits = digits.wrapping_mul(10).wrapping_add(*item.v());
-    }
-    digits
 }
 
 // Whether the key is found; with as many comparisons at most as `most`, and with none where there is no entry.
