@@ -3,9 +3,7 @@ use std::alloc::Global;
 use std::cmp::Ordering;
 use std::process::Abort;
 use std::test::Fail;
-use triple_arena::{
-    ArenaSlot, NonZeroInxArray, NonZeroInxGenericStack, NonZeroInxVec, P0, P5, Ptr,
-};
+use triple_arena::{ArenaSlot, NonZeroInxArray, NonZeroInxGenericStack, NonZeroInxVec, P0, Ptr};
 use triple_arena_chain::LinkNoGen;
 use triple_arena_ord::{
     InsertKind, OrdEntryKind, OrdInsertKind, OrdPair, SimpleOrdArena, SimpleOrdArenaNode,
@@ -14,11 +12,15 @@ use triple_arena_ptr::OrdInsertionError;
 
 type Item = OrdPair<u64, u64>;
 
-type Slot<P> = ArenaSlot<P, LinkNoGen<P, SimpleOrdArenaNode<P, Item>>>;
+type Slot = ArenaSlot<P0, LinkNoGen<P0, SimpleOrdArenaNode<P0, Item>>>;
 
-type InVec<P> = NonZeroInxVec<Slot<P>, Global>;
+type InVec = NonZeroInxVec<Slot, Global>;
 
-type InArray<P> = NonZeroInxArray<Slot<P>, 4>;
+type InArray = NonZeroInxArray<Slot, 4>;
+
+type Kind<'a> = OrdInsertKind<P0, &'a u64>;
+
+type Inx = <P0 as Ptr>::Inx;
 
 // The values along the list, as digits.
 pub(crate) fn digits<
@@ -34,29 +36,35 @@ pub(crate) fn digits<
     digits
 }
 
-// What an entry tells, which is dropped then, and leaves the list.
-fn tells<P: Ptr, S: NonZeroInxGenericStack<Slot<P>> + Drop>(
-    rt: &impl Abort,
-    pairs: &mut SimpleOrdArena<P, Item, S>,
-    kind: OrdInsertKind<P, &u64>,
-) -> Result<OrdEntryKind<P>, OrdInsertionError> {
-    let list = digits(pairs);
-    let told = pairs.entry_insert_within_capacity(kind)?.ptr();
-    assert!(rt; digits(pairs) == list);
-    Ok(told)
+// What an entry tells, which is dropped then.
+fn tells<S: NonZeroInxGenericStack<Slot> + Drop>(
+    pairs: &mut SimpleOrdArena<P0, Item, S>,
+    kind: Kind<'_>,
+) -> Result<OrdEntryKind<P0>, OrdInsertionError> {
+    match pairs.entry_insert_within_capacity(kind) {
+        Ok(entry) => Ok(entry.ptr()),
+        Err(error) => Err(error),
+    }
 }
 
-// Puts an item in by an entry, which tells the pointer that the item then has, and whether it replaces another one.
-fn put<P: Ptr, S: NonZeroInxGenericStack<Slot<P>> + Drop>(
+// Puts an item in by an entry, which tells the pointer that the item then has, and whether it replaces another one. One that
+// is dropped before tells the same, and leaves the list.
+fn put<S: NonZeroInxGenericStack<Slot> + Drop>(
     rt: &impl Abort,
-    pairs: &mut SimpleOrdArena<P, Item, S>,
-    kind: OrdInsertKind<P, &u64>,
+    pairs: &mut SimpleOrdArena<P0, Item, S>,
+    kind: Kind<'_>,
     item: Item,
-) -> Result<OrdEntryKind<P>, OrdInsertionError> {
-    let told = tells(rt, pairs, kind)?;
-    let entry = pairs.entry_insert_within_capacity(kind)?;
-    assert!(rt; entry.ptr() == told);
-    let replaced = entry.insert(item);
+) -> Result<OrdEntryKind<P0>, OrdInsertionError> {
+    let list = digits(pairs);
+    let told = tells(pairs, kind)?;
+    assert!(rt; digits(pairs) == list);
+    let replaced = match pairs.entry_insert_within_capacity(kind) {
+        Ok(entry) => {
+            assert!(rt; entry.ptr() == told);
+            entry.insert(item)
+        }
+        Err(error) => return Err(error),
+    };
     assert!(rt; pairs.get(told.any()) == Some(&item));
     match told {
         OrdEntryKind::New(_) => assert!(rt; replaced.is_none()),
@@ -66,11 +74,11 @@ fn put<P: Ptr, S: NonZeroInxGenericStack<Slot<P>> + Drop>(
 }
 
 // The keys 10, 20 and 30, with the values 1, 2 and 3, and room for one entry more. It answers the pointer to that of 20, too.
-fn three<P: Ptr, H, S: NonZeroInxGenericStack<Slot<P>, Alloc = H> + Drop>(
+fn three<H, S: NonZeroInxGenericStack<Slot, Alloc = H> + Drop>(
     rt: &impl Abort,
     alloc: H,
-) -> Result<(SimpleOrdArena<P, Item, S>, P), OrdInsertionError> {
-    let Ok(mut pairs) = SimpleOrdArena::<P, Item, S>::with_min_capacity(alloc, 4) else {
+) -> Result<(SimpleOrdArena<P0, Item, S>, P0), OrdInsertionError> {
+    let Ok(mut pairs) = SimpleOrdArena::<P0, Item, S>::with_min_capacity(alloc, 4) else {
         panic!(rt; "there is no room for four")
     };
     let told = put(rt, &mut pairs, InsertKind::Empty, OrdPair::new(20, 2))?;
@@ -80,10 +88,10 @@ fn three<P: Ptr, H, S: NonZeroInxGenericStack<Slot<P>, Alloc = H> + Drop>(
 }
 
 // A kind, the key of an item, and the values along the list, once the item is put there with the value 9: 123, where it is not.
-type Case<'a, P> = (OrdInsertKind<P, &'a u64>, u64, u64);
+type Case<'a> = (Kind<'a>, u64, u64);
 
 // What each kind does in an arena of the three keys. The entry of 20 has the index `i`, and none has the index `gone`.
-fn cases<P: Ptr>(i: P::Inx, gone: P::Inx) -> [Case<'static, P>; 13] {
+fn cases(i: Inx, gone: Inx) -> [Case<'static>; 13] {
     let linear = |num, k| InsertKind::Linear { p_init: i, num, k };
     let before = |num, k| InsertKind::NonhereditaryLinear { p_init: i, num, k };
     let manual = |p_target, direction| InsertKind::Manual {
@@ -108,13 +116,13 @@ fn cases<P: Ptr>(i: P::Inx, gone: P::Inx) -> [Case<'static, P>; 13] {
 }
 
 // Each kind in an arena of the three keys.
-fn puts_each<P: Ptr, H: Copy, S: NonZeroInxGenericStack<Slot<P>, Alloc = H> + Drop>(
+fn puts_each<H: Copy, S: NonZeroInxGenericStack<Slot, Alloc = H> + Drop>(
     rt: &impl Abort,
     alloc: H,
 ) -> Result<(), OrdInsertionError> {
-    let (_, p) = three::<P, H, S>(rt, alloc)?;
-    for (kind, key, list) in cases::<P>(p.inx(), P::invalid().inx()) {
-        let (mut pairs, _) = three::<P, H, S>(rt, alloc)?;
+    let (_, p) = three::<H, S>(rt, alloc)?;
+    for (kind, key, list) in cases(p.inx(), P0::invalid().inx()) {
+        let (mut pairs, _) = three::<H, S>(rt, alloc)?;
         let told = put(rt, &mut pairs, kind, OrdPair::new(key, 9));
         assert!(rt; digits(&pairs) == list);
         if list == 123 {
@@ -125,13 +133,13 @@ fn puts_each<P: Ptr, H: Copy, S: NonZeroInxGenericStack<Slot<P>, Alloc = H> + Dr
 }
 
 // An arena without an entry takes each kind but that at an entry.
-fn puts_the_first<P: Ptr, H: Copy, S: NonZeroInxGenericStack<Slot<P>, Alloc = H> + Drop>(
+fn puts_the_first<H: Copy, S: NonZeroInxGenericStack<Slot, Alloc = H> + Drop>(
     rt: &impl Abort,
     alloc: H,
 ) -> Result<(), OrdInsertionError> {
-    let (_, p) = three::<P, H, S>(rt, alloc)?;
-    for (kind, key, _) in cases::<P>(p.inx(), P::invalid().inx()) {
-        let (mut pairs, _) = three::<P, H, S>(rt, alloc)?;
+    let (_, p) = three::<H, S>(rt, alloc)?;
+    for (kind, key, _) in cases(p.inx(), P0::invalid().inx()) {
+        let (mut pairs, _) = three::<H, S>(rt, alloc)?;
         let _ = pairs.clear();
         let told = put(rt, &mut pairs, kind, OrdPair::new(key, 9));
         match kind {
@@ -145,33 +153,39 @@ fn puts_the_first<P: Ptr, H: Copy, S: NonZeroInxGenericStack<Slot<P>, Alloc = H>
 }
 
 // There is no entry by a kind: with the room that there is, and with all that there can be.
-fn refuses<P: Ptr, S: NonZeroInxGenericStack<Slot<P>> + Drop>(
+fn refuses<S: NonZeroInxGenericStack<Slot> + Drop>(
     rt: &impl Abort,
-    pairs: &mut SimpleOrdArena<P, Item, S>,
-    kind: OrdInsertKind<P, &u64>,
+    pairs: &mut SimpleOrdArena<P0, Item, S>,
+    kind: Kind<'_>,
     errors: (OrdInsertionError, OrdInsertionError),
 ) {
-    assert!(rt; tells(rt, pairs, kind) == Err(errors.0));
-    assert!(rt; pairs.entry_insert_reallocating(kind).err() == Some(errors.1));
-    assert!(rt; pairs.entry_insert(kind).err() == Some(errors.1));
+    assert!(rt; tells(pairs, kind) == Err(errors.0));
+    match pairs.entry_insert_reallocating(kind) {
+        Ok(_) => panic!(rt; "there is an entry"),
+        Err(error) => assert!(rt; error == errors.1),
+    }
+    match pairs.entry_insert(kind) {
+        Ok(_) => panic!(rt; "there is an entry"),
+        Err(error) => assert!(rt; error == errors.1),
+    }
 }
 
 // Where four entries are all that can be, an item takes the place of another one, or there is no entry for it. The kind's
 // requirement is looked at first.
-fn fills<P: Ptr, S: NonZeroInxGenericStack<Slot<P>, Alloc = ()> + Drop>(
+fn fills<S: NonZeroInxGenericStack<Slot, Alloc = ()> + Drop>(
     rt: &impl Abort,
 ) -> Result<(), OrdInsertionError> {
-    let (mut pairs, p) = three::<P, (), S>(rt, ())?;
+    let (mut pairs, p) = three::<(), S>(rt, ())?;
     put(rt, &mut pairs, InsertKind::Normal(&40), OrdPair::new(40, 4))?;
     let failed = OrdInsertionError::FailedOrdRequirement;
     let full = OrdInsertionError::NotWithinCapacity;
     let limited = OrdInsertionError::BeyondMaxCapacity;
-    for (kind, key, list) in cases::<P>(p.inx(), P::invalid().inx()) {
+    for (kind, key, list) in cases(p.inx(), P0::invalid().inx()) {
         match list {
             123 => refuses(rt, &mut pairs, kind, (failed, failed)),
             129 | 193 => {
                 let told = put(rt, &mut pairs, kind, OrdPair::new(key, 9))?;
-                assert!(rt; told == OrdEntryKind::Replacing(told.any()));
+                assert!(rt; matches!(told, OrdEntryKind::Replacing(_)));
             }
             _ => refuses(rt, &mut pairs, kind, (full, limited)),
         }
@@ -181,11 +195,11 @@ fn fills<P: Ptr, S: NonZeroInxGenericStack<Slot<P>, Alloc = ()> + Drop>(
 }
 
 // Of equal keys the second stands before the first, and the keys ascend. An item that is put at an entry may have any key.
-fn puts_at_equal_keys<P: Ptr, H, S: NonZeroInxGenericStack<Slot<P>, Alloc = H> + Drop>(
+fn puts_at_equal_keys<H, S: NonZeroInxGenericStack<Slot, Alloc = H> + Drop>(
     rt: &impl Abort,
     alloc: H,
 ) -> Result<(), OrdInsertionError> {
-    let Ok(mut pairs) = SimpleOrdArena::<P, Item, S>::with_min_capacity(alloc, 3) else {
+    let Ok(mut pairs) = SimpleOrdArena::<P0, Item, S>::with_min_capacity(alloc, 3) else {
         panic!(rt; "there is no room for three")
     };
     let told = put(rt, &mut pairs, InsertKind::Normal(&1), OrdPair::new(1, 1))?;
@@ -196,31 +210,31 @@ fn puts_at_equal_keys<P: Ptr, H, S: NonZeroInxGenericStack<Slot<P>, Alloc = H> +
         OrdPair::new(1, 2),
     )?;
     assert!(rt; digits(&pairs) == 21);
-    assert!(rt; SimpleOrdArena::<P, Item, S>::_check_invariants(&pairs) == Ok(()));
+    assert!(rt; SimpleOrdArena::<P0, Item, S>::_check_invariants(&pairs) == Ok(()));
     let after = InsertKind::Manual {
         p_target: told.any().inx(),
         direction: Ordering::Greater,
     };
     put(rt, &mut pairs, after, OrdPair::new(0, 3))?;
     assert!(rt; digits(&pairs) == 213);
-    let checked = SimpleOrdArena::<P, Item, S>::_check_invariants(&pairs);
+    let checked = SimpleOrdArena::<P0, Item, S>::_check_invariants(&pairs);
     assert!(rt; checked == Err("incorrect ordering"));
     Ok(())
 }
 
 #[test]
 fn entries_in_an_array(rt: HostRuntime) -> Result<(), Fail> {
-    puts_each::<P0, (), InArray<P0>>(&rt, ())?;
-    puts_the_first::<P0, (), InArray<P0>>(&rt, ())?;
-    fills::<P0, InArray<P0>>(&rt)?;
-    puts_at_equal_keys::<P0, (), InArray<P0>>(&rt, ())?;
+    puts_each::<(), InArray>(&rt, ())?;
+    puts_the_first::<(), InArray>(&rt, ())?;
+    fills::<InArray>(&rt)?;
+    puts_at_equal_keys::<(), InArray>(&rt, ())?;
     Ok(())
 }
 
 #[test]
 fn entries_in_a_vector(rt: HostRuntime) -> Result<(), Fail> {
-    puts_each::<P5, Global, InVec<P5>>(&rt, rt.alloc())?;
-    puts_the_first::<P5, Global, InVec<P5>>(&rt, rt.alloc())?;
-    puts_at_equal_keys::<P5, Global, InVec<P5>>(&rt, rt.alloc())?;
+    puts_each::<Global, InVec>(&rt, rt.alloc())?;
+    puts_the_first::<Global, InVec>(&rt, rt.alloc())?;
+    puts_at_equal_keys::<Global, InVec>(&rt, rt.alloc())?;
     Ok(())
 }

@@ -49,8 +49,14 @@ fn insert_by<S: NonZeroInxGenericStack<Slot> + Drop>(
         Call::Insert => Ok(pairs.insert(item)?.1),
         Call::InsertReallocating => Ok(pairs.insert_reallocating(item)?.1),
         Call::InsertInxManual => insert_manual(pairs, item),
-        Call::EntryInsert => Ok(pairs.entry_insert(kind)?.insert(item)),
-        Call::EntryInsertReallocating => Ok(pairs.entry_insert_reallocating(kind)?.insert(item)),
+        Call::EntryInsert => match pairs.entry_insert(kind) {
+            Ok(entry) => Ok(entry.insert(item)),
+            Err(error) => Err(error),
+        },
+        Call::EntryInsertReallocating => match pairs.entry_insert_reallocating(kind) {
+            Ok(entry) => Ok(entry.insert(item)),
+            Err(error) => Err(error),
+        },
     }
 }
 
