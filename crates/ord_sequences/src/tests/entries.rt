@@ -12,7 +12,9 @@ use triple_arena_ptr::OrdInsertionError;
 
 type Item = OrdPair<u64, u64>;
 
-type Slot = ArenaSlot<P0, LinkNoGen<P0, SimpleOrdArenaNode<P0, Item>>>;
+type SlotOf<P> = ArenaSlot<P, LinkNoGen<P, SimpleOrdArenaNode<P, Item>>>;
+
+type Slot = SlotOf<P0>;
 
 type InVec = NonZeroInxVec<Slot, Global>;
 
@@ -37,14 +39,34 @@ pub(crate) fn digits<
 }
 
 // What an entry tells, which is dropped then.
-fn tells<S: NonZeroInxGenericStack<Slot> + Drop>(
-    pairs: &mut SimpleOrdArena<P0, Item, S>,
-    kind: Kind<'_>,
-) -> Result<OrdEntryKind<P0>, OrdInsertionError> {
-    match pairs.entry_insert_within_capacity(kind) {
-        Ok(entry) => Ok(entry.ptr()),
-        Err(error) => Err(error),
+fn tells<P: Ptr, S: NonZeroInxGenericStack<SlotOf<P>> + Drop>(
+    pairs: &mut SimpleOrdArena<P, Item, S>,
+    kind: OrdInsertKind<P, &u64>,
+) -> Result<OrdEntryKind<P>, OrdInsertionError> {
+    Ok(pairs.entry_insert_within_capacity(kind)?.ptr())
+}
+
+// The same of an entry for which the arena may grow, by either call.
+fn tells_grown<P: Ptr, S: NonZeroInxGenericStack<SlotOf<P>> + Drop>(
+    pairs: &mut SimpleOrdArena<P, Item, S>,
+    kind: OrdInsertKind<P, &u64>,
+    is_by_the_short_name: bool,
+) -> Result<OrdEntryKind<P>, OrdInsertionError> {
+    if is_by_the_short_name {
+        return Ok(pairs.entry_insert(kind)?.ptr());
     }
+    Ok(pairs.entry_insert_reallocating(kind)?.ptr())
+}
+
+// What an entry tells, and what it then replaces.
+fn replaces<P: Ptr, S: NonZeroInxGenericStack<SlotOf<P>> + Drop>(
+    pairs: &mut SimpleOrdArena<P, Item, S>,
+    kind: OrdInsertKind<P, &u64>,
+    item: Item,
+) -> Result<(OrdEntryKind<P>, Option<Item>), OrdInsertionError> {
+    let entry = pairs.entry_insert_within_capacity(kind)?;
+    let told = entry.ptr();
+    Ok((told, entry.insert(item)))
 }
 
 // Puts an item in by an entry, which tells the pointer that the item then has, and whether it replaces another one. One that
@@ -56,15 +78,10 @@ fn put<S: NonZeroInxGenericStack<Slot> + Drop>(
     item: Item,
 ) -> Result<OrdEntryKind<P0>, OrdInsertionError> {
     let list = digits(pairs);
-    let told = tells(pairs, kind)?;
+    let dropped = tells(pairs, kind)?;
     assert!(rt; digits(pairs) == list);
-    let replaced = match pairs.entry_insert_within_capacity(kind) {
-        Ok(entry) => {
-            assert!(rt; entry.ptr() == told);
-            entry.insert(item)
-        }
-        Err(error) => return Err(error),
-    };
+    let (told, replaced) = replaces(pairs, kind, item)?;
+    assert!(rt; told == dropped);
     assert!(rt; pairs.get(told.any()) == Some(&item));
     match told {
         OrdEntryKind::New(_) => assert!(rt; replaced.is_none()),
@@ -160,14 +177,8 @@ fn refuses<S: NonZeroInxGenericStack<Slot> + Drop>(
     errors: (OrdInsertionError, OrdInsertionError),
 ) {
     assert!(rt; tells(pairs, kind) == Err(errors.0));
-    match pairs.entry_insert_reallocating(kind) {
-        Ok(_) => panic!(rt; "there is an entry"),
-        Err(error) => assert!(rt; error == errors.1),
-    }
-    match pairs.entry_insert(kind) {
-        Ok(_) => panic!(rt; "there is an entry"),
-        Err(error) => assert!(rt; error == errors.1),
-    }
+    assert!(rt; tells_grown(pairs, kind, false) == Err(errors.1));
+    assert!(rt; tells_grown(pairs, kind, true) == Err(errors.1));
 }
 
 // Where four entries are all that can be, an item takes the place of another one, or there is no entry for it. The kind's

@@ -13,7 +13,9 @@ use triple_arena_ptr::OrdInsertionError;
 
 type Item = OrdPair<u64, u64>;
 
-type Slot = ArenaSlot<P0, LinkNoGen<P0, SimpleOrdArenaNode<P0, Item>>>;
+type SlotOf<P> = ArenaSlot<P, LinkNoGen<P, SimpleOrdArenaNode<P, Item>>>;
+
+type Slot = SlotOf<P0>;
 
 type Heap = RefusingAllocator<Global>;
 
@@ -38,25 +40,31 @@ fn insert_manual<S: NonZeroInxGenericStack<Slot> + Drop>(
     }
 }
 
+// Puts an item in by an entry, of either call.
+fn insert_by_entry<P: Ptr, S: NonZeroInxGenericStack<SlotOf<P>> + Drop>(
+    pairs: &mut SimpleOrdArena<P, Item, S>,
+    item: Item,
+    is_by_the_short_name: bool,
+) -> Result<Option<Item>, OrdInsertionError> {
+    let kind = InsertKind::Normal(item.k());
+    if is_by_the_short_name {
+        return Ok(pairs.entry_insert(kind)?.insert(item));
+    }
+    Ok(pairs.entry_insert_reallocating(kind)?.insert(item))
+}
+
 // Puts an item in where its key belongs, and answers the one that it replaces.
 fn insert_by<S: NonZeroInxGenericStack<Slot> + Drop>(
     pairs: &mut SimpleOrdArena<P0, Item, S>,
     call: Call,
     item: Item,
 ) -> Result<Option<Item>, OrdInsertionError> {
-    let kind = InsertKind::Normal(item.k());
     match call {
         Call::Insert => Ok(pairs.insert(item)?.1),
         Call::InsertReallocating => Ok(pairs.insert_reallocating(item)?.1),
         Call::InsertInxManual => insert_manual(pairs, item),
-        Call::EntryInsert => match pairs.entry_insert(kind) {
-            Ok(entry) => Ok(entry.insert(item)),
-            Err(error) => Err(error),
-        },
-        Call::EntryInsertReallocating => match pairs.entry_insert_reallocating(kind) {
-            Ok(entry) => Ok(entry.insert(item)),
-            Err(error) => Err(error),
-        },
+        Call::EntryInsert => insert_by_entry(pairs, item, true),
+        Call::EntryInsertReallocating => insert_by_entry(pairs, item, false),
     }
 }
 
