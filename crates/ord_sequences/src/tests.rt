@@ -1,7 +1,12 @@
 mod calls;
 mod canonical;
 mod counted_keys;
+mod entries;
 mod falling_keys;
+mod growing;
 mod insertions;
 mod pairs;
+mod refusals;
 mod removals;
+mod rows;
+mod walks;

@@ -67,17 +67,22 @@ type Item<'a> = OrdPair<Counting<'a>, u64>;
 
 type Slot<'a> = ArenaSlot<P0, LinkNoGen<P0, SimpleOrdArenaNode<P0, Item<'a>>>>;
 
-type Counted<'a> = SimpleOrdArena<P0, Item<'a>, NonZeroInxArray<Slot<'a>, 500>>;
+type Counted<'a> = SimpleOrdArena<P0, Item<'a>, NonZeroInxArray<Slot<'a>, 1000>>;
 
-// The even keys from 2 to 1000, in the order of their halves' products with 389, modulo the prime 503.
+// The keys from 1 to 1000 are put in, in rising order, and the odd ones are removed.
 fn even_keys<'a>(rt: &impl Abort, calls: &'a Cell<u64>) -> Counted<'a> {
     let mut arena = Counted::new(());
-    for i in 1..503u64 {
-        let half = i.wrapping_mul(389) % 503;
-        if half <= 500 {
-            let n = half.wrapping_mul(2);
-            let item = OrdPair::new(Counting { n, calls }, n);
-            assert!(rt; arena.insert_within_capacity(item).is_ok());
+    for n in 1..1001u64 {
+        let item = OrdPair::new(Counting { n, calls }, n);
+        assert!(rt; arena.insert_within_capacity(item).is_ok());
+    }
+    for half in 0..500u64 {
+        let odd = Counting {
+            n: half * 2 + 1,
+            calls,
+        };
+        if let Some(p) = arena.find_key(&odd) {
+            let _ = arena.remove(p);
         }
     }
     assert!(rt; arena.len() == 500);
@@ -116,11 +121,8 @@ fn finds_similar_key<'a>(rt: &impl Abort, arena: &Counted<'a>, k: &Counting<'a>)
     }
 }
 
-// A search from the entry of the key 500 compares at most seven times more than one from the root, and at most seven times
-// where the key is that of an entry at most six places away.
-fn finds_along<'a>(rt: &impl Abort, arena: &Counted<'a>, start: P0, k: &Counting<'a>) {
-    let is_near = 488 <= k.n && k.n <= 512 && k.n % 2 == 0;
-    let most = if is_near { 7 } else { MOST + 7 };
+// A search along the list from `start`, for seven comparisons first.
+fn finds_along<'a>(rt: &impl Abort, arena: &Counted<'a>, start: P0, k: &Counting<'a>, most: u64) {
     let mut probes = Probes::new();
     let before = k.calls.get();
     let found = arena.find_key_linear_counted(start, 7, k, &mut probes);
@@ -128,9 +130,13 @@ fn finds_along<'a>(rt: &impl Abort, arena: &Counted<'a>, start: P0, k: &Counting
     assert!(rt; found == arena.find_key(k));
 }
 
-fn finds_similar_along<'a>(rt: &impl Abort, arena: &Counted<'a>, start: P0, k: &Counting<'a>) {
-    let is_near = 488 <= k.n && k.n <= 512;
-    let most = if is_near { 7 } else { MOST + 7 };
+fn finds_similar_along<'a>(
+    rt: &impl Abort,
+    arena: &Counted<'a>,
+    start: P0,
+    k: &Counting<'a>,
+    most: u64,
+) {
     let mut probes = Probes::new();
     let before = k.calls.get();
     let similar = arena.find_similar_key_linear_counted(start.inx(), 7, k, &mut probes);
@@ -141,23 +147,39 @@ fn finds_similar_along<'a>(rt: &impl Abort, arena: &Counted<'a>, start: P0, k: &
     }
 }
 
+// The searches along the list from `start`, which may be anywhere. They take the seven comparisons alone where it is six places
+// before the entry of the key, or before the entry that would come next.
+fn finds_from<'a>(
+    rt: &impl Abort,
+    arena: &Counted<'a>,
+    start: u64,
+    k: &Counting<'a>,
+    is_near: bool,
+) {
+    let key = Counting {
+        n: start,
+        calls: k.calls,
+    };
+    if let Some(start) = arena.find_key(&key) {
+        let most = if is_near && k.n % 2 == 0 { 7 } else { MOST + 7 };
+        finds_along(rt, arena, start, k, most);
+        let most = if is_near { 7 } else { MOST + 7 };
+        finds_similar_along(rt, arena, start, k, most);
+    }
+}
+
 #[test]
 fn comparisons_are_ticks(rt: HostRuntime) -> Result<(), Fail> {
     let calls = Cell::new(0);
     let arena = even_keys(&rt, &calls);
     assert!(rt; Counted::_check_invariants(&arena).is_ok());
-    let Some(start) = arena.find_key(&Counting {
-        n: 500,
-        calls: &calls,
-    }) else {
-        panic!(rt; "a key is not found")
-    };
     for n in 0..1002u64 {
         let k = Counting { n, calls: &calls };
         finds_key(&rt, &arena, &k);
         finds_similar_key(&rt, &arena, &k);
-        finds_along(&rt, &arena, start, &k);
-        finds_similar_along(&rt, &arena, start, &k);
+        finds_from(&rt, &arena, 500, &k, false);
+        let even = n + n % 2;
+        finds_from(&rt, &arena, even.saturating_sub(12), &k, true);
     }
     Ok(())
 }

@@ -5,11 +5,15 @@ ghost use Rattle.std.specs.Cmp.{partial_order_from_own_ties};
 ghost use Rattle.std.specs.Cmp.Rules.{comparing};
 ghost use Rattle.std.specs.Ordering.{nat_cmp, on, flip_args, as_partial_cmp};
 
+use crate::tests::entries::digits;
+use std::alloc::Global;
 use std::cell::Cell;
 use std::cmp::Ordering;
 use std::process::Abort;
 use std::test::Fail;
-use triple_arena::{ArenaSlot, NonZeroInxArray, P0};
+use triple_arena::{
+    ArenaSlot, NonZeroInxArray, NonZeroInxGenericStack, NonZeroInxVec, P0, P1, P5, Ptr,
+};
 use triple_arena_chain::LinkNoGen;
 use triple_arena_ord::{OrdPair, SimpleOrdArena, SimpleOrdArenaNode};
 use triple_arena_ptr::Probes;
@@ -46,25 +50,36 @@ impl PartialOrd for Falling {
 
 type Item = OrdPair<Falling, u64>;
 
-type Slot = ArenaSlot<P0, LinkNoGen<P0, SimpleOrdArenaNode<P0, Item>>>;
+type Slot<P> = ArenaSlot<P, LinkNoGen<P, SimpleOrdArenaNode<P, Item>>>;
 
-type Falls = SimpleOrdArena<P0, Item, NonZeroInxArray<Slot, 7>>;
+type InVec<P> = NonZeroInxVec<Slot<P>, Global>;
+
+type InArray<P> = NonZeroInxArray<Slot<P>, 7>;
 
 // The keys from 1 to `n`, which is 7 at most, put in shuffled.
-fn falls(rt: &impl Abort, n: u64) -> Falls {
-    let mut arena = Falls::new(());
+fn falls<P: Ptr, S: NonZeroInxGenericStack<Slot<P>> + Drop>(
+    rt: &impl Abort,
+    alloc: S::Alloc,
+    n: u64,
+) -> SimpleOrdArena<P, Item, S> {
+    let mut arena = SimpleOrdArena::<P, Item, S>::new(alloc);
     for i in 1..8u64 {
         let key = i.wrapping_mul(3) % 7 + 1;
         if key <= n {
             let item = OrdPair::new(Falling { n: key }, key);
-            assert!(rt; arena.insert_within_capacity(item).is_ok());
+            assert!(rt; arena.insert(item).is_ok());
         }
     }
     arena
 }
 
 // Whether the key is found; with as many comparisons at most as `most`, and with none where there is no entry.
-fn finds(rt: &impl Abort, arena: &Falls, key: u64, most: u64) -> bool {
+fn finds<P: Ptr, S: NonZeroInxGenericStack<Slot<P>> + Drop>(
+    rt: &impl Abort,
+    arena: &SimpleOrdArena<P, Item, S>,
+    key: u64,
+    most: u64,
+) -> bool {
     let mut probes = Probes::new();
     let found = arena.find_key_counted(&Falling { n: key }, &mut probes);
     assert!(rt; probes.count() <= most);
@@ -73,7 +88,12 @@ fn finds(rt: &impl Abort, arena: &Falls, key: u64, most: u64) -> bool {
 
 // How a key compares with the one that a search for a similar one ends at, where it is not equal: it is the greater one of
 // the two in this order, if it is the lesser number.
-fn is_beside(rt: &impl Abort, arena: &Falls, key: u64, n: u64) {
+fn is_beside<P: Ptr, S: NonZeroInxGenericStack<Slot<P>> + Drop>(
+    rt: &impl Abort,
+    arena: &SimpleOrdArena<P, Item, S>,
+    key: u64,
+    n: u64,
+) {
     match arena.find_similar_key(&Falling { n: key }) {
         Some((_, Ordering::Less)) => assert!(rt; n < key),
         Some((_, Ordering::Equal)) => assert!(rt; 1 <= key && key <= n),
@@ -83,7 +103,12 @@ fn is_beside(rt: &impl Abort, arena: &Falls, key: u64, n: u64) {
 }
 
 // A search by a closure for a key asks as often as it ticks, and at most `most` times.
-fn asks(rt: &impl Abort, arena: &Falls, key: u64, most: u64) -> bool {
+fn asks<P: Ptr, S: NonZeroInxGenericStack<Slot<P>> + Drop>(
+    rt: &impl Abort,
+    arena: &SimpleOrdArena<P, Item, S>,
+    key: u64,
+    most: u64,
+) -> bool {
     let asked = Cell::new(0u64);
     let mut probes = Probes::new();
     let found = arena.find_with_counted(
@@ -98,18 +123,39 @@ fn asks(rt: &impl Abort, arena: &Falls, key: u64, most: u64) -> bool {
     found.is_some()
 }
 
-// The greatest c with `2^(c+1) <= (n+1)^2` for each n, and 0 for none.
-#[test]
-fn keys_in_falling_order(rt: HostRuntime) -> Result<(), Fail> {
-    for (n, most) in [(0, 0), (1, 1), (2, 2), (3, 3), (4, 3), (7, 5)] {
-        let arena = falls(&rt, n);
-        assert!(rt; Falls::_check_invariants(&arena).is_ok());
+// How many keys there are, their list, and the most comparisons: the greatest c with `2^(c+1) <= (n+1)^2`, and 0 for none.
+const CASES: [(u64, u64, u64); 6] = [
+    (0, 0, 0),
+    (1, 1, 1),
+    (2, 21, 2),
+    (3, 321, 3),
+    (4, 4321, 3),
+    (7, 7654321, 5),
+];
+
+fn searches<P: Ptr, H: Copy, S: NonZeroInxGenericStack<Slot<P>, Alloc = H> + Drop>(
+    rt: &impl Abort,
+    alloc: H,
+) {
+    for (n, list, most) in CASES {
+        let arena = falls::<P, S>(rt, alloc, n);
+        assert!(rt; SimpleOrdArena::<P, Item, S>::_check_invariants(&arena).is_ok());
+        assert!(rt; digits(&arena) == list);
         for key in 0..9u64 {
             let is_there = 1 <= key && key <= n;
-            assert!(rt; finds(&rt, &arena, key, most) == is_there);
-            assert!(rt; asks(&rt, &arena, key, most) == is_there);
-            is_beside(&rt, &arena, key, n);
+            assert!(rt; finds(rt, &arena, key, most) == is_there);
+            assert!(rt; asks(rt, &arena, key, most) == is_there);
+            is_beside(rt, &arena, key, n);
         }
     }
-    Ok(())
+}
+
+#[test]
+fn keys_in_falling_order(rt: HostRuntime) {
+    searches::<P0, Global, InVec<P0>>(&rt, rt.alloc());
+    searches::<P1, Global, InVec<P1>>(&rt, rt.alloc());
+    searches::<P5, Global, InVec<P5>>(&rt, rt.alloc());
+    searches::<P0, (), InArray<P0>>(&rt, ());
+    searches::<P1, (), InArray<P1>>(&rt, ());
+    searches::<P5, (), InArray<P5>>(&rt, ());
 }

@@ -1,0 +1,185 @@
+//! Each call of an ordered arena that can take memory, with each of its requests refused in turn.
+use refusing_allocator::RefusingAllocator;
+use std::alloc::{Allocator, Global};
+use std::process::Abort;
+use std::test::Fail;
+use triple_arena::{
+    ArenaSlot, NonZeroInxGenericStack, NonZeroInxLimitedVec, NonZeroInxVec, P0, Ptr,
+    ReallocationError,
+};
+use triple_arena_chain::LinkNoGen;
+use triple_arena_ord::{InsertKind, OrdPair, SimpleOrdArena, SimpleOrdArenaNode};
+use triple_arena_ptr::OrdInsertionError;
+
+type Item = OrdPair<u64, u64>;
+
+type SlotOf<P> = ArenaSlot<P, LinkNoGen<P, SimpleOrdArenaNode<P, Item>>>;
+
+type Slot = SlotOf<P0>;
+
+type Heap = RefusingAllocator<Global>;
+
+// The calls that put an item in, and make room where there is none.
+#[derive(Clone, Copy)]
+enum Call {
+    Insert,
+    InsertReallocating,
+    InsertInxManual,
+    EntryInsert,
+    EntryInsertReallocating,
+}
+
+// Puts an item in at the entry that is found by its key.
+fn insert_manual<S: NonZeroInxGenericStack<Slot> + Drop>(
+    pairs: &mut SimpleOrdArena<P0, Item, S>,
+    item: Item,
+) -> Result<Option<Item>, OrdInsertionError> {
+    match pairs.find_similar_key(item.k()) {
+        Some((p, direction)) => pairs.insert_inx_manual(p.inx(), direction, item),
+        None => Err(OrdInsertionError::FailedOrdRequirement),
+    }
+}
+
+// Puts an item in by an entry, of either call.
+fn insert_by_entry<P: Ptr, S: NonZeroInxGenericStack<SlotOf<P>> + Drop>(
+    pairs: &mut SimpleOrdArena<P, Item, S>,
+    item: Item,
+    is_by_the_short_name: bool,
+) -> Result<Option<Item>, OrdInsertionError> {
+    let kind = InsertKind::Normal(item.k());
+    if is_by_the_short_name {
+        return Ok(pairs.entry_insert(kind)?.insert(item));
+    }
+    Ok(pairs.entry_insert_reallocating(kind)?.insert(item))
+}
+
+// Puts an item in where its key belongs, and answers the one that it replaces.
+fn insert_by<S: NonZeroInxGenericStack<Slot> + Drop>(
+    pairs: &mut SimpleOrdArena<P0, Item, S>,
+    call: Call,
+    item: Item,
+) -> Result<Option<Item>, OrdInsertionError> {
+    match call {
+        Call::Insert => Ok(pairs.insert(item)?.1),
+        Call::InsertReallocating => Ok(pairs.insert_reallocating(item)?.1),
+        Call::InsertInxManual => insert_manual(pairs, item),
+        Call::EntryInsert => insert_by_entry(pairs, item, true),
+        Call::EntryInsertReallocating => insert_by_entry(pairs, item, false),
+    }
+}
+
+// What a call finds: the pointers and the items as a text, the room, and whether the heap has refused its request.
+#[derive(Drop)]
+struct Before {
+    has_refused: bool,
+    text: String,
+    capacity: usize,
+}
+
+fn seen<S: NonZeroInxGenericStack<Slot> + Drop>(
+    rt: &(impl Abort + Alloc<A = Global>),
+    heap: &Heap,
+    pairs: &SimpleOrdArena<P0, Item, S>,
+) -> Before {
+    match format!(in rt.alloc(); "{pairs:?}") {
+        Ok(text) => Before {
+            has_refused: heap.has_refused(),
+            text,
+            capacity: pairs.capacity(),
+        },
+        Err(_) => panic!(rt; "no memory for a text"),
+    }
+}
+
+// The call was refused exactly where the heap refused it the memory, and left the arena as it was.
+fn is_refused_with_the_heap<S: NonZeroInxGenericStack<Slot> + Drop>(
+    rt: &(impl Abort + Alloc<A = Global>),
+    heap: &Heap,
+    pairs: &SimpleOrdArena<P0, Item, S>,
+    was: &Before,
+    error: Option<OrdInsertionError>,
+) {
+    let is = seen(rt, heap, pairs);
+    if is.has_refused == was.has_refused {
+        assert!(rt; error == None);
+        assert!(rt; is.capacity > was.capacity);
+    } else {
+        assert!(rt; error == Some(OrdInsertionError::AllocError));
+        assert!(rt; is.capacity == was.capacity);
+        assert!(rt; is.text.as_str() == was.text.as_str());
+    }
+}
+
+// Takes all the room that there is, by keys that rise. It answers the next key.
+fn fills<S: NonZeroInxGenericStack<Slot> + Drop>(
+    rt: &impl Abort,
+    pairs: &mut SimpleOrdArena<P0, Item, S>,
+) -> u64 {
+    for len in pairs.len()..pairs.capacity() {
+        let key = len as u64;
+        assert!(rt; pairs.insert_within_capacity(OrdPair::new(key, key)).is_ok());
+    }
+    pairs.len() as u64
+}
+
+// Each call at an arena that is full: an equal key needs no memory, and a new one needs a growth.
+fn grows<S: NonZeroInxGenericStack<Slot> + Drop>(
+    rt: &(impl Abort + Alloc<A = Global>),
+    heap: &Heap,
+    pairs: &mut SimpleOrdArena<P0, Item, S>,
+) {
+    for call in [
+        Call::Insert,
+        Call::InsertReallocating,
+        Call::InsertInxManual,
+        Call::EntryInsert,
+        Call::EntryInsertReallocating,
+    ] {
+        let key = fills(rt, pairs);
+        let had_refused = heap.has_refused();
+        let replaced = insert_by(pairs, call, OrdPair::new(0, key));
+        assert!(rt; matches!(replaced, Ok(Some(_))));
+        assert!(rt; heap.has_refused() == had_refused);
+        let was = seen(rt, heap, pairs);
+        let error = insert_by(pairs, call, OrdPair::new(key, key)).err();
+        is_refused_with_the_heap(rt, heap, pairs, &was, error);
+    }
+    let was = seen(rt, heap, pairs);
+    let reallocated = pairs.reallocate_min_capacity(was.capacity.saturating_add(1));
+    let error = reallocated.err().map(|error| match error {
+        ReallocationError::BeyondMaxCapacity => OrdInsertionError::BeyondMaxCapacity,
+        ReallocationError::AllocError => OrdInsertionError::AllocError,
+    });
+    is_refused_with_the_heap(rt, heap, pairs, &was, error);
+}
+
+// All of them over one heap, which `alloc` is as an arena takes it.
+fn runs<H: Allocator + Copy, S: NonZeroInxGenericStack<Slot, Alloc = H> + Drop>(
+    rt: &(impl Abort + Alloc<A = Global>),
+    heap: &Heap,
+    alloc: H,
+) {
+    match SimpleOrdArena::<P0, Item, S>::with_min_capacity(alloc, 1) {
+        Ok(mut pairs) => {
+            assert!(rt; !heap.has_refused());
+            grows(rt, heap, &mut pairs);
+        }
+        Err(error) => {
+            assert!(rt; heap.has_refused());
+            assert!(rt; error == ReallocationError::AllocError);
+        }
+    }
+}
+
+#[test]
+fn each_request_in_turn(rt: HostRuntime) {
+    for nth in 1..9u64 {
+        let vector = RefusingAllocator::new(rt.alloc(), nth);
+        runs::<&Heap, NonZeroInxVec<Slot, &Heap>>(&rt, &vector, &vector);
+        let limited = RefusingAllocator::new(rt.alloc(), nth);
+        runs::<&Heap, NonZeroInxLimitedVec<Slot, &Heap>>(&rt, &limited, &limited);
+        // The arena, the growths by the five calls, and that without an item.
+        assert!(rt; vector.has_refused() == (nth <= 7));
+        assert!(rt; limited.has_refused() == (nth <= 7));
+    }
+}
