@@ -43,11 +43,11 @@ module _ {I T K : Type 0} (number : I → ℕ) (cmp : K → K → Ordering) (key
           was = s.was;
           is = s.is;
           low = AllIn-map (λ y. Before (f y) (f h)) (λ y. f y ≢ Less) (λ y z d. let e : Equal ≡ Less = sym here ∙ z.less d in absurd (cc)) s.before
-          (parted-before f s.before h s.after parted);
+              (parted-before f s.before h s.after parted);
           high = (
             λ d. let e : Equal ≡ Greater = sym here ∙ d in absurd (cc),
             AllIn-map (λ y. Before (f h) (f y)) (λ y. f y ≢ Greater) (λ y z d. let e : Equal ≡ Greater = sym here ∙ z.greater d in absurd (cc)) s.after
-            (parted-after f s.before h s.after parted),
+                (parted-after f s.before h s.after parted),
           );
         }
 
