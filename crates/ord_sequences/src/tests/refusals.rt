@@ -35,8 +35,10 @@ fn insert_manual<S: NonZeroInxGenericStack<Slot> + Drop>(
     item: Item,
 ) -> Result<Option<Item>, OrdInsertionError> {
     match pairs.find_similar_key(item.k()) {
-        Some((p, direction)) => pairs.insert_inx_manual(p.inx(), direction, item),
-        None => Err(OrdInsertionError::FailedOrdRequirement),
+        Some((p, direction)) if pairs.get_inx(p.inx()).is_some() => {
+            pairs.insert_inx_manual(p.inx(), direction, item)
+        }
+        _ => Err(OrdInsertionError::FailedOrdRequirement),
     }
 }
 
