@@ -27,11 +27,11 @@ fn lists<P: Ptr, S: NonZeroInxGenericStack<OrderSlot<P, u64>> + Drop>(
 }
 
 // Orders come into a book for three and leave it.
-fn trades<P: Ptr, S: NonZeroInxGenericStack<OrderSlot<P, u64>> + Drop>(
+fn trades<S: NonZeroInxGenericStack<OrderSlot<P0, u64>> + Drop>(
     rt: &impl Abort,
     alloc: S::Alloc,
 ) -> Result<(), Fail> {
-    let mut book: OrderBook<P, u64, S> = open_book(alloc, 3)?;
+    let mut book: OrderBook<P0, u64, S> = open_book(alloc, 3)?;
     lists(rt, &book, &[]);
     let (dear, _) = add_order(&mut book, 30, 7)?;
     let (cheap, _) = add_order(&mut book, 10, 5)?;
@@ -56,10 +56,10 @@ fn trades<P: Ptr, S: NonZeroInxGenericStack<OrderSlot<P, u64>> + Drop>(
 
 #[test]
 fn trades_in_an_array(rt: HostRuntime) -> Result<(), Fail> {
-    trades::<P0, NonZeroInxArray<OrderSlot<P0, u64>, 3>>(&rt, ())
+    trades::<NonZeroInxArray<OrderSlot<P0, u64>, 3>>(&rt, ())
 }
 
 #[test]
 fn trades_on_the_heap(rt: HostRuntime) -> Result<(), Fail> {
-    trades::<P0, NonZeroInxVec<OrderSlot<P0, u64>, Global>>(&rt, rt.alloc())
+    trades::<NonZeroInxVec<OrderSlot<P0, u64>, Global>>(&rt, rt.alloc())
 }
