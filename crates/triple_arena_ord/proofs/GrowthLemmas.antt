@@ -1,6 +1,6 @@
 -- Another room, and an insertion after a growth.
 use Rattle.std.specs.Prelude.{IfOk, OnOk, OnErr, is_ok}
-use Rattle.std.proofs.Common.{◌≡◌, ◌≢◌, ◌==◌, ℕ, ◌<◌, ◌≤◌, Bool, List, if◌then◌else◌, Option, Some, None, Result, Ok, Err, IsOk, false, refl, sym, ap, ◌∙◌, subst, arith, inl, inr}
+use Rattle.std.proofs.Common.{◌≡◌, ◌≢◌, ◌==◌, ℕ, ◌<◌, ◌≤◌, max, length, drop, Bool, List, if◌then◌else◌, Option, Some, None, Result, Ok, Err, IsOk, false, refl, sym, ap, ◌∙◌, subst, arith, inl, inr}
 use Rattle.std.proofs.lemmas.Bool.{cases_lt}
 use Rattle.std.specs.declared.cmp.Ordering.{Ordering}
 use Rattle.std.specs.declared.cmp.Ordering.TheVariants.{Equal}
@@ -100,6 +100,8 @@ module _ {I T : Type 0} (number : I → ℕ) where
               index = a.1.index ∙ ap (λ z. next_index z.chains) grown.exact;
               generation = a.1.generation ∙ ap (λ z. z.chains.counter) grown.exact;
               entries = λ k. a.1.entries k ∙ ap (λ z. if k == index q then Some (generation q, t) else z) (grown.entries k);
+              free = a.1.free ∙ ap (λ z. drop 1 z.chains.free) grown.exact;
+              slots = a.1.slots ∙ ap (λ z. max (length z.chains.slots) (next_index z.chains)) grown.exact;
             },
           );
       fits = λ q e. unlimited;

@@ -1,11 +1,12 @@
 -- An entry leaves the tree, and then the list.
-use Rattle.std.proofs.Common.{◌≡◌, ◌≢◌, ◌==◌, ℕ, ◌+◌, ◌^◌, ◌<◌, List, [], ◌∷◌, ◌++◌, length, append_assoc, length-append, Option, Some, None, IsSome, IfSome, OnSome, Bool, true, false, if◌then◌else◌, refl, sym, ap, ◌∙◌, subst, arith, inl, inr}
+use Rattle.std.proofs.Common.{◌≡◌, ◌≢◌, ◌==◌, ℕ, ◌+◌, ◌-◌, ◌^◌, ◌<◌, List, [], ◌∷◌, ◌++◌, length, append_assoc, length-append, Option, Some, None, IsSome, IfSome, OnSome, Bool, true, false, if◌then◌else◌, refl, sym, ap, ◌∙◌, subst, arith, inl, inr}
 use Rattle.std.specs.Option.{option_map}
 use Rattle.std.proofs.lemmas.Bool.{cases_eq, eq-eqb, ne_eqb}
 use Rattle.std.proofs.lemmas.Bool.Decides.{eqb_tells}
 use Rattle.triple_arena_ptr.specs.Generation.{next_generation}
-use Rattle.triple_arena.specs.Content.{Content, entry_at, live_count}
+use Rattle.triple_arena.specs.Content.{Content, entry_at, live_count, removed as without_entry}
 use Rattle.triple_arena.specs.Entries.{without, value_if}
+use Rattle.triple_arena.specs.RemovalLaws.{free-removed, slots-removed}
 use Rattle.triple_arena_chain.specs.declared.link.IndexLink.{IndexLink}
 use Rattle.triple_arena_chain.specs.Chains.{IsLinear}
 use Rattle.triple_arena_chain.specs.Links.{ends_in, values_in, valued, IsTakenOut}
@@ -136,6 +137,8 @@ module _ {I T : Type 0} (number : I → ℕ) where
       pub ordered : IsOrdered number (record { chains = c2; root = root1 })
       pub order : Loses (order_in number o) (order_in number (record { chains = c2; root = root1 })) h
       pub entries : (k : ℕ) → items_in c2 k ≡ without (items_in o.chains) h k
+      pub free : c2.free ≡ (without_entry last o.chains h).free
+      pub slots : length c2.slots ≡ length (without_entry last o.chains h).slots
 
     pub taken : Taken
     taken =
@@ -175,6 +178,15 @@ module _ {I T : Type 0} (number : I → ℕ) where
           };
           order = record { before = up.before; after = up.after; was = up.was; is = order };
           entries = λ k. ap (option_map itemed) (out.values k) ∙ item-none (k == h) (values_in c1 k) ∙ ap (λ z. if k == h then None else z) (same.items k);
+          free =
+              out.free ∙ free-removed last c1 h
+              ∙ ap (λ m. if h == m then c1.free else (h ∷ c1.free)) same.kept.slots
+              ∙ ap (λ f. if h == length o.chains.slots then f else (h ∷ f)) same.kept.free
+              ∙ sym (free-removed last o.chains h);
+          slots =
+              out.slots ∙ slots-removed last c1 h
+              ∙ ap (λ m. if h == m then (h - 1) else m) same.kept.slots
+              ∙ sym (slots-removed last o.chains h);
         }
 
   -- a pointer finds the item of the entry that it finds
@@ -201,13 +213,14 @@ module _ {I T : Type 0} (number : I → ℕ) where
 
   -- the list is one shorter
   pub removed : (last : Option ℕ) (o p : Ordered I T) (h : ℕ) → IsOrdered number o → IsOrdered number p → Loses (order_in number o) (order_in number p) h
-      → ((k : ℕ) → entry_in p k ≡ without (entry_in o) h k) → p.chains.counter ≡ next_generation last o.chains.counter → p.chains.room ≡ o.chains.room
+      → ((k : ℕ) → entry_in p k ≡ without (entry_in o) h k) → p.chains.counter ≡ next_generation last o.chains.counter → p.chains.free ≡ (without_entry last o.chains h).free
+      → length p.chains.slots ≡ length (without_entry last o.chains h).slots → p.chains.room ≡ o.chains.room
       → IsRemoved number last h o p
-  removed last o p h is new_is lost entries counter room =
+  removed last o p h is new_is lost entries counter free slots room =
       let l1 : length (order_in number o) ≡ length (lost.before ++ h ∷ lost.after) = ap length lost.was in
       let l2 : length (order_in number p) ≡ length (lost.before ++ lost.after) = ap length lost.is in
       let l3 = length-append lost.before (h ∷ lost.after) in
       let l4 = length-append lost.before lost.after in
       let l5 : length (order_in number o) ≡ live_count o.chains = is.counted in
       let l6 : length (order_in number p) ≡ live_count p.chains = new_is.counted in
-      record { order = lost; entries = entries; size = omega arith; counter = counter; room = room }
+      record { order = lost; entries = entries; size = omega arith; counter = counter; free = free; slots = slots; room = room }

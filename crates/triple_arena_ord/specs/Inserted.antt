@@ -1,5 +1,5 @@
 -- What an insertion does.
-use Rattle.std.specs.Prelude.{◌≡◌, ◌≢◌, ℕ, ◌+◌, ◌<◌, ◌≤◌, Bool, IsTrue, List, [], ◌∷◌, ◌++◌, Option, Some, None, Result, Ok, Err}
+use Rattle.std.specs.Prelude.{◌≡◌, ◌≢◌, ℕ, ◌+◌, ◌<◌, ◌≤◌, max, Bool, IsTrue, List, [], ◌∷◌, ◌++◌, length, drop, Option, Some, None, Result, Ok, Err}
 use Rattle.std.specs.Option.{option_map}
 use Rattle.std.specs.declared.cmp.Ordering.{Ordering}
 use Rattle.std.specs.declared.cmp.Ordering.TheVariants.{Less, Equal, Greater}
@@ -90,11 +90,13 @@ module _ {I T : Type 0} (number : I → ℕ) where
     pub entries : (k : ℕ) → entry_in new k ≡ with_entry (entry_in old) i (g, t) k
     pub kept : IsKept old.chains new.chains
 
-  -- one more entry, under the next index and the counter; all others stay
+  -- one more entry, under the next index, which is no longer free, and the counter; all others stay
   pub record IsAdded (i g : ℕ) (t : T) (old new : Ordered I T) : Type 0 where
     pub index : i ≡ next_index old.chains
     pub generation : g ≡ old.chains.counter
     pub entries : (k : ℕ) → entry_in new k ≡ with_entry (entry_in old) i (g, t) k
+    pub free : new.chains.free ≡ drop 1 old.chains.free
+    pub slots : length new.chains.slots ≡ max (length old.chains.slots) (next_index old.chains)
 
   -- `allows` is what the room says: None lets a new entry in, an error does not
   module _ {P : Type 0} (index generation : P → ℕ) (allows : Option OrdInsertionError → Type 0) where

@@ -1,6 +1,7 @@
 -- What a removal finds and leaves.
-use Rattle.std.specs.Prelude.{◌≡◌, ◌==◌, if◌then◌else◌, ℕ, ◌+◌, List, ◌∷◌, ◌++◌, Option, Some, None}
+use Rattle.std.specs.Prelude.{◌≡◌, ◌==◌, if◌then◌else◌, ℕ, ◌+◌, List, ◌∷◌, ◌++◌, length, Option, Some, None}
 use Rattle.triple_arena_ptr.specs.Generation.{next_generation}
+use Rattle.triple_arena.specs.Content.{removed}
 use Rattle.triple_arena.specs.Entries.{without}
 use Rattle.triple_arena_ord.specs.Node.{knots_in}
 use Rattle.triple_arena_ord.specs.Repair.{Restored}
@@ -25,10 +26,13 @@ pub record IsUprooted {I T : Type 0} (number : I → ℕ) (old new : Ordered I T
   pub was : order_in number old ≡ before ++ h ∷ after
   pub restored : Restored (knots_in number new.chains) new.root (before ++ after)
 
--- one entry less: the list is without its index, every other pointer finds the item that it found, and the counter steps
+-- one entry less: the list is without its index, every other pointer finds the item that it found, the counter steps, and the
+-- slot is popped where it is the last one, and else is the next one to be taken
 pub record IsRemoved {I T : Type 0} (number : I → ℕ) (last : Option ℕ) (h : ℕ) (old new : Ordered I T) : Type 0 where
   pub order : Loses (order_in number old) (order_in number new) h
   pub entries : (k : ℕ) → entry_in new k ≡ without (entry_in old) h k
   pub size : size_in new + 1 ≡ size_in old
   pub counter : new.chains.counter ≡ next_generation last old.chains.counter
+  pub free : new.chains.free ≡ (removed last old.chains h).free
+  pub slots : length new.chains.slots ≡ length (removed last old.chains h).slots
   pub room : new.chains.room ≡ old.chains.room

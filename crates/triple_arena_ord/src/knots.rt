@@ -105,7 +105,8 @@ pub(crate) fn reparent<
     parent: Option<P::Inx>,
 )
     requires { IfSome link (λ i. IsSome (knots_in P.Inx.number chains.old (P.Inx.number i))) }
-    ensures does { Reparented (knots_in P.Inx.number chains.old) (knots_in P.Inx.number chains.new) (option_map P.Inx.number link) (option_map P.Inx.number parent) }
+    ensures does { Reparented (knots_in P.Inx.number chains.old) (knots_in P.Inx.number chains.new)
+        (option_map P.Inx.number link) (option_map P.Inx.number parent) }
     ensures keeps { rest chains.new ≡ rest chains.old }
 {
     if let Some(i) = link {
@@ -127,8 +128,8 @@ pub(crate) fn relink<
     to: Option<P::Inx>,
 )
     requires { IfSome holder (λ i. IsSome (knots_in P.Inx.number chains.old (P.Inx.number i))) }
-    ensures does { Relinked (knots_in P.Inx.number chains.old) (knots_in P.Inx.number chains.new) (option_map P.Inx.number root.old) (option_map P.Inx.number root.new)
-        (option_map P.Inx.number holder) (P.Inx.number from) (option_map P.Inx.number to) }
+    ensures does { Relinked (knots_in P.Inx.number chains.old) (knots_in P.Inx.number chains.new)
+        (option_map P.Inx.number root.old) (option_map P.Inx.number root.new) (option_map P.Inx.number holder) (P.Inx.number from) (option_map P.Inx.number to) }
     ensures keeps { rest chains.new ≡ rest chains.old }
 {
     match holder {
@@ -175,7 +176,8 @@ pub(crate) fn set_rank<
     S: NonZeroInxGenericStack<ArenaSlot<P, LinkNoGen<P, SimpleOrdArenaNode<P, T>>>> + Drop,
 >(chains: &mut ChainArena<P, SimpleOrdArenaNode<P, T>, S>, i: P::Inx, rank: u8)
     requires { IsSome (knots_in P.Inx.number chains.old (P.Inx.number i)) }
-    ensures does { (v : Seen) → knots_in P.Inx.number chains.old (P.Inx.number i) ≡ Some v → Written (knots_in P.Inx.number chains.old) (knots_in P.Inx.number chains.new) (P.Inx.number i) (with_rank rank v) }
+    ensures does { (v : Seen) → knots_in P.Inx.number chains.old (P.Inx.number i) ≡ Some v
+        → Written (knots_in P.Inx.number chains.old) (knots_in P.Inx.number chains.new) (P.Inx.number i) (with_rank rank v) }
     ensures keeps { rest chains.new ≡ rest chains.old }
 {
     let knot = read(chains, i);

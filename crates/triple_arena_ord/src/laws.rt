@@ -1,5 +1,5 @@
 //! What follows from the calls of an ordered arena.
-ghost use Rattle.std.specs.Prelude.{◌≡◌, ◌≢◌, ℕ, List, ◌∷◌, ◌++◌, Option, Some, None, IsSome, Result};
+ghost use Rattle.std.specs.Prelude.{◌≡◌, ◌≢◌, ◌+◌, ◌*◌, ◌^◌, ◌<◌, ◌≤◌, ℕ, List, ◌∷◌, ◌++◌, Option, Some, None, IsSome, Result};
 ghost use Rattle.std.specs.List.{AllByRecursion};
 ghost use Rattle.std.specs.declared.cmp.Ordering.{Ordering as Way};
 ghost use Rattle.triple_arena_ptr.specs.declared.errors.OrdInsertionError.{OrdInsertionError as Refused};
@@ -7,10 +7,11 @@ ghost use Rattle.triple_arena_chain.specs.Chains.{On};
 ghost use Rattle.triple_arena_ord.specs.Asked.{IsWay};
 ghost use Rattle.triple_arena_ord.specs.AskedLaws.{IsCutAt, last_greater, last_less};
 ghost use Rattle.triple_arena_ord.specs.Inserted.{IsInsertedAt, within_room};
-ghost use Rattle.triple_arena_ord.specs.Ordered.{Ordered, IsOrdered, IsAscending, order_in, entry_in, size_in, asked_at};
+ghost use Rattle.triple_arena_ord.specs.Ordered.{Ordered, IsOrdered, IsAscending, tree_in, order_in, entry_in, size_in, asked_at};
 ghost use Rattle.triple_arena_ord.specs.Placing.{IsPlaceByKey, IsPlaceBeforeEqual};
 ghost use Rattle.triple_arena_ord.specs.Removal.{IsRemoved};
 ghost use Rattle.triple_arena_ord.specs.Search.{AllIn};
+ghost use Rattle.triple_arena_ord.specs.Tree.{height, rank_of};
 
 use crate::SimpleOrdItem;
 use triple_arena::Ptr;
@@ -19,6 +20,14 @@ use triple_arena::Ptr;
 pub fn entries_stand_in_the_list<P: Ptr, T>()
     ensures { (o : Ordered P.Inx T) (i : ℕ) → IsOrdered P.Inx.number o → IsSome (entry_in o i)
         → On (order_in P.Inx.number o) i }
+{}
+
+/// No path in the tree has more nodes than the rank r of the root, and among n entries, where there is one, `2^(r+1) <= (n+1)^2`.
+pub fn paths_are_short<P: Ptr, T>()
+    ensures high { (o : Ordered P.Inx T) → IsOrdered P.Inx.number o
+        → height (tree_in P.Inx.number o) ≤ rank_of (tree_in P.Inx.number o) }
+    ensures low { (o : Ordered P.Inx T) → IsOrdered P.Inx.number o → 0 < size_in o
+        → 2 ^ (rank_of (tree_in P.Inx.number o) + 1) ≤ (size_in o + 1) * (size_in o + 1) }
 {}
 
 /// Where the keys ascend, none before an entry is greater than its key, and none after it less.

@@ -1,10 +1,10 @@
 //! A new entry beside another.
 ghost use Rattle.std.specs.Prelude.{◌≡◌, ℕ, ◌<◌, Some, IsSome};
 ghost use Rattle.std.specs.Option.{option_map};
-ghost use Rattle.triple_arena.specs.Content.{entry_at, live_count, arena_capacity, next_index};
-ghost use Rattle.triple_arena.specs.Entries.{with_entry};
+ghost use Rattle.triple_arena.specs.Content.{entry_at, live_count, arena_capacity};
 ghost use Rattle.triple_arena_ord.specs.Store.{child_of};
-ghost use Rattle.triple_arena_ord.specs.Node.{knots_in, items_in, prev_for, next_for};
+ghost use Rattle.triple_arena_ord.specs.Node.{knots_in, prev_for, next_for};
+ghost use Rattle.triple_arena_ord.specs.Inserted.{IsAdded};
 ghost use Rattle.triple_arena_ord.specs.Ordered.{IsOrdered, StandsBeside, order_in, moved, replaced};
 
 use crate::inserted::bring_in;
@@ -32,9 +32,9 @@ pub(crate) fn insert_leaf<
     ensures ordered { IsOrdered P.Inx.number (record { chains = chains.new; root = option_map P.Inx.number root.new }) }
     ensures order { StandsBeside side (order_in P.Inx.number (record { chains = chains.old; root = option_map P.Inx.number root.old }))
         (order_in P.Inx.number (record { chains = chains.new; root = option_map P.Inx.number root.new })) (P.Inx.number holder) (P.index result) }
-    ensures entries { (k : ℕ) → items_in chains.new k ≡ with_entry (items_in chains.old) (P.index result) (P.generation result, t) k }
-    ensures index { P.index result ≡ next_index chains.old }
-    ensures generation { P.generation result ≡ chains.old.counter }
+    ensures added { IsAdded P.Inx.number (P.index result) (P.generation result) t
+        (record { chains = chains.old; root = option_map P.Inx.number root.old })
+        (record { chains = chains.new; root = option_map P.Inx.number root.new }) }
     ensures counter { chains.new.counter ≡ chains.old.counter }
     ensures room { chains.new.room ≡ chains.old.room }
 {
@@ -67,8 +67,10 @@ pub(crate) fn neighbours_beside<
     side: Side,
 ) -> (Option<P::Inx>, Option<P::Inx>)
     requires { IsSome (knots_in P.Inx.number chains.now (P.Inx.number holder)) }
-    ensures prev { option_map (λ e. prev_for P.Inx.number side e.1 (P.Inx.number holder)) (entry_at chains.now (P.Inx.number holder)) ≡ Some (option_map P.Inx.number result.0) }
-    ensures next { option_map (λ e. next_for P.Inx.number side e.1 (P.Inx.number holder)) (entry_at chains.now (P.Inx.number holder)) ≡ Some (option_map P.Inx.number result.1) }
+    ensures prev { option_map (λ e. prev_for P.Inx.number side e.1 (P.Inx.number holder)) (entry_at chains.now (P.Inx.number holder))
+        ≡ Some (option_map P.Inx.number result.0) }
+    ensures next { option_map (λ e. next_for P.Inx.number side e.1 (P.Inx.number holder)) (entry_at chains.now (P.Inx.number holder))
+        ≡ Some (option_map P.Inx.number result.1) }
 {
     match chains.get_inx_link_no_gen(holder) {
         Some((_, link)) => match side {

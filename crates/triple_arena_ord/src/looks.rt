@@ -27,7 +27,9 @@ pub(crate) fn look_around<
     S: NonZeroInxGenericStack<ArenaSlot<P, LinkNoGen<P, SimpleOrdArenaNode<P, T>>>> + Drop,
 >(chains: &ChainArena<P, SimpleOrdArenaNode<P, T>, S>, low: P::Inx) -> Around<P::Inx>
     requires { (root : Option ℕ) × Spot (knots_in P.Inx.number chains.now) root (P.Inx.number low) }
-    ensures { (root : Option ℕ) → (spot : Spot (knots_in P.Inx.number chains.now) root (P.Inx.number low)) → IsAround (knots_in P.Inx.number chains.now) root (P.Inx.number low) spot (P.Inx.number result.high) (option_map P.Inx.number result.inner) result.low_rank result.high_rank result.outer_rank result.inner_rank result.far_rank }
+    ensures { (root : Option ℕ) → (spot : Spot (knots_in P.Inx.number chains.now) root (P.Inx.number low))
+        → IsAround (knots_in P.Inx.number chains.now) root (P.Inx.number low) spot (P.Inx.number result.high) (option_map P.Inx.number result.inner)
+        result.low_rank result.high_rank result.outer_rank result.inner_rank result.far_rank }
 {
     let below = read(chains, low);
     let Some(high) = below.parent else {

@@ -1,11 +1,11 @@
 //! The ordered arena.
-ghost use Rattle.std.specs.Prelude.{◌≡◌, ℕ, [], ◌∷◌, ◌<◌, ◌↔◌, Some, None, IsSome, IsOk, IfOk, OnErr};
+ghost use Rattle.std.specs.Prelude.{◌≡◌, [], ◌∷◌, ◌<◌, ◌↔◌, Some, None, IsSome, IsOk, IfOk, OnErr};
 ghost use Rattle.std.specs.Option.{option_map};
-ghost use Rattle.triple_arena.specs.Content.{live_count, arena_capacity, next_index, empty};
-ghost use Rattle.triple_arena.specs.Entries.{with_entry};
+ghost use Rattle.triple_arena.specs.Content.{live_count, arena_capacity, empty};
 ghost use Rattle.triple_arena.specs.ArenaRoom.{room_of};
 ghost use Rattle.triple_arena_ptr.specs.Generation.{second_generation};
-ghost use Rattle.triple_arena_ord.specs.Ordered.{IsOrdered, StandsBeside, size_in, order_in, entry_in};
+ghost use Rattle.triple_arena_ord.specs.Ordered.{IsOrdered, StandsBeside, size_in, order_in};
+ghost use Rattle.triple_arena_ord.specs.Inserted.{IsAdded};
 ghost use Rattle.triple_arena_ord.specs.Store.{child_of};
 ghost use Rattle.triple_arena_ord.specs.Node.{knots_in};
 
@@ -116,10 +116,9 @@ impl<
         requires lives { IsSome (knots_in P.Inx.number self.old.chains (P.Inx.number holder)) }
         requires free { option_map (λ v. child_of side v) (knots_in P.Inx.number self.old.chains (P.Inx.number holder)) ≡ Some None }
         ensures variant { IsOk result ↔ (live_count self.old.chains < arena_capacity self.old.chains) }
-        ensures order { IfOk result (λ p. StandsBeside side (order_in P.Inx.number self.old) (order_in P.Inx.number self.new) (P.Inx.number holder) (P.index p)) }
-        ensures entries { IfOk result (λ p. (k : ℕ) → entry_in self.new k ≡ with_entry (entry_in self.old) (P.index p) (P.generation p, t) k) }
-        ensures index { IfOk result (λ p. P.index p ≡ next_index self.old.chains) }
-        ensures generation { IfOk result (λ p. P.generation p ≡ self.old.chains.counter) }
+        ensures order { IfOk result (λ p. StandsBeside side (order_in P.Inx.number self.old) (order_in P.Inx.number self.new)
+            (P.Inx.number holder) (P.index p)) }
+        ensures added { IfOk result (λ p. IsAdded P.Inx.number (P.index p) (P.generation p) t self.old self.new) }
         ensures counter { self.new.chains.counter ≡ self.old.chains.counter }
         ensures room { self.new.chains.room ≡ self.old.chains.room }
         ensures ordered { IsOrdered P.Inx.number self.new }
@@ -140,9 +139,7 @@ impl<
         requires { self.old.root ≡ None }
         ensures variant { IsOk result ↔ (live_count self.old.chains < arena_capacity self.old.chains) }
         ensures order { IfOk result (λ p. order_in P.Inx.number self.new ≡ P.index p ∷ []) }
-        ensures entries { IfOk result (λ p. (k : ℕ) → entry_in self.new k ≡ with_entry (entry_in self.old) (P.index p) (P.generation p, t) k) }
-        ensures index { IfOk result (λ p. P.index p ≡ next_index self.old.chains) }
-        ensures generation { IfOk result (λ p. P.generation p ≡ self.old.chains.counter) }
+        ensures added { IfOk result (λ p. IsAdded P.Inx.number (P.index p) (P.generation p) t self.old self.new) }
         ensures counter { self.new.chains.counter ≡ self.old.chains.counter }
         ensures room { self.new.chains.room ≡ self.old.chains.room }
         ensures ordered { IsOrdered P.Inx.number self.new }

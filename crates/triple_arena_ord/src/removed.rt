@@ -22,7 +22,8 @@ fn shorten<
     S: NonZeroInxGenericStack<ArenaSlot<P, LinkNoGen<P, SimpleOrdArenaNode<P, T>>>> + Drop,
 >(chains: &mut ChainArena<P, SimpleOrdArenaNode<P, T>, S>, root: &mut Option<P::Inx>, low: P::Inx)
     requires { (w : List ℕ) × Short (knots_in P.Inx.number chains.old) (option_map P.Inx.number root.old) (P.Inx.number low) w }
-    ensures does { (w : List ℕ) → Short (knots_in P.Inx.number chains.old) (option_map P.Inx.number root.old) (P.Inx.number low) w → Restored (knots_in P.Inx.number chains.new) (option_map P.Inx.number root.new) w }
+    ensures does { (w : List ℕ) → Short (knots_in P.Inx.number chains.old) (option_map P.Inx.number root.old) (P.Inx.number low) w
+        → Restored (knots_in P.Inx.number chains.new) (option_map P.Inx.number root.new) w }
     ensures keeps { rest chains.new ≡ rest chains.old }
 {
     let near = look_around(chains, low);
@@ -69,8 +70,10 @@ fn mend<
     high: P::Inx,
 ) -> Option<P::Inx>
     requires { (w : List ℕ) × Broken (knots_in P.Inx.number chains.old) (option_map P.Inx.number root.old) (P.Inx.number high) w }
-    ensures pending { (w : List ℕ) → Broken (knots_in P.Inx.number chains.old) (option_map P.Inx.number root.old) (P.Inx.number high) w → Pending (knots_in P.Inx.number chains.new) (option_map P.Inx.number root.new) (option_map P.Inx.number result) w }
-    ensures rises { IfSome result (λ i. rank_in (knots_in P.Inx.number chains.old) (P.Inx.number high) < rank_in (knots_in P.Inx.number chains.new) (P.Inx.number i)) }
+    ensures pending { (w : List ℕ) → Broken (knots_in P.Inx.number chains.old) (option_map P.Inx.number root.old) (P.Inx.number high) w
+        → Pending (knots_in P.Inx.number chains.new) (option_map P.Inx.number root.new) (option_map P.Inx.number result) w }
+    ensures rises { IfSome result (λ i. rank_in (knots_in P.Inx.number chains.old) (P.Inx.number high)
+        < rank_in (knots_in P.Inx.number chains.new) (P.Inx.number i)) }
     ensures keeps { rest chains.new ≡ rest chains.old }
 {
     let above = read(chains, high);
@@ -108,7 +111,8 @@ pub(crate) fn repair_removed<
     start: Option<P::Inx>,
 )
     requires { (w : List ℕ) × Pending (knots_in P.Inx.number chains.old) (option_map P.Inx.number root.old) (option_map P.Inx.number start) w }
-    ensures does { (w : List ℕ) → Pending (knots_in P.Inx.number chains.old) (option_map P.Inx.number root.old) (option_map P.Inx.number start) w → Restored (knots_in P.Inx.number chains.new) (option_map P.Inx.number root.new) w }
+    ensures does { (w : List ℕ) → Pending (knots_in P.Inx.number chains.old) (option_map P.Inx.number root.old) (option_map P.Inx.number start) w
+        → Restored (knots_in P.Inx.number chains.new) (option_map P.Inx.number root.new) w }
     ensures keeps { rest chains.new ≡ rest chains.old }
 {
     let mut at = start;

@@ -1,9 +1,10 @@
 //! An entry leaves the tree, and then the list.
-ghost use Rattle.std.specs.Prelude.{◌≡◌, ℕ, Some, None, IsSome, IfSome};
+ghost use Rattle.std.specs.Prelude.{◌≡◌, ℕ, length, Some, None, IsSome, IfSome};
 ghost use Rattle.std.specs.Option.{option_map};
 ghost use Rattle.triple_arena_ptr.specs.Generation.{next_generation, next_wraps};
 ghost use Rattle.triple_arena_ptr.specs.InvalidationOption.{value_of, overflowed};
 ghost use Rattle.triple_arena_ptr.specs.InvalidationResult.{answer_of};
+ghost use Rattle.triple_arena.specs.Content.{removed};
 ghost use Rattle.triple_arena.specs.Entries.{without};
 ghost use Rattle.triple_arena_chain.specs.Chains.{next_at};
 ghost use Rattle.triple_arena_chain.specs.Links.{ends_in};
@@ -34,7 +35,8 @@ fn exchange<
     requires place { Exchange (knots_in P.Inx.number chains.old) (option_map P.Inx.number root.old) (P.Inx.number old) (P.Inx.number new) }
     requires slot { IsSome (knots_in P.Inx.number chains.old (P.Inx.number new)) }
     ensures does { (place : Exchange (knots_in P.Inx.number chains.old) (option_map P.Inx.number root.old) (P.Inx.number old) (P.Inx.number new))
-        → Stands (knots_in P.Inx.number chains.new) (option_map P.Inx.number root.new) (plug place.context (node place.left (P.Inx.number new) place.rank place.right)) }
+        → Stands (knots_in P.Inx.number chains.new) (option_map P.Inx.number root.new)
+        (plug place.context (node place.left (P.Inx.number new) place.rank place.right)) }
     ensures keeps { rest chains.new ≡ rest chains.old }
 {
     let knot = read(chains, old);
@@ -99,6 +101,8 @@ pub(crate) fn take_entry<
     ensures value { option_map (λ a. (P.Gen.number (value_of a).0, (value_of a).1.t.t)) (answer_of result) ≡ items_in chains.old (P.Inx.number gone) }
     ensures overflow { IfSome (answer_of result) (λ a. overflowed a ≡ next_wraps P.Gen.last chains.old.counter) }
     ensures counter { chains.new.counter ≡ next_generation P.Gen.last chains.old.counter }
+    ensures free { chains.new.free ≡ (removed P.Gen.last chains.old (P.Inx.number gone)).free }
+    ensures slots { length chains.new.slots ≡ length (removed P.Gen.last chains.old (P.Inx.number gone)).slots }
     ensures room { chains.new.room ≡ chains.old.room }
 {
     uproot(chains, root, gone, next);

@@ -11,7 +11,7 @@ use std::process::Abort;
 use std::test::Fail;
 use triple_arena::{ArenaSlot, NonZeroInxArray, P0};
 use triple_arena_chain::LinkNoGen;
-use triple_arena_ord::{OrdPair, SimpleOrdArena, SimpleOrdArenaNode};
+use triple_arena_ord::{InsertKind, OrdEntryKind, OrdPair, SimpleOrdArena, SimpleOrdArenaNode};
 use triple_arena_ptr::{Probes, Ptr};
 
 // A number that counts each comparison of it with another one.
@@ -166,6 +166,53 @@ fn finds_from<'a>(
         let most = if is_near { 7 } else { MOST + 7 };
         finds_similar_along(rt, arena, start, k, most);
     }
+}
+
+// Whether an entry of this kind, which is let go, would be a new one. It compares at most seven times.
+fn is_new_entry<'a>(
+    rt: &impl Abort,
+    arena: &mut Counted<'a>,
+    calls: &Cell<u64>,
+    kind: InsertKind<<P0 as Ptr>::Inx, &Counting<'a>>,
+) -> bool {
+    let before = calls.get();
+    let told = match arena.entry_insert_within_capacity(kind) {
+        Ok(entry) => entry.ptr(),
+        Err(_) => panic!(rt; "there is room"),
+    };
+    assert!(rt; calls.get().wrapping_sub(before) <= 7);
+    match told {
+        OrdEntryKind::New(_) => true,
+        OrdEntryKind::Replacing(_) => false,
+    }
+}
+
+// An insertion that begins six entries before the place of its key compares with seven entries at most.
+fn enters_along<'a>(rt: &impl Abort, arena: &mut Counted<'a>, start: P0, k: &Counting<'a>) {
+    let p_init = start.inx();
+    let replacing = InsertKind::Linear { p_init, num: 7, k };
+    let is_there = !is_new_entry(rt, arena, k.calls, replacing);
+    assert!(rt; is_there == (k.n % 2 == 0));
+    let before = InsertKind::NonhereditaryLinear { p_init, num: 7, k };
+    assert!(rt; is_new_entry(rt, arena, k.calls, before));
+}
+
+#[test]
+fn insertions_along_the_list(rt: HostRuntime) -> Result<(), Fail> {
+    let calls = Cell::new(0);
+    let mut arena = even_keys(&rt, &calls);
+    for n in 14..1001u64 {
+        let k = Counting { n, calls: &calls };
+        let start = Counting {
+            n: n + n % 2 - 12,
+            calls: &calls,
+        };
+        match arena.find_key(&start) {
+            Some(start) => enters_along(&rt, &mut arena, start, &k),
+            None => panic!(rt; "an even key is not there"),
+        }
+    }
+    Ok(())
 }
 
 #[test]

@@ -205,40 +205,11 @@ fn fills<S: NonZeroInxGenericStack<Slot, Alloc = ()> + Drop>(
     Ok(())
 }
 
-// Of equal keys the second stands before the first, and the keys ascend. An item that is put at an entry may have any key.
-fn puts_at_equal_keys<H, S: NonZeroInxGenericStack<Slot, Alloc = H> + Drop>(
-    rt: &impl Abort,
-    alloc: H,
-) -> Result<(), OrdInsertionError> {
-    let Ok(mut pairs) = SimpleOrdArena::<P0, Item, S>::with_min_capacity(alloc, 3) else {
-        panic!(rt; "there is no room for three")
-    };
-    let told = put(rt, &mut pairs, InsertKind::Normal(&1), OrdPair::new(1, 1))?;
-    put(
-        rt,
-        &mut pairs,
-        InsertKind::Nonhereditary(&1),
-        OrdPair::new(1, 2),
-    )?;
-    assert!(rt; digits(&pairs) == 21);
-    assert!(rt; SimpleOrdArena::<P0, Item, S>::_check_invariants(&pairs) == Ok(()));
-    let after = InsertKind::Manual {
-        p_target: told.any().inx(),
-        direction: Ordering::Greater,
-    };
-    put(rt, &mut pairs, after, OrdPair::new(0, 3))?;
-    assert!(rt; digits(&pairs) == 213);
-    let checked = SimpleOrdArena::<P0, Item, S>::_check_invariants(&pairs);
-    assert!(rt; checked == Err("incorrect ordering"));
-    Ok(())
-}
-
 #[test]
 fn entries_in_an_array(rt: HostRuntime) -> Result<(), Fail> {
     puts_each::<(), InArray>(&rt, ())?;
     puts_the_first::<(), InArray>(&rt, ())?;
     fills::<InArray>(&rt)?;
-    puts_at_equal_keys::<(), InArray>(&rt, ())?;
     Ok(())
 }
 
@@ -246,6 +217,5 @@ fn entries_in_an_array(rt: HostRuntime) -> Result<(), Fail> {
 fn entries_in_a_vector(rt: HostRuntime) -> Result<(), Fail> {
     puts_each::<Global, InVec>(&rt, rt.alloc())?;
     puts_the_first::<Global, InVec>(&rt, rt.alloc())?;
-    puts_at_equal_keys::<Global, InVec>(&rt, rt.alloc())?;
     Ok(())
 }

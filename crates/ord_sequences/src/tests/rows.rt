@@ -1,5 +1,6 @@
 //! Calls in a row whose answers are known beforehand, by several pointers and stacks.
 use std::alloc::Global;
+use std::cmp::Ordering;
 use std::num::NonZeroUsize;
 use std::process::Abort;
 use std::test::Fail;
@@ -7,7 +8,8 @@ use triple_arena::{
     ArenaSlot, NonZeroInxArray, NonZeroInxGenericStack, NonZeroInxVec, P0, P1, P5, Ptr, PtrInx,
 };
 use triple_arena_chain::LinkNoGen;
-use triple_arena_ord::{OrdPair, SimpleOrdArena, SimpleOrdArenaNode};
+use triple_arena_ord::{InsertKind, OrdInsertKind, OrdPair, SimpleOrdArena, SimpleOrdArenaNode};
+use triple_arena_ptr::OrdInsertionError;
 
 type Item = OrdPair<u8, u8>;
 
@@ -86,20 +88,57 @@ fn numbers<P: Ptr, S: NonZeroInxGenericStack<Slot<P>> + Drop>(
     lists(rt, pairs, &[(5, 10), (2, 30), (4, 60), (3, 70)]);
 }
 
-fn both<P: Ptr, H: Copy, S: NonZeroInxGenericStack<Slot<P>, Alloc = H> + Drop>(
+fn enter<P: Ptr, S: NonZeroInxGenericStack<Slot<P>> + Drop>(
+    rt: &impl Abort,
+    pairs: &mut SimpleOrdArena<P, Item, S>,
+    kind: OrdInsertKind<P, &u8>,
+    key: u8,
+) {
+    match pairs.entry_insert(kind) {
+        Ok(entry) => assert!(rt; entry.insert(OrdPair::new(key, 0)).is_none()),
+        Err(_) => panic!(rt; "an entry is refused"),
+    }
+}
+
+// Of equal keys the second stands before the first, and the keys ascend. An item that is put at an entry may have any key.
+fn equal_keys<P: Ptr, S: NonZeroInxGenericStack<Slot<P>> + Drop>(
+    rt: &impl Abort,
+    pairs: &mut SimpleOrdArena<P, Item, S>,
+) {
+    let first = insert(rt, pairs, 1);
+    enter(rt, pairs, InsertKind::Nonhereditary(&1), 1);
+    lists(rt, pairs, &[(2, 1), (1, 1)]);
+    assert!(rt; SimpleOrdArena::<P, Item, S>::_check_invariants(pairs).is_ok());
+    let failed = match pairs.entry_insert(InsertKind::Empty) {
+        Ok(_) => false,
+        Err(error) => error == OrdInsertionError::FailedOrdRequirement,
+    };
+    assert!(rt; failed);
+    let after = InsertKind::Manual {
+        p_target: first.inx(),
+        direction: Ordering::Greater,
+    };
+    enter(rt, pairs, after, 0);
+    lists(rt, pairs, &[(2, 1), (1, 1), (3, 0)]);
+    let checked = SimpleOrdArena::<P, Item, S>::_check_invariants(pairs);
+    assert!(rt; checked == Err("incorrect ordering"));
+}
+
+fn all<P: Ptr, H: Copy, S: NonZeroInxGenericStack<Slot<P>, Alloc = H> + Drop>(
     rt: &impl Abort,
     alloc: H,
 ) {
     letters(rt, &mut SimpleOrdArena::<P, Item, S>::new(alloc));
     numbers(rt, &mut SimpleOrdArena::<P, Item, S>::new(alloc));
+    equal_keys(rt, &mut SimpleOrdArena::<P, Item, S>::new(alloc));
 }
 
 #[test]
-fn letters_and_numbers(rt: HostRuntime) {
-    both::<P0, Global, InVec<P0>>(&rt, rt.alloc());
-    both::<P1, Global, InVec<P1>>(&rt, rt.alloc());
-    both::<P5, Global, InVec<P5>>(&rt, rt.alloc());
-    both::<P0, (), InArray<P0>>(&rt, ());
-    both::<P1, (), InArray<P1>>(&rt, ());
-    both::<P5, (), InArray<P5>>(&rt, ());
+fn known_answers(rt: HostRuntime) {
+    all::<P0, Global, InVec<P0>>(&rt, rt.alloc());
+    all::<P1, Global, InVec<P1>>(&rt, rt.alloc());
+    all::<P5, Global, InVec<P5>>(&rt, rt.alloc());
+    all::<P0, (), InArray<P0>>(&rt, ());
+    all::<P1, (), InArray<P1>>(&rt, ());
+    all::<P5, (), InArray<P5>>(&rt, ());
 }

@@ -1,4 +1,4 @@
-use Rattle.std.proofs.Common.{rules, ◌≡◌, ℕ, ◌+◌, ◌<◌, ◌^◌, None, sym, subst, arith}
+use Rattle.std.proofs.Common.{rules, ◌≡◌, ℕ, ◌+◌, ◌<◌, ◌^◌, None, sym, ◌∙◌, subst, arith}
 use Rattle.std.specs.Option.{option_map}
 use Rattle.triple_arena.specs.Content.{live_count}
 use Rattle.triple_arena_chain.specs.Links.{IsPlaced}
@@ -8,6 +8,7 @@ use Rattle.triple_arena.specs.Entries.{with_entry}
 use Rattle.triple_arena_ord.specs.Node.{items_in}
 use Rattle.triple_arena_ord.specs.Ordered.{Ordered, StandsBeside, order_in}
 use Rattle.triple_arena_ord.proofs.LeafLemmas.{Cut, cut_found, cut_gap, leaf_gap, leaf_works}
+use Rattle.triple_arena_ord.proofs.RestLemmas.{rested}
 use Rattle.triple_arena_ord.proofs.leaf.insert_leaf.Goals as goal
 
 pub insert_in_gap_within_capacity-requires : goal.insert_in_gap_within_capacity-requires
@@ -85,8 +86,8 @@ returns-clause-order g c =
     subst (λ i. StandsBeside c.args.side (order_in number o) (order_in number (record { chains = c.bring_in.new.chains; root = option_map number c.bring_in.new.root })) (number c.args.holder) i)
     c.inx.ensures leaf.order
 
-pub returns-clause-entries : goal.returns-clause-entries
-returns-clause-entries g c =
+pub returns-clause-added : goal.returns-clause-added
+returns-clause-added g c =
     let number = g.P.Inx.PtrInx.number in
     let o : Ordered g.row.P-Inx.Denot g.row.T.Denot = record { chains = c.args.chains.now; root = option_map number c.args.root.now } in
     let prev = option_map number c.neighbours_beside-prev.result.0 in
@@ -105,5 +106,12 @@ returns-clause-entries g c =
     let gap = leaf_gap number o c.requires.ordered c.insert_in_gap_within_capacity.new.self (number c.args.holder) n (g.P.Ptr.generation c.in-Ok.p) c.args.side prev next cut v here.vacant here.values small in
     let leaf = leaf_works number o c.requires.ordered c.insert_in_gap_within_capacity.new.self (number c.args.holder) n (g.P.Ptr.generation c.in-Ok.p) c.args.side prev next cut v here.vacant here.values small
     c.bring_in.new.chains (option_map number c.bring_in.new.root) here.lists here.live (c.bring_in.ensures.does gap) c.bring_in.ensures.keeps in
-    subst (λ i. (k : ℕ) → items_in c.bring_in.new.chains k ≡ with_entry (items_in c.args.chains.now) i (g.P.Ptr.generation c.in-Ok.p, c.args.t) k)
-    c.inx.ensures leaf.entries
+    let kept = (rested number c.insert_in_gap_within_capacity.new.self c.bring_in.new.chains c.bring_in.ensures.keeps).kept in
+    record {
+      index = put.index;
+      generation = put.generation;
+      entries = subst (λ i. (k : ℕ) → items_in c.bring_in.new.chains k ≡ with_entry (items_in c.args.chains.now) i (g.P.Ptr.generation c.in-Ok.p, c.args.t) k)
+          c.inx.ensures leaf.entries;
+      free = kept.free ∙ put.free;
+      slots = kept.slots ∙ put.slots;
+    }

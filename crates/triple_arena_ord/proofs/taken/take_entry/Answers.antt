@@ -31,6 +31,8 @@ returns g c =
       some = some;
       value = answer_item number a (λ a. (g.P.Gen.PtrGen.number (value_of a).0, (value_of a).1)) o c1 h kept c.remove_inx_link_no_gen.ensures.value;
       overflow = subst (λ n. IfSome a (λ a. overflowed a ≡ next_wraps last n)) (ap (λ r. r.counter) kept) c.remove_inx_link_no_gen.ensures.overflow;
+      free = done.free;
+      slots = done.slots;
       counter = out.counter ∙ ap (λ r. next_generation last r.counter) kept;
       room = out.room ∙ ap (λ r. r.room) kept;
     }

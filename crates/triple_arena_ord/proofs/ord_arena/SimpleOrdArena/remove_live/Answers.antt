@@ -35,7 +35,7 @@ returns-clause-removed g c =
     let last = g.P.Gen.PtrGen.last in
     let done = c.take_entry-taken.ensures in
     subst (λ z. IsRemoved number last h z p) c.self.view_is
-    (removed number last o p h c.self.invariant.0 done.ordered done.order done.entries done.counter done.room)
+    (removed number last o p h c.self.invariant.0 done.ordered done.order done.entries done.counter done.free done.slots done.room)
 
 pub returns-clause-overflow : goal.returns-clause-overflow
 returns-clause-overflow g c =
