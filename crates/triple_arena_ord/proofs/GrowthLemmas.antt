@@ -100,6 +100,8 @@ module _ {I T : Type 0} (number : I → ℕ) where
               index = a.1.index ∙ ap (λ z. next_index z.chains) grown.exact;
               generation = a.1.generation ∙ ap (λ z. z.chains.counter) grown.exact;
               entries = λ k. a.1.entries k ∙ ap (λ z. if k == index q then Some (generation q, t) else z) (grown.entries k);
+              vacant = sym (grown.entries (index q)) ∙ a.1.vacant;
+              size = a.1.size ∙ ap (λ z. size_in z + 1) grown.exact;
               free = a.1.free ∙ ap (λ z. drop 1 z.chains.free) grown.exact;
               slots = a.1.slots ∙ ap (λ z. max (length z.chains.slots) (next_index z.chains)) grown.exact;
             },

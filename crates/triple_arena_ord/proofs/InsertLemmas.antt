@@ -138,17 +138,6 @@ module _ {I T : Type 0} (number : I → ℕ) where
                   subst (AllIn (λ j. f j ≡ Less)) (sym split.1) (places.greater refl);
             }
 
-    -- the list is one longer
-    grows : (o p : Ordered I T) {k : K} (n : ℕ) → IsOrdered number o → IsOrdered number p → IsPlacedByKey number cmp key k n o p → size_in p ≡ size_in o + 1
-    grows o p n is new_is s =
-        let old_length : length (order_in number o) ≡ length (s.before ++ s.after) = ap length s.was in
-        let new_length : length (order_in number p) ≡ length (s.before ++ n ∷ s.after) = ap length s.is in
-        let l1 = length-append s.before (n ∷ s.after) in
-        let l2 = length-append s.before s.after in
-        let old_count : length (order_in number o) ≡ size_in o = is.counted in
-        let new_count : length (order_in number p) ≡ size_in p = new_is.counted in
-        omega arith
-
     module _ {P : Type 0} (index generation : P → ℕ) (allows : Option OrdInsertionError → Type 0) where
       -- an insertion where the search for its key ended
       pub inserted_by_key : (o p : Ordered I T) (t : T) (k : K) → k ≡ key t → (place : Option (ℕ × Ordering))
@@ -164,9 +153,6 @@ module _ {I T : Type 0} (number : I → ℕ) where
                 let r = put.replaced q u e in
                 (sym (ap (asked_of cmp key (key t)) r.1.was) ∙ at.way (index q) Equal r.0, r.1);
             added = λ q e. let r = put.added q e in (by_key o p (key t) (index q) place is at r.0, r.1);
-            grown = λ q e.
-                let r = put.added q e in
-                grows o p (index q) is new_is (by_key o p (key t) (index q) place is at r.0);
             fits = put.fits;
             refused = λ error e. (put.refused error e).1;
             same = put.same;

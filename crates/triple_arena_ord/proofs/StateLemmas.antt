@@ -1,5 +1,5 @@
 -- The exact states of the calls that leave the list as it is, and of those that leave no entry.
-use Rattle.std.proofs.Common.{◌≡◌, ℕ, Option, Some, None, IfNone, OnSome, is_some, count_by, refl, sym, ap, ◌∙◌, inl, inr}
+use Rattle.std.proofs.Common.{◌≡◌, ℕ, Option, Some, None, IsSome, IfNone, OnSome, is_some, count_by, refl, sym, ap, ◌∙◌, subst, inl, inr}
 use Rattle.std.specs.Option.{option_map}
 use Rattle.std.proofs.lemmas.Bool.Decides.{eqb_tells}
 use Rattle.triple_arena.specs.Content.{Content, entry_at, live_count, invalidated}
@@ -13,10 +13,11 @@ use Rattle.triple_arena_chain.specs.Links.{ends_in, values_in, valued, with_link
 use Rattle.triple_arena_chain.specs.SameLinksLaws.{ends-same_slots, ends-invalidated}
 use Rattle.triple_arena_ord.specs.declared.node.IndexNode.{IndexNode}
 use Rattle.triple_arena_ord.specs.Node.{knots_in, knot_of, items_in, itemed}
+use Rattle.triple_arena_ord.specs.Inserted.{IsRenewed, IsReplaced}
 use Rattle.triple_arena_ord.specs.Ordered.{Ordered, IsOrdered, entry_in, size_in, counter_in, room_in}
-use Rattle.triple_arena_ord.specs.States.{invalidated_in}
+use Rattle.triple_arena_ord.specs.States.{invalidated_in, with_item}
 use Rattle.triple_arena_ord.proofs.SameListLemmas.{Reordered, same_list}
-use Rattle.triple_arena_ord.proofs.InsertLemmas.{renewed, renewed_ordered}
+use Rattle.triple_arena_ord.proofs.InsertLemmas.{renewed, renewed_ordered, replaced}
 
 module _ {I T : Type 0} where
   -- a node with another item, as it is lent
@@ -108,3 +109,35 @@ module _ {I T : Type 0} (number : I → ℕ) where
           let node : e.1 ≡ v = cc found in
           let here : values_in o.chains i ≡ Some (e.0, v) = at ∙ ap (λ n. Some (e.0, n)) node in
           renewed_ordered number o p i e.0 w v.t refl (renewed number o.chains i e.0 v (record v { t = w }) here refl) ordered
+
+  -- an item that is written in place of another
+  pub record Written (o : Ordered I T) (i g : ℕ) (t u : T) : Type 0 where
+    pub ordered : IsOrdered number (with_item o i t)
+    pub replaced : IsReplaced number i g t u o (with_item o i t)
+
+  pub written : (o : Ordered I T) (i g : ℕ) (t u : T) → IsOrdered number o → entry_in o i ≡ Some (g, u) → Written o i g t u
+  written o i g t u is at = by (values_in o.chains i) refl
+    where
+      by : (e : Option (ℕ × IndexNode I T)) → values_in o.chains i ≡ e → Written o i g t u
+      by None e = absurd (let no : None ≡ Some (g, u) = sym (ap (option_map itemed) e) ∙ at in cc no)
+      by (Some n) e =
+          let found : Some (itemed n) ≡ Some (g, u) = sym (ap (option_map itemed) e) ∙ at in
+          let stamp : n.0 ≡ g = cc found in
+          let item : n.1.t ≡ u = cc found in
+          let d = with_value_in o.chains i (record n.1 { t = t }) in
+          let lent : d ≡ (with_item o i t).chains = item_lent o.chains i n.1 t (ap (option_map (λ e. e.1)) e) in
+          let renewed_here = renewed number o.chains i n.0 n.1 (record n.1 { t = t }) e refl in
+          let r : IsRenewed number i g t u o.chains (with_item o i t).chains =
+          subst (λ c. IsRenewed number i g t u o.chains c) lent
+          (subst (λ h. IsRenewed number i h t u o.chains d) stamp (subst (λ x. IsRenewed number i n.0 t x o.chains d) item renewed_here)) in
+          record {
+            ordered = (renewed_ordered number o (with_item o i t) i g t u refl r is).ordered;
+            replaced = replaced number o o (with_item o i t) refl i g t u refl r is;
+          }
+
+  pub written_ordered : (o : Ordered I T) (i : ℕ) (t : T) → IsOrdered number o → IsSome (entry_in o i) → IsOrdered number (with_item o i t)
+  written_ordered o i t is live = by (entry_in o i) refl live
+    where
+      by : (e : Option (ℕ × T)) → entry_in o i ≡ e → IsSome e → IsOrdered number (with_item o i t)
+      by None at some = absurd (cc)
+      by (Some e) at some = (written o i e.0 t e.1 is at).ordered

@@ -94,7 +94,9 @@ module _ {I T : Type 0} (number : I → ℕ) where
   pub record IsAdded (i g : ℕ) (t : T) (old new : Ordered I T) : Type 0 where
     pub index : i ≡ next_index old.chains
     pub generation : g ≡ old.chains.counter
+    pub vacant : entry_in old i ≡ None
     pub entries : (k : ℕ) → entry_in new k ≡ with_entry (entry_in old) i (g, t) k
+    pub size : size_in new ≡ size_in old + 1
     pub free : new.chains.free ≡ drop 1 old.chains.free
     pub slots : length new.chains.slots ≡ max (length old.chains.slots) (next_index old.chains)
 
@@ -125,7 +127,6 @@ module _ {I T : Type 0} (number : I → ℕ) where
       pub record IsInserted (t : T) (result : Result (P × Option T) OrdInsertionError) (old new : Ordered I T) : Type 0 where
         pub replaced : (p : P) (u : T) → result ≡ Ok (p, Some u) → (cmp (key t) (key u) ≡ Equal) × IsReplaced (index p) (generation p) t u old new
         pub added : (p : P) → result ≡ Ok (p, None) → IsPlacedByKey (key t) (index p) old new × IsAdded (index p) (generation p) t old new
-        pub grown : (p : P) → result ≡ Ok (p, None) → size_in new ≡ size_in old + 1
         pub fits : (p : P) → result ≡ Ok (p, None) → allows None
         pub refused : (error : OrdInsertionError) → result ≡ Err error → allows (Some error)
         pub same : (error : OrdInsertionError) → result ≡ Err error → new ≡ old

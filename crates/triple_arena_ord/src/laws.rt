@@ -6,11 +6,12 @@ ghost use Rattle.triple_arena_ptr.specs.declared.errors.OrdInsertionError.{OrdIn
 ghost use Rattle.triple_arena_chain.specs.Chains.{On};
 ghost use Rattle.triple_arena_ord.specs.Asked.{IsWay};
 ghost use Rattle.triple_arena_ord.specs.AskedLaws.{IsCutAt, last_greater, last_less};
-ghost use Rattle.triple_arena_ord.specs.Inserted.{IsInsertedAt, within_room};
+ghost use Rattle.triple_arena_ord.specs.Inserted.{IsInsertedAt, IsReplaced};
 ghost use Rattle.triple_arena_ord.specs.Ordered.{Ordered, IsOrdered, IsAscending, tree_in, order_in, entry_in, size_in, asked_at};
 ghost use Rattle.triple_arena_ord.specs.Placing.{IsPlaceByKey, IsPlaceBeforeEqual};
 ghost use Rattle.triple_arena_ord.specs.Removal.{IsRemoved};
 ghost use Rattle.triple_arena_ord.specs.Search.{AllIn};
+ghost use Rattle.triple_arena_ord.specs.States.{with_item};
 ghost use Rattle.triple_arena_ord.specs.Tree.{height, rank_of};
 
 use crate::SimpleOrdItem;
@@ -48,18 +49,26 @@ pub fn removals_keep_keys_ascending<P: Ptr, T: SimpleOrdItem>()
         → IsAscending P.Inx.number T.Key.cmp T.key_of old → IsAscending P.Inx.number T.Key.cmp T.key_of new }
 {}
 
+/// Whatever is written in place of an item, the list, the tree and all else stay.
+pub fn writes_keep_the_list<P: Ptr, T>()
+    ensures replaced { (o : Ordered P.Inx T) (i g : ℕ) (t u : T) → IsOrdered P.Inx.number o → entry_in o i ≡ Some (g, u)
+        → IsReplaced P.Inx.number i g t u o (with_item o i t) }
+    ensures ordered { (o : Ordered P.Inx T) (i : ℕ) (t : T) → IsOrdered P.Inx.number o → IsSome (entry_in o i)
+        → IsOrdered P.Inx.number (with_item o i t) }
+{}
+
 /// A list whose keys ascend still does after an insertion at the place that was found for the item's key, and after one that goes
 /// directly before an entry with an equal key there.
 pub fn insertions_keep_keys_ascending<P: Ptr, T: SimpleOrdItem>()
     ensures by_key { (place : Option (ℕ × Way)) (t : T) (result : Result (P × Option T) Refused) (old new : Ordered P.Inx T)
-        → IsOrdered P.Inx.number old → IsOrdered P.Inx.number new
+        → (allows : Option Refused → Type 0) → IsOrdered P.Inx.number old → IsOrdered P.Inx.number new
         → IsPlaceByKey P.Inx.number T.Key.cmp T.key_of (T.key_of t) old place
-        → IsInsertedAt P.Inx.number P.index P.generation (within_room (size_in old) old.chains.room) place t result old new
+        → IsInsertedAt P.Inx.number P.index P.generation allows place t result old new
         → IsAscending P.Inx.number T.Key.cmp T.key_of old → IsAscending P.Inx.number T.Key.cmp T.key_of new }
     ensures before_equal { (place : Option (ℕ × Way)) (t : T) (result : Result (P × Option T) Refused) (old new : Ordered P.Inx T)
-        → IsOrdered P.Inx.number old → IsOrdered P.Inx.number new
+        → (allows : Option Refused → Type 0) → IsOrdered P.Inx.number old → IsOrdered P.Inx.number new
         → IsPlaceBeforeEqual P.Inx.number T.Key.cmp T.key_of (T.key_of t) old place
-        → IsInsertedAt P.Inx.number P.index P.generation (within_room (size_in old) old.chains.room) place t result old new
+        → IsInsertedAt P.Inx.number P.index P.generation allows place t result old new
         → IsAscending P.Inx.number T.Key.cmp T.key_of old → IsAscending P.Inx.number T.Key.cmp T.key_of new }
 {}
 

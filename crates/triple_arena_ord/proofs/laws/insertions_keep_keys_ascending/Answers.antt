@@ -1,14 +1,12 @@
-use Rattle.triple_arena_ord.specs.Inserted.{within_room}
-use Rattle.triple_arena_ord.specs.Ordered.{size_in}
 use Rattle.triple_arena_ord.proofs.PlacedLemmas.{placed_ascending, placed_before_ascending}
 use Rattle.triple_arena_ord.proofs.laws.insertions_keep_keys_ascending.Goals as goal
 
 pub returns-clause-by_key : goal.returns-clause-by_key
-returns-clause-by_key g c = λ place t result old new is new_is at put ascending.
+returns-clause-by_key g c = λ place t result old new allows is new_is at put ascending.
     placed_ascending g.P.Inx.PtrInx.number g.T.Key.Ord.cmp g.T.SimpleOrdItem.key_of g.met.T.Key.Ord.total old new g.P.Ptr.index g.P.Ptr.generation
-    (within_room (size_in old) old.chains.room) t place result is new_is at put ascending
+    allows t place result is new_is at put ascending
 
 pub returns-clause-before_equal : goal.returns-clause-before_equal
-returns-clause-before_equal g c = λ place t result old new is new_is at put ascending.
+returns-clause-before_equal g c = λ place t result old new allows is new_is at put ascending.
     placed_before_ascending g.P.Inx.PtrInx.number g.T.Key.Ord.cmp g.T.SimpleOrdItem.key_of g.met.T.Key.Ord.total old new g.P.Ptr.index g.P.Ptr.generation
-    (within_room (size_in old) old.chains.room) t place result is new_is at put ascending
+    allows t place result is new_is at put ascending

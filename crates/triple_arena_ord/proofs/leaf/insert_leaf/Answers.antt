@@ -1,11 +1,11 @@
 use Rattle.std.proofs.Common.{rules, ◌≡◌, ℕ, ◌+◌, ◌<◌, ◌^◌, None, sym, ◌∙◌, subst, arith}
 use Rattle.std.specs.Option.{option_map}
 use Rattle.triple_arena.specs.Content.{live_count}
-use Rattle.triple_arena_chain.specs.Links.{IsPlaced}
+use Rattle.triple_arena_chain.specs.Links.{IsPlaced, valued}
 use Rattle.triple_arena_chain.specs.declared.place.Place.TheVariants.{Between}
 use Rattle.triple_arena_ord.specs.declared.node.IndexNode.{IndexNode}
 use Rattle.triple_arena.specs.Entries.{with_entry}
-use Rattle.triple_arena_ord.specs.Node.{items_in}
+use Rattle.triple_arena_ord.specs.Node.{items_in, itemed}
 use Rattle.triple_arena_ord.specs.Ordered.{Ordered, StandsBeside, order_in}
 use Rattle.triple_arena_ord.proofs.LeafLemmas.{Cut, cut_found, cut_gap, leaf_gap, leaf_works}
 use Rattle.triple_arena_ord.proofs.RestLemmas.{rested}
@@ -112,6 +112,8 @@ returns-clause-added g c =
       generation = put.generation;
       entries = subst (λ i. (k : ℕ) → items_in c.bring_in.new.chains k ≡ with_entry (items_in c.args.chains.now) i (g.P.Ptr.generation c.in-Ok.p, c.args.t) k)
           c.inx.ensures leaf.entries;
+      vacant = ap (λ e. option_map itemed (option_map valued e)) put.vacant;
+      size = kept.live ∙ put.live;
       free = kept.free ∙ put.free;
       slots = kept.slots ∙ put.slots;
     }
