@@ -1,4 +1,4 @@
-//! The calls that end pointers and leave no memory to be found again: `clear`, and `invalidate`.
+//! The calls that end pointers beside a removal: `clear`, and `invalidate`, whose entry stays.
 ghost use Rattle.std.specs.Prelude.{◌≡◌, ℕ, IfSome, IfNone, OnSome};
 ghost use Rattle.std.specs.Option.{option_map};
 ghost use Rattle.triple_arena_ptr.specs.Generation.{next_generation, next_wraps};
