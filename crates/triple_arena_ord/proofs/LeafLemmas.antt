@@ -1,23 +1,24 @@
 -- One more leaf in the tree, and one more entry in the list.
 use Rattle.std.proofs.Common.{◌≡◌, ◌≢◌, ◌==◌, ℕ, ◌+◌, ◌^◌, ◌<◌, List, [], ◌∷◌, ◌++◌, length, append_assoc, length-append, Option, Some, None, IsSome, Bool, true, false, if◌then◌else◌, refl, sym, ap, ◌∙◌, subst, arith, inl, inr}
 use Rattle.std.specs.Option.{option_map}
-use Rattle.std.proofs.lemmas.Bool.{cases_eq, cases_lt, eq-eqb, ne_eqb}
+use Rattle.std.proofs.lemmas.Bool.{cases_eq, cases_lt, ne_eqb}
 use Rattle.triple_arena.specs.Content.{Content, entry_at, live_count}
-use Rattle.triple_arena.specs.Entries.{with_entry}
 use Rattle.triple_arena_chain.specs.declared.link.IndexLink.{IndexLink}
+use Rattle.triple_arena_chain.specs.declared.place.Place.TheVariants.{Between}
 use Rattle.triple_arena_chain.specs.Chains.{Ends, IsLinear, IsGap, first_or, last_or}
-use Rattle.triple_arena_chain.specs.Links.{ends_in, entry_ends, values_in, valued}
-use Rattle.triple_arena_chain.specs.Lists.{Linear, IsPutIn}
+use Rattle.triple_arena_chain.specs.Links.{ends_in, entry_ends, values_in, valued, IsPlaced}
+use Rattle.triple_arena_chain.specs.Lists.{Linear}
 use Rattle.triple_arena_chain.specs.ListLaws.{chain_where}
 use Rattle.triple_arena_ord.specs.declared.knots.Side.{Side}
 use Rattle.triple_arena_ord.specs.declared.knots.Side.TheVariants.{Left, Right}
 use Rattle.triple_arena_ord.specs.declared.node.IndexNode.{IndexNode}
 use Rattle.triple_arena_ord.specs.Knot.{Knot}
 use Rattle.triple_arena_ord.specs.Store.{child_of}
-use Rattle.triple_arena_ord.specs.Node.{knots_in, items_in, knot_of, itemed, rest, prev_for, next_for}
+use Rattle.triple_arena_ord.specs.Node.{knots_in, knot_of, itemed, rest, prev_for, next_for}
 use Rattle.triple_arena_ord.specs.Tree.{Tree, leaf, node, walk, IsRanked}
 use Rattle.triple_arena_ord.specs.Shape.{make, knot, root_of, Context, top, under, plug, holder, Stands, IsDistinct, one, count}
 use Rattle.triple_arena_ord.specs.Repair.{Gap, filled, Restored}
+use Rattle.triple_arena_ord.specs.Inserted.{IsAdded}
 use Rattle.triple_arena_ord.specs.Ordered.{Ordered, IsOrdered, StandsBeside, tree_in, order_in}
 use Rattle.triple_arena_ord.proofs.Frames.{one-same, one-other, Represents-keep, make-count, plug-count, plug-opens, count-same, IsDistinct-walk}
 use Rattle.triple_arena_ord.proofs.Descents.{before, after, plug-walk_is, rest_leaf}
@@ -49,6 +50,10 @@ module _ {I T : Type 0} (number : I → ℕ) where
   abbrev knot_at : ℕ × IndexNode I T → Knot
   knot_at entry = knot_of number entry.1
 
+  -- the node at an index has no child on this side
+  abbrev pub IsFree : Ordered I T → ℕ → Side → Type 0
+  IsFree o h side = option_map (λ v. child_of side v) (knots_in number o.chains h) ≡ Some None
+
   -- a node without a child on one side, and the cut of the list there
   pub record Cut (o : Ordered I T) (h : ℕ) (side : Side) (prev next : Option ℕ) : Type 0 where
     pub context : Context
@@ -63,28 +68,39 @@ module _ {I T : Type 0} (number : I → ℕ) where
     pub filled_is : (n : ℕ) → walk (plug context (make side (node leaf n 1 leaf) h rank far)) ≡ front ++ n ∷ back
     pub stands : (n : ℕ) → StandsBeside side (order_in number o) (front ++ n ∷ back) h n
 
-  pub cut : (o : Ordered I T) → IsOrdered number o → (h : ℕ) (side : Side) (g : ℕ) (l : IndexLink I (IndexNode I T)) → entry_at o.chains h ≡ Some (g, l)
-      → IsSome (knots_in number o.chains h) → option_map (λ v. child_of side v) (knots_in number o.chains h) ≡ Some None → Cut o h side (prev_for number side l h) (next_for number side l h)
+  pub cut : (o : Ordered I T) → IsOrdered number o → (h : ℕ) (side : Side) (g : ℕ) (l : IndexLink I (IndexNode I T))
+      → entry_at o.chains h ≡ Some (g, l) → IsSome (knots_in number o.chains h) → IsFree o h side
+      → Cut o h side (prev_for number side l h) (next_for number side l h)
   cut o is h side g l at lives free = by side free
     where
       found : Located (tree_in number o) h
       found = located top (tree_in number o) h (is.all h lives)
 
       at_h : knots_in number o.chains h ≡ Some (knot Left (holder found.context) (root_of found.left) found.rank (root_of found.right))
-      at_h = (plug-opens (knots_in number o.chains) o.root found.context (node found.left h found.rank found.right) (subst (Stands (knots_in number o.chains) o.root) found.is is.whole.stands)).1.0
+      at_h =
+          (plug-opens (knots_in number o.chains) o.root found.context (node found.left h found.rank found.right)
+          (subst (Stands (knots_in number o.chains) o.root) found.is is.whole.stands)).1.0
 
-      ends : ends_in number o.chains h ≡ Some (option_map number l.prev, option_map number l.next)
-      ends = ap (option_map (entry_ends number)) at
+      -- the link names its neighbours in the list
+      neighbours : (xs ys : List ℕ) → order_in number o ≡ xs ++ h ∷ ys
+          → (option_map number l.prev ≡ last_or None xs) × (option_map number l.next ≡ first_or ys None)
+      neighbours xs ys order =
+          let ends : ends_in number o.chains h ≡ Some (option_map number l.prev, option_map number l.next) =
+          ap (option_map (entry_ends number)) at in
+          let e : Some (option_map number l.prev, option_map number l.next) ≡ Some (last_or None xs, first_or ys None) =
+          sym ends ∙ linear_ends (ends_in number o.chains) xs h ys (subst (IsLinear (ends_in number o.chains)) order is.linear) in
+          let z : ◌≡◌ {A = Ends} (option_map number l.prev, option_map number l.next) (last_or None xs, first_or ys None) = cc e in
+          (ap (λ p. p.0) z, ap (λ p. p.1) z)
 
-      by : (side : Side) → option_map (λ v. child_of side v) (knots_in number o.chains h) ≡ Some None → Cut o h side (prev_for number side l h) (next_for number side l h)
+      by : (side : Side) → IsFree o h side → Cut o h side (prev_for number side l h) (next_for number side l h)
       by Left free =
           let c = found.context in
           let k = found.rank in
           let r = found.right in
-          let none : root_of found.left ≡ None = let z : Some (root_of found.left) ≡ Some None = sym (ap (option_map (λ v. child_of Left v)) at_h) ∙ free in cc in
+          let none : root_of found.left ≡ None =
+          let z : Some (root_of found.left) ≡ Some None = sym (ap (option_map (λ v. child_of Left v)) at_h) ∙ free in cc in
           let tree : tree_in number o ≡ plug c (node leaf h k r) = found.is ∙ ap (λ t. plug c (node t h k r)) (rest_leaf found.left none) in
           let order : order_in number o ≡ before c ++ h ∷ (walk r ++ after c) = ap walk tree ∙ plug-walk_is (under c Left h k r) leaf in
-          let e : Some (option_map number l.prev, option_map number l.next) ≡ Some (last_or None (before c), first_or (walk r ++ after c) None) = sym ends ∙ linear_ends (ends_in number o.chains) (before c) h (walk r ++ after c) (subst (IsLinear (ends_in number o.chains)) order is.linear) in
           record {
             context = c;
             rank = k;
@@ -93,7 +109,7 @@ module _ {I T : Type 0} (number : I → ℕ) where
             front = before c;
             back = h ∷ (walk r ++ after c);
             is = order;
-            prev_is = let z : ◌≡◌ {A = Ends} (option_map number l.prev, option_map number l.next) (last_or None (before c), first_or (walk r ++ after c) None) = cc e in ap (λ p. p.0) z;
+            prev_is = (neighbours (before c) (walk r ++ after c) order).0;
             next_is = refl;
             filled_is = λ n. plug-walk_is (under c Left h k r) (node leaf n 1 leaf);
             stands = λ n. record { before = before c; after = walk r ++ after c; was = order; is = refl };
@@ -102,12 +118,15 @@ module _ {I T : Type 0} (number : I → ℕ) where
           let c = found.context in
           let k = found.rank in
           let a = found.left in
-          let none : root_of found.right ≡ None = let z : Some (root_of found.right) ≡ Some None = sym (ap (option_map (λ v. child_of Right v)) at_h) ∙ free in cc in
-          let tree : tree_in number o ≡ plug c (node a h k leaf) = found.is ∙ ap (λ t. plug c (node a h k t)) (rest_leaf found.right none) in
-          let order : order_in number o ≡ (before c ++ (walk a ++ h ∷ [])) ++ after c = ap walk tree ∙ plug-walk_is (under c Right h k a) leaf in
+          let none : root_of found.right ≡ None =
+          let z : Some (root_of found.right) ≡ Some None = sym (ap (option_map (λ v. child_of Right v)) at_h) ∙ free in cc in
+          let tree : tree_in number o ≡ plug c (node a h k leaf) =
+          found.is ∙ ap (λ t. plug c (node a h k t)) (rest_leaf found.right none) in
+          let order : order_in number o ≡ (before c ++ (walk a ++ h ∷ [])) ++ after c =
+          ap walk tree ∙ plug-walk_is (under c Right h k a) leaf in
           let snoc : before c ++ (walk a ++ h ∷ []) ≡ (before c ++ walk a) ++ h ∷ [] = sym (append_assoc (before c) (walk a) (h ∷ [])) in
-          let flat : (ys : List ℕ) → (before c ++ (walk a ++ h ∷ [])) ++ ys ≡ (before c ++ walk a) ++ h ∷ ys = λ ys. ap (λ z. z ++ ys) snoc ∙ append_assoc (before c ++ walk a) (h ∷ []) ys in
-          let e : Some (option_map number l.prev, option_map number l.next) ≡ Some (last_or None (before c ++ walk a), first_or (after c) None) = sym ends ∙ linear_ends (ends_in number o.chains) (before c ++ walk a) h (after c) (subst (IsLinear (ends_in number o.chains)) (order ∙ flat (after c)) is.linear) in
+          let flat : (ys : List ℕ) → (before c ++ (walk a ++ h ∷ [])) ++ ys ≡ (before c ++ walk a) ++ h ∷ ys =
+          λ ys. ap (λ z. z ++ ys) snoc ∙ append_assoc (before c ++ walk a) (h ∷ []) ys in
           record {
             context = c;
             rank = k;
@@ -117,45 +136,65 @@ module _ {I T : Type 0} (number : I → ℕ) where
             back = after c;
             is = order;
             prev_is = sym (ap (last_or None) snoc ∙ last_snoc (before c ++ walk a) h);
-            next_is = let z : ◌≡◌ {A = Ends} (option_map number l.prev, option_map number l.next) (last_or None (before c ++ walk a), first_or (after c) None) = cc e in ap (λ p. p.1) z;
+            next_is = (neighbours (before c ++ walk a) (after c) (order ∙ flat (after c))).1;
             filled_is = λ n. plug-walk_is (under c Right h k a) (node leaf n 1 leaf);
             stands = λ n. record { before = before c ++ walk a; after = after c; was = order ∙ flat (after c); is = flat (n ∷ after c) };
           }
 
-  pub cut_found : (o : Ordered I T) → IsOrdered number o → (h : ℕ) (side : Side) (prev next : Option ℕ) → IsSome (knots_in number o.chains h) → option_map (λ v. child_of side v) (knots_in number o.chains h) ≡ Some None
-      → option_map (λ e. prev_for number side e.1 h) (entry_at o.chains h) ≡ Some prev → option_map (λ e. next_for number side e.1 h) (entry_at o.chains h) ≡ Some next → Cut o h side prev next
+  pub cut_found : (o : Ordered I T) → IsOrdered number o → (h : ℕ) (side : Side) (prev next : Option ℕ)
+      → IsSome (knots_in number o.chains h) → IsFree o h side
+      → option_map (λ e. prev_for number side e.1 h) (entry_at o.chains h) ≡ Some prev
+      → option_map (λ e. next_for number side e.1 h) (entry_at o.chains h) ≡ Some next → Cut o h side prev next
   cut_found o is h side prev next lives free p q = by (entry_at o.chains h) refl p q
     where
-      by : (e : Option (ℕ × IndexLink I (IndexNode I T))) → entry_at o.chains h ≡ e → option_map (λ e. prev_for number side e.1 h) e ≡ Some prev → option_map (λ e. next_for number side e.1 h) e ≡ Some next → Cut o h side prev next
+      by : (e : Option (ℕ × IndexLink I (IndexNode I T))) → entry_at o.chains h ≡ e
+          → option_map (λ e. prev_for number side e.1 h) e ≡ Some prev → option_map (λ e. next_for number side e.1 h) e ≡ Some next
+          → Cut o h side prev next
       by None at p q = absurd (cc)
       by (Some e) at p q =
           let p_is : prev_for number side e.1 h ≡ prev = cc p in
           let q_is : next_for number side e.1 h ≡ next = cc q in
-          subst (λ z. Cut o h side z next) p_is (subst (λ z. Cut o h side (prev_for number side e.1 h) z) q_is (cut o is h side e.0 e.1 at lives free))
+          let found = cut o is h side e.0 e.1 at lives free in
+          subst (λ z. Cut o h side z next) p_is (subst (λ z. Cut o h side (prev_for number side e.1 h) z) q_is found)
 
   -- the gap of the chain
-  pub cut_gap : (o : Ordered I T) (is : IsOrdered number o) (h : ℕ) (side : Side) (prev next : Option ℕ) → Cut o h side prev next → IsGap (ends_in number o.chains) (prev, next)
-  cut_gap o is h side prev next cut = rw (cut.prev_is, cut.next_is) (linear_gap (ends_in number o.chains) cut.front cut.back (subst (IsLinear (ends_in number o.chains)) cut.is is.linear))
+  pub cut_gap : (o : Ordered I T) (is : IsOrdered number o) (h : ℕ) (side : Side) (prev next : Option ℕ) → Cut o h side prev next
+      → IsGap (ends_in number o.chains) (prev, next)
+  cut_gap o is h side prev next cut =
+      rw (cut.prev_is, cut.next_is)
+      (linear_gap (ends_in number o.chains) cut.front cut.back (subst (IsLinear (ends_in number o.chains)) cut.is is.linear))
 
-  item-if : (b : Bool) (g : ℕ) (v : IndexNode I T) (o : Option (ℕ × IndexNode I T)) → option_map itemed (if b then Some (g, v) else o) ≡ (if b then Some (g, v.t) else option_map itemed o)
+  item-if : (b : Bool) (g : ℕ) (v : IndexNode I T) (o : Option (ℕ × IndexNode I T))
+      → option_map itemed (if b then Some (g, v) else o) ≡ (if b then Some (g, v.t) else option_map itemed o)
   item-if true g v o = refl
   item-if false g v o = refl
 
-  -- the links with one more node
-  module _ (o : Ordered I T) (is : IsOrdered number o) (c1 : Content (IndexLink I (IndexNode I T))) (h n g : ℕ) (side : Side) (prev next : Option ℕ) (cut : Cut o h side prev next) (v : IndexNode I T)
-      (vacant : entry_at o.chains n ≡ None) (values1 : (k : ℕ) → values_in c1 k ≡ with_entry (values_in o.chains) n (g, v) k) (small : live_count o.chains + 1 < 2 ^ 64) where
+  -- the links have one more node, of index `n`, where the list is cut; its pointer's index is `i`
+  pub record Linked (o : Ordered I T) (c1 : Content (IndexLink I (IndexNode I T))) (h n i g : ℕ) (side : Side)
+      (v : IndexNode I T) : Type 0 where
+    pub is : IsOrdered number o
+    pub prev : Option ℕ
+    pub next : Option ℕ
+    pub cut : Cut o h side prev next
+    pub placed : IsPlaced number (Between prev next) i g v o.chains c1
+    pub index_is : n ≡ i
+    pub small : live_count o.chains + 1 < 2 ^ 64
+
+  module _ {o : Ordered I T} {c1 : Content (IndexLink I (IndexNode I T))} {h n i g : ℕ} {side : Side} {v : IndexNode I T}
+      (new : Linked o c1 h n i g side v) where
+    placed : IsPlaced number (Between new.prev new.next) n g v o.chains c1
+    placed = subst (λ j. IsPlaced number (Between new.prev new.next) j g v o.chains c1) (sym new.index_is) new.placed
+
     lives_not : (j : ℕ) → 0 < count j (tree_in number o) → j ≢ n
     lives_not j c e =
-        let lives = counted-lives (knots_in number o.chains) None (tree_in number o) is.whole.stands.1 j c in
-        let gone : knots_in number o.chains j ≡ None = ap (knots_in number o.chains) e ∙ ap (option_map knot_at) (ap (option_map valued) vacant) in
+        let lives = counted-lives (knots_in number o.chains) None (tree_in number o) new.is.whole.stands.1 j c in
+        let gone : knots_in number o.chains j ≡ None =
+        ap (knots_in number o.chains) e ∙ ap (option_map knot_at) (ap (option_map valued) placed.vacant) in
         let z : IsSome (option_map knot_at None) = subst IsSome gone lives in
         absurd (cc)
 
     other : (j : ℕ) → j ≢ n → knots_in number c1 j ≡ knots_in number o.chains j
-    other j d = ap (option_map knot_at) (values1 j) ∙ rw (ne_eqb j n d) refl
-
-    here : knots_in number c1 n ≡ Some (knot_of number v)
-    here = ap (option_map knot_at) (values1 n) ∙ rw (eq-eqb n n refl) refl
+    other j d = ap (option_map knot_at) (placed.values j) ∙ rw (ne_eqb j n d) refl
 
     fresh : count n (tree_in number o) ≡ 0
     fresh = elim (cases_lt 0 (count n (tree_in number o))) [
@@ -165,26 +204,30 @@ module _ {I T : Type 0} (number : I → ℕ) where
 
     pub leaf_gap : Gap (knots_in number c1) o.root h side n
     leaf_gap =
-        let stands : Stands (knots_in number c1) o.root (tree_in number o) = (is.whole.stands.0, Represents-keep (knots_in number o.chains) (knots_in number c1) None (tree_in number o) (λ j c. other j (lives_not j c)) is.whole.stands.1) in
+        let cut = new.cut in
+        let stands : Stands (knots_in number c1) o.root (tree_in number o) = (
+          new.is.whole.stands.0,
+          Represents-keep (knots_in number o.chains) (knots_in number c1) None (tree_in number o) (λ j c. other j (lives_not j c))
+              new.is.whole.stands.1,
+        ) in
+        let small = new.small in
         record {
           context = cut.context;
           rank = cut.rank;
           far = cut.far;
-          distinct = subst IsDistinct cut.tree is.whole.distinct;
+          distinct = subst IsDistinct cut.tree new.is.whole.distinct;
           stands = subst (Stands (knots_in number c1) o.root) cut.tree stands;
-          ranked = subst IsRanked cut.tree is.whole.ranked;
+          ranked = subst IsRanked cut.tree new.is.whole.ranked;
           fresh = subst (λ t. count n t ≡ 0) cut.tree fresh;
-          small = subst (λ t. length (walk t) + 1 < 2 ^ 64) cut.tree (rw is.counted small);
+          small = subst (λ t. length (walk t) + 1 < 2 ^ 64) cut.tree (rw new.is.counted small);
         }
 
-    pub leaf_lives : IsSome (knots_in number c1 n)
-    leaf_lives = subst IsSome (sym here) refl
+    abbrev grown : Tree
+    grown = plug new.cut.context (make side (node leaf n 1 leaf) h new.cut.rank new.cut.far)
 
-    abbrev new : Tree
-    new = plug cut.context (make side (node leaf n 1 leaf) h cut.rank cut.far)
-
-    counts : (j : ℕ) → count j new ≡ count j (tree_in number o) + one j n
+    counts : (j : ℕ) → count j grown ≡ count j (tree_in number o) + one j n
     counts j =
+        let cut = new.cut in
         let p = plug-count cut.context j (make side (node leaf n 1 leaf) h cut.rank cut.far) in
         let q = make-count side j (node leaf n 1 leaf) h cut.rank cut.far in
         let r = plug-count cut.context j (make side leaf h cut.rank cut.far) in
@@ -192,57 +235,77 @@ module _ {I T : Type 0} (number : I → ℕ) where
         let t = ap (count j) cut.tree in
         omega arith
 
-    distinct : IsDistinct new
+    one_at_n : (j : ℕ) → j ≡ n → one j n ≡ 1
+    one_at_n j e = ap (λ z. one z n) e ∙ one-same n
+
+    distinct : IsDistinct grown
     distinct = record {
       once = λ j.
           let e = counts j in
-          let b = is.whole.distinct.once j in
+          let b = new.is.whole.distinct.once j in
           elim (cases_eq j n) [
-            | inl same ↦ let f = subst (λ z. count z (tree_in number o) ≡ 0) (sym same) fresh in let w = one-same n in let y : one j n ≡ 1 = ap (λ z. one z n) same ∙ w in omega arith
+            | inl same ↦
+                let f = subst (λ z. count z (tree_in number o) ≡ 0) (sym same) fresh in
+                let y = one_at_n j same in
+                omega arith
             | inr d ↦ let y = one-other j n d in omega arith
           ];
     }
 
     pub record Leaf (c2 : Content (IndexLink I (IndexNode I T))) (root2 : Option ℕ) : Type 0 where
       pub ordered : IsOrdered number (record { chains = c2; root = root2 })
-      pub order : StandsBeside side (order_in number o) (order_in number (record { chains = c2; root = root2 })) h n
-      pub entries : (k : ℕ) → items_in c2 k ≡ with_entry (items_in o.chains) n (g, v.t) k
+      pub order : StandsBeside side (order_in number o) (order_in number (record { chains = c2; root = root2 })) h i
+      pub added : IsAdded number i g v.t o (record { chains = c2; root = root2 })
 
-    pub leaf_works : (c2 : Content (IndexLink I (IndexNode I T))) (root2 : Option ℕ) → IsPutIn (prev, next) n (ends_in number o.chains) (ends_in number c1) → live_count c1 ≡ live_count o.chains + 1
+    pub leaf_works : (c2 : Content (IndexLink I (IndexNode I T))) (root2 : Option ℕ)
         → Restored (knots_in number c2) root2 (walk (filled leaf_gap)) → rest c2 ≡ rest c1 → Leaf c2 root2
     unfolding leaf_gap
-    leaf_works c2 root2 put live1 restored keeps =
+    leaf_works c2 root2 restored keeps =
         let p : Ordered I T = record { chains = c2; root = root2 } in
+        let cut = new.cut in
         let same = rested number c1 c2 keeps in
         let tree : tree_in number p ≡ restored.tree = tree_is (knots_in number c2) root2 restored.tree restored.stands restored.ranked in
-        let walks : order_in number p ≡ walk new = ap walk tree ∙ restored.is_walk in
+        let walks : order_in number p ≡ walk grown = ap walk tree ∙ restored.is_walk in
         let order : order_in number p ≡ cut.front ++ n ∷ cut.back = walks ∙ cut.filled_is n in
         let linear1 : IsLinear (ends_in number c1) (cut.front ++ n ∷ cut.back) =
-        put.inside cut.front cut.back (sym cut.prev_is) (sym cut.next_is) (subst (IsLinear (ends_in number o.chains)) cut.is is.linear) in
-        let linear2 = chain_where (ends_in number c1) (ends_in number c2) (Linear (cut.front ++ n ∷ cut.back)) (λ i on. same.ends i) linear1 in
+        placed.lists.inside cut.front cut.back (sym cut.prev_is) (sym cut.next_is)
+        (subst (IsLinear (ends_in number o.chains)) cut.is new.is.linear) in
+        let linear2 = chain_where (ends_in number c1) (ends_in number c2) (Linear (cut.front ++ n ∷ cut.back))
+        (λ i on. same.ends i) linear1 in
         let old_length : length (order_in number o) ≡ length (cut.front ++ cut.back) = ap length cut.is in
         let l1 = length-append cut.front (n ∷ cut.back) in
         let l2 = length-append cut.front cut.back in
         let l3 : length (order_in number p) ≡ length (cut.front ++ n ∷ cut.back) = ap length order in
-        let l4 = is.counted in
+        let l4 = new.is.counted in
         let l5 : live_count c2 ≡ live_count c1 = same.kept.live in
+        let l6 = placed.live in
         record {
           ordered = record {
             whole = record {
               stands = subst (Stands (knots_in number c2) root2) (sym tree) restored.stands;
-              distinct = IsDistinct-walk new (tree_in number p) (sym walks) distinct;
+              distinct = IsDistinct-walk grown (tree_in number p) (sym walks) distinct;
               ranked = subst IsRanked (sym tree) restored.ranked;
             };
             linear = subst (IsLinear (ends_in number c2)) (sym order) linear2;
-            all = λ i lives.
-                let e = count-same i new (tree_in number p) (sym walks) in
-                let f = counts i in
-                elim (cases_eq i n) [
-                  | inl at_n ↦ let y : one i n ≡ 1 = ap (λ z. one z n) at_n ∙ one-same n in omega arith
-                  | inr d ↦ let z = is.all i (subst IsSome (other i d) (same.lives i lives)) in omega arith
+            all = λ j lives.
+                let e = count-same j grown (tree_in number p) (sym walks) in
+                let f = counts j in
+                elim (cases_eq j n) [
+                  | inl at_n ↦ let y = one_at_n j at_n in omega arith
+                  | inr d ↦ let z = new.is.all j (subst IsSome (other j d) (same.lives j lives)) in omega arith
                 ];
             counted = omega arith;
           };
-          order = subst (λ w. StandsBeside side (order_in number o) w h n) (sym order) (cut.stands n);
-          entries = λ k. same.items k ∙ ap (option_map itemed) (values1 k) ∙ item-if (k == n) g v (values_in o.chains k);
+          order =
+              subst (λ j. StandsBeside side (order_in number o) (order_in number p) h j) new.index_is
+              (subst (λ w. StandsBeside side (order_in number o) w h n) (sym order) (cut.stands n));
+          added = record {
+            index = new.placed.index;
+            generation = new.placed.generation;
+            vacant = ap (λ e. option_map itemed (option_map valued e)) new.placed.vacant;
+            entries = λ k. same.items k ∙ ap (option_map itemed) (new.placed.values k) ∙ item-if (k == i) g v (values_in o.chains k);
+            size = same.kept.live ∙ new.placed.live;
+            free = same.kept.free ∙ new.placed.free;
+            slots = same.kept.slots ∙ new.placed.slots;
+          };
         }

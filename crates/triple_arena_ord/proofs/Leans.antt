@@ -12,9 +12,10 @@ use Rattle.triple_arena_ord.proofs.Frames.{make-rank, make-walk, plug-walk, IsDi
 use Rattle.triple_arena_ord.proofs.TurnLemmas.{turn-walk}
 use Rattle.triple_arena_ord.proofs.Spots.{reads, spotted, rank_read}
 
-pub make-ranked : (s : Side) (a : Tree) (i k : ℕ) (b : Tree) → Fits (rank_of a) k (rank_of b) → IsRanked a → IsRanked b → IsRanked (make s a i k b)
+pub make-ranked : (s : Side) (a : Tree) (i k : ℕ) (b : Tree) → Fits (rank_of a) k (rank_of b) → IsRanked a → IsRanked b
+    → IsRanked (make s a i k b)
 make-ranked Left a i k b f p q = (f, p, q)
-make-ranked Right a i k b f p q = (record { above_left = f.above_right; near_left = f.near_right; above_right = f.above_left; near_right = f.near_left; childless = omega arith }, q, p)
+make-ranked Right a i k b f p q = (omega arith, q, p)
 
 pub plug-ranked : (c : Context) (t : Tree) → IsRankedRound c (rank_of t) → IsRanked t → IsRanked (plug c t)
 plug-ranked top t r h = h
@@ -22,8 +23,14 @@ plug-ranked (under c s i k far) t r h =
     plug-ranked c (make s t i k far) (subst (λ z. IsRankedRound c z) (sym (make-rank s t i k far)) r.2) (make-ranked s t i k far r.0 h r.1)
 
 -- what is in a hole is exchanged for what has the same walk and the same rank
-pub restored : (n : Store) (root : Option ℕ) (c : Context) (t : Tree) (old : Tree) (w : List ℕ) → Stands n root (plug c t) → IsRankedRound c (rank_of t) → IsRanked t → walk t ≡ walk old → walk (plug c old) ≡ w → Restored n root w
-restored n root c t old w h r k e q = record { tree = plug c t; stands = h; ranked = plug-ranked c t r k; is_walk = plug-walk c t old e ∙ q }
+pub restored : (n : Store) (root : Option ℕ) (c : Context) (t : Tree) (old : Tree) (w : List ℕ) → Stands n root (plug c t)
+    → IsRankedRound c (rank_of t) → IsRanked t → walk t ≡ walk old → walk (plug c old) ≡ w → Restored n root w
+restored n root c t old w h r k e q = record {
+  tree = plug c t;
+  stands = h;
+  ranked = plug-ranked c t r k;
+  is_walk = plug-walk c t old e ∙ q;
+}
 
 -- what a turn asks for, and what it leaves
 pub record Turns (n : Store) (root : Option ℕ) (low j k : ℕ) (After : Store → Option ℕ → Type 0) : Type 0 where
@@ -31,21 +38,36 @@ pub record Turns (n : Store) (root : Option ℕ) (low j k : ℕ) (After : Store 
   pub after : (m : Store) (new_root : Option ℕ) → Stands m new_root (turned spot j k) → After m new_root
 
 abbrev pub lean_spot : (n : Store) (root : Option ℕ) (low : ℕ) (w : List ℕ) → Leaning n root low w → Spot n root low
-lean_spot n root low w h = record { context = h.context; side = h.side; outer = h.outer; low_rank = h.rank; inner = h.inner; high = h.high; high_rank = h.rank; far = h.far; distinct = h.distinct; stands = h.stands }
+lean_spot n root low w h = record {
+  context = h.context;
+  side = h.side;
+  outer = h.outer;
+  low_rank = h.rank;
+  inner = h.inner;
+  high = h.high;
+  high_rank = h.rank;
+  far = h.far;
+  distinct = h.distinct;
+  stands = h.stands;
+}
 
-pub lean_once : (n : Store) (root : Option ℕ) (low j k : ℕ) (w : List ℕ) → (h : Leaning n root low w) → rank_of h.inner + 1 < h.rank → j ≡ h.rank → k ≡ h.rank - 1 → Turns n root low j k (λ m r. Restored m r w)
+pub lean_once : (n : Store) (root : Option ℕ) (low j k : ℕ) (w : List ℕ) (h : Leaning n root low w) → rank_of h.inner + 1 < h.rank
+    → j ≡ h.rank → k ≡ h.rank - 1 → Turns n root low j k (λ m r. Restored m r w)
 lean_once n root low j k w h less ej ek =
     let f = h.fits in
     record {
       spot = lean_spot n root low w h;
       after = λ m r stands.
-          let low_fits : Fits (rank_of h.inner) k (rank_of h.far) = record { above_left = omega arith; near_left = omega arith; above_right = omega arith; near_right = omega arith; childless = omega arith } in
-          let lowered = make-ranked h.side h.inner h.high k h.far low_fits h.inner_ranked h.far_ranked in
-          let rank_is = make-rank h.side h.inner h.high k h.far in
-          let high_fits : Fits (rank_of h.outer) j (rank_of (make h.side h.inner h.high k h.far)) = record { above_left = omega arith; near_left = omega arith; above_right = omega arith; near_right = omega arith; childless = omega arith } in
-          restored m r h.context (make h.side h.outer low j (make h.side h.inner h.high k h.far)) (make h.side (make h.side h.outer low h.rank h.inner) h.high h.rank h.far) w stands
-          (subst (λ z. IsRankedRound h.context z) (sym ej ∙ sym (make-rank h.side h.outer low j (make h.side h.inner h.high k h.far))) h.round)
-          (make-ranked h.side h.outer low j (make h.side h.inner h.high k h.far) high_fits h.outer_ranked lowered)
+          let new_high = make h.side h.inner h.high k h.far in
+          let new = make h.side h.outer low j new_high in
+          let old = make h.side (make h.side h.outer low h.rank h.inner) h.high h.rank h.far in
+          let low_fits : Fits (rank_of h.inner) k (rank_of h.far) = omega arith in
+          let high_rank = make-rank h.side h.inner h.high k h.far in
+          let high_fits : Fits (rank_of h.outer) j (rank_of new_high) = omega arith in
+          restored m r h.context new old w stands
+          (subst (λ z. IsRankedRound h.context z) (sym ej ∙ sym (make-rank h.side h.outer low j new_high)) h.round)
+          (make-ranked h.side h.outer low j new_high high_fits h.outer_ranked
+          (make-ranked h.side h.inner h.high k h.far low_fits h.inner_ranked h.far_ranked))
           (sym (turn-walk h.side h.outer low h.rank h.inner h.high h.rank h.far j k))
           h.is_walk;
     }
@@ -73,13 +95,15 @@ pub record RankedParts (a : Tree) (k : ℕ) (b : Tree) : Type 0 where
 
 pub make-ranked-opens : (s : Side) (a : Tree) (i k : ℕ) (b : Tree) → IsRanked (make s a i k b) → RankedParts a k b
 make-ranked-opens Left a i k b h = record { fits = h.0; near = h.1; far = h.2 }
-make-ranked-opens Right a i k b h = let f = h.0 in record { fits = record { above_left = f.above_right; near_left = f.near_right; above_right = f.above_left; near_right = f.near_left; childless = omega arith }; near = h.2; far = h.1 }
+make-ranked-opens Right a i k b h = record { fits = let f = h.0 in omega arith; near = h.2; far = h.1 }
 
 pub turned-distinct : (n : Store) (root : Option ℕ) (low : ℕ) (spot : Spot n root low) (j k : ℕ) → IsDistinct (turned spot j k)
 turned-distinct n root low spot j k =
-    IsDistinct-walk _ (turned spot j k) (plug-walk spot.context _ _ (turn-walk spot.side spot.outer low spot.low_rank spot.inner spot.high spot.high_rank spot.far j k)) spot.distinct
+    let walks = turn-walk spot.side spot.outer low spot.low_rank spot.inner spot.high spot.high_rank spot.far j k in
+    IsDistinct-walk _ (turned spot j k) (plug-walk spot.context _ _ walks) spot.distinct
 
-pub lean_twice : (n : Store) (root : Option ℕ) (low middle j k : ℕ) (w : List ℕ) → (h : Leaning n root low w) → root_of h.inner ≡ Some middle → h.rank ≤ rank_of h.inner + 1 → j ≡ h.rank → k ≡ h.rank - 1
+pub lean_twice : (n : Store) (root : Option ℕ) (low middle j k : ℕ) (w : List ℕ) (h : Leaning n root low w)
+    → root_of h.inner ≡ Some middle → h.rank ≤ rank_of h.inner + 1 → j ≡ h.rank → k ≡ h.rank - 1
     → Turns n root middle j k (λ m r. Turns m r middle j k (λ m' r'. Restored m' r' w))
 lean_twice n root low middle j k w h is more ej ek =
     let c = h.context in
@@ -122,23 +146,29 @@ lean_twice n root low middle j k w h is more ej ek =
             let parts = make-ranked-opens o v.near middle v.rank v.far (subst IsRanked v.is h.inner_ranked) in
             let p = parts.fits in
             let rank_is : rank_of h.inner ≡ v.rank = ap rank_of v.is ∙ make-rank o v.near middle v.rank v.far in
-            let low_fits : Fits (rank_of v.far) k (rank_of h.outer) = record { above_left = omega arith; near_left = omega arith; above_right = omega arith; near_right = omega arith; childless = omega arith } in
-            let high_fits : Fits (rank_of v.near) k (rank_of h.far) = record { above_left = omega arith; near_left = omega arith; above_right = omega arith; near_right = omega arith; childless = omega arith } in
+            let new_high = make s v.near h.high k h.far in
+            let new = make s lowered middle j new_high in
+            let old = make s (make s h.outer low h.rank h.inner) h.high h.rank h.far in
+            let low_fits : Fits (rank_of v.far) k (rank_of h.outer) = omega arith in
+            let high_fits : Fits (rank_of v.near) k (rank_of h.far) = omega arith in
             let low_rank = make-rank o v.far low k h.outer in
             let high_rank = make-rank s v.near h.high k h.far in
-            let fits : Fits (rank_of lowered) j (rank_of (make s v.near h.high k h.far)) = record { above_left = omega arith; near_left = omega arith; above_right = omega arith; near_right = omega arith; childless = omega arith } in
-            let new = make s lowered middle j (make s v.near h.high k h.far) in
-            restored m' r' c new (make s (make s h.outer low h.rank h.inner) h.high h.rank h.far) w stands'
-            (subst (λ z. IsRankedRound c z) (sym ej ∙ sym (make-rank s lowered middle j (make s v.near h.high k h.far))) h.round)
-            (make-ranked s lowered middle j (make s v.near h.high k h.far) fits (make-ranked o v.far low k h.outer low_fits parts.far h.outer_ranked) (make-ranked s v.near h.high k h.far high_fits parts.near h.far_ranked))
+            let fits : Fits (rank_of lowered) j (rank_of new_high) = omega arith in
+            let below = make-ranked o v.far low k h.outer low_fits parts.far h.outer_ranked in
+            let beside = make-ranked s v.near h.high k h.far high_fits parts.near h.far_ranked in
+            let first_walk = turn-walk o v.near middle v.rank v.far low h.rank h.outer j k in
+            restored m' r' c new old w stands'
+            (subst (λ z. IsRankedRound c z) (sym ej ∙ sym (make-rank s lowered middle j new_high)) h.round)
+            (make-ranked s lowered middle j new_high fits below beside)
             (sym (turn-walk s lowered middle j v.near h.high h.rank h.far j k)
-            ∙ make-walk s _ _ h.high h.rank h.far (ap walk (sym half_is) ∙ sym (turn-walk o v.near middle v.rank v.far low h.rank h.outer j k) ∙ ap walk (sym old_is)))
+            ∙ make-walk s _ _ h.high h.rank h.far (ap walk (sym half_is) ∙ sym first_walk ∙ ap walk (sym old_is)))
             h.is_walk;
       };
     }
 
 -- what the code of `lean` reads
-pub record LeanReads (n : Store) (root : Option ℕ) (low : ℕ) (w : List ℕ) (h : Leaning n root low w) (rank : ℕ) (inner : Option ℕ) (inner_rank : ℕ) : Type 0 where
+pub record LeanReads (n : Store) (root : Option ℕ) (low : ℕ) (w : List ℕ) (h : Leaning n root low w) (rank : ℕ) (inner : Option ℕ)
+    (inner_rank : ℕ) : Type 0 where
   pub rank_is : rank ≡ h.rank
   pub inner_is : inner ≡ root_of h.inner
   pub inner_rank_is : inner_rank ≡ rank_of h.inner

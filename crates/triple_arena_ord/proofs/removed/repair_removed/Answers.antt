@@ -10,7 +10,10 @@ use Rattle.triple_arena_ord.proofs.removed.repair_removed.Goals as goal
 pub climb-smaller : goal.climb-smaller
 climb-smaller g c =
     let number = g.P.Inx.PtrInx.number in
+    let old = knots_in number c.climb.chains in
+    let new = knots_in number c.mend-at.new.chains in
     let at_is = ap (option_map number) c.in-Some.is in
-    mend_falls (knots_in g.P.Inx.PtrInx.number c.climb.chains) (knots_in g.P.Inx.PtrInx.number c.mend-at.new.chains) _ _ (option_map number c.mend-at.result) at_is
-    (if_numbered number (λ i. rank_in (knots_in g.P.Inx.PtrInx.number c.climb.chains) (number c.in-Some.high) < rank_in (knots_in g.P.Inx.PtrInx.number c.mend-at.new.chains) i) c.mend-at.result c.mend-at.ensures.rises)
-    (broken_small _ (option_map number c.climb.root) _ _ (subst (λ l. Pending (knots_in g.P.Inx.PtrInx.number c.climb.chains) (option_map number c.climb.root) l c.requires.0) at_is (c.climb.invariant.0 c.requires.0 c.requires.1)))
+    let rises = if_numbered number (λ i. rank_in old (number c.in-Some.high) < rank_in new i) c.mend-at.result c.mend-at.ensures.rises in
+    let broken = subst (λ l. Pending old (option_map number c.climb.root) l c.requires.0) at_is
+    (c.climb.invariant.0 c.requires.0 c.requires.1) in
+    mend_falls old new _ _ (option_map number c.mend-at.result) at_is rises (broken_small _ (option_map number c.climb.root) _ _ broken)

@@ -6,7 +6,13 @@ use Rattle.triple_arena_ord.specs.Repair.{Pending}
 use Rattle.triple_arena_ord.proofs.removed.repair_removed.Given as goal
 
 abbrev pub invariant-climb : goal.invariant-climb
-invariant-climb g l = ((w : List ℕ) → Pending (knots_in g.P.Inx.PtrInx.number l.initial.chains) (option_map g.P.Inx.PtrInx.number l.initial.root) (option_map g.P.Inx.PtrInx.number l.initial.at) w → Pending (knots_in g.P.Inx.PtrInx.number l.chains) (option_map g.P.Inx.PtrInx.number l.root) (option_map g.P.Inx.PtrInx.number l.at) w) × (rest l.chains ≡ rest l.initial.chains)
+invariant-climb g l =
+    ((w : List ℕ)
+    → Pending (knots_in g.P.Inx.PtrInx.number l.initial.chains) (option_map g.P.Inx.PtrInx.number l.initial.root)
+    (option_map g.P.Inx.PtrInx.number l.initial.at) w
+    → Pending (knots_in g.P.Inx.PtrInx.number l.chains) (option_map g.P.Inx.PtrInx.number l.root)
+    (option_map g.P.Inx.PtrInx.number l.at) w)
+    × (rest l.chains ≡ rest l.initial.chains)
 
 abbrev pub decreases-climb : goal.decreases-climb
 decreases-climb g l = ahead (knots_in g.P.Inx.PtrInx.number l.chains) (option_map g.P.Inx.PtrInx.number l.at)
