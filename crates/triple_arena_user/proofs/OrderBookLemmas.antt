@@ -1,5 +1,5 @@
 -- What insertions and removals make of an order book.
-use Rattle.std.proofs.Common.{◌≡◌, ◌≢◌, ℕ, ◌≤◌, List, [], ◌∷◌, ◌++◌, Option, Some, None, Result, Ok, Err, option_map, refl, sym, ap, subst, ◌∙◌, inl, inr, IsSome, OnSome, arith, IsErrOf, OnErr, IfOk, IfSome, IfNone, ◌↔◌, ◌<◌}
+use Rattle.std.proofs.Common.{◌≡◌, ◌≢◌, ℕ, ◌≤◌, List, [], ◌∷◌, ◌++◌, Option, Some, None, Result, Ok, Err, option_map, refl, sym, ap, subst, ◌∙◌, inl, inr, IsSome, OnSome, arith, IsErrOf, IfErr, OnErr, IfOk, IfSome, IfNone, ◌↔◌, ◌<◌}
 use Rattle.std.specs.Cmp.{ranked, nat_cmp_is}
 use Rattle.std.specs.Ordering.{nat_cmp}
 use Rattle.std.specs.declared.cmp.Ordering.{Ordering}
@@ -10,8 +10,6 @@ use Rattle.triple_arena.specs.Entries.{with_entry, without}
 use Rattle.triple_arena_ptr.specs.declared.errors.OrdInsertionError.{OrdInsertionError}
 use Rattle.triple_arena_ptr.specs.declared.errors.OrdInsertionError.TheVariants.{NotWithinCapacity}
 use Rattle.triple_arena_chain.specs.Chains.{On, Apart, first_or}
-use Rattle.triple_arena_chain.specs.ChainLaws.{Apart-taken}
-use Rattle.triple_arena_chain.specs.ListLaws.{on_differs}
 use Rattle.triple_arena_ord.specs.declared.pair.OrdPair.{OrdPair}
 use Rattle.triple_arena_ord.specs.Inserted.{IsInserted, IsPlacedByKey, within_room}
 use Rattle.triple_arena_ord.specs.Ordered.{Ordered, IsOrdered, IsAscending, order_in, entry_in, listed, asked_at, size_in}
@@ -153,18 +151,6 @@ module _ {I V : Type 0} where
         let on : On (order_in number old) j = listed j (price_there old price j is) in
         at_of Q on.front j on.back (subst (AllIn Q) (sym placed.was ∙ on.is) (joined Q placed.before placed.after low high)) (asked_price old price j is)
 
-    -- an index that joins a list where each stands once had no order
-    vacant_by_key : (price i : ℕ) → ((j : ℕ) → IsSome (entry_in old j) → On (order_in number old) j) → Apart (order_in number new)
-        → IsPlacedByKey number nat_cmp price_of price i old new → orders_in old i ≡ None
-    vacant_by_key price i listed once placed = by (entry_in old i) (λ live.
-        on_differs (placed.before ++ placed.after) i i (subst (λ l. On l i) placed.was (listed i live))
-        (Apart-taken placed.before placed.after i (subst Apart placed.is once)).1 refl)
-      where
-        by : (e : Option (ℕ × OrdPair ℕ V)) → (IsSome e → ⊥)
-            → option_map (λ (e : ℕ × OrdPair ℕ V). (let order : ℕ × (ℕ × V) = (e.0, (e.1.k, e.1.v)) in order)) e ≡ None
-        by None live = refl
-        by (Some e) live = absurd (live refl)
-
     -- the book without an order
     pub removed_book : (last : Option ℕ) (i : ℕ) → IsBook number old → IsRemoved number last i old new
         → (IsAscending number nat_cmp price_of old → IsAscending number nat_cmp price_of new) → IsBook number new
@@ -217,10 +203,10 @@ module _ {I V : Type 0} where
         pub book : IsBook number new
 
       pub grown : IsInserted number nat_cmp price_of index generation (within_room (size_in old) old.chains.room) t result old new
-          → ((j : ℕ) → IsSome (entry_in old j) → On (order_in number old) j) → Apart (order_in number new)
+          → ((j : ℕ) → IsSome (entry_in old j) → On (order_in number old) j)
           → (IsAscending number nat_cmp price_of old → IsAscending number nat_cmp price_of new) → IsBook number old
           → (p : P) → result ≡ Ok (p, None) → Grown p
-      grown inserted listed once ascending book p is =
+      grown inserted listed ascending book p is =
           let both = inserted.added p is in
           let free : IsFreePrice old t.k = free_by_key t.k (index p) listed book.ascending both.0 in
           record {
@@ -228,7 +214,7 @@ module _ {I V : Type 0} where
                 ∙ orders-with (entry_in old) (index p) (generation p) t k;
             fresh = record {
               free = free;
-              vacant = vacant_by_key t.k (index p) listed once both.0;
+              vacant = ap (option_map (λ (e : ℕ × OrdPair ℕ V). (let order : ℕ × (ℕ × V) = (e.0, (e.1.k, e.1.v)) in order))) both.1.vacant;
               generation = both.1.generation;
             };
             fits = λ full. omega (arith, inserted.fits p is, full);
@@ -269,26 +255,28 @@ pub record Answered {P I V : Type 0} (index generation : P → ℕ) (number : I 
   pub added : IfOk answer (λ r. (k : ℕ) → orders_in new k ≡ with_entry (orders_in old) (index r.0) (generation r.0, (price, order)) k)
   pub replaced : (p : P) (was : V) → answer ≡ Ok (p, Some was) → orders_in old (index p) ≡ Some (generation p, (price, was))
   pub fresh : (p : P) → answer ≡ Ok (p, None) → IsNewOrder old price (index p) (generation p)
+  pub error : IfErr answer (λ e. e ≡ NotWithinCapacity)
   pub full : IsErrOf answer NotWithinCapacity ↔ (IsFreePrice old price × (arena_capacity old.chains ≤ live_count old.chains))
   pub book : IsBook number new
   pub err : OnErr answer (new ≡ old)
 
 module _ {P I V : Type 0} (index generation : P → ℕ) (number : I → ℕ) (old new : Ordered I (OrdPair ℕ V)) (t : OrdPair ℕ V) where
   answered_ok : (p : P) (o : Option (OrdPair ℕ V)) → IsInserted number nat_cmp price_of index generation (within_room (size_in old) old.chains.room) t (Ok (p, o)) old new
-      → ((j : ℕ) → IsSome (entry_in old j) → On (order_in number old) j) → Apart (order_in number new)
+      → ((j : ℕ) → IsSome (entry_in old j) → On (order_in number old) j)
       → (IsAscending number nat_cmp price_of old → IsAscending number nat_cmp price_of new) → IsBook number old
       → Answered index generation number old new t.k t.v (Ok (p, option_map (λ (pair : OrdPair ℕ V). pair.v) o))
-  answered_ok p None inserted listed once ascending book =
-      let now = grown number old new index generation t (Ok (p, None)) inserted listed once ascending book p refl in
+  answered_ok p None inserted listed ascending book =
+      let now = grown number old new index generation t (Ok (p, None)) inserted listed ascending book p refl in
       record {
         added = now.orders;
         replaced = λ q was is. absurd (let no : None ≡ Some was = ap second_of is in cc);
         fresh = λ q is. subst (λ x. IsNewOrder old t.k (index x) (generation x)) (ap (first_of p) is) now.fresh;
+        error = tt;
         full = (λ is. absurd (cc), λ no. absurd (now.fits no.1));
         book = now.book;
         err = tt;
       }
-  answered_ok p (Some u) inserted listed once ascending book =
+  answered_ok p (Some u) inserted listed ascending book =
       let now = replaced number old new index generation t (Ok (p, Some u)) inserted ascending book p u refl in
       record {
         added = now.orders;
@@ -296,22 +284,24 @@ module _ {P I V : Type 0} (index generation : P → ℕ) (number : I → ℕ) (o
             subst (λ x. orders_in old (index x) ≡ Some (generation x, (t.k, was))) (ap (first_of p) is)
             (subst (λ v. orders_in old (index p) ≡ Some (generation p, (t.k, v))) (some_is u.v was (ap second_of is)) now.was));
         fresh = λ q is. absurd (let no : Some u.v ≡ None = ap second_of is in cc);
+        error = tt;
         full = (λ is. absurd (cc), λ no. absurd (now.taken no.0));
         book = now.book;
         err = tt;
       }
 
   answered : (r : Result (P × Option (OrdPair ℕ V)) OrdInsertionError) → IsInserted number nat_cmp price_of index generation (within_room (size_in old) old.chains.room) t r old new
-      → ((j : ℕ) → IsSome (entry_in old j) → On (order_in number old) j) → Apart (order_in number new)
+      → ((j : ℕ) → IsSome (entry_in old j) → On (order_in number old) j)
       → (IsAscending number nat_cmp price_of old → IsAscending number nat_cmp price_of new) → IsBook number old
       → Answered index generation number old new t.k t.v (as_order r)
-  answered (Ok r) inserted listed once ascending book = answered_ok r.0 r.1 inserted listed once ascending book
-  answered (Err e) inserted listed once ascending book =
+  answered (Ok r) inserted listed ascending book = answered_ok r.0 r.1 inserted listed ascending book
+  answered (Err e) inserted listed ascending book =
       let now = refused number old new index generation t (Err e) inserted book e refl in
       record {
         added = tt;
         replaced = λ q was is. absurd (cc);
         fresh = λ q is. absurd (cc);
+        error = now.error_is;
         full = (λ is. (now.free, now.full), λ no. ap Err now.error_is);
         book = subst (IsBook number) (sym now.same) book;
         err = now.same;
@@ -321,13 +311,13 @@ module _ {P I V : Type 0} (index generation : P → ℕ) (number : I → ℕ) (o
   pub answered_as : (price : ℕ) (order : V) (answer : Result (P × Option V) OrdInsertionError) (r : Result (P × Option (OrdPair ℕ V)) OrdInsertionError)
       → t.k ≡ price → t.v ≡ order → answer ≡ as_order r
       → IsInserted number nat_cmp price_of index generation (within_room (size_in old) old.chains.room) t r old new
-      → ((j : ℕ) → IsSome (entry_in old j) → On (order_in number old) j) → Apart (order_in number new)
+      → ((j : ℕ) → IsSome (entry_in old j) → On (order_in number old) j)
       → (IsAscending number nat_cmp price_of old → IsAscending number nat_cmp price_of new) → IsBook number old
       → Answered index generation number old new price order answer
-  answered_as price order answer r own value is inserted listed once ascending book =
+  answered_as price order answer r own value is inserted listed ascending book =
       subst (λ k. Answered index generation number old new k order answer) own
       (subst (λ v. Answered index generation number old new t.k v answer) value
-      (subst (λ a. Answered index generation number old new t.k t.v a) (sym is) (answered r inserted listed once ascending book)))
+      (subst (λ a. Answered index generation number old new t.k t.v a) (sym is) (answered r inserted listed ascending book)))
 
 -- the ends of a book
 not_greater : (x y : ℕ) → nat_cmp x y ≢ Greater → x ≤ y

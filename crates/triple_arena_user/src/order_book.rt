@@ -1,5 +1,5 @@
 //! Order books: orders by their prices in an ordered arena, one at a price at most, of which all is said by pointers and prices.
-ghost use Rattle.std.specs.Prelude.{◌≡◌, ◌≤◌, ◌↔◌, ℕ, None, Some, Ok, IsSome, IfOk, IfSome, IfNone, OnErr, OnSome, IsErrOf};
+ghost use Rattle.std.specs.Prelude.{◌≡◌, ◌≤◌, ◌↔◌, ℕ, None, Some, Ok, IsSome, IfOk, IfSome, IfNone, IfErr, OnErr, OnSome, IsErrOf};
 ghost use Rattle.triple_arena.specs.ArenaRoom.{room_of};
 ghost use Rattle.triple_arena.specs.Content.{live_count, arena_capacity};
 ghost use Rattle.triple_arena.specs.Entries.{with_entry, without, value_if, generation_at};
@@ -63,6 +63,7 @@ pub fn add_order<P: Ptr, V: Drop, S: NonZeroInxGenericStack<OrderSlot<P, V>> + D
         → orders_in book.old (P.index p) ≡ Some (P.generation p, (price, was)) }
     ensures fresh { (p : P) → result ≡ Ok (p, None)
         → IsNewOrder book.old price (P.index p) (P.generation p) }
+    ensures error { IfErr result (λ e. e ≡ OrdInsertionError.NotWithinCapacity) }
     ensures full { IsErrOf result OrdInsertionError.NotWithinCapacity
         ↔ (IsFreePrice book.old price × (arena_capacity book.old.chains ≤ live_count book.old.chains)) }
     ensures counter { book.new.chains.counter ≡ book.old.chains.counter }

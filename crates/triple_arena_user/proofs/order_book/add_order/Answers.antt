@@ -1,7 +1,3 @@
-use Rattle.std.proofs.Common.{None}
-use Rattle.triple_arena_chain.specs.Links.{ends_in}
-use Rattle.triple_arena_chain.specs.UniquenessLaws.{linear_apart}
-use Rattle.triple_arena_ord.specs.Ordered.{order_in}
 use Rattle.triple_arena_user.proofs.OrderBookLemmas.{answered_as}
 use Rattle.triple_arena_user.proofs.order_book.add_order.Goals as goal
 
@@ -11,14 +7,14 @@ returns g c =
     let new = c.insert_within_capacity.new.self in
     let made = c.insert_within_capacity.ensures in
     let number = g.P.Inx.PtrInx.number in
-    let once = linear_apart (ends_in number new.chains) None (order_in number new) made.ordered.linear in
     let now = answered_as g.P.Ptr.index g.P.Ptr.generation number old new c.new.result c.args.price c.args.order c.as_order.result
     c.insert_within_capacity.result c.new.ensures.key c.new.ensures.value c.as_order.ensures made.inserted
-    (λ j live. c.entries_stand_in_the_list.ensures old j c.len.ensures.ordered live) once made.ascending c.requires in
+    (λ j live. c.entries_stand_in_the_list.ensures old j c.len.ensures.ordered live) made.ascending c.requires in
     record {
       added = now.added;
       replaced = now.replaced;
       fresh = now.fresh;
+      error = now.error;
       full = now.full;
       counter = made.counter;
       room = made.room;
