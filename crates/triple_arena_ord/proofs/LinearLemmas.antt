@@ -38,6 +38,23 @@ module _ {I T : Type 0} (number : I → ℕ) where
       by None h = absurd (cc)
       by (Some x) h = refl
 
+  -- an index that is live is not free, and a pointer that finds an entry finds its item
+  pub not_free : (o inside : Ordered I T) → inside ≡ o → (i : ℕ) → IsSome (entry_in inside i) → entry_in o i ≡ None → ⊥
+  not_free o inside same i live none =
+      let z : IsSome {T = ℕ × T} None = subst IsSome (ap (λ p. entry_in p i) same ∙ none) live in cc
+
+  pub not_missed : (o inside : Ordered I T) → inside ≡ o → (g i : ℕ) → IsSome (value_if g (values_in inside.chains i))
+      → value_if g (entry_in o i) ≡ None → ⊥
+  not_missed o inside same g i found none = by (values_in inside.chains i) found (ap (λ p. value_if g (entry_in p i)) same ∙ none)
+    where
+      by : (v : Option (ℕ × IndexNode I T)) → IsSome (value_if g v) → value_if g (option_map itemed v) ≡ None → ⊥
+      by None h n = cc
+      by (Some a) h n =
+          elim (eqb_tells a.0 g) [
+            | inl is ↦ let z : Some a.1.t ≡ None = subst (λ b. (if b then Some a.1.t else None) ≡ None) is.0 n in cc
+            | inr other ↦ let z : IsSome {T = IndexNode I T} None = subst (λ b. IsSome (if b then Some a.1 else None)) other.0 h in cc
+          ]
+
   -- where a search ends there is an entry
   pub places_live : {f : ℕ → Ordering} (o inside : Ordered I T) → inside ≡ o → IsOrdered number o → (r : Option (I × Ordering))
       → IsAnswer f (tree_in number o) (option_map (λ a. (number a.0, a.1)) r) → IfSome r (λ a. IsSome (entry_in inside (number a.0)))

@@ -1,10 +1,10 @@
 //! Searches by key that go along the list first.
-ghost use Rattle.std.specs.Prelude.{◌+◌, ◌≤◌, IsSome};
+ghost use Rattle.std.specs.Prelude.{◌≡◌, ◌+◌, ◌≤◌, None, IsSome};
 ghost use Rattle.std.specs.Option.{option_map};
 ghost use Rattle.counted_search.specs.Searches.{fair};
 ghost use Rattle.triple_arena.specs.Entries.{value_if};
 ghost use Rattle.triple_arena_ord.specs.Tree.{rank_of};
-ghost use Rattle.triple_arena_ord.specs.Search.{IsParted, IsAnswer};
+ghost use Rattle.triple_arena_ord.specs.Search.{IsParted, IsAnswer, asked_down};
 ghost use Rattle.triple_arena_ord.specs.Near.{IsEndNear, IsAtHand};
 ghost use Rattle.triple_arena_ord.specs.Found.{IsFound, IsSimilar};
 ghost use Rattle.triple_arena_ord.specs.Ordered.{IsOrdered, IsAscending, tree_in, order_in, entry_in, size_in, asked_at};
@@ -35,6 +35,8 @@ impl<
             (tree_in P.Inx.number self.now) (option_map (λ a. (P.Inx.number a.0, a.1)) result) }
         ensures rises { probes.old ≤ probes.new }
         ensures ticks { probes.new ≤ probes.old + (num + rank_of (tree_in P.Inx.number self.now)) }
+        ensures gone { entry_in self.now (P.Inx.number p_init) ≡ None
+            → probes.new ≡ probes.old + asked_down (asked_at T.Key.cmp T.key_of k.now self.now) (tree_in P.Inx.number self.now) }
         ensures near { IsParted (asked_at T.Key.cmp T.key_of k.now self.now) (order_in P.Inx.number self.now)
             → IsSome (entry_in self.now (P.Inx.number p_init))
             → IsAtHand num (asked_at T.Key.cmp T.key_of k.now self.now) (order_in P.Inx.number self.now) (P.Inx.number p_init)
@@ -71,6 +73,8 @@ impl<
             (IsAscending P.Inx.number T.Key.cmp T.key_of self.now) result self.now }
         ensures rises { probes.old ≤ probes.new }
         ensures bound { probes.new ≤ probes.old + (num + fair (size_in self.now)) }
+        ensures gone { value_if (P.generation p_init) (entry_in self.now (P.index p_init)) ≡ None
+            → probes.new ≡ probes.old + asked_down (asked_at T.Key.cmp T.key_of k.now self.now) (tree_in P.Inx.number self.now) }
         ensures near { IsAscending P.Inx.number T.Key.cmp T.key_of self.now
             → IsSome (value_if (P.generation p_init) (entry_in self.now (P.index p_init)))
             → IsEndNear num (asked_at T.Key.cmp T.key_of k.now self.now) (order_in P.Inx.number self.now) (P.index p_init)
@@ -116,6 +120,8 @@ impl<
             (IsAscending P.Inx.number T.Key.cmp T.key_of self.now) result self.now }
         ensures rises { probes.old ≤ probes.new }
         ensures bound { probes.new ≤ probes.old + (num + fair (size_in self.now)) }
+        ensures gone { entry_in self.now (P.Inx.number p_init) ≡ None
+            → probes.new ≡ probes.old + asked_down (asked_at T.Key.cmp T.key_of k.now self.now) (tree_in P.Inx.number self.now) }
         ensures near { IsAscending P.Inx.number T.Key.cmp T.key_of self.now
             → IsSome (entry_in self.now (P.Inx.number p_init))
             → IsAtHand num (asked_at T.Key.cmp T.key_of k.now self.now) (order_in P.Inx.number self.now) (P.Inx.number p_init)

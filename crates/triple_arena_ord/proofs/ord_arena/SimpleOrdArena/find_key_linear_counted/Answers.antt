@@ -1,11 +1,11 @@
-use Rattle.std.proofs.Common.{◌≡◌, Some, IfSome, IsSome, ap, sym, subst, option_map}
-use Rattle.triple_arena.specs.Entries.{generation_at}
+use Rattle.std.proofs.Common.{◌≡◌, Some, None, IfSome, IsSome, ap, sym, subst, option_map}
+use Rattle.triple_arena.specs.Entries.{generation_at, value_if}
 use Rattle.std.specs.declared.cmp.Ordering.TheVariants.{Equal}
 use Rattle.triple_arena_ord.specs.Near.{IsEndNear}
 use Rattle.triple_arena_ord.specs.Ordered.{Ordered, IsOrdered, IsAscending, order_in, entry_in, asked_at}
 use Rattle.triple_arena_ord.proofs.SeekLemmas.{parts_at}
 use Rattle.triple_arena_ord.proofs.FoundLemmas.{found_from}
-use Rattle.triple_arena_ord.proofs.LinearLemmas.{pointed_lives, on_chain, stops_live, linear_answer, linear_missed}
+use Rattle.triple_arena_ord.proofs.LinearLemmas.{pointed_lives, not_missed, on_chain, stops_live, linear_answer, linear_missed}
 use Rattle.triple_arena_ord.proofs.ord_arena.SimpleOrdArena.find_key_linear_counted.Given.{Over}
 use Rattle.triple_arena_ord.proofs.ord_arena.SimpleOrdArena.find_key_linear_counted.Goals.{After-inx}
 use Rattle.triple_arena_ord.proofs.ord_arena.SimpleOrdArena.find_key_linear_counted.Goals as goal
@@ -19,6 +19,11 @@ module _ (g : Over) (c : After-inx g) where
   lives =
       pointed_lives g.P.Inx.PtrInx.number inside (g.P.Ptr.generation c.args.p_init) (g.P.Ptr.index c.args.p_init)
       (g.P.Inx.PtrInx.number c.inx.result) (c.contains.ensures.value.0 (let no = c.if-not-contains.false in cc)) c.inx.ensures
+
+  not_gone : value_if (g.P.Ptr.generation c.args.p_init) (entry_in c.args.self.now (g.P.Ptr.index c.args.p_init)) ≡ None → ⊥
+  not_gone =
+      not_missed g.P.Inx.PtrInx.number c.args.self.now inside c.self.view_is (g.P.Ptr.generation c.args.p_init) (g.P.Ptr.index c.args.p_init)
+      (c.contains.ensures.value.0 (let no = c.if-not-contains.false in cc))
 
   ordered : IsOrdered g.P.Inx.PtrInx.number c.args.self.now
   ordered = subst (IsOrdered g.P.Inx.PtrInx.number) c.self.view_is c.self.invariant.0
@@ -63,3 +68,9 @@ returns-in-None-clause-near g c = λ ascending there end.
     c.args.num c.walk_from-place.ensures.stops c.walk_from-place.ensures.near (c.found_at.ensures.none c.in-None.is)
     (parts_at number cmp key k g.met.T.Key.Ord.total o (ordered g start) ascending)
     (subst (IsEndNear c.args.num (asked_at cmp key k o) (order_in number o)) (sym c.inx.ensures) end))
+
+pub returns-in-Some-clause-gone : goal.returns-in-Some-clause-gone
+returns-in-Some-clause-gone g c = λ none. absurd (not_gone g (goal.at.returns-in-Some-clause-gone g c).After-inx none)
+
+pub returns-in-None-clause-gone : goal.returns-in-None-clause-gone
+returns-in-None-clause-gone g c = λ none. absurd (not_gone g (goal.at.returns-in-None-clause-gone g c).After-inx none)

@@ -1,7 +1,7 @@
 use Rattle.std.proofs.Common.{ℕ, not, ap, ◌∙◌, option_map}
 use Rattle.std.specs.declared.cmp.Ordering.{Ordering}
 use Rattle.triple_arena_ord.specs.Ordered.{Ordered}
-use Rattle.triple_arena_ord.proofs.LinearLemmas.{looked_up, on_chain, linear_answer, linear_near}
+use Rattle.triple_arena_ord.proofs.LinearLemmas.{looked_up, on_chain, not_free, linear_answer, linear_near}
 use Rattle.triple_arena_ord.proofs.ord_arena.SimpleOrdArena.seek_linear.Goals as goal
 
 pub walk_from-requires : goal.walk_from-requires
@@ -26,3 +26,17 @@ returns-in-None-clause-near g c = λ parted there hand.
     let lives = looked_up number g.P.Gen.PtrGen.number (λ b. b.now) inside (number c.args.p_init) c.get_inx.result c.get_inx.ensures (c.is_none.ensures ∙ ap not c.if-is_none.false) in
     absurd (linear_near number g.T.Key.Ord.cmp g.T.SimpleOrdItem.key_of c.args.k.now c.args.self.now inside c.self.view_is c.self.invariant.0 (number c.args.p_init) lives c.walk_from.result
     c.args.num c.walk_from.ensures.near c.in-None.is parted hand)
+
+pub returns-in-Some-clause-gone : goal.returns-in-Some-clause-gone
+returns-in-Some-clause-gone g c = λ none.
+    let number = g.P.Inx.PtrInx.number in
+    let inside : Ordered g.row.P-Inx.Denot g.row.T.Denot = record { chains = c.self.inside.chains; root = option_map number c.self.inside.root } in
+    let lives = looked_up number g.P.Gen.PtrGen.number (λ b. b.now) inside (number c.args.p_init) c.get_inx.result c.get_inx.ensures (c.is_none.ensures ∙ ap not c.if-is_none.false) in
+    absurd (not_free number c.args.self.now inside c.self.view_is (number c.args.p_init) lives none)
+
+pub returns-in-None-clause-gone : goal.returns-in-None-clause-gone
+returns-in-None-clause-gone g c = λ none.
+    let number = g.P.Inx.PtrInx.number in
+    let inside : Ordered g.row.P-Inx.Denot g.row.T.Denot = record { chains = c.self.inside.chains; root = option_map number c.self.inside.root } in
+    let lives = looked_up number g.P.Gen.PtrGen.number (λ b. b.now) inside (number c.args.p_init) c.get_inx.result c.get_inx.ensures (c.is_none.ensures ∙ ap not c.if-is_none.false) in
+    absurd (not_free number c.args.self.now inside c.self.view_is (number c.args.p_init) lives none)
