@@ -12,6 +12,7 @@ use Rattle.triple_arena_ord.proofs.Frames.{make-rank, make-walk, plug-walk, IsDi
 use Rattle.triple_arena_ord.proofs.TurnLemmas.{turn-walk}
 use Rattle.triple_arena_ord.proofs.Spots.{reads, spotted, rank_read}
 
+-- the rules of a node, seen from a side
 pub make-ranked : (s : Side) (a : Tree) (i k : ℕ) (b : Tree) → Fits (rank_of a) k (rank_of b) → IsRanked a → IsRanked b
     → IsRanked (make s a i k b)
 make-ranked Left a i k b f p q = (f, p, q)
@@ -37,6 +38,10 @@ pub record Turns (n : Store) (root : Option ℕ) (low j k : ℕ) (After : Store 
   pub spot : Spot n root low
   pub after : (m : Store) (new_root : Option ℕ) → Stands m new_root (turned spot j k) → After m new_root
 
+-- one node turns up twice, and the rules hold
+abbrev pub TurnsTwice : Store → Option ℕ → ℕ → ℕ → ℕ → List ℕ → Type 0
+TurnsTwice n root middle j k w = Turns n root middle j k (λ m r. Turns m r middle j k (λ m' r'. Restored m' r' w))
+
 abbrev pub lean_spot : (n : Store) (root : Option ℕ) (low : ℕ) (w : List ℕ) → Leaning n root low w → Spot n root low
 lean_spot n root low w h = record {
   context = h.context;
@@ -51,6 +56,7 @@ lean_spot n root low w h = record {
   stands = h.stands;
 }
 
+-- `low` turns up
 pub lean_once : (n : Store) (root : Option ℕ) (low j k : ℕ) (w : List ℕ) (h : Leaning n root low w) → rank_of h.inner + 1 < h.rank
     → j ≡ h.rank → k ≡ h.rank - 1 → Turns n root low j k (λ m r. Restored m r w)
 lean_once n root low j k w h less ej ek =
@@ -102,9 +108,9 @@ turned-distinct n root low spot j k =
     let walks = turn-walk spot.side spot.outer low spot.low_rank spot.inner spot.high spot.high_rank spot.far j k in
     IsDistinct-walk _ (turned spot j k) (plug-walk spot.context _ _ walks) spot.distinct
 
+-- its inner child turns up, twice
 pub lean_twice : (n : Store) (root : Option ℕ) (low middle j k : ℕ) (w : List ℕ) (h : Leaning n root low w)
-    → root_of h.inner ≡ Some middle → h.rank ≤ rank_of h.inner + 1 → j ≡ h.rank → k ≡ h.rank - 1
-    → Turns n root middle j k (λ m r. Turns m r middle j k (λ m' r'. Restored m' r' w))
+    → root_of h.inner ≡ Some middle → h.rank ≤ rank_of h.inner + 1 → j ≡ h.rank → k ≡ h.rank - 1 → TurnsTwice n root middle j k w
 lean_twice n root low middle j k w h is more ej ek =
     let c = h.context in
     let s = h.side in

@@ -15,6 +15,7 @@ use Rattle.triple_arena_ord.proofs.Spots.{is_some, if_some, root-lives, spotted,
 use Rattle.triple_arena_ord.proofs.Leans.{make-ranked, make-ranked-opens, plug-ranked, open_tree, root-some}
 use Rattle.triple_arena_ord.proofs.Climbs.{ranked-write, same-walk-rank, near_of, as_make, as_node, near_ranks, plug-small}
 
+-- the child that a side names keeps what both keep
 near_ranked : (s : Side) (a b : Tree) → IsRanked a → IsRanked b → IsRanked (near_of s a b)
 near_ranked Left a b p q = p
 near_ranked Right a b p q = q
@@ -55,6 +56,11 @@ broken_knot n root high w h = (plug-opens n root h.context (node h.left high h.r
 pub broken_lives : (n : Store) (root : Option ℕ) (high : ℕ) (w : List ℕ) → Broken n root high w → IsSome (n high)
 broken_lives n root high w h = is_some (n high) _ (broken_knot n root high w h)
 
+link_lives : (n : Store) (p : Option ℕ) (t : Tree) (link : Option ℕ) → link ≡ root_of t → Represents n p t
+    → IfSome link (λ i. IsSome (n i))
+link_lives n p t link e h = if_some link (λ i. IsSome (n i)) (λ i u. root-lives n p t i h (sym e ∙ u))
+
+-- what the code reads of the broken node
 pub record BrokenReads (n : Store) (root : Option ℕ) (high : ℕ) (w : List ℕ) (h : Broken n root high w) (above : Knot) : Type 0 where
   pub knot_is : above ≡ knot Left (holder h.context) (root_of h.left) h.rank (root_of h.right)
   pub left_is : above.left ≡ root_of h.left
@@ -63,6 +69,8 @@ pub record BrokenReads (n : Store) (root : Option ℕ) (high : ℕ) (w : List �
   pub holder_is : above.parent ≡ holder h.context
   pub left_stands : Represents n (Some high) h.left
   pub right_stands : Represents n (Some high) h.right
+  pub left_lives : IfSome above.left (λ i. IsSome (n i))
+  pub right_lives : IfSome above.right (λ i. IsSome (n i))
   pub left_small : rank_of h.left ≤ 127
   pub right_small : rank_of h.right ≤ 127
 
@@ -71,22 +79,23 @@ pub broken_reads : (n : Store) (root : Option ℕ) (high : ℕ) (above : Knot) �
 broken_reads n root high above e w h =
     let o = plug-opens n root h.context (node h.left high h.rank h.right) h.stands in
     let is : above ≡ knot Left (holder h.context) (root_of h.left) h.rank (root_of h.right) = cc (broken_knot n root high w h) in
+    let left_is : above.left ≡ root_of h.left = ap (λ v. v.left) is in
+    let right_is : above.right ≡ root_of h.right = ap (λ v. v.right) is in
     record {
       knot_is = is;
-      left_is = ap (λ v. v.left) is;
-      right_is = ap (λ v. v.right) is;
+      left_is = left_is;
+      right_is = right_is;
       rank_is = ap (λ v. v.rank) is;
       holder_is = ap (λ v. v.parent) is;
       left_stands = o.1.1;
       right_stands = o.1.2;
+      left_lives = link_lives n (Some high) h.left above.left left_is o.1.1;
+      right_lives = link_lives n (Some high) h.right above.right right_is o.1.2;
       left_small = plug-small (under h.context Left high h.rank h.right) h.left w h.left_ranked h.is_walk h.small;
       right_small = plug-small (under h.context Right high h.rank h.left) h.right w h.right_ranked h.is_walk h.small;
     }
 
-pub link_lives : (n : Store) (p : Option ℕ) (t : Tree) (link : Option ℕ) → link ≡ root_of t → Represents n p t
-    → IfSome link (λ i. IsSome (n i))
-link_lives n p t link e h = if_some link (λ i. IsSome (n i)) (λ i u. root-lives n p t i h (sym e ∙ u))
-
+-- its rule holds after all
 pub broken_ends : (n : Store) (root : Option ℕ) (high : ℕ) (w : List ℕ) (h : Broken n root high w) → h.rank ≤ rank_of h.left + 2
     → h.rank ≤ rank_of h.right + 2 → h.rank ≤ rank_of h.left + rank_of h.right + 1 → Restored n root w
 broken_ends n root high w h p q r =
@@ -115,6 +124,7 @@ pub record Lowered (m : Store) (root : Option ℕ) (high : ℕ) (old : Store) (p
   pub pending : Pending m root parent w
   pub rises : IfSome parent (λ i. rank_in old high < rank_in m i)
 
+-- a node whose children are both two lower may lose one
 pub broken_lower : (n m : Store) (root : Option ℕ) (high : ℕ) (above : Knot) → n high ≡ Some above
     → Written n m high (with_rank (above.rank - 1) above) → (w : List ℕ) (h : Broken n root high w)
     → rank_of h.left + 2 ≤ h.rank → rank_of h.right + 2 ≤ h.rank → IsUnfit (rank_of h.left) h.rank (rank_of h.right)
@@ -164,6 +174,7 @@ pub record Sibling (n : Store) (root : Option ℕ) (low : ℕ) (w : List ℕ) (h
       spot.high spot.high_rank spot.far)) ≡ w
   pub small : length w < 2 ^ 64
 
+-- a turn comes, where a child of the sibling is one below it
 pub sibling_short : (n : Store) (root : Option ℕ) (low high : ℕ) (w : List ℕ) (h : Sibling n root low w high)
     → h.spot.low_rank + h.spot.low_rank ≤ rank_of h.spot.outer + rank_of h.spot.inner + 3 → Short n root low w
 sibling_short n root low high w h tall = record {
@@ -182,6 +193,7 @@ sibling_short n root low high w h tall = record {
 Left≢Right : Left ≡ Right → ⊥
 Left≢Right e = cc
 
+-- the side that the code takes is that of the higher child
 higher_side : (z : Side) (a b : Tree) → (rank_of a < rank_of b → z ≡ Right) → (rank_of b ≤ rank_of a → z ≡ Left)
     → rank_of (near_of z a b) ≡ max (rank_of a) (rank_of b)
 higher_side Left a b f g = elim (cases_lt (rank_of a) (rank_of b)) [
@@ -267,6 +279,14 @@ broken_sibling n root high low z link w h up e =
       small = h.small;
     }
 
+-- it is there
+pub higher_some : (n : Store) (root : Option ℕ) (high : ℕ) (z : Side) (link : Option ℕ) (w : List ℕ) (h : Broken n root high w)
+    → Higher n root high w h z link → link ≡ None → ⊥
+higher_some n root high z link w h up none =
+    let one_less = up.one_less in
+    let three_less = up.three_less in
+    root-some (near_of z h.left h.right) (omega arith) (sym up.link_is ∙ none)
+
 -- the sibling and the node lose one rank each
 pub sibling_lower : (n m m' : Store) (root : Option ℕ) (low high j k : ℕ) (w : List ℕ) (h : Sibling n root low w high)
     → h.spot.low_rank ≡ rank_of h.spot.outer + 2 → h.spot.low_rank ≡ rank_of h.spot.inner + 2
@@ -323,6 +343,7 @@ spot_apart n root low spot e =
     let g : one low spot.high ≡ 1 = rw e (one-same low) in
     omega arith
 
+-- the repair goes up
 pub mend_falls : (n m : Store) (high : ℕ) (link next : Option ℕ) → link ≡ Some high
     → IfSome next (λ i. rank_in n high < rank_in m i) → rank_in n high < 256 → ahead m next < ahead n link
 mend_falls n m high link None e h small = rw e (omega arith)
@@ -358,6 +379,7 @@ mend_reads n root high above l r e ls ln rs rn w h =
       right_small = b.right_small;
     }
 
+-- what the code found about the rule
 pub not_fit : (b : Bool) (l k r : ℕ) → (IsTrue b ↔ ((k ≤ l + 2) × (k ≤ r + 2) × (k ≤ l + r + 1))) → b ≡ false → IsUnfit l k r
 not_fit b l k r f e = no_fit l k r (λ q. false≢true (sym e ∙ f.1 q))
 
@@ -365,25 +387,14 @@ pub not_fit_at : (n : Store) (root : Option ℕ) (high : ℕ) (w : List ℕ) (h 
     → MendReads n root high w h above l r → IsUnfit l above.rank r → IsUnfit (rank_of h.left) h.rank (rank_of h.right)
 not_fit_at n root high w h above l r m f p q = let g = f (omega arith) (omega arith) in omega arith
 
-pub mend_sibling : (n : Store) (root : Option ℕ) (high low : ℕ) (above : Knot) (l r : ℕ) (z : Side) (link : Option ℕ) (w : List ℕ)
+pub mend_higher : (n : Store) (root : Option ℕ) (high : ℕ) (above : Knot) (l r : ℕ) (z : Side) (link : Option ℕ) (w : List ℕ)
     (h : Broken n root high w) → MendReads n root high w h above l r → n high ≡ Some above
     → IsUnfit l above.rank r → above.rank < max l r + 2 → (l < r → z ≡ Right) → (r ≤ l → z ≡ Left)
-    → link ≡ child_of z above → link ≡ Some low → Sibling n root low w high
-mend_sibling n root high low above l r z link w h m e not_fits tight right left is some =
+    → link ≡ child_of z above → Higher n root high w h z link
+mend_higher n root high above l r z link w h m e not_fits tight right left is =
     let not_fits_at = not_fit_at n root high w h above l r m not_fits in
-    let up = broken_higher n root high above z e w h (λ p. right (omega arith)) (λ p. left (omega arith)) not_fits_at (omega arith) in
-    broken_sibling n root high low z (child_of z above) w h up (sym is ∙ some)
-
-pub mend_some : (n : Store) (root : Option ℕ) (high : ℕ) (above : Knot) (l r : ℕ) (z : Side) (link : Option ℕ) (w : List ℕ)
-    (h : Broken n root high w) → MendReads n root high w h above l r → n high ≡ Some above
-    → IsUnfit l above.rank r → above.rank < max l r + 2 → (l < r → z ≡ Right) → (r ≤ l → z ≡ Left)
-    → link ≡ child_of z above → link ≡ None → ⊥
-mend_some n root high above l r z link w h m e not_fits tight right left is none =
-    let not_fits_at = not_fit_at n root high w h above l r m not_fits in
-    let up = broken_higher n root high above z e w h (λ p. right (omega arith)) (λ p. left (omega arith)) not_fits_at (omega arith) in
-    let one_less = up.one_less in
-    let three_less = up.three_less in
-    root-some (near_of z h.left h.right) (omega arith) (sym up.link_is ∙ sym is ∙ none)
+    subst (Higher n root high w h z) (sym is)
+    (broken_higher n root high above z e w h (λ p. right (omega arith)) (λ p. left (omega arith)) not_fits_at (omega arith))
 
 knot_ranked : (s : Side) (p a : Option ℕ) (k j : ℕ) (b : Option ℕ) → with_rank j (knot s p a k b) ≡ knot s p a j b
 knot_ranked Left p a k j b = refl

@@ -2,9 +2,9 @@ use Rattle.std.proofs.Common.{◌-◌, ℕ, List, sym, ◌∙◌, ap, arith}
 use Rattle.std.specs.Option.{option_map}
 use Rattle.triple_arena_ord.proofs.NameLemmas.{not_some, if_live}
 use Rattle.triple_arena_ord.specs.Node.{knots_in}
-use Rattle.triple_arena_ord.specs.Repair.{Leaning, Restored}
+use Rattle.triple_arena_ord.specs.Repair.{Leaning}
 use Rattle.triple_arena_ord.proofs.Spots.{spot_low, spot_parent, spot_high, spot_child}
-use Rattle.triple_arena_ord.proofs.Leans.{Turns, LeanReads, lean_spot, lean_reads, lean_once, lean_twice, root-some}
+use Rattle.triple_arena_ord.proofs.Leans.{TurnsTwice, LeanReads, lean_spot, lean_reads, lean_once, lean_twice, root-some}
 use Rattle.triple_arena_ord.proofs.inserted.lean.Goals.{After-rank_at, In-Some-inner}
 use Rattle.triple_arena_ord.proofs.inserted.lean.Goals as goal
 
@@ -22,10 +22,8 @@ read g c w h =
 twice : (g : _) (c : In-Some-inner g) (w : List ℕ)
     (h : Leaning (knots_in g.P.Inx.PtrInx.number c.args.chains.now) (option_map g.P.Inx.PtrInx.number c.args.root.now)
     (g.P.Inx.PtrInx.number c.args.low) w)
-    → Turns (knots_in g.P.Inx.PtrInx.number c.args.chains.now) (option_map g.P.Inx.PtrInx.number c.args.root.now)
-    (g.P.Inx.PtrInx.number c.in-Some-inner.middle) c.read-below.result.rank (c.read-below.result.rank - 1)
-    (λ m r. Turns m r (g.P.Inx.PtrInx.number c.in-Some-inner.middle) c.read-below.result.rank (c.read-below.result.rank - 1)
-    (λ m' r'. Restored m' r' w))
+    → TurnsTwice (knots_in g.P.Inx.PtrInx.number c.args.chains.now) (option_map g.P.Inx.PtrInx.number c.args.root.now)
+    (g.P.Inx.PtrInx.number c.in-Some-inner.middle) c.read-below.result.rank (c.read-below.result.rank - 1) w
 twice g c w h =
     let r = read g (goal.at.In-Some-inner g c).After-rank_at w h in
     lean_twice _ _ _ _ _ _ w h (sym r.inner_is ∙ ap (option_map g.P.Inx.PtrInx.number) c.in-Some-inner.is) (omega arith) r.rank_is
@@ -52,9 +50,7 @@ rank_at-requires g c =
 pub overflow_add-rank_at : goal.overflow_add-rank_at
 overflow_add-rank_at g c =
     let h = c.requires.1 in
-    let r = read g (goal.at.overflow_add-rank_at g c).After-rank_at _ h in
-    let f = h.fits in
-    omega arith
+    omega (arith, h, h.fits, read g (goal.at.overflow_add-rank_at g c).After-rank_at _ h)
 
 pub unreachable-requires-in_default-inner : goal.unreachable-requires-in_default-inner
 unreachable-requires-in_default-inner g c =
@@ -65,8 +61,7 @@ unreachable-requires-in_default-inner g c =
 pub overflow_sub-rank-else-rank_at-rank : goal.overflow_sub-rank-else-rank_at-rank
 overflow_sub-rank-else-rank_at-rank g c =
     let h = c.requires.1 in
-    let r = read g (goal.at.overflow_sub-rank-else-rank_at-rank g c).After-rank_at _ h in
-    omega arith
+    omega (arith, h, read g (goal.at.overflow_sub-rank-else-rank_at-rank g c).After-rank_at _ h)
 
 pub turn-requires-else-rank_at-rank : goal.turn-requires-else-rank_at-rank
 turn-requires-else-rank_at-rank g c = (twice g (goal.at.turn-requires-else-rank_at-rank g c).In-Some-inner _ c.requires.1).spot
@@ -74,8 +69,7 @@ turn-requires-else-rank_at-rank g c = (twice g (goal.at.turn-requires-else-rank_
 pub overflow_sub-rank-else-rank_at-rank-2 : goal.overflow_sub-rank-else-rank_at-rank-2
 overflow_sub-rank-else-rank_at-rank-2 g c =
     let h = c.requires.1 in
-    let r = read g (goal.at.overflow_sub-rank-else-rank_at-rank-2 g c).After-rank_at _ h in
-    omega arith
+    omega (arith, h, read g (goal.at.overflow_sub-rank-else-rank_at-rank-2 g c).After-rank_at _ h)
 
 pub turn-requires-else-rank_at-rank-2 : goal.turn-requires-else-rank_at-rank-2
 turn-requires-else-rank_at-rank-2 g c =

@@ -5,8 +5,8 @@ use Rattle.triple_arena_ord.specs.Node.{knots_in, named}
 use Rattle.triple_arena_ord.specs.Store.{rank_in}
 use Rattle.triple_arena_ord.specs.Repair.{Broken}
 use Rattle.triple_arena_ord.proofs.Spots.{spot_low}
-use Rattle.triple_arena_ord.proofs.Mends.{MendReads, Lowered, Sibling, broken_lives, broken_reads, link_lives, broken_ends, broken_lower, mend_reads, not_fit, not_fit_at, mend_sibling, mend_some, mend_lower, sibling_short, sets_lives}
-use Rattle.triple_arena_ord.proofs.removed.mend.Goals.{After-rank_at-right, After-set_rank, In-Some, After-set_rank-3}
+use Rattle.triple_arena_ord.proofs.Mends.{MendReads, Lowered, Higher, Sibling, broken_lives, broken_reads, broken_ends, broken_lower, broken_sibling, mend_reads, not_fit, not_fit_at, mend_higher, higher_some, mend_lower, sibling_short, sets_lives}
+use Rattle.triple_arena_ord.proofs.removed.mend.Goals.{After-rank_at-right, After-set_rank, After-child, In-Some, After-set_rank-3}
 use Rattle.triple_arena_ord.proofs.removed.mend.Goals as goal
 
 -- what was read is what stands there
@@ -30,17 +30,23 @@ falls g c w h =
     broken_lower _ _ _ _ _ c.read-above.ensures (c.set_rank.ensures.does _ c.read-above.ensures) w h (omega arith) (omega arith)
     (not_fit_at _ _ _ _ h _ _ _ m (not_fit _ _ _ _ c.is_fit.ensures c.if-is_fit.false))
 
--- the higher child is the sibling of one that is three lower
+-- the higher child is one lower, and the other three
+higher : (g : _) (c : After-child g) (w : List ℕ)
+    (h : Broken (knots_in g.P.Inx.PtrInx.number c.args.chains.now) (option_map g.P.Inx.PtrInx.number c.args.root.now)
+    (g.P.Inx.PtrInx.number c.args.high) w)
+    → Higher _ _ _ w h c.higher.result (option_map g.P.Inx.PtrInx.number c.child.result)
+higher g c w h =
+    let m = read g (goal.at.After-child g c).After-rank_at-right w h in
+    mend_higher _ _ _ _ _ _ _ _ w h m c.read-above.ensures (not_fit _ _ _ _ c.is_fit.ensures c.if-is_fit.false) (omega arith)
+    c.higher.ensures.right c.higher.ensures.left c.child.ensures
+
 sibling : (g : _) (c : In-Some g) (w : List ℕ)
     → Broken (knots_in g.P.Inx.PtrInx.number c.args.chains.now) (option_map g.P.Inx.PtrInx.number c.args.root.now)
     (g.P.Inx.PtrInx.number c.args.high) w
     → Sibling (knots_in g.P.Inx.PtrInx.number c.args.chains.now) (option_map g.P.Inx.PtrInx.number c.args.root.now)
     (g.P.Inx.PtrInx.number c.in-Some.low) w (g.P.Inx.PtrInx.number c.args.high)
 sibling g c w h =
-    let m = read g (goal.at.In-Some g c).After-rank_at-right w h in
-    mend_sibling _ _ _ _ _ _ _ _ (option_map g.P.Inx.PtrInx.number c.child.result) w h m c.read-above.ensures
-    (not_fit _ _ _ _ c.is_fit.ensures c.if-is_fit.false) (omega arith) c.higher.ensures.right c.higher.ensures.left
-    c.child.ensures (ap (option_map g.P.Inx.PtrInx.number) c.in-Some.is)
+    broken_sibling _ _ _ _ _ _ w h (higher g (goal.at.In-Some g c).After-child w h) (ap (option_map g.P.Inx.PtrInx.number) c.in-Some.is)
 
 -- the sibling and the node lose one rank each
 both_fall : (g : _) (c : After-set_rank-3 g) (w : List ℕ)
@@ -52,38 +58,29 @@ both_fall : (g : _) (c : After-set_rank-3 g) (w : List ℕ)
 both_fall g c w h =
     let s = sibling g (goal.at.After-set_rank-3 g c).In-Some w h in
     let r = c.look_around-near.ensures _ s.spot in
-    let f = s.fits in
-    let one = s.one_less in
-    let three = s.three_less in
-    mend_lower _ _ _ _ _ _ _ _ _ w s c.read-above.ensures (omega arith) (omega arith) (ap (λ z. z - 1) r.low_rank_is) refl
-    c.set_rank-2.ensures.does c.set_rank-3.ensures.does
+    mend_lower _ _ _ _ _ _ _ _ _ w s c.read-above.ensures (omega (arith, s, s.fits, r)) (omega (arith, s, s.fits, r))
+    (ap (λ z. z - 1) r.low_rank_is) refl c.set_rank-2.ensures.does c.set_rank-3.ensures.does
 
 pub read-above-requires : goal.read-above-requires
 read-above-requires g c = broken_lives _ _ _ _ c.requires.1
 
 pub rank_at-left-requires : goal.rank_at-left-requires
 rank_at-left-requires g c =
-    let h = c.requires.1 in
-    let b = broken_reads _ _ _ _ c.read-above.ensures _ h in
     if_live_from g.P.Inx.PtrInx.number (knots_in g.P.Inx.PtrInx.number c.args.chains.now) c.read-above.result.left
-    (link_lives _ _ h.left _ b.left_is b.left_stands)
+    (broken_reads _ _ _ _ c.read-above.ensures _ c.requires.1).left_lives
 
 pub rank_at-right-requires : goal.rank_at-right-requires
 rank_at-right-requires g c =
-    let h = c.requires.1 in
-    let b = broken_reads _ _ _ _ c.read-above.ensures _ h in
     if_live_from g.P.Inx.PtrInx.number (knots_in g.P.Inx.PtrInx.number c.args.chains.now) c.read-above.result.right
-    (link_lives _ _ h.right _ b.right_is b.right_stands)
+    (broken_reads _ _ _ _ c.read-above.ensures _ c.requires.1).right_lives
 
 pub is_fit-requires-clause-low_left : goal.is_fit-requires-clause-low_left
 is_fit-requires-clause-low_left g c =
-    let m = read g (goal.at.is_fit-requires-clause-low_left g c).After-rank_at-right _ c.requires.1 in
-    omega arith
+    omega (arith, read g (goal.at.is_fit-requires-clause-low_left g c).After-rank_at-right _ c.requires.1)
 
 pub is_fit-requires-clause-low_right : goal.is_fit-requires-clause-low_right
 is_fit-requires-clause-low_right g c =
-    let m = read g (goal.at.is_fit-requires-clause-low_right g c).After-rank_at-right _ c.requires.1 in
-    omega arith
+    omega (arith, read g (goal.at.is_fit-requires-clause-low_right g c).After-rank_at-right _ c.requires.1)
 
 pub returns-then-is_fit-clause-pending : goal.returns-then-is_fit-clause-pending
 returns-then-is_fit-clause-pending g c = λ w h.
@@ -92,7 +89,7 @@ returns-then-is_fit-clause-pending g c = λ w h.
     broken_ends _ _ _ w h (omega arith) (omega arith) (omega arith)
 
 pub overflow_add-max : goal.overflow_add-max
-overflow_add-max g c = let m = read g (goal.at.overflow_add-max g c).After-rank_at-right _ c.requires.1 in omega arith
+overflow_add-max g c = omega (arith, read g (goal.at.overflow_add-max g c).After-rank_at-right _ c.requires.1)
 
 pub returns-then-max-rank-clause-pending : goal.returns-then-max-rank-clause-pending
 returns-then-max-rank-clause-pending g c = λ w h. (falls g (goal.at.returns-then-max-rank-clause-pending g c).After-set_rank w h).pending
@@ -107,10 +104,8 @@ returns-then-max-rank-clause-rises g c =
 pub unreachable-requires : goal.unreachable-requires
 unreachable-requires g c =
     let h = c.requires.1 in
-    let m = read g (goal.at.unreachable-requires g c).After-rank_at-right _ h in
-    mend_some _ _ _ _ _ _ _ (option_map g.P.Inx.PtrInx.number c.child.result) _ h m c.read-above.ensures
-    (not_fit _ _ _ _ c.is_fit.ensures c.if-is_fit.false) (omega arith) c.higher.ensures.right c.higher.ensures.left
-    c.child.ensures (ap (option_map g.P.Inx.PtrInx.number) c.in_default.is)
+    higher_some _ _ _ _ _ _ h (higher g (goal.at.unreachable-requires g c).After-child _ h)
+    (ap (option_map g.P.Inx.PtrInx.number) c.in_default.is)
 
 pub look_around-near-requires : goal.look_around-near-requires
 look_around-near-requires g c =
@@ -119,25 +114,17 @@ look_around-near-requires g c =
 pub overflow_add-max-2 : goal.overflow_add-max-2
 overflow_add-max-2 g c =
     let s = sibling g (goal.at.overflow_add-max-2 g c).In-Some _ c.requires.1 in
-    let r = c.look_around-near.ensures _ s.spot in
-    let f = s.fits in
-    let one = s.one_less in
-    let three = s.three_less in
-    omega arith
+    omega (arith, s, s.fits, c.look_around-near.ensures _ s.spot)
 
 pub shorten-requires : goal.shorten-requires
 shorten-requires g c =
     let s = sibling g (goal.at.shorten-requires g c).In-Some _ c.requires.1 in
-    let r = c.look_around-near.ensures _ s.spot in
-    let f = s.fits in
-    (c.requires.0, sibling_short _ _ _ _ _ s (omega arith))
+    (c.requires.0, sibling_short _ _ _ _ _ s (omega (arith, s, s.fits, c.look_around-near.ensures _ s.spot)))
 
 pub returns-then-near-max-clause-pending : goal.returns-then-near-max-clause-pending
 returns-then-near-max-clause-pending g c = λ w h.
     let s = sibling g (goal.at.returns-then-near-max-clause-pending g c).In-Some w h in
-    let r = c.look_around-near.ensures _ s.spot in
-    let f = s.fits in
-    c.shorten.ensures.does w (sibling_short _ _ _ _ w s (omega arith))
+    c.shorten.ensures.does w (sibling_short _ _ _ _ w s (omega (arith, s, s.fits, c.look_around-near.ensures _ s.spot)))
 
 pub set_rank-requires-2 : goal.set_rank-requires-2
 set_rank-requires-2 g c = spot_low _ _ _ (sibling g (goal.at.set_rank-requires-2 g c).In-Some _ c.requires.1).spot
