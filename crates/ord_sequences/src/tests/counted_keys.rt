@@ -104,12 +104,19 @@ fn finds_key<'a>(rt: &impl Abort, arena: &Counted<'a>, k: &Counting<'a>) {
     let found = arena.find_key_counted(k, &mut probes);
     just_ticks(rt, k.calls, before, &probes, MOST);
     assert!(rt; found.is_some() == (k.n % 2 == 0 && 0 < k.n && k.n <= 1000));
+    // With no count it compares as often.
+    let before = k.calls.get();
+    assert!(rt; arena.find_key(k) == found);
+    just_ticks(rt, k.calls, before, &probes, MOST);
 }
 
 fn finds_similar_key<'a>(rt: &impl Abort, arena: &Counted<'a>, k: &Counting<'a>) {
     let mut probes = Probes::new();
     let before = k.calls.get();
     let similar = arena.find_similar_key_counted(k, &mut probes);
+    just_ticks(rt, k.calls, before, &probes, MOST);
+    let before = k.calls.get();
+    assert!(rt; arena.find_similar_key(k) == similar);
     just_ticks(rt, k.calls, before, &probes, MOST);
     match similar {
         Some((p, answer)) => {
@@ -127,6 +134,9 @@ fn finds_along<'a>(rt: &impl Abort, arena: &Counted<'a>, start: P0, k: &Counting
     let before = k.calls.get();
     let found = arena.find_key_linear_counted(start, 7, k, &mut probes);
     just_ticks(rt, k.calls, before, &probes, most);
+    let before = k.calls.get();
+    assert!(rt; arena.find_key_linear(start, 7, k) == found);
+    just_ticks(rt, k.calls, before, &probes, most);
     assert!(rt; found == arena.find_key(k));
 }
 
@@ -140,6 +150,9 @@ fn finds_similar_along<'a>(
     let mut probes = Probes::new();
     let before = k.calls.get();
     let similar = arena.find_similar_key_linear_counted(start.inx(), 7, k, &mut probes);
+    just_ticks(rt, k.calls, before, &probes, most);
+    let before = k.calls.get();
+    assert!(rt; arena.find_similar_key_linear(start.inx(), 7, k) == similar);
     just_ticks(rt, k.calls, before, &probes, most);
     match similar {
         Some((p, answer)) => assert!(rt; answer != Ordering::Equal || arena.find_key(k) == Some(p)),
