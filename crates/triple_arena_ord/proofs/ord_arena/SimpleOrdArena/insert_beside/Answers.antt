@@ -15,6 +15,3 @@ invariant_of-self g c =
       c.moved-self-inside.ensures ∙ first_moved number o p c.self.invariant.0 c.args.side (number c.args.holder) (number c.inx-inx.result) s _ c.self.invariant.1,
       c.moved-self-inside-2.ensures ∙ last_moved number o p c.self.invariant.0 c.args.side (number c.args.holder) (number c.inx-inx.result) s _ c.self.invariant.2,
     )
-
-pub returns-clause-added : goal.returns-clause-added
-returns-clause-added g c = ?
