@@ -1,6 +1,6 @@
 -- Another room, and an insertion after a growth.
 use Rattle.std.specs.Prelude.{IfOk, OnOk, OnErr, is_ok}
-use Rattle.std.proofs.Common.{◌≡◌, ◌≢◌, ◌==◌, ℕ, ◌<◌, ◌≤◌, max, length, drop, Bool, List, if◌then◌else◌, Option, Some, None, Result, Ok, Err, IsOk, false, refl, sym, ap, ◌∙◌, subst, arith, inl, inr}
+use Rattle.std.proofs.Common.{◌≡◌, ◌≢◌, ◌==◌, ℕ, ◌+◌, ◌<◌, ◌≤◌, max, length, drop, Bool, List, if◌then◌else◌, Option, Some, None, Result, Ok, Err, IsOk, false, refl, sym, ap, ◌∙◌, subst, arith, inl, inr}
 use Rattle.std.proofs.lemmas.Bool.{cases_lt}
 use Rattle.std.specs.declared.cmp.Ordering.{Ordering}
 use Rattle.std.specs.declared.cmp.Ordering.TheVariants.{Equal}

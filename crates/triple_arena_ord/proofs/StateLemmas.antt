@@ -122,8 +122,11 @@ module _ {I T : Type 0} (number : I → ℕ) where
       by None e = absurd (let no : None ≡ Some (g, u) = sym (ap (option_map itemed) e) ∙ at in cc no)
       by (Some n) e =
           let found : Some (itemed n) ≡ Some (g, u) = sym (ap (option_map itemed) e) ∙ at in
-          let stamp : n.0 ≡ g = cc found in
-          let item : n.1.t ≡ u = cc found in
+          let there : ℕ × T = itemed n in
+          let known : ℕ × T = (g, u) in
+          let same : there ≡ known = cc found in
+          let stamp : n.0 ≡ g = ap (λ (x : ℕ × T). x.0) same in
+          let item : n.1.t ≡ u = ap (λ (x : ℕ × T). x.1) same in
           let d = with_value_in o.chains i (record n.1 { t = t }) in
           let lent : d ≡ (with_item o i t).chains = item_lent o.chains i n.1 t (ap (option_map (λ e. e.1)) e) in
           let renewed_here = renewed number o.chains i n.0 n.1 (record n.1 { t = t }) e refl in

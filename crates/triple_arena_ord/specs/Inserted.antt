@@ -59,6 +59,11 @@ growing_room takes_memory len room (Some error) = (capacity room ≤ len) × by 
     by BeyondMaxCapacity = room.limit ≡ Some len
     by AllocError = IsTrue takes_memory × (room.limit ≢ Some len)
 
+-- the same of a call that does not grow, or of one that does, over a stack that may take memory
+abbrev pub either_room : Option Bool → ℕ → Room → Option OrdInsertionError → Type 0
+either_room None = within_room
+either_room (Some takes_memory) = growing_room takes_memory
+
 -- the room after an insertion: a new entry, which replaces no item, makes it grow where it is full
 abbrev pub room_made : {T : Type 0} → Option T → ℕ → Room → Room
 room_made None len room = room_after len room

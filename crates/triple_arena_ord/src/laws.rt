@@ -1,12 +1,12 @@
 //! What follows from the calls of an ordered arena.
-ghost use Rattle.std.specs.Prelude.{◌≡◌, ◌≢◌, ◌+◌, ◌*◌, ◌^◌, ◌<◌, ◌≤◌, ℕ, List, ◌∷◌, ◌++◌, Option, Some, None, IsSome, Result};
+ghost use Rattle.std.specs.Prelude.{◌≡◌, ◌≢◌, ◌+◌, ◌*◌, ◌^◌, ◌<◌, ◌≤◌, ℕ, Bool, List, ◌∷◌, ◌++◌, Option, Some, None, IsSome, Result};
 ghost use Rattle.std.specs.List.{AllByRecursion};
 ghost use Rattle.std.specs.declared.cmp.Ordering.{Ordering as Way};
 ghost use Rattle.triple_arena_ptr.specs.declared.errors.OrdInsertionError.{OrdInsertionError as Refused};
 ghost use Rattle.triple_arena_chain.specs.Chains.{On};
 ghost use Rattle.triple_arena_ord.specs.Asked.{IsWay};
 ghost use Rattle.triple_arena_ord.specs.AskedLaws.{IsCutAt, last_greater, last_less};
-ghost use Rattle.triple_arena_ord.specs.Inserted.{IsInsertedAt, IsReplaced};
+ghost use Rattle.triple_arena_ord.specs.Inserted.{IsInsertedAt, IsReplaced, either_room};
 ghost use Rattle.triple_arena_ord.specs.Ordered.{Ordered, IsOrdered, IsAscending, tree_in, order_in, entry_in, size_in, asked_at};
 ghost use Rattle.triple_arena_ord.specs.Placing.{IsPlaceByKey, IsPlaceBeforeEqual};
 ghost use Rattle.triple_arena_ord.specs.Removal.{IsRemoved};
@@ -61,14 +61,14 @@ pub fn writes_keep_the_list<P: Ptr, T>()
 /// directly before an entry with an equal key there.
 pub fn insertions_keep_keys_ascending<P: Ptr, T: SimpleOrdItem>()
     ensures by_key { (place : Option (ℕ × Way)) (t : T) (result : Result (P × Option T) Refused) (old new : Ordered P.Inx T)
-        → (allows : Option Refused → Type 0) → IsOrdered P.Inx.number old → IsOrdered P.Inx.number new
+        → (growth : Option Bool) → IsOrdered P.Inx.number old → IsOrdered P.Inx.number new
         → IsPlaceByKey P.Inx.number T.Key.cmp T.key_of (T.key_of t) old place
-        → IsInsertedAt P.Inx.number P.index P.generation allows place t result old new
+        → IsInsertedAt P.Inx.number P.index P.generation (either_room growth (size_in old) old.chains.room) place t result old new
         → IsAscending P.Inx.number T.Key.cmp T.key_of old → IsAscending P.Inx.number T.Key.cmp T.key_of new }
     ensures before_equal { (place : Option (ℕ × Way)) (t : T) (result : Result (P × Option T) Refused) (old new : Ordered P.Inx T)
-        → (allows : Option Refused → Type 0) → IsOrdered P.Inx.number old → IsOrdered P.Inx.number new
+        → (growth : Option Bool) → IsOrdered P.Inx.number old → IsOrdered P.Inx.number new
         → IsPlaceBeforeEqual P.Inx.number T.Key.cmp T.key_of (T.key_of t) old place
-        → IsInsertedAt P.Inx.number P.index P.generation allows place t result old new
+        → IsInsertedAt P.Inx.number P.index P.generation (either_room growth (size_in old) old.chains.room) place t result old new
         → IsAscending P.Inx.number T.Key.cmp T.key_of old → IsAscending P.Inx.number T.Key.cmp T.key_of new }
 {}
 
