@@ -214,6 +214,24 @@ module _ {K T : Type 0} (R : K → K → Ordering) (key : T → K) (total : IsTo
       by None at rest = rw at rest
       by (Some o) at rest = rw at (record { left = λ z. refl; right = λ z. refl }, rest)
 
+  -- entries whose keys are the same
+  keyed : (a b : ℕ → Option (ℕ × T)) → ((k : ℕ) → option_map (λ e. key e.1) (b k) ≡ option_map (λ e. key e.1) (a k))
+      → (w : List ℕ) → Pairs below (listed_of a w) (listed_of b w)
+  keyed a b same [] = tt
+  keyed a b same (x ∷ xs) = by (a x) refl (b x) refl (keyed a b same xs)
+    where
+      by : (o : Option (ℕ × T)) → a x ≡ o → (q : Option (ℕ × T)) → b x ≡ q → Pairs below (listed_of a xs) (listed_of b xs)
+          → Pairs below (listed_of a (x ∷ xs)) (listed_of b (x ∷ xs))
+      by None at None to rest = rw (at, to) rest
+      by None at (Some q) to rest =
+          absurd (let z : Some (key q.1) ≡ None = sym (ap (option_map (λ e. key e.1)) to) ∙ same x ∙ ap (option_map (λ e. key e.1)) at in cc)
+      by (Some o) at None to rest =
+          absurd (let z : None ≡ Some (key o.1) = sym (ap (option_map (λ e. key e.1)) to) ∙ same x ∙ ap (option_map (λ e. key e.1)) at in cc)
+      by (Some o) at (Some q) to rest =
+          let found : Some (key q.1) ≡ Some (key o.1) = sym (ap (option_map (λ e. key e.1)) to) ∙ same x ∙ ap (option_map (λ e. key e.1)) at in
+          let e : key q.1 ≡ key o.1 = cc found in
+          rw (at, to) (record { left = λ z. rw e refl; right = λ z. rw e refl }, rest)
+
   -- without an index
   kept-all : (entry : ℕ → Option (ℕ × T)) (h : ℕ) (Q : ℕ × (ℕ × T) → Type 0) (w : List ℕ)
       → AllOf below Q (listed_of entry w) → AllOf below Q (listed_of (without entry h) w)
@@ -268,6 +286,14 @@ module _ {K T : Type 0} (R : K → K → Ordering) (key : T → K) (total : IsTo
         ∙ sym (filter_map-append f s.order.before s.order.after) in
         subst (λ v. IsSorted below (listed_of (entry_in p) v)) (sym s.order.is)
         (subst (IsSorted below) (ap (listed_of (entry_in p)) s.order.was ∙ same) left)
+
+  pub keyed_ascending : {I : Type 0} (number : I → ℕ) (o p : Ordered I T) → order_in number p ≡ order_in number o
+      → ((k : ℕ) → option_map (λ e. key e.1) (entry_in p k) ≡ option_map (λ e. key e.1) (entry_in o k))
+      → IsAscending number R key o → IsAscending number R key p
+  keyed_ascending number o p order keys ascending =
+      subst (λ w. IsSorted below (listed_of (entry_in p) w)) (sym order)
+      (carried below (listed_of (entry_in o) (order_in number o)) (listed_of (entry_in p) (order_in number o))
+      (keyed (entry_in o) (entry_in p) keys (order_in number o)) ascending)
 
   module _ {I : Type 0} (number : I → ℕ) (o p : Ordered I T) (i g : ℕ) (t : T) where
     pub replaced_ascending : (u : T) → R (key t) (key u) ≡ Equal → IsReplaced number i g t u o p → IsAscending number R key o → IsAscending number R key p

@@ -1,6 +1,7 @@
 //! What follows from the calls of an ordered arena.
 ghost use Rattle.std.specs.Prelude.{◌≡◌, ◌≢◌, ◌+◌, ◌*◌, ◌^◌, ◌<◌, ◌≤◌, ℕ, Bool, List, ◌∷◌, ◌++◌, Option, Some, None, IsSome, Result};
 ghost use Rattle.std.specs.List.{AllByRecursion};
+ghost use Rattle.std.specs.Option.{option_map};
 ghost use Rattle.std.specs.declared.cmp.Ordering.{Ordering as Way};
 ghost use Rattle.triple_arena_ptr.specs.declared.errors.OrdInsertionError.{OrdInsertionError as Refused};
 ghost use Rattle.triple_arena_chain.specs.Chains.{On};
@@ -41,6 +42,16 @@ pub fn keys_ascend_along_the_list<P: Ptr, T: SimpleOrdItem>()
         → IsAscending P.Inx.number T.Key.cmp T.key_of o → order_in P.Inx.number o ≡ front ++ i ∷ back
         → entry_in o i ≡ Some entry
         → AllIn (λ j. asked_at T.Key.cmp T.key_of (T.key_of entry.1) o j ≢ Way.Greater) back }
+{}
+
+/// A list whose keys ascend still does where the list and the keys stay, and where an item is replaced by one with an equal key.
+pub fn keys_that_stay_ascend<P: Ptr, T: SimpleOrdItem>()
+    ensures same { (old new : Ordered P.Inx T) → order_in P.Inx.number new ≡ order_in P.Inx.number old
+        → ((i : ℕ) → option_map (λ e. T.key_of e.1) (entry_in new i) ≡ option_map (λ e. T.key_of e.1) (entry_in old i))
+        → IsAscending P.Inx.number T.Key.cmp T.key_of old → IsAscending P.Inx.number T.Key.cmp T.key_of new }
+    ensures replaced { (i g : ℕ) (t u : T) (old new : Ordered P.Inx T) → IsReplaced P.Inx.number i g t u old new
+        → T.Key.cmp (T.key_of t) (T.key_of u) ≡ Way.Equal
+        → IsAscending P.Inx.number T.Key.cmp T.key_of old → IsAscending P.Inx.number T.Key.cmp T.key_of new }
 {}
 
 /// A list whose keys ascend still does after a removal.
