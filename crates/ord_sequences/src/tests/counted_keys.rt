@@ -5,6 +5,7 @@ ghost use Rattle.std.specs.Cmp.{partial_order_from_own_ties};
 ghost use Rattle.std.specs.Cmp.Rules.{comparing};
 ghost use Rattle.std.specs.Ordering.{nat_cmp, on, as_partial_cmp};
 
+use super::entries::tells;
 use std::cell::Cell;
 use std::cmp::Ordering;
 use std::process::Abort;
@@ -189,14 +190,12 @@ fn is_new_entry<'a>(
     kind: InsertKind<<P0 as Ptr>::Inx, &Counting<'a>>,
 ) -> bool {
     let before = calls.get();
-    let told = match arena.entry_insert_within_capacity(kind) {
-        Ok(entry) => entry.ptr(),
-        Err(_) => panic!(rt; "there is room"),
-    };
+    let told = tells(arena, kind);
     assert!(rt; calls.get().wrapping_sub(before) <= 7);
     match told {
-        OrdEntryKind::New(_) => true,
-        OrdEntryKind::Replacing(_) => false,
+        Ok(OrdEntryKind::New(_)) => true,
+        Ok(OrdEntryKind::Replacing(_)) => false,
+        Err(_) => panic!(rt; "there is room"),
     }
 }
 

@@ -7,6 +7,7 @@ use triple_arena::{ArenaSlot, NonZeroInxArray, NonZeroInxGenericStack, NonZeroIn
 use triple_arena_chain::LinkNoGen;
 use triple_arena_ord::{
     InsertKind, OrdEntryKind, OrdInsertKind, OrdPair, SimpleOrdArena, SimpleOrdArenaNode,
+    SimpleOrdItem,
 };
 use triple_arena_ptr::OrdInsertionError;
 
@@ -39,11 +40,15 @@ pub(crate) fn digits<
 }
 
 // What an entry tells, which is dropped then.
-fn tells<P: Ptr, S: NonZeroInxGenericStack<SlotOf<P>> + Drop>(
-    pairs: &mut SimpleOrdArena<P, Item, S>,
-    kind: OrdInsertKind<P, &u64>,
+pub(crate) fn tells<
+    P: Ptr,
+    T: SimpleOrdItem + Drop,
+    S: NonZeroInxGenericStack<ArenaSlot<P, LinkNoGen<P, SimpleOrdArenaNode<P, T>>>> + Drop,
+>(
+    arena: &mut SimpleOrdArena<P, T, S>,
+    kind: OrdInsertKind<P, &T::Key>,
 ) -> Result<OrdEntryKind<P>, OrdInsertionError> {
-    Ok(pairs.entry_insert_within_capacity(kind)?.ptr())
+    Ok(arena.entry_insert_within_capacity(kind)?.ptr())
 }
 
 // The same of an entry for which the arena may grow, by either call.
