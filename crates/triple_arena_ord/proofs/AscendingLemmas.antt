@@ -18,7 +18,7 @@ use Rattle.triple_arena_chain.specs.Chains.{Off, Apart}
 use Rattle.triple_arena_chain.specs.ChainLaws.{Apart-taken, Off-front, Off-back}
 use Rattle.triple_arena_chain.specs.Links.{ends_in}
 use Rattle.triple_arena_chain.specs.UniquenessLaws.{linear_apart}
-use Rattle.triple_arena_ord.specs.Search.{AllIn}
+use Rattle.rank_tree.specs.Search.{AllIn}
 use Rattle.triple_arena_ord.specs.Ordered.{Ordered, IsOrdered, IsAscending, order_in, entry_in, asked_of}
 use Rattle.triple_arena_ord.specs.Inserted.{StandsAt, IsReplaced, IsAdded, IsInsertedAt}
 use Rattle.triple_arena_ord.specs.Removal.{IsRemoved}

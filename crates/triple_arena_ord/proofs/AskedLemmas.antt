@@ -7,14 +7,14 @@ use Rattle.std.proofs.lemmas.Fn.{FoldsTo-push}
 use Rattle.std.proofs.lemmas.List.{map-append}
 use Rattle.std.specs.declared.cmp.Ordering.{Ordering}
 use Rattle.std.specs.declared.cmp.Ordering.TheVariants.{Less, Equal, Greater}
-use Rattle.triple_arena_ord.specs.Knot.{Knot}
-use Rattle.triple_arena_ord.specs.declared.knots.Side.TheVariants.{Left}
+use Rattle.rank_tree.specs.Knot.{Knot}
+use Rattle.rank_tree.specs.declared.side.Side.TheVariants.{Left}
 use Rattle.triple_arena_ord.specs.declared.node.IndexNode.{IndexNode}
 use Rattle.triple_arena_ord.specs.Node.{knot_of, itemed}
-use Rattle.triple_arena_ord.specs.Store.{Store, rank_or_link, rank_or_zero}
-use Rattle.triple_arena_ord.specs.Tree.{Tree, leaf, node, walk, rank_of, IsRanked}
-use Rattle.triple_arena_ord.specs.Shape.{knot, root_of, Represents}
-use Rattle.triple_arena_ord.specs.Whole.{IsWhole, tree_of}
+use Rattle.rank_tree.specs.Store.{Store, rank_or_link, rank_or_zero}
+use Rattle.rank_tree.specs.Tree.{Tree, leaf, node, walk, rank_of, IsRanked}
+use Rattle.rank_tree.specs.Shape.{knot, root_of, Represents}
+use Rattle.rank_tree.specs.Whole.{IsWhole, tree_of}
 use Rattle.triple_arena_ord.specs.Asked.{IsWay, Question, IsAsked, knots_among, items_among}
 
 -- where an answer leads

@@ -5,8 +5,8 @@ use Rattle.triple_arena_chain.specs.Chains.{Off, Apart, first_or, last_or}
 use Rattle.triple_arena_chain.specs.ChainLaws.{Off-not_on, last_or-append}
 use Rattle.triple_arena_chain.specs.Links.{ends_in}
 use Rattle.triple_arena_chain.specs.UniquenessLaws.{linear_apart}
-use Rattle.triple_arena_ord.specs.declared.knots.Side.{Side}
-use Rattle.triple_arena_ord.specs.declared.knots.Side.TheVariants.{Left, Right}
+use Rattle.rank_tree.specs.declared.side.Side.{Side}
+use Rattle.rank_tree.specs.declared.side.Side.TheVariants.{Left, Right}
 use Rattle.triple_arena_ord.specs.Ordered.{Ordered, IsOrdered, StandsBeside, beside, moved, replaced, order_in}
 
 first_left : (before : List ℕ) (h n : ℕ) (after : List ℕ) → Apart (before ++ h ∷ after) → replaced (first_or (before ++ h ∷ after) None) h n ≡ first_or (before ++ n ∷ h ∷ after) None

@@ -6,14 +6,14 @@ use Rattle.std.specs.List.{FoldsTo, AllByRecursion, last_or}
 use Rattle.std.specs.declared.cmp.Ordering.{Ordering}
 use Rattle.std.specs.declared.cmp.Ordering.TheVariants.{Less, Equal, Greater}
 use Rattle.triple_arena.specs.Entries.{generation_at}
-use Rattle.triple_arena_ord.specs.Tree.{Tree, leaf, node, walk, size}
-use Rattle.triple_arena_ord.specs.Shape.{root_of, count}
-use Rattle.triple_arena_ord.specs.Search.{IsParted, Places, IsAnswer}
+use Rattle.rank_tree.specs.Tree.{Tree, leaf, node, walk, size}
+use Rattle.rank_tree.specs.Shape.{root_of, count}
+use Rattle.rank_tree.specs.Search.{IsParted, Places, IsAnswer}
 use Rattle.triple_arena_ord.specs.Near.{IsStop}
 use Rattle.triple_arena_ord.specs.Asked.{Question, IsAsked, AnswersBy, answer_of, answer_at, found_by}
 use Rattle.triple_arena_ord.specs.Found.{IsFound, IsSimilar}
 use Rattle.triple_arena_ord.specs.Ordered.{Ordered, IsOrdered, tree_in, order_in, entry_in, size_in}
-use Rattle.triple_arena_ord.proofs.Climbs.{size-walk}
+use Rattle.rank_tree.proofs.Climbs.{size-walk}
 use Rattle.triple_arena_ord.proofs.LiveLemmas.{entry_counted}
 use Rattle.triple_arena_ord.proofs.SeekLemmas.{all-counted, unequal}
 use Rattle.triple_arena_ord.proofs.WayLemmas.{walk-counted, way_answers}

@@ -15,13 +15,13 @@ use Rattle.triple_arena_chain.specs.Links.{ends_in, values_in, with_value_in}
 use Rattle.triple_arena_chain.specs.LinkLaws.{values-with_value_in, ends-with_value_in, kept-with_value_in}
 use Rattle.triple_arena_chain.specs.UniquenessLaws.{linear_apart}
 use Rattle.triple_arena_ord.specs.declared.node.IndexNode.{IndexNode}
-use Rattle.triple_arena_ord.specs.Knot.{Knot}
+use Rattle.rank_tree.specs.Knot.{Knot}
 use Rattle.triple_arena_ord.specs.Node.{knots_in, knot_of, itemed}
-use Rattle.triple_arena_ord.specs.Search.{AllIn, Before, IsParted, IsAnswer}
+use Rattle.rank_tree.specs.Search.{AllIn, Before, IsParted, IsAnswer}
 use Rattle.triple_arena_ord.specs.Ordered.{Ordered, IsOrdered, tree_in, order_in, asked_of, asked_at}
 use Rattle.triple_arena_ord.specs.Placing.{IsPlaceByKey}
 use Rattle.triple_arena_ord.specs.Inserted.{Replaces, StandsAt, IsRenewed, IsReplaced, IsInsertedAt, IsPlacedByKey, IsInserted}
-use Rattle.triple_arena_ord.proofs.Descents.{AllIn-append, AllIn-map, parted-after, parted-before}
+use Rattle.rank_tree.proofs.Descents.{AllIn-append, AllIn-map, parted-after, parted-before}
 use Rattle.triple_arena_ord.proofs.PlacingLemmas.{placed_by_key}
 use Rattle.triple_arena_ord.proofs.SeekLemmas.{parts_at, absent}
 use Rattle.triple_arena_ord.proofs.SameListLemmas.{Reordered, same_list}

@@ -9,21 +9,21 @@ use Rattle.triple_arena_chain.specs.Chains.{Ends, IsLinear, IsGap, first_or, las
 use Rattle.triple_arena_chain.specs.Links.{ends_in, entry_ends, values_in, valued, IsPlaced}
 use Rattle.triple_arena_chain.specs.Lists.{Linear}
 use Rattle.triple_arena_chain.specs.ListLaws.{chain_where}
-use Rattle.triple_arena_ord.specs.declared.knots.Side.{Side}
-use Rattle.triple_arena_ord.specs.declared.knots.Side.TheVariants.{Left, Right}
+use Rattle.rank_tree.specs.declared.side.Side.{Side}
+use Rattle.rank_tree.specs.declared.side.Side.TheVariants.{Left, Right}
 use Rattle.triple_arena_ord.specs.declared.node.IndexNode.{IndexNode}
-use Rattle.triple_arena_ord.specs.Knot.{Knot}
-use Rattle.triple_arena_ord.specs.Store.{child_of}
+use Rattle.rank_tree.specs.Knot.{Knot}
+use Rattle.rank_tree.specs.Store.{child_of}
 use Rattle.triple_arena_ord.specs.Node.{knots_in, knot_of, itemed, rest, prev_for, next_for}
-use Rattle.triple_arena_ord.specs.Tree.{Tree, leaf, node, walk, IsRanked}
-use Rattle.triple_arena_ord.specs.Shape.{make, knot, root_of, Context, top, under, plug, holder, Stands, IsDistinct, one, count}
-use Rattle.triple_arena_ord.specs.Repair.{Gap, filled, Restored}
+use Rattle.rank_tree.specs.Tree.{Tree, leaf, node, walk, IsRanked}
+use Rattle.rank_tree.specs.Shape.{make, knot, root_of, Context, top, under, plug, holder, Stands, IsDistinct, one, count}
+use Rattle.rank_tree.specs.Repair.{Gap, filled, Restored}
 use Rattle.triple_arena_ord.specs.Inserted.{IsAdded}
 use Rattle.triple_arena_ord.specs.Ordered.{Ordered, IsOrdered, StandsBeside, tree_in, order_in}
-use Rattle.triple_arena_ord.proofs.Frames.{one-same, one-other, Represents-keep, make-count, plug-count, plug-opens, count-same, IsDistinct-walk}
-use Rattle.triple_arena_ord.proofs.Descents.{before, after, plug-walk_is, rest_leaf}
-use Rattle.triple_arena_ord.proofs.Unique.{tree_is}
-use Rattle.triple_arena_ord.proofs.SeekShapes.{counted-lives}
+use Rattle.rank_tree.proofs.Frames.{one-same, one-other, Represents-keep, make-count, plug-count, plug-opens, count-same, IsDistinct-walk}
+use Rattle.rank_tree.proofs.Descents.{before, after, plug-walk_is, rest_leaf}
+use Rattle.rank_tree.proofs.Unique.{tree_is}
+use Rattle.rank_tree.proofs.SeekShapes.{counted-lives}
 use Rattle.triple_arena_ord.proofs.RestLemmas.{rested}
 use Rattle.triple_arena_ord.proofs.GapLemmas.{linear_gap, linear_ends, last_snoc}
 

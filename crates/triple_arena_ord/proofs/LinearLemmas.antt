@@ -11,8 +11,8 @@ use Rattle.counted_search.specs.Searches.{fair}
 use Rattle.triple_arena_chain.specs.Chains.{IsLinear, On, first_or}
 use Rattle.triple_arena_chain.specs.Links.{ends_in, values_in}
 use Rattle.triple_arena_ord.specs.Node.{items_in, itemed}
-use Rattle.triple_arena_ord.specs.Tree.{rank_of}
-use Rattle.triple_arena_ord.specs.Search.{IsParted, IsAnswer}
+use Rattle.rank_tree.specs.Tree.{rank_of}
+use Rattle.rank_tree.specs.Search.{IsParted, IsAnswer}
 use Rattle.triple_arena_ord.specs.Near.{IsEndNear, IsAtHand, IsStop, asked_in}
 use Rattle.triple_arena_ord.specs.Ordered.{Ordered, IsOrdered, IsAscending, tree_in, order_in, entry_in, size_in, asked_at}
 use Rattle.triple_arena_ord.proofs.LiveLemmas.{counted_entry, entry_counted}

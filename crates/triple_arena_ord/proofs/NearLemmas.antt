@@ -6,9 +6,9 @@ use Rattle.std.specs.declared.cmp.Ordering.TheVariants.{Less, Equal, Greater}
 use Rattle.triple_arena_chain.specs.Chains.{Ends, IsLinear, first_or, last_or, Off, Apart, On}
 use Rattle.triple_arena_chain.specs.ChainLaws.{Off-not_on}
 use Rattle.triple_arena_chain.specs.UniquenessLaws.{linear_apart}
-use Rattle.triple_arena_ord.specs.Search.{AllIn, Before, IsParted, Places}
+use Rattle.rank_tree.specs.Search.{AllIn, Before, IsParted, Places}
 use Rattle.triple_arena_ord.specs.Near.{IsNear, IsEndNear, IsGapNear, onward}
-use Rattle.triple_arena_ord.proofs.Descents.{AllIn-append, AllIn-back, AllIn-map, parted-after, parted-before}
+use Rattle.rank_tree.proofs.Descents.{AllIn-append, AllIn-back, AllIn-map, parted-after, parted-before}
 use Rattle.triple_arena_ord.proofs.GapLemmas.{Last, last_in, linear_ends, last_snoc}
 
 -- what holds of each index of a list holds of the one at a place

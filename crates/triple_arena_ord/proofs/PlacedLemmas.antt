@@ -5,12 +5,12 @@ use Rattle.std.specs.Cmp.{IsTotalOrder}
 use Rattle.std.specs.declared.cmp.Ordering.{Ordering}
 use Rattle.std.specs.declared.cmp.Ordering.TheVariants.{Less, Equal, Greater}
 use Rattle.triple_arena_ptr.specs.declared.errors.OrdInsertionError.{OrdInsertionError}
-use Rattle.triple_arena_ord.specs.declared.knots.Side.TheVariants.{Left}
-use Rattle.triple_arena_ord.specs.Search.{Before, IsParted}
+use Rattle.rank_tree.specs.declared.side.Side.TheVariants.{Left}
+use Rattle.rank_tree.specs.Search.{Before, IsParted}
 use Rattle.triple_arena_ord.specs.Ordered.{Ordered, IsOrdered, IsAscending, StandsBeside, order_in, entry_in, asked_of, asked_at}
 use Rattle.triple_arena_ord.specs.Inserted.{StandsAt, IsInsertedAt, IsPlacedByKey}
 use Rattle.triple_arena_ord.specs.Placing.{IsPlaceByKey, IsPlaceBeforeEqual, before_equal}
-use Rattle.triple_arena_ord.proofs.Descents.{AllIn-map, parted-after, parted-before}
+use Rattle.rank_tree.proofs.Descents.{AllIn-map, parted-after, parted-before}
 use Rattle.triple_arena_ord.proofs.SeekLemmas.{parts_at}
 use Rattle.triple_arena_ord.proofs.AscendingLemmas.{IsBetween, inserted_ascending}
 use Rattle.triple_arena_ord.proofs.InsertLemmas.{by_key}

@@ -6,11 +6,11 @@ use Rattle.triple_arena_chain.specs.Links.{ends_in}
 use Rattle.triple_arena_chain.specs.Lists.{Linear}
 use Rattle.triple_arena_chain.specs.ListLaws.{chain_where}
 use Rattle.triple_arena_ord.specs.Node.{knots_in}
-use Rattle.triple_arena_ord.specs.Tree.{walk, IsRanked}
-use Rattle.triple_arena_ord.specs.Shape.{Stands, IsDistinct, count}
+use Rattle.rank_tree.specs.Tree.{walk, IsRanked}
+use Rattle.rank_tree.specs.Shape.{Stands, IsDistinct, count}
 use Rattle.triple_arena_ord.specs.Ordered.{Ordered, IsOrdered, tree_in, order_in}
-use Rattle.triple_arena_ord.proofs.Frames.{Represents-keep}
-use Rattle.triple_arena_ord.proofs.Unique.{tree_is}
+use Rattle.rank_tree.proofs.Frames.{Represents-keep}
+use Rattle.rank_tree.proofs.Unique.{tree_is}
 
 module _ {I T : Type 0} (number : I → ℕ) where
   -- the list is the same, and as it must be

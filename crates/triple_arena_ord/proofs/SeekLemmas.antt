@@ -6,19 +6,19 @@ use Rattle.std.specs.Cmp.{IsTotalOrder}
 use Rattle.std.specs.declared.cmp.Ordering.{Ordering}
 use Rattle.std.specs.declared.cmp.Ordering.TheVariants.{Less, Equal, Greater}
 use Rattle.triple_arena_chain.specs.Links.{values_in}
-use Rattle.triple_arena_ord.specs.Knot.{Knot}
+use Rattle.rank_tree.specs.Knot.{Knot}
 use Rattle.triple_arena_ord.specs.declared.node.IndexNode.{IndexNode}
 use Rattle.triple_arena_ord.specs.Node.{knots_in, knot_of, itemed}
 use Rattle.counted_search.specs.Searches.{fair}
 use Rattle.counted_search.specs.SearchLaws.{fair-greatest}
-use Rattle.triple_arena_ord.specs.Tree.{Tree, leaf, node, walk, rank_of, size}
-use Rattle.triple_arena_ord.specs.Shape.{count}
-use Rattle.triple_arena_ord.specs.Search.{AllIn, Before, IsParted, IsAnswer, IsFreeAt}
+use Rattle.rank_tree.specs.Tree.{Tree, leaf, node, walk, rank_of, size}
+use Rattle.rank_tree.specs.Shape.{count}
+use Rattle.rank_tree.specs.Search.{AllIn, Before, IsParted, IsAnswer, IsFreeAt}
 use Rattle.triple_arena_ord.specs.Ordered.{Ordered, IsOrdered, IsAscending, tree_in, order_in, entry_in, size_in, asked_of, asked_at}
-use Rattle.triple_arena_ord.proofs.Bound.{size_bound}
-use Rattle.triple_arena_ord.proofs.Climbs.{size-walk}
-use Rattle.triple_arena_ord.proofs.Descents.{Descent, Here, descent_begins, descent_free, step_down, AllIn-front, AllIn-back, AllIn-append, AllIn-map, parted-after, parted-before}
-use Rattle.triple_arena_ord.proofs.Frames.{one-other, one-same}
+use Rattle.rank_tree.proofs.Bound.{size_bound}
+use Rattle.rank_tree.proofs.Climbs.{size-walk}
+use Rattle.rank_tree.proofs.Descents.{Descent, Here, descent_begins, descent_free, step_down, AllIn-front, AllIn-back, AllIn-append, AllIn-map, parted-after, parted-before}
+use Rattle.rank_tree.proofs.Frames.{one-other, one-same}
 use Rattle.triple_arena_ord.proofs.NameLemmas.{if_answered}
 use Rattle.triple_arena_ord.proofs.LiveLemmas.{counted_entry, entry_counted}
 use Rattle.triple_arena_ord.proofs.SortedLemmas.{parted_from}

@@ -9,23 +9,23 @@ use Rattle.triple_arena_chain.specs.declared.link.IndexLink.{IndexLink}
 use Rattle.triple_arena_chain.specs.Chains.{IsLinear, Apart, next_in, prev_in, next_at, prev_at}
 use Rattle.triple_arena_chain.specs.Links.{ends_in, entry_ends}
 use Rattle.triple_arena_chain.specs.UniquenessLaws.{linear_apart}
-use Rattle.triple_arena_ord.specs.declared.knots.Side.{Side}
-use Rattle.triple_arena_ord.specs.declared.knots.Side.TheVariants.{Left, Right}
+use Rattle.rank_tree.specs.declared.side.Side.{Side}
+use Rattle.rank_tree.specs.declared.side.Side.TheVariants.{Left, Right}
 use Rattle.triple_arena_ord.specs.declared.node.IndexNode.{IndexNode}
-use Rattle.triple_arena_ord.specs.Knot.{Knot}
+use Rattle.rank_tree.specs.Knot.{Knot}
 use Rattle.triple_arena_ord.specs.Node.{knots_in, prev_for, next_for}
-use Rattle.triple_arena_ord.specs.Tree.{Tree, leaf, node, walk}
-use Rattle.triple_arena_ord.specs.Shape.{knot, root_of, Context, top, under, plug, holder, Stands}
-use Rattle.triple_arena_ord.specs.Search.{IsFreeAt}
+use Rattle.rank_tree.specs.Tree.{Tree, leaf, node, walk}
+use Rattle.rank_tree.specs.Shape.{knot, root_of, Context, top, under, plug, holder, Stands}
+use Rattle.rank_tree.specs.Search.{IsFreeAt}
 use Rattle.triple_arena_ord.specs.Ordered.{Ordered, IsOrdered, StandsBeside, tree_in, order_in}
 use Rattle.triple_arena_ord.specs.Inserted.{StandsAt, IsSamePlace, IsReplaced, IsAdded, IsInsertedAt}
-use Rattle.triple_arena_ord.proofs.Frames.{plug-opens}
-use Rattle.triple_arena_ord.proofs.Descents.{before, after, plug-walk_is}
+use Rattle.rank_tree.proofs.Frames.{plug-opens}
+use Rattle.rank_tree.proofs.Descents.{before, after, plug-walk_is}
 use Rattle.triple_arena_ord.proofs.GapLemmas.{linear_ends, last_snoc}
 use Rattle.triple_arena_ord.proofs.InsertLemmas.{split_same}
 use Rattle.triple_arena_ord.proofs.LeafLemmas.{Located, located}
 use Rattle.triple_arena_ord.proofs.SuccessorLemmas.{flat, snoc}
-use Rattle.triple_arena_ord.proofs.Unique.{plug_in, plug_in-plug, First, first_at}
+use Rattle.rank_tree.proofs.Unique.{plug_in, plug_in-plug, First, first_at}
 
 -- the greatest index of a tree: the last of its walk has no right child
 record Final (t : Tree) : Type 0 where

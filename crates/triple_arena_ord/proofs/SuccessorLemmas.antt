@@ -6,25 +6,25 @@ use Rattle.triple_arena_chain.specs.Chains.{IsLinear, Apart, next_in, next_at}
 use Rattle.triple_arena_chain.specs.ChainLaws.{Apart-taken}
 use Rattle.triple_arena_chain.specs.Links.{ends_in}
 use Rattle.triple_arena_chain.specs.UniquenessLaws.{linear_apart}
-use Rattle.triple_arena_ord.specs.declared.knots.Side.TheVariants.{Left, Right}
+use Rattle.rank_tree.specs.declared.side.Side.TheVariants.{Left, Right}
 use Rattle.triple_arena_ord.specs.declared.node.IndexNode.{IndexNode}
-use Rattle.triple_arena_ord.specs.Knot.{Knot}
+use Rattle.rank_tree.specs.Knot.{Knot}
 use Rattle.triple_arena_ord.specs.Node.{knots_in, rest}
-use Rattle.triple_arena_ord.specs.Tree.{Tree, leaf, node, walk, IsRanked}
-use Rattle.triple_arena_ord.specs.Shape.{knot, root_of, Context, top, under, plug, holder, Stands, IsDistinct, one, count}
-use Rattle.triple_arena_ord.specs.Repair.{Loose, Restored, Exchange}
+use Rattle.rank_tree.specs.Tree.{Tree, leaf, node, walk, IsRanked}
+use Rattle.rank_tree.specs.Shape.{knot, root_of, Context, top, under, plug, holder, Stands, IsDistinct, one, count}
+use Rattle.rank_tree.specs.Repair.{Loose, Restored, Exchange}
 use Rattle.triple_arena_ord.specs.Ordered.{Ordered, IsOrdered, tree_in, order_in}
 use Rattle.triple_arena_ord.specs.Removal.{IsUprooted}
-use Rattle.triple_arena_ord.proofs.Frames.{one-same, one-other, plug-opens, count_split}
-use Rattle.triple_arena_ord.proofs.Descents.{before, after, plug-walk_is}
-use Rattle.triple_arena_ord.proofs.Leans.{plug-ranked}
-use Rattle.triple_arena_ord.proofs.EdgeLemmas.{plug-ranked-opens, loose_lives}
+use Rattle.rank_tree.proofs.Frames.{one-same, one-other, plug-opens, count_split}
+use Rattle.rank_tree.proofs.Descents.{before, after, plug-walk_is}
+use Rattle.rank_tree.proofs.Leans.{plug-ranked}
+use Rattle.rank_tree.proofs.EdgeLemmas.{plug-ranked-opens, loose_lives}
 use Rattle.triple_arena_ord.proofs.EndLemmas.{after_off}
 use Rattle.triple_arena_ord.proofs.GapLemmas.{linear_ends}
 use Rattle.triple_arena_ord.proofs.InsertLemmas.{split_same}
 use Rattle.triple_arena_ord.proofs.LeafLemmas.{Located, located}
 use Rattle.triple_arena_ord.proofs.RestLemmas.{rested}
-use Rattle.triple_arena_ord.proofs.Unique.{plug_in, plug_in-plug, First, first_at}
+use Rattle.rank_tree.proofs.Unique.{plug_in, plug_in-plug, First, first_at}
 
 -- the ranks are the same under another index
 renamed-ranked : (c : Context) (l : Tree) (i j k : ℕ) (r : Tree) → IsRanked (plug c (node l i k r)) → IsRanked (plug c (node l j k r))

@@ -12,18 +12,18 @@ use Rattle.triple_arena_chain.specs.Chains.{IsLinear}
 use Rattle.triple_arena_chain.specs.Links.{ends_in, values_in, valued, IsTakenOut}
 use Rattle.triple_arena_chain.specs.Lists.{Linear}
 use Rattle.triple_arena_chain.specs.ListLaws.{chain_where}
-use Rattle.triple_arena_ord.specs.declared.knots.Side.TheVariants.{Left}
+use Rattle.rank_tree.specs.declared.side.Side.TheVariants.{Left}
 use Rattle.triple_arena_ord.specs.declared.node.IndexNode.{IndexNode}
-use Rattle.triple_arena_ord.specs.Knot.{Knot}
+use Rattle.rank_tree.specs.Knot.{Knot}
 use Rattle.triple_arena_ord.specs.Node.{knots_in, items_in, knot_of, itemed, rest}
-use Rattle.triple_arena_ord.specs.Tree.{leaf, node, walk, IsRanked}
-use Rattle.triple_arena_ord.specs.Shape.{knot, root_of, top, plug, holder, Stands, IsDistinct, one, count}
-use Rattle.triple_arena_ord.specs.Repair.{Loose, Restored}
+use Rattle.rank_tree.specs.Tree.{leaf, node, walk, IsRanked}
+use Rattle.rank_tree.specs.Shape.{knot, root_of, top, plug, holder, Stands, IsDistinct, one, count}
+use Rattle.rank_tree.specs.Repair.{Loose, Restored}
 use Rattle.triple_arena_ord.specs.Ordered.{Ordered, IsOrdered, tree_in, order_in, entry_in}
 use Rattle.triple_arena_ord.specs.Removal.{Loses, IsUprooted, IsRemoved}
-use Rattle.triple_arena_ord.proofs.Frames.{one-same, one-other, Represents-keep, plug-opens, count_split}
-use Rattle.triple_arena_ord.proofs.Descents.{before, after, plug-walk_is, rest_leaf}
-use Rattle.triple_arena_ord.proofs.Unique.{tree_is}
+use Rattle.rank_tree.proofs.Frames.{one-same, one-other, Represents-keep, plug-opens, count_split}
+use Rattle.rank_tree.proofs.Descents.{before, after, plug-walk_is, rest_leaf}
+use Rattle.rank_tree.proofs.Unique.{tree_is}
 use Rattle.triple_arena_ord.proofs.LeafLemmas.{Located, located}
 use Rattle.triple_arena_ord.proofs.RestLemmas.{Rested, rested}
 

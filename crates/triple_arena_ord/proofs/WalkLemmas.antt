@@ -8,7 +8,7 @@ use Rattle.triple_arena_chain.specs.Chains.{IsLinear, On}
 use Rattle.triple_arena_chain.specs.Links.{ends_in, link_ends, entry_ends, valued}
 use Rattle.triple_arena_ord.specs.declared.node.IndexNode.{IndexNode}
 use Rattle.triple_arena_ord.specs.Node.{items_in, itemed}
-use Rattle.triple_arena_ord.specs.Search.{IsParted}
+use Rattle.rank_tree.specs.Search.{IsParted}
 use Rattle.triple_arena_ord.specs.Ordered.{asked_of}
 use Rattle.triple_arena_ord.specs.Near.{IsStop, IsAtHand, asked_in, onward}
 use Rattle.triple_arena_ord.proofs.GapLemmas.{linear_ends}

@@ -4,12 +4,12 @@ use Rattle.std.specs.List.{AllByRecursion, last_or}
 use Rattle.std.specs.declared.cmp.Ordering.{Ordering}
 use Rattle.std.specs.declared.cmp.Ordering.TheVariants.{Less, Equal, Greater}
 use Rattle.triple_arena_chain.specs.Chains.{On}
-use Rattle.triple_arena_ord.specs.Tree.{Tree, leaf, node, walk}
-use Rattle.triple_arena_ord.specs.Shape.{root_of, count}
-use Rattle.triple_arena_ord.specs.Search.{AllIn, Before, IsParted, Places, IsAnswer}
+use Rattle.rank_tree.specs.Tree.{Tree, leaf, node, walk}
+use Rattle.rank_tree.specs.Shape.{root_of, count}
+use Rattle.rank_tree.specs.Search.{AllIn, Before, IsParted, Places, IsAnswer}
 use Rattle.triple_arena_ord.specs.Asked.{left_by, IsWay}
-use Rattle.triple_arena_ord.proofs.Descents.{AllIn-append, AllIn-back, AllIn-map, parted-after, parted-before}
-use Rattle.triple_arena_ord.proofs.Frames.{one-same}
+use Rattle.rank_tree.proofs.Descents.{AllIn-append, AllIn-back, AllIn-map, parted-after, parted-before}
+use Rattle.rank_tree.proofs.Frames.{one-same}
 use Rattle.triple_arena_ord.proofs.SeekLemmas.{all-counted}
 
 -- an index of the walk is counted

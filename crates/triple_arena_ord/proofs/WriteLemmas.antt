@@ -8,8 +8,8 @@ use Rattle.triple_arena_chain.specs.Links.{values_in, with_value_in}
 use Rattle.triple_arena_chain.specs.LinkLaws.{values-with_value_in}
 use Rattle.triple_arena_ord.specs.declared.node.IndexNode.{IndexNode}
 use Rattle.triple_arena_ord.specs.Node.{knots_in, knot_of}
-use Rattle.triple_arena_ord.specs.Knot.{Knot}
-use Rattle.triple_arena_ord.specs.Store.{Written}
+use Rattle.rank_tree.specs.Knot.{Knot}
+use Rattle.rank_tree.specs.Store.{Written}
 
 module _ {I T : Type 0} (number : I → ℕ) where
   abbrev knot : ℕ × IndexNode I T → Knot

@@ -7,7 +7,7 @@ use Rattle.std.specs.declared.cmp.Ordering.TheVariants.{Less, Equal, Greater}
 use Rattle.std.specs.Option.{option_map}
 use Rattle.triple_arena_chain.specs.Chains.{On}
 use Rattle.triple_arena_ord.specs.declared.node.IndexNode.{IndexNode}
-use Rattle.triple_arena_ord.specs.Store.{Store}
+use Rattle.rank_tree.specs.Store.{Store}
 use Rattle.triple_arena_ord.specs.Node.{knot_of, itemed}
 use Rattle.triple_arena_ord.specs.Ordered.{Ordered, entry_in}
 

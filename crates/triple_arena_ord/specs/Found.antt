@@ -3,7 +3,7 @@ use Rattle.std.specs.Prelude.{◌≡◌, ◌≢◌, ◌↔◌, ℕ, Option, Some
 use Rattle.std.specs.declared.cmp.Ordering.{Ordering}
 use Rattle.std.specs.declared.cmp.Ordering.TheVariants.{Equal}
 use Rattle.triple_arena.specs.Entries.{generation_at}
-use Rattle.triple_arena_ord.specs.Search.{Places}
+use Rattle.rank_tree.specs.Search.{Places}
 use Rattle.triple_arena_ord.specs.Ordered.{Ordered, order_in, entry_in, size_in}
 
 module _ {I T P : Type 0} (index generation : P → ℕ) where

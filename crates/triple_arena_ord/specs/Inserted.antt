@@ -10,10 +10,10 @@ use Rattle.triple_arena_ptr.specs.declared.errors.OrdInsertionError.{OrdInsertio
 use Rattle.triple_arena_ptr.specs.declared.errors.OrdInsertionError.TheVariants.{FailedOrdRequirement, NotWithinCapacity, BeyondMaxCapacity, AllocError}
 use Rattle.triple_arena_chain.specs.Links.{IsKept, ends_in}
 use Rattle.triple_arena_chain.specs.declared.link.IndexLink.{IndexLink}
-use Rattle.triple_arena_ord.specs.declared.knots.Side.TheVariants.{Left, Right}
+use Rattle.rank_tree.specs.declared.side.Side.TheVariants.{Left, Right}
 use Rattle.triple_arena_ord.specs.declared.node.IndexNode.{IndexNode}
 use Rattle.triple_arena_ord.specs.Node.{knots_in, items_in}
-use Rattle.triple_arena_ord.specs.Search.{AllIn}
+use Rattle.rank_tree.specs.Search.{AllIn}
 use Rattle.triple_arena_ord.specs.Ordered.{Ordered, IsAscending, StandsBeside, order_in, entry_in, size_in, asked_at}
 
 -- one more index stands where a search ended: before or after the index that was asked last, or alone

@@ -1,11 +1,4 @@
-pub mod Knot
-pub mod Store
-pub mod Tree
-pub mod Shape
-pub mod Repair
 pub mod Node
-pub mod Whole
-pub mod Search
 pub mod Kinds
 pub mod Pairs
 pub mod Ordered

@@ -3,7 +3,7 @@ use Rattle.std.specs.Prelude.{◌≡◌, ℕ, ◌+◌, ◌<◌, List, ◌++◌, 
 use Rattle.std.specs.declared.cmp.Ordering.{Ordering}
 use Rattle.std.specs.declared.cmp.Ordering.TheVariants.{Less, Equal, Greater}
 use Rattle.triple_arena_chain.specs.Chains.{Ends, On, first_or, last_or}
-use Rattle.triple_arena_ord.specs.Search.{AllIn, IsParted, Places}
+use Rattle.rank_tree.specs.Search.{AllIn, IsParted, Places}
 use Rattle.triple_arena_ord.specs.Ordered.{asked_of}
 
 -- how a key compares with that of the entry at an index

@@ -4,23 +4,13 @@ use Rattle.std.specs.Option.{option_map}
 use Rattle.triple_arena.specs.Content.{Content}
 use Rattle.triple_arena_chain.specs.declared.link.IndexLink.{IndexLink}
 use Rattle.triple_arena_chain.specs.Links.{values_in}
-use Rattle.triple_arena_ord.specs.declared.knots.Side.{Side}
-use Rattle.triple_arena_ord.specs.declared.knots.Side.TheVariants.{Left, Right}
-use Rattle.triple_arena_ord.specs.declared.knots.TreeLinks.{TreeLinks}
+use Rattle.rank_tree.specs.declared.side.Side.{Side}
+use Rattle.rank_tree.specs.declared.side.Side.TheVariants.{Left, Right}
 use Rattle.triple_arena_ord.specs.declared.node.IndexNode.{IndexNode}
-use Rattle.triple_arena_ord.specs.Knot.{Knot}
-use Rattle.triple_arena_ord.specs.Store.{Store}
+use Rattle.rank_tree.specs.Knot.{Knot}
+use Rattle.rank_tree.specs.Store.{Store}
 
 module _ {I : Type 0} (number : I → ℕ) where
-  -- a node's links and rank, by numbers
-  abbrev pub named : TreeLinks I → Knot
-  named k = record {
-    parent = option_map number k.parent;
-    left = option_map number k.left;
-    right = option_map number k.right;
-    rank = k.rank;
-  }
-
   abbrev pub knot_of : {T : Type 0} → IndexNode I T → Knot
   knot_of node = record {
     parent = option_map number node.p_back;

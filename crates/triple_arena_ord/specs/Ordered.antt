@@ -9,13 +9,13 @@ use Rattle.triple_arena.specs.Content.{Content, live_count, some_counter}
 use Rattle.triple_arena_chain.specs.Chains.{IsLinear}
 use Rattle.triple_arena_chain.specs.Links.{ends_in}
 use Rattle.triple_arena_chain.specs.declared.link.IndexLink.{IndexLink}
-use Rattle.triple_arena_ord.specs.declared.knots.Side.{Side}
-use Rattle.triple_arena_ord.specs.declared.knots.Side.TheVariants.{Left, Right}
+use Rattle.rank_tree.specs.declared.side.Side.{Side}
+use Rattle.rank_tree.specs.declared.side.Side.TheVariants.{Left, Right}
 use Rattle.triple_arena_ord.specs.declared.node.IndexNode.{IndexNode}
 use Rattle.triple_arena_ord.specs.Node.{knots_in, items_in}
-use Rattle.triple_arena_ord.specs.Tree.{Tree, walk}
-use Rattle.triple_arena_ord.specs.Shape.{count}
-use Rattle.triple_arena_ord.specs.Whole.{tree_of, IsWhole}
+use Rattle.rank_tree.specs.Tree.{Tree, walk}
+use Rattle.rank_tree.specs.Shape.{count}
+use Rattle.rank_tree.specs.Whole.{tree_of, IsWhole}
 
 -- the list with one more index directly before or after another
 abbrev pub beside : Side → List ℕ → ℕ → ℕ → List ℕ → List ℕ

@@ -6,7 +6,7 @@ use Rattle.std.specs.declared.cmp.Ordering.{Ordering}
 use Rattle.std.specs.declared.cmp.Ordering.TheVariants.{Less, Equal, Greater}
 use Rattle.triple_arena_ord.specs.declared.kind.InsertKind.{InsertKind}
 use Rattle.triple_arena_ord.specs.declared.kind.InsertKind.TheVariants.{Empty, Normal, Nonhereditary, Linear, NonhereditaryLinear, Manual}
-use Rattle.triple_arena_ord.specs.Search.{Places}
+use Rattle.rank_tree.specs.Search.{Places}
 use Rattle.triple_arena_ord.specs.Ordered.{Ordered, IsAscending, order_in, entry_in, size_in, asked_at}
 
 -- directly before an entry in place of in it

@@ -4,7 +4,7 @@ use Rattle.triple_arena_ptr.specs.Generation.{next_generation}
 use Rattle.triple_arena.specs.Content.{removed}
 use Rattle.triple_arena.specs.Entries.{without}
 use Rattle.triple_arena_ord.specs.Node.{knots_in}
-use Rattle.triple_arena_ord.specs.Repair.{Restored}
+use Rattle.rank_tree.specs.Repair.{Restored}
 use Rattle.triple_arena_ord.specs.Ordered.{Ordered, order_in, entry_in, size_in}
 
 -- the list without one index

@@ -1,8 +1,8 @@
 //! A search that asks a closure. It knows an arena by its trait alone: the check of the closure's call grows with what is known.
 ghost use Rattle.std.specs.Prelude.{◌≡◌, ◌+◌, ◌≤◌};
 ghost use Rattle.std.specs.Option.{option_map};
-ghost use Rattle.triple_arena_ord.specs.Tree.{walk, rank_of};
-ghost use Rattle.triple_arena_ord.specs.Whole.{tree_of, IsWhole};
+ghost use Rattle.rank_tree.specs.Tree.{walk, rank_of};
+ghost use Rattle.rank_tree.specs.Whole.{tree_of, IsWhole};
 ghost use Rattle.triple_arena_ord.specs.Asked.{knots_among, items_among, IsAsked};
 
 use crate::IndexNode;

@@ -1,13 +1,14 @@
 //! A leaf is attached below a node.
 ghost use Rattle.std.specs.Prelude.{◌≡◌, ℕ, Some, None, IsSome};
 ghost use Rattle.std.specs.Option.{option_map};
-ghost use Rattle.triple_arena_ord.specs.Tree.{walk};
-ghost use Rattle.triple_arena_ord.specs.Shape.{plug};
-ghost use Rattle.triple_arena_ord.specs.Repair.{Gap, filled, Grown, Loose, Pending};
+ghost use Rattle.rank_tree.specs.Tree.{walk};
+ghost use Rattle.rank_tree.specs.Shape.{plug};
+ghost use Rattle.rank_tree.specs.Repair.{Gap, filled, Grown, Loose, Pending};
 ghost use Rattle.triple_arena_ord.specs.Node.{knots_in, rest};
 
 use crate::SimpleOrdArenaNode;
-use crate::knots::{Side, TreeLinks, read, relink, reparent, write};
+use crate::knots::{read, relink, reparent, write};
+use rank_tree::{Side, TreeLinks};
 use triple_arena::{ArenaSlot, NonZeroInxGenericStack, Ptr, PtrInx};
 use triple_arena_chain::{ChainArena, LinkNoGen};
 

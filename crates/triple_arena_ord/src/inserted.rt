@@ -1,14 +1,15 @@
 //! The rank rules are restored after an insertion.
 ghost use Rattle.std.specs.Prelude.{◌≡◌, ◌≢◌, ℕ, ◌+◌, ◌<◌, ◌≤◌, List, IsSome};
 ghost use Rattle.std.specs.Option.{option_map};
-ghost use Rattle.triple_arena_ord.specs.Tree.{walk};
-ghost use Rattle.triple_arena_ord.specs.Repair.{Leaning, Grown, Restored, Gap, filled};
+ghost use Rattle.rank_tree.specs.Tree.{walk};
+ghost use Rattle.rank_tree.specs.Repair.{Leaning, Grown, Restored, Gap, filled};
 ghost use Rattle.triple_arena_ord.specs.Node.{knots_in, rest};
 
 use crate::SimpleOrdArenaNode;
 use crate::edges::attach;
-use crate::knots::{Side, TreeLinks, rank_at, read, side_of, write};
+use crate::knots::{rank_at, read, write};
 use crate::turn::turn;
+use rank_tree::{Side, TreeLinks, side_of};
 use triple_arena::{ArenaSlot, NonZeroInxGenericStack, Ptr};
 use triple_arena_chain::{ChainArena, LinkNoGen};
 

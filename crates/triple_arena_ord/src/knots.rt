@@ -1,65 +1,15 @@
 //! The nodes as the tree sees them, and the single writes.
 ghost use Rattle.std.specs.Prelude.{◌≡◌, ◌≢◌, ℕ, ◌+◌, ◌<◌, ◌≤◌, Some, None, IsSome, IfSome};
 ghost use Rattle.std.specs.Option.{option_map};
-ghost use Rattle.triple_arena_ord.specs.Store.{Written, Reparented, Relinked, child_of, with_child, with_parent, with_rank, other_side};
-ghost use Rattle.triple_arena_ord.specs.Knot.{Knot as Seen};
-ghost use Rattle.triple_arena_ord.specs.Node.{named, knots_in, rest};
+ghost use Rattle.rank_tree.specs.Store.{Written, Reparented, Relinked, child_of, with_child, with_parent, with_rank, other_side};
+ghost use Rattle.rank_tree.specs.Knot.{Knot as Seen};
+ghost use Rattle.triple_arena_ord.specs.Node.{knots_in, rest};
+ghost use Rattle.rank_tree.specs.Named.{named};
 
 use crate::SimpleOrdArenaNode;
-use triple_arena::{ArenaSlot, ArenaTrait, NonZeroInxGenericStack, Ptr, PtrInx};
+use rank_tree::{TreeLinks, side_of};
+use triple_arena::{ArenaSlot, ArenaTrait, NonZeroInxGenericStack, Ptr};
 use triple_arena_chain::{ChainArena, LinkNoGen};
-
-#[derive(Clone, Copy, Drop)]
-pub(crate) enum Side {
-    Left,
-    Right,
-}
-
-/// A node without its item.
-#[derive(Clone, Copy, Drop)]
-pub(crate) struct TreeLinks<I> {
-    pub(crate) parent: Option<I>,
-    pub(crate) left: Option<I>,
-    pub(crate) right: Option<I>,
-    pub(crate) rank: u8,
-}
-
-impl Side {
-    pub(crate) fn other(self) -> Side
-        ensures { result ≡ other_side self }
-    {
-        match self {
-            Side::Left => Side::Right,
-            Side::Right => Side::Left,
-        }
-    }
-}
-
-impl<I: PtrInx> TreeLinks<I> {
-    pub(crate) fn child(self, side: Side) -> Option<I>
-        ensures { option_map I.number result ≡ child_of side (named I.number self) }
-    {
-        match side {
-            Side::Left => self.left,
-            Side::Right => self.right,
-        }
-    }
-
-    pub(crate) fn with_child(self, side: Side, child: Option<I>) -> TreeLinks<I>
-        ensures { named I.number result ≡ with_child side (option_map I.number child) (named I.number self) }
-    {
-        match side {
-            Side::Left => TreeLinks {
-                left: child,
-                ..self
-            },
-            Side::Right => TreeLinks {
-                right: child,
-                ..self
-            },
-        }
-    }
-}
 
 pub(crate) fn read<
     P: Ptr,
@@ -139,17 +89,6 @@ pub(crate) fn relink<
             write(chains, i, knot.with_child(side, to));
         }
         None => *root = to,
-    }
-}
-
-/// The side on which a node has this child.
-pub(crate) fn side_of<I: PtrInx>(knot: TreeLinks<I>, child: I) -> Side
-    ensures left { option_map I.number knot.left ≡ Some (I.number child) → result ≡ Side.Left }
-    ensures right { option_map I.number knot.left ≢ Some (I.number child) → result ≡ Side.Right }
-{
-    match knot.left {
-        Some(i) => { if i == child { Side::Left } else { Side::Right } }
-        None => Side::Right,
     }
 }
 

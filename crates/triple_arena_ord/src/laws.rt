@@ -11,9 +11,9 @@ ghost use Rattle.triple_arena_ord.specs.Inserted.{IsInsertedAt, IsReplaced, eith
 ghost use Rattle.triple_arena_ord.specs.Ordered.{Ordered, IsOrdered, IsAscending, tree_in, order_in, entry_in, size_in, asked_at};
 ghost use Rattle.triple_arena_ord.specs.Placing.{IsPlaceByKey, IsPlaceBeforeEqual};
 ghost use Rattle.triple_arena_ord.specs.Removal.{IsRemoved};
-ghost use Rattle.triple_arena_ord.specs.Search.{AllIn};
+ghost use Rattle.rank_tree.specs.Search.{AllIn};
 ghost use Rattle.triple_arena_ord.specs.States.{with_item};
-ghost use Rattle.triple_arena_ord.specs.Tree.{height, rank_of};
+ghost use Rattle.rank_tree.specs.Tree.{height, rank_of};
 
 use crate::SimpleOrdItem;
 use triple_arena::Ptr;

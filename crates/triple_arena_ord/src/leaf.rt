@@ -2,14 +2,14 @@
 ghost use Rattle.std.specs.Prelude.{◌≡◌, ℕ, ◌<◌, Some, IsSome};
 ghost use Rattle.std.specs.Option.{option_map};
 ghost use Rattle.triple_arena.specs.Content.{entry_at, live_count, arena_capacity};
-ghost use Rattle.triple_arena_ord.specs.Store.{child_of};
+ghost use Rattle.rank_tree.specs.Store.{child_of};
 ghost use Rattle.triple_arena_ord.specs.Node.{knots_in, prev_for, next_for};
 ghost use Rattle.triple_arena_ord.specs.Inserted.{IsAdded};
 ghost use Rattle.triple_arena_ord.specs.Ordered.{IsOrdered, StandsBeside, order_in, moved, replaced};
 
 use crate::inserted::bring_in;
-use crate::knots::Side;
 use crate::{IndexNode, SimpleOrdArenaNode};
+use rank_tree::Side;
 use triple_arena::{ArenaSlot, ArenaTrait, NonZeroInxGenericStack, Ptr, PtrInx};
 use triple_arena_chain::{ChainArena, ChainArenaTrait, LinkNoGen};
 

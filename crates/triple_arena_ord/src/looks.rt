@@ -2,10 +2,11 @@
 ghost use Rattle.std.specs.Prelude.{◌≡◌, ℕ, ◌+◌, ◌<◌, ◌≤◌, Option};
 ghost use Rattle.std.specs.Option.{option_map};
 ghost use Rattle.triple_arena_ord.specs.Node.{knots_in};
-ghost use Rattle.triple_arena_ord.specs.Repair.{Spot, IsAround};
+ghost use Rattle.rank_tree.specs.Repair.{Spot, IsAround};
 
 use crate::SimpleOrdArenaNode;
-use crate::knots::{rank_at, read, side_of};
+use crate::knots::{rank_at, read};
+use rank_tree::side_of;
 use triple_arena::{ArenaSlot, NonZeroInxGenericStack, Ptr, PtrInx};
 use triple_arena_chain::{ChainArena, LinkNoGen};
 

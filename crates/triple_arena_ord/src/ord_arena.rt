@@ -6,7 +6,7 @@ ghost use Rattle.triple_arena.specs.ArenaRoom.{room_of};
 ghost use Rattle.triple_arena_ptr.specs.Generation.{second_generation};
 ghost use Rattle.triple_arena_ord.specs.Ordered.{IsOrdered, StandsBeside, size_in, order_in};
 ghost use Rattle.triple_arena_ord.specs.Inserted.{IsAdded};
-ghost use Rattle.triple_arena_ord.specs.Store.{child_of};
+ghost use Rattle.rank_tree.specs.Store.{child_of};
 ghost use Rattle.triple_arena_ord.specs.Node.{knots_in};
 
 mod advancer;
@@ -39,9 +39,9 @@ mod settle;
 mod text;
 pub(crate) mod walk;
 
-use crate::knots::Side;
 use crate::leaf::{insert_leaf, moved};
 use crate::{IndexNode, SimpleOrdArenaNode};
+use rank_tree::Side;
 use std::marker::Model;
 use triple_arena::{ArenaSlot, ArenaTrait, NonZeroInxGenericStack, NotWithinCapacityError, Ptr};
 use triple_arena_chain::{ChainArena, LinkNoGen};

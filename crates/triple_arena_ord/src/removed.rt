@@ -1,17 +1,18 @@
 //! The rank rules are restored after a removal.
 ghost use Rattle.std.specs.Prelude.{◌≡◌, ◌≢◌, ℕ, ◌+◌, ◌<◌, ◌≤◌, List, IfSome, IsTrue, ◌↔◌};
 ghost use Rattle.std.specs.Option.{option_map};
-ghost use Rattle.triple_arena_ord.specs.Store.{rank_in};
+ghost use Rattle.rank_tree.specs.Store.{rank_in};
 ghost use Rattle.triple_arena_ord.specs.Node.{knots_in, rest};
-ghost use Rattle.triple_arena_ord.specs.Tree.{walk};
-ghost use Rattle.triple_arena_ord.specs.Shape.{plug};
-ghost use Rattle.triple_arena_ord.specs.Repair.{Short, Broken, Pending, Restored, Loose};
+ghost use Rattle.rank_tree.specs.Tree.{walk};
+ghost use Rattle.rank_tree.specs.Shape.{plug};
+ghost use Rattle.rank_tree.specs.Repair.{Short, Broken, Pending, Restored, Loose};
 
 use crate::SimpleOrdArenaNode;
 use crate::edges::detach;
-use crate::knots::{Side, rank_at, read, set_rank};
+use crate::knots::{rank_at, read, set_rank};
 use crate::looks::look_around;
 use crate::turn::turn;
+use rank_tree::Side;
 use triple_arena::{ArenaSlot, NonZeroInxGenericStack, Ptr, PtrInx};
 use triple_arena_chain::{ChainArena, LinkNoGen};
 

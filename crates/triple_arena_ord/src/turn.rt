@@ -1,12 +1,13 @@
 //! A node turns up over its parent.
 ghost use Rattle.std.specs.Prelude.{◌≡◌, ℕ};
 ghost use Rattle.std.specs.Option.{option_map};
-ghost use Rattle.triple_arena_ord.specs.Shape.{Stands};
-ghost use Rattle.triple_arena_ord.specs.Repair.{Spot, turned};
+ghost use Rattle.rank_tree.specs.Shape.{Stands};
+ghost use Rattle.rank_tree.specs.Repair.{Spot, turned};
 ghost use Rattle.triple_arena_ord.specs.Node.{knots_in, rest};
 
 use crate::SimpleOrdArenaNode;
-use crate::knots::{TreeLinks, read, relink, reparent, side_of, write};
+use crate::knots::{read, relink, reparent, write};
+use rank_tree::{TreeLinks, side_of};
 use triple_arena::{ArenaSlot, NonZeroInxGenericStack, Ptr};
 use triple_arena_chain::{ChainArena, LinkNoGen};
 

@@ -4,7 +4,7 @@ ghost use Rattle.std.specs.Option.{option_map};
 ghost use Rattle.triple_arena_chain.specs.Chains.{IsLinear, On};
 ghost use Rattle.triple_arena_chain.specs.Links.{ends_in, link_ends};
 ghost use Rattle.triple_arena_ord.specs.Node.{items_in};
-ghost use Rattle.triple_arena_ord.specs.Search.{IsParted};
+ghost use Rattle.rank_tree.specs.Search.{IsParted};
 ghost use Rattle.triple_arena_ord.specs.Near.{IsAtHand, IsStop, asked_in, onward as onward_of};
 
 use crate::{IndexNode, SimpleOrdItem};

@@ -15,7 +15,7 @@ use Rattle.triple_arena_ord.specs.Inserted.{IsInserted, IsPlacedByKey, within_ro
 use Rattle.triple_arena_ord.specs.Ordered.{Ordered, IsOrdered, IsAscending, order_in, entry_in, listed, asked_at, size_in}
 use Rattle.triple_arena_ord.specs.OrderedWalks.{OrderedWalk, OrderedSteps, left_over}
 use Rattle.triple_arena_ord.specs.Removal.{IsRemoved}
-use Rattle.triple_arena_ord.specs.Search.{AllIn}
+use Rattle.rank_tree.specs.Search.{AllIn}
 use Rattle.triple_arena_user.specs.OrderBooks.{orders_in, price_in, IsFreePrice, IsNewOrder, IsBook, IsNextPrice, IsLastPrice, as_order}
 
 -- what holds of each of a list holds of one that is on it

@@ -2,12 +2,12 @@
 ghost use Rattle.std.specs.Prelude.{◌≡◌, ◌↔◌, None, Ok, Err, IsTrue, IsSome, IfSome, IfOk};
 ghost use Rattle.std.specs.Option.{option_map};
 ghost use Rattle.triple_arena_ord.specs.Node.{knots_in};
-ghost use Rattle.triple_arena_ord.specs.Search.{IsFreeAt};
+ghost use Rattle.rank_tree.specs.Search.{IsFreeAt};
 ghost use Rattle.triple_arena_ord.specs.Ordered.{IsOrdered, IsAscending, size_in};
 ghost use Rattle.triple_arena_ord.specs.Inserted.{IsRenewed, IsReplaced, IsInsertedAt, IsInserted, Replaces, within_room, growing_room, room_made};
 
-use crate::knots::Side;
 use crate::{SimpleOrdArena, SimpleOrdArenaNode, SimpleOrdItem};
+use rank_tree::Side;
 use std::cmp::Ordering;
 use std::mem;
 use triple_arena::{

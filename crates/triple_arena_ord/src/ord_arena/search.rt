@@ -2,9 +2,9 @@
 ghost use Rattle.std.specs.Prelude.{◌≡◌, ◌+◌, ◌≤◌, IfSome};
 ghost use Rattle.std.specs.Option.{option_map};
 ghost use Rattle.counted_search.specs.Searches.{fair};
-ghost use Rattle.triple_arena_ord.specs.Tree.{rank_of};
+ghost use Rattle.rank_tree.specs.Tree.{rank_of};
 ghost use Rattle.triple_arena_ord.specs.Node.{knots_in};
-ghost use Rattle.triple_arena_ord.specs.Search.{IsAnswer, IsFreeAt, asked_down};
+ghost use Rattle.rank_tree.specs.Search.{IsAnswer, IsFreeAt, asked_down};
 ghost use Rattle.triple_arena_ord.specs.Ordered.{IsOrdered, IsAscending, tree_in, size_in, asked_at};
 ghost use Rattle.triple_arena_ord.specs.Found.{IsFound, IsSimilar};
 

@@ -3,8 +3,8 @@ ghost use Rattle.std.specs.Prelude.{◌≡◌, ◌+◌, ◌≤◌, None, IsSome}
 ghost use Rattle.std.specs.Option.{option_map};
 ghost use Rattle.counted_search.specs.Searches.{fair};
 ghost use Rattle.triple_arena.specs.Entries.{value_if};
-ghost use Rattle.triple_arena_ord.specs.Tree.{rank_of};
-ghost use Rattle.triple_arena_ord.specs.Search.{IsParted, IsAnswer, asked_down};
+ghost use Rattle.rank_tree.specs.Tree.{rank_of};
+ghost use Rattle.rank_tree.specs.Search.{IsParted, IsAnswer, asked_down};
 ghost use Rattle.triple_arena_ord.specs.Near.{IsEndNear, IsAtHand};
 ghost use Rattle.triple_arena_ord.specs.Found.{IsFound, IsSimilar};
 ghost use Rattle.triple_arena_ord.specs.Ordered.{IsOrdered, IsAscending, tree_in, order_in, entry_in, size_in, asked_at};

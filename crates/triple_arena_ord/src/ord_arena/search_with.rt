@@ -2,7 +2,7 @@
 ghost use Rattle.std.specs.Prelude.{◌≡◌, ◌+◌, ◌≤◌, ℕ, Option};
 ghost use Rattle.std.specs.declared.cmp.Ordering.{Ordering as Way};
 ghost use Rattle.counted_search.specs.Searches.{fair};
-ghost use Rattle.triple_arena_ord.specs.Search.{IsParted};
+ghost use Rattle.rank_tree.specs.Search.{IsParted};
 ghost use Rattle.triple_arena_ord.specs.Found.{IsFound, IsSimilar};
 ghost use Rattle.triple_arena_ord.specs.Asked.{IsAsked, AnswersBy, answer_at, found_by};
 ghost use Rattle.triple_arena_ord.specs.Ordered.{IsOrdered, order_in, entry_in, size_in};

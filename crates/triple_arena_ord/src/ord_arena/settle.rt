@@ -2,13 +2,14 @@
 ghost use Rattle.std.specs.Prelude.{◌≡◌, ◌≢◌, ℕ, List, Some, IsSome, IfSome};
 ghost use Rattle.std.specs.Option.{option_map};
 ghost use Rattle.triple_arena_ord.specs.Node.{knots_in};
-ghost use Rattle.triple_arena_ord.specs.Search.{IsFreeAt};
+ghost use Rattle.rank_tree.specs.Search.{IsFreeAt};
 ghost use Rattle.triple_arena_ord.specs.Inserted.{StandsAt, IsSamePlace};
 ghost use Rattle.triple_arena_ord.specs.Ordered.{StandsBeside, order_in};
 
-use crate::knots::{Side, read};
+use crate::knots::read;
 use crate::leaf::neighbours_beside;
 use crate::{SimpleOrdArena, SimpleOrdArenaNode};
+use rank_tree::Side;
 use std::cmp::Ordering;
 use triple_arena::{ArenaSlot, NonZeroInxGenericStack, Ptr};
 use triple_arena_chain::LinkNoGen;

@@ -1,7 +1,7 @@
-use Rattle.triple_arena_ord.proofs.Spots.{reparent-lives}
+use Rattle.rank_tree.proofs.Spots.{reparent-lives}
 use Rattle.triple_arena_ord.specs.Node.{knots_in}
 use Rattle.triple_arena_ord.proofs.NameLemmas.{if_live, if_live_from}
-use Rattle.triple_arena_ord.proofs.EdgeLemmas.{loose_lives, loose_reads, detach_works}
+use Rattle.rank_tree.proofs.EdgeLemmas.{loose_lives, loose_reads, detach_works}
 use Rattle.triple_arena_ord.proofs.edges.detach.Goals as goal
 
 pub read-knot-requires : goal.read-knot-requires

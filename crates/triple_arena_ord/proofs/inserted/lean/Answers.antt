@@ -2,9 +2,9 @@ use Rattle.std.proofs.Common.{◌-◌, ℕ, List, sym, ◌∙◌, ap, arith}
 use Rattle.std.specs.Option.{option_map}
 use Rattle.triple_arena_ord.proofs.NameLemmas.{not_some, if_live}
 use Rattle.triple_arena_ord.specs.Node.{knots_in}
-use Rattle.triple_arena_ord.specs.Repair.{Leaning}
-use Rattle.triple_arena_ord.proofs.Spots.{spot_low, spot_parent, spot_high, spot_child}
-use Rattle.triple_arena_ord.proofs.Leans.{TurnsTwice, LeanReads, lean_spot, lean_reads, lean_once, lean_twice, root-some}
+use Rattle.rank_tree.specs.Repair.{Leaning}
+use Rattle.rank_tree.proofs.Spots.{spot_low, spot_parent, spot_high, spot_child}
+use Rattle.rank_tree.proofs.Leans.{TurnsTwice, LeanReads, lean_spot, lean_reads, lean_once, lean_twice, root-some}
 use Rattle.triple_arena_ord.proofs.inserted.lean.Goals.{After-rank_at, In-Some-inner}
 use Rattle.triple_arena_ord.proofs.inserted.lean.Goals as goal
 

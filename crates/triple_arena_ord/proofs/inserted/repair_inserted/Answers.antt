@@ -2,8 +2,8 @@ use Rattle.std.proofs.Common.{◌∙◌, ap, arith}
 use Rattle.std.specs.Option.{option_map}
 use Rattle.triple_arena_ord.proofs.NameLemmas.{if_live_from}
 use Rattle.triple_arena_ord.specs.Node.{knots_in}
-use Rattle.triple_arena_ord.proofs.Spots.{rank_read}
-use Rattle.triple_arena_ord.proofs.Climbs.{grown_under, grown_ends, grown_lives, parent_lives, sibling_lives, climb_reads, climb_write, climb_small, climb_ends, climb_leans, climb_up, climb_ranks, climb_falls}
+use Rattle.rank_tree.proofs.Spots.{rank_read}
+use Rattle.rank_tree.proofs.Climbs.{grown_under, grown_ends, grown_lives, parent_lives, sibling_lives, climb_reads, climb_write, climb_small, climb_ends, climb_leans, climb_up, climb_ranks, climb_falls}
 use Rattle.triple_arena_ord.proofs.inserted.repair_inserted.Goals as goal
 
 pub read-below-requires : goal.read-below-requires

@@ -1,8 +1,8 @@
 use Rattle.std.proofs.Common.{◌≡◌, ℕ, List, ◌-◌}
 use Rattle.triple_arena_ord.specs.Node.{knots_in, rest}
-use Rattle.triple_arena_ord.specs.Store.{rank_in}
+use Rattle.rank_tree.specs.Store.{rank_in}
 use Rattle.std.specs.Option.{option_map}
-use Rattle.triple_arena_ord.specs.Repair.{Grown}
+use Rattle.rank_tree.specs.Repair.{Grown}
 use Rattle.triple_arena_ord.proofs.inserted.repair_inserted.Given as goal
 
 abbrev pub invariant-climb : goal.invariant-climb

@@ -1,10 +1,11 @@
 use Rattle.std.proofs.Common.{Option, ℕ, ◌∙◌, sym, ap}
 use Rattle.std.specs.Option.{option_map}
 use Rattle.triple_arena_ord.proofs.NameLemmas.{not_some, if_live}
-use Rattle.triple_arena_ord.specs.Node.{knots_in, named}
-use Rattle.triple_arena_ord.specs.Store.{child_of}
-use Rattle.triple_arena_ord.specs.Repair.{Spot}
-use Rattle.triple_arena_ord.proofs.Spots.{Reads, spotted, reads, rank_read, spot_low, spot_parent, spot_high, spot_child, spot_far}
+use Rattle.triple_arena_ord.specs.Node.{knots_in}
+use Rattle.rank_tree.specs.Named.{named}
+use Rattle.rank_tree.specs.Store.{child_of}
+use Rattle.rank_tree.specs.Repair.{Spot}
+use Rattle.rank_tree.proofs.Spots.{Reads, spotted, reads, rank_read, spot_low, spot_parent, spot_high, spot_child, spot_far}
 use Rattle.triple_arena_ord.proofs.looks.look_around.Goals.{After-side_of-side}
 use Rattle.triple_arena_ord.proofs.looks.look_around.Goals as goal
 

@@ -1,11 +1,12 @@
 use Rattle.std.proofs.Common.{◌-◌, ◌<◌, ℕ, List, refl, ap, arith}
 use Rattle.std.specs.Option.{option_map}
 use Rattle.triple_arena_ord.proofs.NameLemmas.{if_live_from, if_named}
-use Rattle.triple_arena_ord.specs.Node.{knots_in, named}
-use Rattle.triple_arena_ord.specs.Store.{rank_in}
-use Rattle.triple_arena_ord.specs.Repair.{Broken}
-use Rattle.triple_arena_ord.proofs.Spots.{spot_low}
-use Rattle.triple_arena_ord.proofs.Mends.{MendReads, Lowered, Higher, Sibling, broken_lives, broken_reads, broken_ends, broken_lower, broken_sibling, mend_reads, not_fit, not_fit_at, mend_higher, higher_some, mend_lower, sibling_short, sets_lives}
+use Rattle.triple_arena_ord.specs.Node.{knots_in}
+use Rattle.rank_tree.specs.Named.{named}
+use Rattle.rank_tree.specs.Store.{rank_in}
+use Rattle.rank_tree.specs.Repair.{Broken}
+use Rattle.rank_tree.proofs.Spots.{spot_low}
+use Rattle.rank_tree.proofs.Mends.{MendReads, Lowered, Higher, Sibling, broken_lives, broken_reads, broken_ends, broken_lower, broken_sibling, mend_reads, not_fit, not_fit_at, mend_higher, higher_some, mend_lower, sibling_short, sets_lives}
 use Rattle.triple_arena_ord.proofs.removed.mend.Goals.{After-rank_at-right, After-set_rank, After-child, In-Some, After-set_rank-3}
 use Rattle.triple_arena_ord.proofs.removed.mend.Goals as goal
 

@@ -2,9 +2,9 @@ use Rattle.std.proofs.Common.{◌<◌, ap, subst}
 use Rattle.std.specs.Option.{option_map}
 use Rattle.triple_arena_ord.proofs.NameLemmas.{if_numbered}
 use Rattle.triple_arena_ord.specs.Node.{knots_in}
-use Rattle.triple_arena_ord.specs.Store.{rank_in}
-use Rattle.triple_arena_ord.specs.Repair.{Pending}
-use Rattle.triple_arena_ord.proofs.Mends.{mend_falls, broken_small}
+use Rattle.rank_tree.specs.Store.{rank_in}
+use Rattle.rank_tree.specs.Repair.{Pending}
+use Rattle.rank_tree.proofs.Mends.{mend_falls, broken_small}
 use Rattle.triple_arena_ord.proofs.removed.repair_removed.Goals as goal
 
 pub climb-smaller : goal.climb-smaller

@@ -1,8 +1,8 @@
 use Rattle.std.proofs.Common.{◌≡◌, ℕ, List}
 use Rattle.std.specs.Option.{option_map}
 use Rattle.triple_arena_ord.specs.Node.{knots_in, rest}
-use Rattle.triple_arena_ord.specs.Store.{ahead}
-use Rattle.triple_arena_ord.specs.Repair.{Pending}
+use Rattle.rank_tree.specs.Store.{ahead}
+use Rattle.rank_tree.specs.Repair.{Pending}
 use Rattle.triple_arena_ord.proofs.removed.repair_removed.Given as goal
 
 abbrev pub invariant-climb : goal.invariant-climb

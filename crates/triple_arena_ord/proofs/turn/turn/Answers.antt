@@ -1,8 +1,9 @@
 use Rattle.std.proofs.Common.{◌≡◌, ◌∙◌, sym, ap, Some, option_map}
-use Rattle.triple_arena_ord.specs.Store.{other_side, child_of, with_child}
-use Rattle.triple_arena_ord.specs.Node.{knots_in, named}
+use Rattle.rank_tree.specs.Store.{other_side, child_of, with_child}
+use Rattle.triple_arena_ord.specs.Node.{knots_in}
+use Rattle.rank_tree.specs.Named.{named}
 use Rattle.triple_arena_ord.proofs.NameLemmas.{not_some, if_live}
-use Rattle.triple_arena_ord.proofs.Spots.{spot_low, spot_parent, spot_high, spot_child, spot_holder, write-lives, reparent-lives, turn_works}
+use Rattle.rank_tree.proofs.Spots.{spot_low, spot_parent, spot_high, spot_child, spot_holder, write-lives, reparent-lives, turn_works}
 use Rattle.triple_arena_ord.proofs.turn.turn.Goals as goal
 
 pub read-below-requires : goal.read-below-requires

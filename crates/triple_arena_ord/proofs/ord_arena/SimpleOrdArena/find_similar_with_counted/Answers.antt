@@ -1,5 +1,5 @@
 use Rattle.std.proofs.Common.{◌≤◌, ◌+◌, subst}
-use Rattle.triple_arena_ord.specs.Tree.{rank_of}
+use Rattle.rank_tree.specs.Tree.{rank_of}
 use Rattle.triple_arena_ord.specs.Asked.{IsAsked}
 use Rattle.triple_arena_ord.specs.Ordered.{IsOrdered, tree_in, order_in, entry_in}
 use Rattle.triple_arena_ord.proofs.SeekLemmas.{few}

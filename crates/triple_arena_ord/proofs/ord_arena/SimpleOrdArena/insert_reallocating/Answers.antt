@@ -1,7 +1,7 @@
 use Rattle.std.proofs.Common.{ℕ, Option, subst}
 use Rattle.std.specs.Option.{option_map}
 use Rattle.std.specs.declared.cmp.Ordering.{Ordering}
-use Rattle.triple_arena_ord.specs.Search.{IsAnswer}
+use Rattle.rank_tree.specs.Search.{IsAnswer}
 use Rattle.triple_arena_ord.specs.Ordered.{asked_at, tree_in}
 use Rattle.triple_arena_ord.proofs.InsertLemmas.{inserted_by_key}
 use Rattle.triple_arena_ord.proofs.PlacingLemmas.{placed_by_key}

@@ -1,7 +1,7 @@
 use Rattle.std.proofs.Common.{refl}
 use Rattle.std.specs.Option.{option_map}
 use Rattle.std.specs.declared.cmp.Ordering.TheVariants.{Greater}
-use Rattle.triple_arena_ord.specs.declared.knots.Side.TheVariants.{Left}
+use Rattle.rank_tree.specs.declared.side.Side.TheVariants.{Left}
 use Rattle.triple_arena_ord.specs.Ordered.{Ordered}
 use Rattle.triple_arena_ord.proofs.SettleLemmas.{settled_prev, settled_at}
 use Rattle.triple_arena_ord.proofs.ord_arena.SimpleOrdArena.settle_before.Goals as goal

@@ -1,12 +1,12 @@
 -- What a tree or a context keeps while other indexes are written.
 use Rattle.std.proofs.Common.{◌≡◌, ◌≢◌, ℕ, ◌+◌, ◌<◌, ◌≤◌, List, [], ◌∷◌, ◌++◌, Option, Some, refl, sym, ap, ◌∙◌, subst, arith}
 use Rattle.std.proofs.lemmas.Bool.{eq-eqb, ne_eqb}
-use Rattle.triple_arena_ord.specs.Knot.{Knot}
-use Rattle.triple_arena_ord.specs.declared.knots.Side.{Side}
-use Rattle.triple_arena_ord.specs.declared.knots.Side.TheVariants.{Left, Right}
-use Rattle.triple_arena_ord.specs.Store.{Store, Written, Reparented, Relinked}
-use Rattle.triple_arena_ord.specs.Tree.{Tree, leaf, node, walk, rank_of}
-use Rattle.triple_arena_ord.specs.Shape.{make, knot, root_of, Context, top, under, plug, holder, Represents, Hangs, Stands, one, count, count_round, IsDistinct}
+use Rattle.rank_tree.specs.Knot.{Knot}
+use Rattle.rank_tree.specs.declared.side.Side.{Side}
+use Rattle.rank_tree.specs.declared.side.Side.TheVariants.{Left, Right}
+use Rattle.rank_tree.specs.Store.{Store, Written, Reparented, Relinked}
+use Rattle.rank_tree.specs.Tree.{Tree, leaf, node, walk, rank_of}
+use Rattle.rank_tree.specs.Shape.{make, knot, root_of, Context, top, under, plug, holder, Represents, Hangs, Stands, one, count, count_round, IsDistinct}
 
 pub one-same : (i : ℕ) → one i i ≡ 1
 one-same i = rw (eq-eqb i i refl)

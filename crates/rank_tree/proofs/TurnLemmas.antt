@@ -1,11 +1,11 @@
 -- A node turns up over its parent.
 use Rattle.std.proofs.Common.{◌≡◌, ℕ, ◌+◌, ◌≤◌, ◌∷◌, Option, Some, sym, ap, ◌∙◌, subst, arith, append_assoc}
-use Rattle.triple_arena_ord.specs.declared.knots.Side.{Side}
-use Rattle.triple_arena_ord.specs.declared.knots.Side.TheVariants.{Left, Right}
-use Rattle.triple_arena_ord.specs.Store.{Store, Written, Reparented, Relinked}
-use Rattle.triple_arena_ord.specs.Tree.{Tree, walk}
-use Rattle.triple_arena_ord.specs.Shape.{make, knot, root_of, Context, plug, holder, Hangs, Stands, one, count, count_round, IsDistinct}
-use Rattle.triple_arena_ord.proofs.Frames.{one-same, Represents-keep, Hangs-keep, make-count, make-root, make-opens, make-closes, plug-count, plug-opens, plug-closes, Represents-reparent, reparent-elsewhere, relink-elsewhere, Hangs-relink, write-elsewhere}
+use Rattle.rank_tree.specs.declared.side.Side.{Side}
+use Rattle.rank_tree.specs.declared.side.Side.TheVariants.{Left, Right}
+use Rattle.rank_tree.specs.Store.{Store, Written, Reparented, Relinked}
+use Rattle.rank_tree.specs.Tree.{Tree, walk}
+use Rattle.rank_tree.specs.Shape.{make, knot, root_of, Context, plug, holder, Hangs, Stands, one, count, count_round, IsDistinct}
+use Rattle.rank_tree.proofs.Frames.{one-same, Represents-keep, Hangs-keep, make-count, make-root, make-opens, make-closes, plug-count, plug-opens, plug-closes, Represents-reparent, reparent-elsewhere, relink-elsewhere, Hangs-relink, write-elsewhere}
 
 -- the writes of a turn, one after another; both nodes may get other ranks
 pub turned : (n n1 n2 n3 n4 : Store) (root new_root : Option ℕ) (c : Context) (s : Side) (a : Tree) (x kx : ℕ) (b : Tree) (y ky : ℕ) (d : Tree) (jx jy : ℕ)

@@ -2,18 +2,18 @@
 use Rattle.std.proofs.Common.{◌≡◌, ◌≢◌, ℕ, ◌+◌, ◌<◌, ◌≤◌, length, ◌∷◌, ◌++◌, Option, Some, None, refl, sym, ap, ◌∙◌, subst, arith, inl, inr, append_assoc, length-append}
 use Rattle.std.proofs.lemmas.Bool.{cases_eq}
 use Rattle.std.specs.Option.{IsSome, IfSome}
-use Rattle.triple_arena_ord.specs.Knot.{Knot}
-use Rattle.triple_arena_ord.specs.declared.knots.Side.{Side}
-use Rattle.triple_arena_ord.specs.declared.knots.Side.TheVariants.{Left, Right}
-use Rattle.triple_arena_ord.specs.Store.{Store, with_child, Written, Reparented, Relinked}
-use Rattle.triple_arena_ord.specs.Tree.{Tree, leaf, node, walk, rank_of, IsRanked}
-use Rattle.triple_arena_ord.specs.Shape.{make, knot, root_of, Context, top, under, plug, holder, Hangs, one, count, count_round}
-use Rattle.triple_arena_ord.specs.Repair.{IsRankedRound, Grown, Pending, Gap, filled, Loose}
-use Rattle.triple_arena_ord.proofs.Frames.{one-same, one-other, Represents-keep, Hangs-keep, make-count, make-root, make-rank, make-opens, make-closes, plug-count, plug-opens, plug-closes, write-elsewhere, Represents-reparent, reparent-elsewhere, relink-elsewhere, Hangs-relink}
-use Rattle.triple_arena_ord.proofs.Spots.{is_some as some_at, if_some, root-lives, holder-lives}
-use Rattle.triple_arena_ord.proofs.Leans.{make-ranked-opens}
-use Rattle.triple_arena_ord.proofs.Descents.{before, after, plug-walk_is}
-use Rattle.triple_arena_ord.proofs.Mends.{pending_up}
+use Rattle.rank_tree.specs.Knot.{Knot}
+use Rattle.rank_tree.specs.declared.side.Side.{Side}
+use Rattle.rank_tree.specs.declared.side.Side.TheVariants.{Left, Right}
+use Rattle.rank_tree.specs.Store.{Store, with_child, Written, Reparented, Relinked}
+use Rattle.rank_tree.specs.Tree.{Tree, leaf, node, walk, rank_of, IsRanked}
+use Rattle.rank_tree.specs.Shape.{make, knot, root_of, Context, top, under, plug, holder, Hangs, one, count, count_round}
+use Rattle.rank_tree.specs.Repair.{IsRankedRound, Grown, Pending, Gap, filled, Loose}
+use Rattle.rank_tree.proofs.Frames.{one-same, one-other, Represents-keep, Hangs-keep, make-count, make-root, make-rank, make-opens, make-closes, plug-count, plug-opens, plug-closes, write-elsewhere, Represents-reparent, reparent-elsewhere, relink-elsewhere, Hangs-relink}
+use Rattle.rank_tree.proofs.Spots.{is_some as some_at, if_some, root-lives, holder-lives}
+use Rattle.rank_tree.proofs.Leans.{make-ranked-opens}
+use Rattle.rank_tree.proofs.Descents.{before, after, plug-walk_is}
+use Rattle.rank_tree.proofs.Mends.{pending_up}
 
 pub plug-ranked-opens : (c : Context) (t : Tree) → IsRanked (plug c t) → IsRankedRound c (rank_of t) × IsRanked t
 plug-ranked-opens top t h = (tt, h)

@@ -1,17 +1,17 @@
 -- The climb after an insertion.
 use Rattle.std.proofs.Common.{◌≡◌, ◌≢◌, ℕ, ◌+◌, ◌-◌, ◌^◌, ◌<◌, ◌≤◌, List, length, ◌∷◌, Option, Some, None, refl, sym, ap, ◌∙◌, subst, arith, length-append}
 use Rattle.std.specs.Option.{IsSome, IfSome}
-use Rattle.triple_arena_ord.specs.Knot.{Knot}
-use Rattle.triple_arena_ord.specs.declared.knots.Side.{Side}
-use Rattle.triple_arena_ord.specs.declared.knots.Side.TheVariants.{Left, Right}
-use Rattle.triple_arena_ord.specs.Store.{Store, other_side, child_of, Written, with_rank, rank_in, rank_or_zero}
-use Rattle.triple_arena_ord.specs.Tree.{Tree, leaf, node, walk, size, rank_of, IsRanked, Fits}
-use Rattle.triple_arena_ord.specs.Shape.{make, knot, root_of, Context, top, under, plug, holder, Represents, Hangs, Stands, one, count, count_round, IsDistinct}
-use Rattle.triple_arena_ord.specs.Repair.{Spot, IsRankedRound, Restored, Grown, Leaning}
-use Rattle.triple_arena_ord.proofs.Bound.{small_rank}
-use Rattle.triple_arena_ord.proofs.Frames.{one-same, Represents-keep, Hangs-keep, make-count, make-root, make-rank, make-opens, make-closes, plug-count, plug-opens, plug-closes, plug-walk, IsDistinct-walk, write-elsewhere}
-use Rattle.triple_arena_ord.proofs.Spots.{is_some, if_some, root-lives, knot_rank, reads, spotted}
-use Rattle.triple_arena_ord.proofs.Leans.{make-ranked, make-ranked-opens, restored}
+use Rattle.rank_tree.specs.Knot.{Knot}
+use Rattle.rank_tree.specs.declared.side.Side.{Side}
+use Rattle.rank_tree.specs.declared.side.Side.TheVariants.{Left, Right}
+use Rattle.rank_tree.specs.Store.{Store, other_side, child_of, Written, with_rank, rank_in, rank_or_zero}
+use Rattle.rank_tree.specs.Tree.{Tree, leaf, node, walk, size, rank_of, IsRanked, Fits}
+use Rattle.rank_tree.specs.Shape.{make, knot, root_of, Context, top, under, plug, holder, Represents, Hangs, Stands, one, count, count_round, IsDistinct}
+use Rattle.rank_tree.specs.Repair.{Spot, IsRankedRound, Restored, Grown, Leaning}
+use Rattle.rank_tree.proofs.Bound.{small_rank}
+use Rattle.rank_tree.proofs.Frames.{one-same, Represents-keep, Hangs-keep, make-count, make-root, make-rank, make-opens, make-closes, plug-count, plug-opens, plug-closes, plug-walk, IsDistinct-walk, write-elsewhere}
+use Rattle.rank_tree.proofs.Spots.{is_some, if_some, root-lives, knot_rank, reads, spotted}
+use Rattle.rank_tree.proofs.Leans.{make-ranked, make-ranked-opens, restored}
 
 -- one node gets another rank
 pub ranked-write : (n m : Store) (root : Option ℕ) (c : Context) (s : Side) (t : Tree) (y k j : ℕ) (far : Tree)

@@ -3,7 +3,7 @@ use Rattle.std.proofs.Common.{◌≡◌, ℕ, suc, zero, ◌+◌, ◌*◌, ◌^�
 use Rattle.std.proofs.Common.{lit≤, lit<, add-one}
 use Rattle.std.proofs.lemmas.Bool.{cases_eq, cases_lt}
 use Rattle.std.proofs.Math.Nat.{mul-le-mul, mul-le-mul_left, pow-suc, pow-le-pow_right}
-use Rattle.triple_arena_ord.specs.Tree.{Tree, leaf, node, Fits, IsRanked, rank_of, size, height}
+use Rattle.rank_tree.specs.Tree.{Tree, leaf, node, Fits, IsRanked, rank_of, size, height}
 
 -- a ranked tree of rank k and more has at least this many nodes, and one: 1, 2, 3, then twice what two ranks less have
 abbrev least : ℕ → ℕ

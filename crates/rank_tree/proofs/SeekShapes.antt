@@ -1,11 +1,11 @@
 -- What a tree counts lives.
 use Rattle.std.proofs.Common.{ℕ, ◌<◌, Option, Some, IsSome, sym, subst, arith, inl, inr}
 use Rattle.std.proofs.lemmas.Bool.{cases_eq, cases_lt}
-use Rattle.triple_arena_ord.specs.Store.{Store}
-use Rattle.triple_arena_ord.specs.Tree.{Tree, leaf, node}
-use Rattle.triple_arena_ord.specs.Shape.{Represents, count}
-use Rattle.triple_arena_ord.proofs.Frames.{one-other}
-use Rattle.triple_arena_ord.proofs.Spots.{is_some}
+use Rattle.rank_tree.specs.Store.{Store}
+use Rattle.rank_tree.specs.Tree.{Tree, leaf, node}
+use Rattle.rank_tree.specs.Shape.{Represents, count}
+use Rattle.rank_tree.proofs.Frames.{one-other}
+use Rattle.rank_tree.proofs.Spots.{is_some}
 
 pub counted-lives : (n : Store) (p : Option ℕ) (t : Tree) → Represents n p t → (j : ℕ) → 0 < count j t → IsSome (n j)
 counted-lives n p leaf h j c = absurd (omega arith)

@@ -1,14 +1,14 @@
 -- One index takes another's place.
 use Rattle.std.proofs.Common.{◌≡◌, ℕ, ◌+◌, ◌<◌, ◌≤◌, Option, Some, sym, ap, ◌∙◌, subst, arith}
 use Rattle.std.specs.Option.{IsSome}
-use Rattle.triple_arena_ord.specs.Knot.{Knot}
-use Rattle.triple_arena_ord.specs.declared.knots.Side.TheVariants.{Left}
-use Rattle.triple_arena_ord.specs.Store.{Store, Written, Reparented, Relinked}
-use Rattle.triple_arena_ord.specs.Tree.{node}
-use Rattle.triple_arena_ord.specs.Shape.{knot, root_of, plug, holder, Stands, one, count, count_round}
-use Rattle.triple_arena_ord.specs.Repair.{Exchange}
-use Rattle.triple_arena_ord.proofs.Frames.{Represents-keep, Hangs-keep, plug-count, plug-opens, plug-closes, Represents-reparent, reparent-elsewhere, relink-elsewhere, Hangs-relink}
-use Rattle.triple_arena_ord.proofs.Spots.{is_some, root-lives, holder-lives}
+use Rattle.rank_tree.specs.Knot.{Knot}
+use Rattle.rank_tree.specs.declared.side.Side.TheVariants.{Left}
+use Rattle.rank_tree.specs.Store.{Store, Written, Reparented, Relinked}
+use Rattle.rank_tree.specs.Tree.{node}
+use Rattle.rank_tree.specs.Shape.{knot, root_of, plug, holder, Stands, one, count, count_round}
+use Rattle.rank_tree.specs.Repair.{Exchange}
+use Rattle.rank_tree.proofs.Frames.{Represents-keep, Hangs-keep, plug-count, plug-opens, plug-closes, Represents-reparent, reparent-elsewhere, relink-elsewhere, Hangs-relink}
+use Rattle.rank_tree.proofs.Spots.{is_some, root-lives, holder-lives}
 
 pub exchanged : (n n1 n2 n3 n4 : Store) (root new_root : Option ℕ) (old new : ℕ) (h : Exchange n root old new)
     → Written n n1 new (knot Left (holder h.context) (root_of h.left) h.rank (root_of h.right))

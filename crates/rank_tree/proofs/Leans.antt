@@ -1,16 +1,16 @@
 -- The turns that end a repair after an insertion.
 use Rattle.std.proofs.Common.{◌≡◌, ◌≢◌, ℕ, ◌+◌, ◌-◌, ◌<◌, ◌≤◌, List, Option, Some, None, refl, sym, ap, ◌∙◌, subst, arith}
 use Rattle.std.specs.Option.{IfSome}
-use Rattle.triple_arena_ord.specs.Knot.{Knot}
-use Rattle.triple_arena_ord.specs.declared.knots.Side.{Side}
-use Rattle.triple_arena_ord.specs.declared.knots.Side.TheVariants.{Left, Right}
-use Rattle.triple_arena_ord.specs.Store.{Store, other_side, child_of}
-use Rattle.triple_arena_ord.specs.Tree.{Tree, leaf, node, walk, rank_of, IsRanked, Fits}
-use Rattle.triple_arena_ord.specs.Shape.{make, root_of, Context, top, under, plug, Stands, IsDistinct}
-use Rattle.triple_arena_ord.specs.Repair.{Spot, turned, IsRankedRound, Restored, Leaning}
-use Rattle.triple_arena_ord.proofs.Frames.{make-rank, make-walk, plug-walk, IsDistinct-walk}
-use Rattle.triple_arena_ord.proofs.TurnLemmas.{turn-walk}
-use Rattle.triple_arena_ord.proofs.Spots.{reads, spotted, rank_read}
+use Rattle.rank_tree.specs.Knot.{Knot}
+use Rattle.rank_tree.specs.declared.side.Side.{Side}
+use Rattle.rank_tree.specs.declared.side.Side.TheVariants.{Left, Right}
+use Rattle.rank_tree.specs.Store.{Store, other_side, child_of}
+use Rattle.rank_tree.specs.Tree.{Tree, leaf, node, walk, rank_of, IsRanked, Fits}
+use Rattle.rank_tree.specs.Shape.{make, root_of, Context, top, under, plug, Stands, IsDistinct}
+use Rattle.rank_tree.specs.Repair.{Spot, turned, IsRankedRound, Restored, Leaning}
+use Rattle.rank_tree.proofs.Frames.{make-rank, make-walk, plug-walk, IsDistinct-walk}
+use Rattle.rank_tree.proofs.TurnLemmas.{turn-walk}
+use Rattle.rank_tree.proofs.Spots.{reads, spotted, rank_read}
 
 -- the rules of a node, seen from a side
 pub make-ranked : (s : Side) (a : Tree) (i k : ℕ) (b : Tree) → Fits (rank_of a) k (rank_of b) → IsRanked a → IsRanked b

@@ -1,11 +1,11 @@
 -- The nodes determine the tree.
 use Rattle.std.proofs.Common.{◌≡◌, ℕ, zero, suc, ◌≤◌, Option, Some, None, refl, sym, ap, ◌∙◌, arith, ◌∷◌, ◌++◌}
-use Rattle.triple_arena_ord.specs.declared.knots.Side.TheVariants.{Left}
-use Rattle.triple_arena_ord.specs.Store.{Store, rank_or_link, rank_or_zero}
-use Rattle.triple_arena_ord.specs.Whole.{read_tree, tree_of}
-use Rattle.triple_arena_ord.proofs.Bound.{height-le-rank}
-use Rattle.triple_arena_ord.specs.Tree.{Tree, leaf, node, walk, rank_of, height, IsRanked}
-use Rattle.triple_arena_ord.specs.Shape.{knot, make, root_of, Represents, Stands, Context, top, under, plug}
+use Rattle.rank_tree.specs.declared.side.Side.TheVariants.{Left}
+use Rattle.rank_tree.specs.Store.{Store, rank_or_link, rank_or_zero}
+use Rattle.rank_tree.specs.Whole.{read_tree, tree_of}
+use Rattle.rank_tree.proofs.Bound.{height-le-rank}
+use Rattle.rank_tree.specs.Tree.{Tree, leaf, node, walk, rank_of, height, IsRanked}
+use Rattle.rank_tree.specs.Shape.{knot, make, root_of, Represents, Stands, Context, top, under, plug}
 
 pub unique : (n : Store) (p q : Option ℕ) (t u : Tree) → Represents n p t → Represents n q u → root_of t ≡ root_of u → t ≡ u
 unique n p q leaf leaf h g e = refl

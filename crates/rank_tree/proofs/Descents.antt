@@ -3,14 +3,14 @@ use Rattle.std.proofs.Common.{◌≡◌, ℕ, ◌+◌, ◌<◌, ◌≤◌, List,
 use Rattle.std.specs.Option.{IsSome}
 use Rattle.std.specs.declared.cmp.Ordering.{Ordering}
 use Rattle.std.specs.declared.cmp.Ordering.TheVariants.{Less, Equal, Greater}
-use Rattle.triple_arena_ord.specs.Knot.{Knot}
-use Rattle.triple_arena_ord.specs.declared.knots.Side.TheVariants.{Left, Right}
-use Rattle.triple_arena_ord.specs.Store.{Store, rank_in, rank_or_zero, rank_or_link}
-use Rattle.triple_arena_ord.specs.Tree.{Tree, leaf, node, walk, rank_of, IsRanked}
-use Rattle.triple_arena_ord.specs.Shape.{knot, root_of, Context, top, under, plug, holder, Represents, Hangs, Stands, count, count_round}
-use Rattle.triple_arena_ord.specs.Search.{AllIn, Before, IsParted, Places, IsAnswer, IsFreeAt, led_by, asked_down}
-use Rattle.triple_arena_ord.proofs.Frames.{one-same, plug-count, plug-opens, root-counted}
-use Rattle.triple_arena_ord.proofs.Spots.{root-lives}
+use Rattle.rank_tree.specs.Knot.{Knot}
+use Rattle.rank_tree.specs.declared.side.Side.TheVariants.{Left, Right}
+use Rattle.rank_tree.specs.Store.{Store, rank_in, rank_or_zero, rank_or_link}
+use Rattle.rank_tree.specs.Tree.{Tree, leaf, node, walk, rank_of, IsRanked}
+use Rattle.rank_tree.specs.Shape.{knot, root_of, Context, top, under, plug, holder, Represents, Hangs, Stands, count, count_round}
+use Rattle.rank_tree.specs.Search.{AllIn, Before, IsParted, Places, IsAnswer, IsFreeAt, led_by, asked_down}
+use Rattle.rank_tree.proofs.Frames.{one-same, plug-count, plug-opens, root-counted}
+use Rattle.rank_tree.proofs.Spots.{root-lives}
 
 -- the indexes before a hole, and those after it
 abbrev pub before : Context → List ℕ

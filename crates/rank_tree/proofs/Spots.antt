@@ -2,15 +2,15 @@
 use Rattle.std.proofs.Common.{◌≡◌, ◌≢◌, ℕ, Option, Some, None, refl, sym, ap, ◌∙◌, subst, arith, rules, inl, inr, ◌⊎◌}
 use Rattle.std.specs.Option.{IsSome, IfSome}
 use Rattle.std.proofs.lemmas.Bool.{cases_eq, false≢true}
-use Rattle.triple_arena_ord.specs.Knot.{Knot}
-use Rattle.triple_arena_ord.specs.declared.knots.Side.{Side}
-use Rattle.triple_arena_ord.specs.declared.knots.Side.TheVariants.{Left, Right}
-use Rattle.triple_arena_ord.specs.Store.{Store, other_side, child_of, Written, Reparented, Relinked, with_parent, with_child}
-use Rattle.triple_arena_ord.specs.Tree.{Tree, leaf, node, rank_of}
-use Rattle.triple_arena_ord.specs.Shape.{make, knot, root_of, Context, top, under, holder, Represents, Hangs, Stands}
-use Rattle.triple_arena_ord.specs.Repair.{Spot, turned}
-use Rattle.triple_arena_ord.proofs.Frames.{one-same, make-count, make-root, make-opens, plug-count, plug-opens, root-counted}
-use Rattle.triple_arena_ord.proofs.TurnLemmas.{turned as turned_stands}
+use Rattle.rank_tree.specs.Knot.{Knot}
+use Rattle.rank_tree.specs.declared.side.Side.{Side}
+use Rattle.rank_tree.specs.declared.side.Side.TheVariants.{Left, Right}
+use Rattle.rank_tree.specs.Store.{Store, other_side, child_of, Written, Reparented, Relinked, with_parent, with_child}
+use Rattle.rank_tree.specs.Tree.{Tree, leaf, node, rank_of}
+use Rattle.rank_tree.specs.Shape.{make, knot, root_of, Context, top, under, holder, Represents, Hangs, Stands}
+use Rattle.rank_tree.specs.Repair.{Spot, turned}
+use Rattle.rank_tree.proofs.Frames.{one-same, make-count, make-root, make-opens, plug-count, plug-opens, root-counted}
+use Rattle.rank_tree.proofs.TurnLemmas.{turned as turned_stands}
 
 pub is_some : {A : Type 0} (o : Option A) (v : A) → o ≡ Some v → IsSome o
 is_some o v e = rw e (search rules)

@@ -3,17 +3,17 @@ use Rattle.std.proofs.Common.{◌≡◌, ◌≢◌, ℕ, ◌+◌, ◌-◌, ◌^�
 use Rattle.std.proofs.Common.{max, Bool, false, IsTrue, ◌↔◌}
 use Rattle.std.proofs.lemmas.Bool.{cases_lt, false≢true}
 use Rattle.std.specs.Option.{IsSome, IfSome}
-use Rattle.triple_arena_ord.specs.Knot.{Knot}
-use Rattle.triple_arena_ord.specs.declared.knots.Side.{Side}
-use Rattle.triple_arena_ord.specs.declared.knots.Side.TheVariants.{Left, Right}
-use Rattle.triple_arena_ord.specs.Store.{Store, other_side, child_of, Written, with_rank, rank_in, rank_or_zero, ahead}
-use Rattle.triple_arena_ord.specs.Tree.{Tree, node, walk, rank_of, IsRanked, Fits}
-use Rattle.triple_arena_ord.specs.Shape.{make, knot, root_of, Context, top, under, plug, holder, Represents, Hangs, Stands, IsDistinct, one}
-use Rattle.triple_arena_ord.specs.Repair.{Spot, IsRankedRound, Restored, Broken, Nearly, Pending, Short}
-use Rattle.triple_arena_ord.proofs.Frames.{one-same, make-count, plug-count, make-rank, make-root, make-walk, plug-opens, plug-walk, IsDistinct-walk}
-use Rattle.triple_arena_ord.proofs.Spots.{is_some, if_some, root-lives, spotted, knot_rank, knot_parent, rank_read, write-lives}
-use Rattle.triple_arena_ord.proofs.Leans.{make-ranked, make-ranked-opens, plug-ranked, open_tree, root-some}
-use Rattle.triple_arena_ord.proofs.Climbs.{ranked-write, same-walk-rank, near_of, as_make, as_node, near_ranks, plug-small}
+use Rattle.rank_tree.specs.Knot.{Knot}
+use Rattle.rank_tree.specs.declared.side.Side.{Side}
+use Rattle.rank_tree.specs.declared.side.Side.TheVariants.{Left, Right}
+use Rattle.rank_tree.specs.Store.{Store, other_side, child_of, Written, with_rank, rank_in, rank_or_zero, ahead}
+use Rattle.rank_tree.specs.Tree.{Tree, node, walk, rank_of, IsRanked, Fits}
+use Rattle.rank_tree.specs.Shape.{make, knot, root_of, Context, top, under, plug, holder, Represents, Hangs, Stands, IsDistinct, one}
+use Rattle.rank_tree.specs.Repair.{Spot, IsRankedRound, Restored, Broken, Nearly, Pending, Short}
+use Rattle.rank_tree.proofs.Frames.{one-same, make-count, plug-count, make-rank, make-root, make-walk, plug-opens, plug-walk, IsDistinct-walk}
+use Rattle.rank_tree.proofs.Spots.{is_some, if_some, root-lives, spotted, knot_rank, knot_parent, rank_read, write-lives}
+use Rattle.rank_tree.proofs.Leans.{make-ranked, make-ranked-opens, plug-ranked, open_tree, root-some}
+use Rattle.rank_tree.proofs.Climbs.{ranked-write, same-walk-rank, near_of, as_make, as_node, near_ranks, plug-small}
 
 -- the child that a side names keeps what both keep
 near_ranked : (s : Side) (a b : Tree) → IsRanked a → IsRanked b → IsRanked (near_of s a b)

@@ -1,12 +1,12 @@
 -- One turn or two that restore the rules.
 use Rattle.std.proofs.Common.{◌≡◌, ℕ, ◌+◌, ◌-◌, ◌<◌, ◌≤◌, List, Option, Some, sym, ap, ◌∙◌, subst, arith}
-use Rattle.triple_arena_ord.specs.Store.{Store, other_side}
-use Rattle.triple_arena_ord.specs.Tree.{walk, rank_of, IsRanked, Fits}
-use Rattle.triple_arena_ord.specs.Shape.{make, root_of, under, plug, Stands, IsDistinct}
-use Rattle.triple_arena_ord.specs.Repair.{Spot, IsRankedRound, Restored, Short}
-use Rattle.triple_arena_ord.proofs.Frames.{make-rank, make-walk}
-use Rattle.triple_arena_ord.proofs.TurnLemmas.{turn-walk}
-use Rattle.triple_arena_ord.proofs.Leans.{Turns, make-ranked, make-ranked-opens, restored, flip, open_tree, turned-distinct}
+use Rattle.rank_tree.specs.Store.{Store, other_side}
+use Rattle.rank_tree.specs.Tree.{walk, rank_of, IsRanked, Fits}
+use Rattle.rank_tree.specs.Shape.{make, root_of, under, plug, Stands, IsDistinct}
+use Rattle.rank_tree.specs.Repair.{Spot, IsRankedRound, Restored, Short}
+use Rattle.rank_tree.proofs.Frames.{make-rank, make-walk}
+use Rattle.rank_tree.proofs.TurnLemmas.{turn-walk}
+use Rattle.rank_tree.proofs.Leans.{Turns, make-ranked, make-ranked-opens, restored, flip, open_tree, turned-distinct}
 
 -- a spot whose three subtrees keep the rules, as does what is round it
 pub record Ready (n : Store) (root : Option ℕ) (low : ℕ) (w : List ℕ) (spot : Spot n root low) : Type 0 where

@@ -1,0 +1,13 @@
+pub mod Bound
+pub mod Frames
+pub mod TurnLemmas
+pub mod Spots
+pub mod Leans
+pub mod Climbs
+pub mod Descents
+pub mod Turnings
+pub mod Mends
+pub mod Unique
+pub mod EdgeLemmas
+pub mod ChangeLemmas
+pub mod SeekShapes

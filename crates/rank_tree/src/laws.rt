@@ -1,0 +1,17 @@
+//! What follows from the rules of ranks.
+ghost use Rattle.std.specs.Prelude.{◌≡◌, ◌+◌, ◌*◌, ◌^◌, ◌<◌, ◌≤◌, ℕ, Option};
+ghost use Rattle.rank_tree.specs.Store.{Store};
+ghost use Rattle.rank_tree.specs.Tree.{Tree, IsRanked, height, rank_of, size};
+ghost use Rattle.rank_tree.specs.Shape.{Stands};
+
+/// No path in a tree that keeps the rules has more nodes than the rank r of its root, and with n nodes, where there is one,
+/// `2^(r+1) <= (n+1)^2`.
+pub fn paths_are_short()
+    ensures high { (t : Tree) → IsRanked t → height t ≤ rank_of t }
+    ensures low { (t : Tree) → IsRanked t → 0 < size t → 2 ^ (rank_of t + 1) ≤ (size t + 1) * (size t + 1) }
+{}
+
+/// The nodes determine the tree that hangs from a root.
+pub fn nodes_determine_the_tree()
+    ensures { (nodes : Store) (root : Option ℕ) (t u : Tree) → Stands nodes root t → Stands nodes root u → t ≡ u }
+{}
