@@ -39,7 +39,7 @@ pub(crate) fn insert_leaf<
     ensures room { chains.new.room ≡ chains.old.room }
 {
     let _capacity = chains.capacity();
-    let (prev, next) = neighbours_beside(chains, holder, side);
+    let (prev, next) = neighbors_beside(chains, holder, side);
     let node: SimpleOrdArenaNode<P, T> = IndexNode {
         t,
         p_back: None,
@@ -57,7 +57,7 @@ pub(crate) fn insert_leaf<
 }
 
 // The neighbours of one more link directly before or after that of `holder`.
-pub(crate) fn neighbours_beside<
+pub(crate) fn neighbors_beside<
     P: Ptr,
     T: Drop,
     S: NonZeroInxGenericStack<ArenaSlot<P, LinkNoGen<P, SimpleOrdArenaNode<P, T>>>> + Drop,
