@@ -14,6 +14,7 @@ use triple_arena::{ArenaSlot, ArenaTrait, NonZeroInxGenericStack, Ptr, PtrInx};
 use triple_arena_chain::{ChainArena, ChainArenaTrait, LinkNoGen};
 
 // A new entry directly before or after that of `holder`, which has no child on this side.
+#[inline(always)]
 pub(crate) fn insert_leaf<
     P: Ptr,
     T: Drop,
