@@ -88,5 +88,5 @@ returns-in-None-clause-counted g c = λ there on.
     let number = g.P.Inx.PtrInx.number in
     let start = (goal.at.returns-in-None-clause-counted g c).After-inx in
     linear_key_passed number g.T.Key.Ord.cmp g.T.SimpleOrdItem.key_of c.args.k.now c.args.self.now _ c.self.view_is c.self.invariant.0 _ (lives g start) c.walk_from-place.result
-    c.args.num _ _ _ _ c.walk_from-place.ensures.stops c.walk_from-place.ensures.walked (c.found_at.ensures.none c.in-None.is) c.find_key_counted.ensures.ticks
+    c.args.num _ _ _ _ c.walk_from-place.ensures.stops c.walk_from-place.ensures.walked (c.found_at.ensures.none c.in-None.is) c.find_key_counted-in-None.ensures.ticks
     (g.P.Ptr.index c.args.p_init) c.inx.ensures on

@@ -55,4 +55,4 @@ returns-in-None-clause-counted g c = λ there on.
     let inside : Ordered g.row.P-Inx.Denot g.row.T.Denot = record { chains = c.self.inside.chains; root = option_map number c.self.inside.root } in
     let lives = looked_up number g.P.Gen.PtrGen.number (λ b. b.now) inside (number c.args.p_init) c.get_inx.result c.get_inx.ensures (c.is_none.ensures ∙ ap not c.if-is_none.false) in
     linear_place_passed number g.T.Key.Ord.cmp g.T.SimpleOrdItem.key_of c.args.k.now c.args.self.now inside c.self.view_is c.self.invariant.0 (number c.args.p_init) lives c.walk_from.result
-    c.args.num _ _ _ _ c.walk_from.ensures.walked c.in-None.is c.seek.ensures.ticks on
+    c.args.num _ _ _ _ c.walk_from.ensures.walked c.in-None.is c.seek-in-None.ensures.ticks on
