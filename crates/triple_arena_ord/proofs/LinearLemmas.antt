@@ -152,9 +152,9 @@ module _ {I T : Type 0} (number : I → ℕ) where
       linear_key_ended num down old new stops walks i e s start_is =
           subst (λ s. (on : On (order_in number o) s) → IsKeyCounted num down (asked_at cmp key k o) (path_from (asked_at cmp key k o) on) old new) start_is
           (λ on.
-              let path = path_from (asked_at cmp key k o) on in
-              key_ended num down old new new (asked_at cmp key k o) path i
-              (subst (λ t. IsWalked num path t old new) (index_of r e) (walked num old new walks on)) ((linear_answer stops i Equal e).asked i Equal refl) refl)
+          let path = path_from (asked_at cmp key k o) on in
+          key_ended num down old new new (asked_at cmp key k o) path i
+          (subst (λ t. IsWalked num path t old new) (index_of r e) (walked num old new walks on)) ((linear_answer stops i Equal e).asked i Equal refl) refl)
         where
           index_of : (t : Option (I × Ordering)) → option_map {U = ℕ × Ordering} (λ a. (number a.0, a.1)) t ≡ Some (i, Equal) → option_map (λ a. number a.0) t ≡ Some i
           index_of None u = absurd (cc)

@@ -52,7 +52,7 @@ where
         → result ≢ None }
     ensures walked { (w : List ℕ) → IsLinear (ends_in P.Inx.number (A.links arena.now)) w → (on : On w (P.Inx.number start))
         → IsWalked num (path_from (asked_in T.Key.cmp T.key_of k.now (items_in (A.links arena.now))) on)
-            (option_map (λ a. P.Inx.number a.0) result) probes.old probes.new }
+        (option_map (λ a. P.Inx.number a.0) result) probes.old probes.new }
     ensures rises { probes.old ≤ probes.new }
     ensures ticks { probes.new ≤ probes.old + num }
 {

@@ -40,7 +40,7 @@ impl<
             → probes.new ≡ probes.old + asked_down (asked_at T.Key.cmp T.key_of k.now self.now) (tree_in P.Inx.number self.now) }
         ensures counted { IsSome (entry_in self.now (P.Inx.number p_init)) → (on : On (order_in P.Inx.number self.now) (P.Inx.number p_init))
             → IsPlaceCounted num (asked_down (asked_at T.Key.cmp T.key_of k.now self.now) (tree_in P.Inx.number self.now))
-                (path_from (asked_at T.Key.cmp T.key_of k.now self.now) on) probes.old probes.new }
+            (path_from (asked_at T.Key.cmp T.key_of k.now self.now) on) probes.old probes.new }
         ensures near { IsParted (asked_at T.Key.cmp T.key_of k.now self.now) (order_in P.Inx.number self.now)
             → IsSome (entry_in self.now (P.Inx.number p_init))
             → IsAtHand num (asked_at T.Key.cmp T.key_of k.now self.now) (order_in P.Inx.number self.now) (P.Inx.number p_init)
@@ -81,7 +81,7 @@ impl<
             → probes.new ≡ probes.old + asked_down (asked_at T.Key.cmp T.key_of k.now self.now) (tree_in P.Inx.number self.now) }
         ensures counted { IsSome (value_if (P.generation p_init) (entry_in self.now (P.index p_init))) → (on : On (order_in P.Inx.number self.now) (P.index p_init))
             → IsKeyCounted num (asked_down (asked_at T.Key.cmp T.key_of k.now self.now) (tree_in P.Inx.number self.now)) (asked_at T.Key.cmp T.key_of k.now self.now)
-                (path_from (asked_at T.Key.cmp T.key_of k.now self.now) on) probes.old probes.new }
+            (path_from (asked_at T.Key.cmp T.key_of k.now self.now) on) probes.old probes.new }
         ensures near { IsAscending P.Inx.number T.Key.cmp T.key_of self.now
             → IsSome (value_if (P.generation p_init) (entry_in self.now (P.index p_init)))
             → IsEndNear num (asked_at T.Key.cmp T.key_of k.now self.now) (order_in P.Inx.number self.now) (P.index p_init)
@@ -131,7 +131,7 @@ impl<
             → probes.new ≡ probes.old + asked_down (asked_at T.Key.cmp T.key_of k.now self.now) (tree_in P.Inx.number self.now) }
         ensures counted { IsSome (entry_in self.now (P.Inx.number p_init)) → (on : On (order_in P.Inx.number self.now) (P.Inx.number p_init))
             → IsPlaceCounted num (asked_down (asked_at T.Key.cmp T.key_of k.now self.now) (tree_in P.Inx.number self.now))
-                (path_from (asked_at T.Key.cmp T.key_of k.now self.now) on) probes.old probes.new }
+            (path_from (asked_at T.Key.cmp T.key_of k.now self.now) on) probes.old probes.new }
         ensures near { IsAscending P.Inx.number T.Key.cmp T.key_of self.now
             → IsSome (entry_in self.now (P.Inx.number p_init))
             → IsAtHand num (asked_at T.Key.cmp T.key_of k.now self.now) (order_in P.Inx.number self.now) (P.Inx.number p_init)
