@@ -1,6 +1,7 @@
 mod calls;
 mod canonical;
 mod counted_keys;
+mod counting;
 mod entries;
 mod falling_keys;
 mod growing;
@@ -11,4 +12,5 @@ mod refusals;
 mod removals;
 mod rows;
 mod searches;
+mod six_searches;
 mod walks;
