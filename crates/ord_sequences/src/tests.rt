@@ -6,6 +6,7 @@ mod entries;
 mod falling_keys;
 mod growing;
 mod insertions;
+mod items;
 mod nodes;
 mod pairs;
 mod refusals;
