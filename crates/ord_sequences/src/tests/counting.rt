@@ -81,7 +81,7 @@ pub(crate) const THOUSAND: Keys = Keys {
     most: 16,
 };
 
-// As many as the indexes of `P1` hold in an even number, and the greatest c with `2^(c+1) <= 128^2`.
+// An even number that the 255 indexes of `P1` hold, and the greatest c with `2^(c+1) <= 128^2`.
 pub(crate) const NARROW: Keys = Keys {
     last: 254,
     most: 13,

@@ -209,11 +209,13 @@ pub(crate) fn searches<'a, P: Ptr, S: NonZeroInxGenericStack<Slot<'a, P>> + Drop
         most.1 = from_start(rt, arena, middle, &k, keys).max(most.1);
         from_start(rt, arena, P::invalid(), &k, keys);
         // Six places before, and six behind: the key, or the farther one of its two neighbors.
-        if 13 <= n {
-            from_near(rt, arena, n + n % 2 - 12, &k, keys);
+        let before = (n + n % 2).saturating_sub(12);
+        if 0 < before {
+            from_near(rt, arena, before, &k, keys);
         }
-        if 0 < n && n + 11 <= keys.last {
-            from_near(rt, arena, n - n % 2 + 12, &k, keys);
+        let behind = (n - n % 2).saturating_add(12);
+        if 0 < n && behind <= keys.last {
+            from_near(rt, arena, behind, &k, keys);
         }
     }
     most
