@@ -54,13 +54,6 @@ make-length : (s : Side) (a : Tree) (i k : ℕ) (b : Tree) → length (walk (mak
 make-length Left a i k b = let e = length-append (walk a) (i ∷ walk b) in omega arith
 make-length Right a i k b = let e = length-append (walk b) (i ∷ walk a) in omega arith
 
--- what the two edges do to the walk: the new index stands beside its holder, and the old one is gone
-pub filled-left : (c : Context) (i k : ℕ) (far : Tree) (new : ℕ) → walk (plug c (make Left (node leaf new 1 leaf) i k far)) ≡ before c ++ (new ∷ i ∷ (walk far ++ after c))
-filled-left c i k far new = plug-walk_is (under c Left i k far) (node leaf new 1 leaf)
-
-pub filled-right : (c : Context) (i k : ℕ) (far : Tree) (new : ℕ) → walk (plug c (make Right (node leaf new 1 leaf) i k far)) ≡ before c ++ (walk far ++ (i ∷ new ∷ after c))
-filled-right c i k far new = plug-walk_is (under c Right i k far) (node leaf new 1 leaf) ∙ simp append_assoc
-
 pub attached : (n n1 n2 : Store) (root : Option ℕ) (at_holder : ℕ) (side : Side) (new : ℕ) (g : Gap n root at_holder side new)
     → Written n n1 new (knot Left (Some at_holder) None 1 None)
     → Written n1 n2 at_holder (knot side (holder g.context) (Some new) g.rank (root_of g.far))

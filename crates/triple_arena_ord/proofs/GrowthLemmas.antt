@@ -17,32 +17,6 @@ use Rattle.triple_arena_ord.specs.Ordered.{Ordered, IsOrdered, order_in, size_in
 use Rattle.triple_arena_ord.specs.Growth.{IsInRoom}
 use Rattle.triple_arena_ord.specs.Inserted.{Replaces, StandsAt, IsInsertedAt, within_room, growing_room, room_made}
 
--- where a growth was refused, so is the insertion
-pub refused_growing : {P : Type 0} (takes : Bool) (len : ℕ) (room : Room) (made : Result P ReallocationError) (error : ReallocationError) (answer : OrdInsertionError)
-    → IsRefusal takes len room made → made ≡ Err error → (error ≡ Beyond → answer ≡ BeyondMaxCapacity) → (error ≡ Alloc → answer ≡ AllocError)
-    → growing_room takes len room (Some answer)
-refused_growing {P} takes len room made error answer is at to_beyond to_memory = by error at to_beyond to_memory
-  where
-    full : (e : ReallocationError) → made ≡ Err e → capacity room ≤ len
-    full e at = elim (cases_lt len (capacity room)) [
-      | inl h ↦ let z : IsOk made = is.succeeds h in let y : is_ok made ≡ false = ap is_ok at in absurd (cc)
-      | inr h ↦ h
-    ]
-
-    by : (e : ReallocationError) → made ≡ Err e → (e ≡ Beyond → answer ≡ BeyondMaxCapacity) → (e ≡ Alloc → answer ≡ AllocError) → growing_room takes len room (Some answer)
-    by Beyond at b m = rw (b refl) (full Beyond at, is.beyond.0 at)
-    by Alloc at b m = rw (m refl) (full Alloc at, (is.memory at, λ u. let z = is.beyond.1 u in absurd (cc)))
-
--- where it was not, the capacity is not at its limit
-pub unlimited : {P : Type 0} (takes : Bool) (len : ℕ) (room : Room) (made : Result P ReallocationError) (p : P)
-    → IsRefusal takes len room made → made ≡ Ok p → room.limit ≢ Some len
-unlimited takes len room made p is at u = let z = is.beyond.1 u in absurd (cc)
-
--- nothing new stands at a place where an item is replaced
-pub never : (place : Option (ℕ × Ordering)) → Replaces place → (v w : List ℕ) (n : ℕ) → StandsAt place v w n → ⊥
-never None h v w n s = h
-never (Some a) h v w n s = let z : StandsAt (Some (a.0, Equal)) v w n = subst (λ d. StandsAt (Some (a.0, d)) v w n) h s in z
-
 module _ {I T : Type 0} (number : I → ℕ) where
   -- another room leaves the list as it must be
   pub in_room_ordered : (o p : Ordered I T) (r : Room) → p ≡ record { chains = in_room o.chains r; root = o.root } → IsOrdered number o → IsOrdered number p
@@ -76,17 +50,6 @@ module _ {I T : Type 0} (number : I → ℕ) where
     ok_roomier (Err e) made = tt
 
   module _ {P : Type 0} (index generation : P → ℕ) (takes : Bool) (place : Option (ℕ × Ordering)) (t : T) (result : Result (P × Option T) OrdInsertionError) where
-    -- a replacement wants no room
-    pub inserted_replacing : (o p : Ordered I T) → Replaces place → IsInsertedAt number index generation (within_room (size_in o) o.chains.room) place t result o p
-        → IsInsertedAt number index generation (growing_room takes (size_in o) o.chains.room) place t result o p
-    inserted_replacing o p replaces put = record {
-      replaced = put.replaced;
-      added = put.added;
-      fits = λ q e. absurd (never place replaces (order_in number o) (order_in number p) (index q) (put.added q e).0);
-      refused = λ error e. absurd ((put.refused error e).0 replaces);
-      same = put.same;
-    }
-
     -- an insertion after a growth is one into the arena before it
     pub inserted_grown : (o m p : Ordered I T) (r : Room) → (Replaces place → ⊥) → size_in m < arena_capacity m.chains → o.chains.room.limit ≢ Some (size_in o) → IsInRoom number r o m
         → IsInsertedAt number index generation (within_room (size_in m) m.chains.room) place t result m p
@@ -109,17 +72,6 @@ module _ {I T : Type 0} (number : I → ℕ) where
       fits = λ q e. unlimited;
       refused = λ error e. let full = (put.refused error e).1.1 in absurd (omega (arith, full, fits));
       same = λ error e. let full = (put.refused error e).1.1 in absurd (omega (arith, full, fits));
-    }
-
-    -- nothing is inserted where the growth was refused
-    pub inserted_refused : (o p : Ordered I T) (error : OrdInsertionError) → (Replaces place → ⊥) → result ≡ Err error → growing_room takes (size_in o) o.chains.room (Some error) → p ≡ o
-        → IsInsertedAt number index generation (growing_room takes (size_in o) o.chains.room) place t result o p
-    inserted_refused o p error new at refused same = record {
-      replaced = λ q u e. absurd (cc);
-      added = λ q e. absurd (cc);
-      fits = λ q e. absurd (cc);
-      refused = λ other e. let z : Err error ≡ result = sym at in let y : error ≡ other = cc in (new, subst (λ x. growing_room takes (size_in o) o.chains.room (Some x)) y refused);
-      same = λ other e. same;
     }
 
     -- the room after a replacement

@@ -14,7 +14,7 @@ use Rattle.triple_arena_chain.specs.Links.{ends_in}
 use Rattle.triple_arena_chain.specs.UniquenessLaws.{linear_apart}
 use Rattle.triple_arena_ord.specs.Ordered.{Ordered, IsOrdered, order_in, entry_in, size_in, listed}
 use Rattle.triple_arena_ord.specs.OrderedDrains.{emptied_after, IsFirstTaken, drain_arena, IsOn, DrainKeepsAlong}
-use Rattle.triple_arena_ord.specs.OrderedWalks.{listed_at}
+use Rattle.triple_arena_ord.specs.Ordered.{listed_at}
 use Rattle.triple_arena_ord.specs.Removal.{Loses, IsRemoved}
 use Rattle.triple_arena_ord.specs.declared.ord_arena.drain.OrderedDrain.{OrderedDrain}
 use Rattle.triple_arena_ord.proofs.OrderedWalkLemmas.{listed_first, on_lives}

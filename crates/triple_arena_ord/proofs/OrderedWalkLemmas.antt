@@ -13,7 +13,8 @@ use Rattle.triple_arena_chain.specs.UniquenessLaws.{linear_apart}
 use Rattle.triple_arena_ord.specs.declared.node.IndexNode.{IndexNode}
 use Rattle.triple_arena_ord.specs.Node.{knots_in, itemed}
 use Rattle.triple_arena_ord.specs.Ordered.{Ordered, IsOrdered, tree_in, order_in, entry_in}
-use Rattle.triple_arena_ord.specs.OrderedWalks.{OrderedWalk, walk_at, from_index, from_where, along, IsFrom, listed_at, left_over, IsEnd, IsGiven, IsOver}
+use Rattle.triple_arena_ord.specs.OrderedWalks.{OrderedWalk, walk_at, from_index, from_where, along, IsFrom, left_over, IsEnd, IsGiven, IsOver}
+use Rattle.triple_arena_ord.specs.Ordered.{listed_at}
 use Rattle.triple_arena_ord.proofs.EndLemmas.{last_some}
 use Rattle.triple_arena_ord.proofs.GapLemmas.{linear_ends}
 use Rattle.triple_arena_ord.proofs.LawLemmas.{stands}

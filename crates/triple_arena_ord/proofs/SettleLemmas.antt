@@ -52,16 +52,6 @@ final_at (node l x k (node a y j b)) i e = go (final_at (node a y j b) y refl)
           ∙ ap (λ t. walk t ++ h.index ∷ []) (sym (plug_in-plug (under top Right x k l) h.context h.left));
     }
 
--- two places beside indexes are the same where what stands at the one stands at the other
-pub beside_place : (w : List ℕ) (h j : ℕ) (d e : Ordering) → d ≢ Equal → e ≢ Equal → ((v : List ℕ) (n : ℕ) → StandsAt (Some (j, d)) w v n → StandsAt (Some (h, e)) w v n)
-    → IsSamePlace w (Some (j, d)) (Some (h, e))
-beside_place w h j d e d_new e_new same = record {
-  stands = same;
-  replaced = λ i u. absurd (d_new (let a : ℕ × Ordering = (j, d) in let b : ℕ × Ordering = (i, Equal) in let z : a ≡ b = cc in ap (λ p. p.1) z));
-  replaces = λ u. absurd (e_new u);
-  none = λ u. absurd (cc);
-}
-
 module _ {I T P : Type 0} (number : I → ℕ) (index generation : P → ℕ) (allows : Option OrdInsertionError → Type 0) (t : T) (o p : Ordered I T) where
   -- an insertion at a place is one at the same place
   pub inserted_there : (one other : Option (ℕ × Ordering)) (result : Result (P × Option T) OrdInsertionError) → IsSamePlace (order_in number o) one other

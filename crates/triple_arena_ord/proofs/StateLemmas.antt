@@ -35,30 +35,6 @@ module _ {I T : Type 0} where
           ∙ ap (λ (n : IndexNode I T). with_link_of c i (λ link. record link { t = record n { t = w } }) (Some e)) (sym node)
           ∙ sym (ap (with_link_of c i (λ link. record link { t = record link.t { t = w } })) at)
 
-  items-invalidated : (last : Option ℕ) (c : Content (IndexLink I (IndexNode I T))) (i j : ℕ)
-      → items_in (invalidated last c i) j ≡ with_generation_at (items_in c) i (next_generation last c.counter) j
-  items-invalidated last c i j =
-      ap (λ o. option_map itemed (option_map valued o)) (entry-invalidated last c i j)
-      ∙ elim (eqb_tells j i) [
-        | inl same ↦ rw same.0 (by (entry_at c i))
-        | inr other ↦ rw other.0 refl
-      ]
-    where
-      by : (o : Option (ℕ × IndexLink I (IndexNode I T)))
-          → option_map itemed (option_map valued (option_map (λ e. (next_generation last c.counter, e.1)) o))
-          ≡ option_map (λ e. (next_generation last c.counter, e.1)) (option_map itemed (option_map valued o))
-      by None = refl
-      by (Some e) = refl
-
-  pub invalidated_is : (last : Option ℕ) (o : Ordered I T) (i : ℕ)
-      → IsInvalidated entry_in size_in counter_in room_in last i (next_generation last o.chains.counter) o (invalidated_in last o i)
-  invalidated_is last o i = record {
-    entries = items-invalidated last o.chains i;
-    live = live-invalidated last o.chains i;
-    counter = ap Some (counter-invalidated last o.chains i);
-    room = room-invalidated last o.chains i;
-  }
-
 module _ {I T : Type 0} (number : I → ℕ) where
   knots-invalidated : (last : Option ℕ) (c : Content (IndexLink I (IndexNode I T))) (i j : ℕ) → knots_in number (invalidated last c i) j ≡ knots_in number c j
   knots-invalidated last c i j =
@@ -73,11 +49,6 @@ module _ {I T : Type 0} (number : I → ℕ) where
           ≡ option_map (λ e. knot_of number e.1) (option_map valued o)
       by None = refl
       by (Some e) = refl
-
-  pub invalidated_list : (last : Option ℕ) (o : Ordered I T) (i : ℕ) → IsOrdered number o → Reordered number o (invalidated_in last o i)
-  invalidated_list last o i is =
-      same_list number o (invalidated_in last o i) refl (knots-invalidated last o.chains i) (ends-invalidated number last o.chains i)
-      (live-invalidated last o.chains i) is
 
   -- the same slots
   pub same_slots_list : (o p : Ordered I T) → p.root ≡ o.root → p.chains.slots ≡ o.chains.slots → IsOrdered number o → Reordered number o p

@@ -189,28 +189,6 @@ module _ {I T : Type 0} (number : I → ℕ) where
               ∙ sym (slots-removed last o.chains h);
         }
 
-  -- a pointer finds the item of the entry that it finds
-  pub item_found : (v : Option (ℕ × IndexNode I T)) (g : ℕ) (e : ℕ × T) → IsSome (value_if g v) → Some e ≡ option_map itemed v
-      → Some e.1 ≡ value_if g (option_map itemed v)
-  item_found None g e s is = absurd (cc)
-  item_found (Some a) g e s is =
-      elim (eqb_tells a.0 g) [
-        | inl same ↦ rw same.0 (ap (option_map (λ z. z.1)) is)
-        | inr other ↦ absurd (let z : IsSome {T = IndexNode I T} None = subst (λ b. IsSome (if b then Some a.1 else None)) other.0 s in cc)
-      ]
-
-  pub nothing_found : (v : Option (ℕ × IndexNode I T)) (g : ℕ) → (IsSome (value_if g v) → ⊥) → value_if g (option_map itemed v) ≡ None
-  nothing_found None g n = refl
-  nothing_found (Some a) g n =
-      elim (eqb_tells a.0 g) [
-        | inl same ↦ absurd (n (subst (λ b. IsSome (if b then Some a.1 else None)) (sym same.0) refl))
-        | inr other ↦ rw other.0 refl
-      ]
-
-  pub found_lives : {A : Type 0} (v : Option (ℕ × IndexNode I T)) (g : ℕ) (f : ℕ × IndexNode I T → A) → IsSome (value_if g v) → IsSome (option_map f v)
-  found_lives None g f s = absurd (cc)
-  found_lives (Some a) g f s = refl
-
   -- the list is one shorter
   pub removed : (last : Option ℕ) (o p : Ordered I T) (h : ℕ) → IsOrdered number o → IsOrdered number p → Loses (order_in number o) (order_in number p) h
       → ((k : ℕ) → entry_in p k ≡ without (entry_in o) h k) → p.chains.counter ≡ next_generation last o.chains.counter → p.chains.free ≡ (without_entry last o.chains h).free

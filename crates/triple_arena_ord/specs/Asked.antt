@@ -4,11 +4,7 @@ use Rattle.std.specs.Borrow.{Bor}
 use Rattle.std.specs.List.{FoldsTo, AllByRecursion, last_or}
 use Rattle.std.specs.declared.cmp.Ordering.{Ordering}
 use Rattle.std.specs.declared.cmp.Ordering.TheVariants.{Less, Equal, Greater}
-use Rattle.std.specs.Option.{option_map}
 use Rattle.triple_arena_chain.specs.Chains.{On}
-use Rattle.triple_arena_ord.specs.declared.node.IndexNode.{IndexNode}
-use Rattle.rank_tree.specs.Store.{Store}
-use Rattle.triple_arena_ord.specs.Node.{knot_of, itemed}
 use Rattle.triple_arena_ord.specs.Ordered.{Ordered, entry_in}
 
 -- what an answer leaves of a list, where this stands before and that after the index that was asked
@@ -61,12 +57,3 @@ answer_of side i (Some e) = side i e
 
 abbrev pub answer_at : {I T : Type 0} → (ℕ → ℕ × T → Ordering) → Ordered I T → ℕ → Ordering
 answer_at side o i = answer_of side i (entry_in o i)
-
-module _ {I T : Type 0} where
-  -- the nodes of these entries as the tree sees them
-  abbrev pub knots_among : (I → ℕ) → (ℕ → Option (ℕ × IndexNode I T)) → Store
-  knots_among number entry i = option_map (λ e. knot_of number e.1) (entry i)
-
-  -- their items
-  abbrev pub items_among : (ℕ → Option (ℕ × IndexNode I T)) → ℕ → Option (ℕ × T)
-  items_among entry i = option_map itemed (entry i)

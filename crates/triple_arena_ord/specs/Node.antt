@@ -19,9 +19,13 @@ module _ {I : Type 0} (number : I → ℕ) where
     rank = node.rank;
   }
 
-  -- the node at each index, as the tree sees it
+  -- the nodes of these entries, as the tree sees them
+  abbrev pub knots_among : {T : Type 0} → (ℕ → Option (ℕ × IndexNode I T)) → Store
+  knots_among entry i = option_map (λ e. knot_of e.1) (entry i)
+
+  -- the node at each index
   abbrev pub knots_in : {T : Type 0} → Content (IndexLink I (IndexNode I T)) → Store
-  knots_in c i = option_map (λ entry. knot_of entry.1) (values_in c i)
+  knots_in c = knots_among (values_in c)
 
   -- the neighbours of one more link directly before or after another
   abbrev pub prev_for : {T : Type 0} → Side → IndexLink I (IndexNode I T) → ℕ → Option ℕ
@@ -37,9 +41,13 @@ module _ {I T : Type 0} where
   abbrev pub itemed : ℕ × IndexNode I T → ℕ × T
   itemed entry = (entry.0, entry.1.t)
 
+  -- the items of these entries
+  abbrev pub items_among : (ℕ → Option (ℕ × IndexNode I T)) → ℕ → Option (ℕ × T)
+  items_among entry i = option_map itemed (entry i)
+
   -- the generation and the item at each index
   abbrev pub items_in : Content (IndexLink I (IndexNode I T)) → ℕ → Option (ℕ × T)
-  items_in c i = option_map itemed (values_in c i)
+  items_in c = items_among (values_in c)
 
   abbrev pub bare : ℕ × IndexLink I (IndexNode I T) → ℕ × IndexLink I T
   bare entry = (entry.0, record { prev = entry.1.prev; next = entry.1.next; t = entry.1.t.t })

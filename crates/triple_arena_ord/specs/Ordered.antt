@@ -1,7 +1,5 @@
 -- What a contract sees of a `SimpleOrdArena`.
-use Rattle.std.specs.Prelude.{◌≡◌, ◌==◌, if◌then◌else◌, ℕ, ◌<◌, List, ◌∷◌, ◌++◌, length, filter_map, Option, Some, None, IsSome}
-use Rattle.std.specs.Option.{option_map}
-use Rattle.std.specs.List.Sorted.{IsSorted}
+use Rattle.std.specs.Prelude.{◌≡◌, ◌==◌, if◌then◌else◌, ℕ, ◌<◌, List, ◌∷◌, ◌++◌, length, Option, Some, None, IsSome}
 use Rattle.std.specs.declared.cmp.Ordering.{Ordering}
 use Rattle.std.specs.declared.cmp.Ordering.TheVariants.{Equal}
 use Rattle.triple_arena_stack.specs.Room.{Room}
@@ -13,6 +11,7 @@ use Rattle.rank_tree.specs.declared.side.Side.{Side}
 use Rattle.rank_tree.specs.declared.side.Side.TheVariants.{Left, Right}
 use Rattle.triple_arena_ord.specs.declared.node.IndexNode.{IndexNode}
 use Rattle.triple_arena_ord.specs.Node.{knots_in, items_in}
+use Rattle.triple_arena_ord.specs.Ascending.{entries_along, AscendsAlong}
 use Rattle.rank_tree.specs.Tree.{Tree, walk}
 use Rattle.rank_tree.specs.Shape.{count}
 use Rattle.rank_tree.specs.Whole.{tree_of, IsWhole}
@@ -59,6 +58,10 @@ module _ {I T : Type 0} where
   abbrev pub asked_at : {K : Type 0} → (K → K → Ordering) → (T → K) → K → Ordered I T → ℕ → Ordering
   asked_at cmp key k o i = asked_of cmp key k (entry_in o i)
 
+  -- the entries at these indexes, each beside its index
+  abbrev pub listed_at : Ordered I T → List ℕ → List (ℕ × (ℕ × T))
+  listed_at o w = entries_along (entry_in o) w
+
   -- how many entries
   abbrev pub size_in : Ordered I T → ℕ
   size_in o = live_count o.chains
@@ -82,7 +85,7 @@ module _ {I T : Type 0} (number : I → ℕ) where
 
   -- the index, generation and item of each entry, in order
   abbrev pub listed : Ordered I T → List (ℕ × (ℕ × T))
-  listed o = filter_map (λ i. option_map (λ e. (i, e)) (entry_in o i)) (order_in o)
+  listed o = listed_at o (order_in o)
 
   -- the tree keeps the rank rules and has each live index once; its walk is the one chain
   pub record IsOrdered (o : Ordered I T) : Type 0 where
@@ -94,4 +97,4 @@ module _ {I T : Type 0} (number : I → ℕ) where
   module _ {K : Type 0} (cmp : K → K → Ordering) (key : T → K) where
     -- no key is greater than the next one
     abbrev pub IsAscending : Ordered I T → Type 0
-    IsAscending o = IsSorted (λ x y. cmp (key x.1.1) (key y.1.1)) (listed o)
+    IsAscending o = AscendsAlong cmp key (entry_in o) (order_in o)

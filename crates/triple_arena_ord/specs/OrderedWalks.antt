@@ -1,5 +1,5 @@
 -- The ends of the list, and walks along it.
-use Rattle.std.specs.Prelude.{◌≡◌, ◌↔◌, ◌==◌, if◌then◌else◌, ℕ, Bool, List, [], ◌∷◌, ◌++◌, reverse, filter_map, Option, Some, None, IfSome}
+use Rattle.std.specs.Prelude.{◌≡◌, ◌↔◌, ◌==◌, if◌then◌else◌, ℕ, Bool, List, [], ◌∷◌, ◌++◌, reverse, Option, Some, None, IfSome}
 use Rattle.std.specs.Borrow.{Bor}
 use Rattle.std.specs.Option.{option_map}
 use Rattle.triple_arena.specs.Entries.{generation_at}
@@ -40,10 +40,6 @@ module _ {I T : Type 0} where
   -- a link with the value that it lends
   abbrev pub read_link : IndexLink I (Bor T) → IndexLink I T
   read_link link = record { prev = link.prev; next = link.next; t = link.t.now }
-
-  -- the entries at these indexes, each beside its index
-  abbrev pub listed_at : Ordered I T → List ℕ → List (ℕ × (ℕ × T))
-  listed_at o w = filter_map (λ i. option_map (λ e. (i, e)) (entry_in o i)) w
 
   module _ {P : Type 0} (index generation : P → ℕ) where
     -- the pointer to the entry at an end of the list, exactly where there is an entry

@@ -3,7 +3,8 @@ ghost use Rattle.std.specs.Prelude.{◌≡◌, ◌+◌, ◌≤◌};
 ghost use Rattle.std.specs.Option.{option_map};
 ghost use Rattle.rank_tree.specs.Tree.{walk, rank_of};
 ghost use Rattle.rank_tree.specs.Whole.{tree_of, IsWhole};
-ghost use Rattle.triple_arena_ord.specs.Asked.{knots_among, items_among, IsAsked};
+ghost use Rattle.triple_arena_ord.specs.Asked.{IsAsked};
+ghost use Rattle.triple_arena_ord.specs.Node.{knots_among, items_among};
 
 use crate::IndexNode;
 use std::cmp::Ordering;

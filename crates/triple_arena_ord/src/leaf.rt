@@ -14,6 +14,7 @@ use triple_arena::{ArenaSlot, ArenaTrait, NonZeroInxGenericStack, Ptr, PtrInx};
 use triple_arena_chain::{ChainArena, ChainArenaTrait, LinkNoGen};
 
 // A new entry directly before or after that of `holder`, which has no child on this side.
+#[inline(always)]
 pub(crate) fn insert_leaf<
     P: Ptr,
     T: Drop,
@@ -39,7 +40,7 @@ pub(crate) fn insert_leaf<
     ensures room { chains.new.room ≡ chains.old.room }
 {
     let _capacity = chains.capacity();
-    let (prev, next) = neighbours_beside(chains, holder, side);
+    let (prev, next) = neighbors_beside(chains, holder, side);
     let node: SimpleOrdArenaNode<P, T> = IndexNode {
         t,
         p_back: None,
@@ -57,7 +58,7 @@ pub(crate) fn insert_leaf<
 }
 
 // The neighbours of one more link directly before or after that of `holder`.
-pub(crate) fn neighbours_beside<
+pub(crate) fn neighbors_beside<
     P: Ptr,
     T: Drop,
     S: NonZeroInxGenericStack<ArenaSlot<P, LinkNoGen<P, SimpleOrdArenaNode<P, T>>>> + Drop,

@@ -106,7 +106,9 @@ impl<
         self.chains.len()
     }
 
-    // A new entry directly before or after that of `holder`, which has no child on this side.
+    // A new entry directly before or after that of `holder`, which has no child on this side. It is inlined, since the side is
+    // known at each call.
+    #[inline(always)]
     pub(crate) fn insert_beside(
         &mut self,
         holder: P::Inx,

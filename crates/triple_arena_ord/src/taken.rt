@@ -79,7 +79,9 @@ fn uproot<
     }
 }
 
-// The entry at an index, which has this one after it, leaves the tree and the list. Its link is given back.
+// The entry at an index, which has this one after it, leaves the tree and the list. Its link is given back: inlined, it is not
+// copied on the way.
+#[inline(always)]
 pub(crate) fn take_entry<
     P: Ptr,
     T: Drop,

@@ -1,5 +1,5 @@
 //! The calls that end pointers beside a removal: `clear`, and `invalidate`, whose entry stays.
-ghost use Rattle.std.specs.Prelude.{◌≡◌, ℕ, IfSome, IfNone, OnSome};
+ghost use Rattle.std.specs.Prelude.{◌≡◌, ℕ, None, IfSome, IfNone, OnSome};
 ghost use Rattle.std.specs.Option.{option_map};
 ghost use Rattle.triple_arena_ptr.specs.Generation.{next_generation, next_wraps};
 ghost use Rattle.triple_arena_ptr.specs.InvalidationOption.{value_of, overflowed};
@@ -41,6 +41,7 @@ impl<
             ≡ option_map {U = ℕ × ℕ} (λ t. (P.index p, next_generation P.Gen.last self.old.chains.counter))
             (value_if (P.generation p) (entry_in self.old (P.index p))) }
         ensures overflow { IfSome (answer_of result) (λ a. overflowed a ≡ next_wraps P.Gen.last self.old.chains.counter) }
+        ensures same { P.Gen.last ≡ None → IfSome (answer_of result) (λ a. value_of a ≡ p) }
         ensures order { order_in P.Inx.number self.new ≡ order_in P.Inx.number self.old }
         ensures invalidated { IfSome (answer_of result) (λ a. IsInvalidated entry_in size_in counter_in room_in P.Gen.last
             (P.index p) (P.generation (value_of a)) self.old self.new) }

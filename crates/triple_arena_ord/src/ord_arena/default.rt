@@ -3,6 +3,7 @@ ghost use Rattle.std.specs.Prelude.{◌≡◌, Some, None};
 ghost use Rattle.triple_arena_ptr.specs.Generation.{second_generation};
 ghost use Rattle.triple_arena.specs.ArenaRoom.{room_of};
 ghost use Rattle.triple_arena.specs.Content.{empty};
+ghost use Rattle.triple_arena_ord.specs.Ordered.{IsOrdered};
 
 use crate::{SimpleOrdArena, SimpleOrdArenaNode};
 use triple_arena::{ArenaSlot, NonZeroInxArray, Ptr};
@@ -14,8 +15,8 @@ impl<P: Ptr, T: Drop, const LIMIT: usize> Default
         T,
         NonZeroInxArray<ArenaSlot<P, LinkNoGen<P, SimpleOrdArenaNode<P, T>>>, LIMIT>,
     > {
-    ghost is_default = { λ o. o.chains ≡ empty (second_generation P.Gen.last)
-        (room_of P.Inx.greatest (record { reserved = LIMIT; limit = Some LIMIT })) };
+    ghost is_default = { λ o. (o.chains ≡ empty (second_generation P.Gen.last)
+        (room_of P.Inx.greatest (record { reserved = LIMIT; limit = Some LIMIT }))) × IsOrdered P.Inx.number o };
 
     /// An arena without an entry, in an array.
     fn default() -> Self {

@@ -1,7 +1,7 @@
 //! The counter of an ordered arena.
-ghost use Rattle.std.specs.Prelude.{◌≡◌};
+ghost use Rattle.std.specs.Prelude.{◌≡◌, IfSome};
 ghost use Rattle.std.specs.Option.{option_map};
-ghost use Rattle.triple_arena_ptr.specs.Generation.{next_wraps};
+ghost use Rattle.triple_arena_ptr.specs.Generation.{next_wraps, IsGeneration};
 ghost use Rattle.triple_arena_ptr.specs.InvalidationOption.{overflowed};
 ghost use Rattle.triple_arena_ord.specs.Ordered.{IsOrdered, counter_in};
 ghost use Rattle.triple_arena_ord.specs.States.{with_counter_in, stepped_in};
@@ -24,7 +24,8 @@ impl<
 
     /// The counter, in an arena that has one, as each ordered arena does.
     pub fn singular_generation(&self) -> Option<P::Gen>
-        ensures { option_map P.Gen.number result ≡ counter_in self.now }
+        ensures value { option_map P.Gen.number result ≡ counter_in self.now }
+        ensures counted { IfSome result (λ g. IsGeneration P.Gen.last (P.Gen.number g)) }
     {
         self.chains.singular_generation()
     }

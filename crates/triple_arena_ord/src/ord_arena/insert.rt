@@ -88,6 +88,7 @@ impl<
     }
 
     // An insertion where a search ended.
+    #[inline(always)]
     pub(crate) fn insert_at_within_capacity(
         &mut self,
         place: Option<(P::Inx, Ordering)>,

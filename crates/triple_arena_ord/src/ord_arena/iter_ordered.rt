@@ -35,7 +35,8 @@ where
     P::Inx: 'a,
 {
     ghost use Rattle.std.specs.Prelude.{ℕ, List};
-    ghost use Rattle.triple_arena_ord.specs.OrderedWalks.{listed_at, left_over};
+    ghost use Rattle.triple_arena_ord.specs.OrderedWalks.{left_over};
+    ghost use Rattle.triple_arena_ord.specs.Ordered.{listed_at};
 
     ghost Value = { List (ℕ × (ℕ × T)) };
 

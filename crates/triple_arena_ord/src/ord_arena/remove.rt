@@ -48,6 +48,7 @@ fn ended<I: PtrInx>(end: Option<I>, gone: I, neighbor: Option<I>) -> Option<I>
 }
 
 // An entry that was taken out, with its item alone.
+#[inline(always)]
 fn item_of<P: Ptr, T>(
     taken: InvalidationResult<(P::Gen, LinkNoGen<P, SimpleOrdArenaNode<P, T>>)>,
 ) -> InvalidationResult<(P::Gen, T)>
@@ -72,6 +73,7 @@ impl<
     S: NonZeroInxGenericStack<ArenaSlot<P, LinkNoGen<P, SimpleOrdArenaNode<P, T>>>> + Drop,
 > SimpleOrdArena<P, T, S> {
     // The entry at an index that is live leaves.
+    #[inline(always)]
     pub(crate) fn remove_live(&mut self, gone: P::Inx) -> InvalidationResult<(P::Gen, T)>
         requires { IsSome (knots_in P.Inx.number self.old.chains (P.Inx.number gone)) }
         ensures removed { IsRemoved P.Inx.number P.Gen.last (P.Inx.number gone) self.old self.new }
@@ -89,6 +91,7 @@ impl<
     /// Removes the item that `p` points to, and steps the counter. All other pointers find their items in the same order, so
     /// that a list whose keys ascend still does (`laws::removals_keep_keys_ascending`). It answers `InvalidPtr`, and changes
     /// nothing, where `p` points to none.
+    #[inline(always)]
     pub fn remove(&mut self, p: P) -> InvalidationResult<T>
         ensures value { option_map value_of (answer_of result) ≡ value_if (P.generation p) (entry_in self.old (P.index p)) }
         ensures overflow { IfSome (answer_of result) (λ a. overflowed a ≡ next_wraps P.Gen.last self.old.chains.counter) }

@@ -3,9 +3,10 @@ ghost use Rattle.std.specs.Prelude.{◌≡◌, ◌+◌, ◌≤◌, ℕ, Option};
 ghost use Rattle.std.specs.declared.cmp.Ordering.{Ordering as Way};
 ghost use Rattle.counted_search.specs.Searches.{fair};
 ghost use Rattle.rank_tree.specs.Search.{IsParted};
+ghost use Rattle.rank_tree.specs.Tree.{rank_of};
 ghost use Rattle.triple_arena_ord.specs.Found.{IsFound, IsSimilar};
 ghost use Rattle.triple_arena_ord.specs.Asked.{IsAsked, AnswersBy, answer_at, found_by};
-ghost use Rattle.triple_arena_ord.specs.Ordered.{IsOrdered, order_in, entry_in, size_in};
+ghost use Rattle.triple_arena_ord.specs.Ordered.{IsOrdered, tree_in, order_in, entry_in, size_in};
 
 use crate::asks::ask_down;
 use crate::{SimpleOrdArena, SimpleOrdArenaNode};
@@ -21,8 +22,8 @@ impl<
 > SimpleOrdArena<P, T, S> {
     /// Asks `f` at entries, with the pointer and the item: `Less` leads to the entries before it, `Greater` to those after it,
     /// and `Equal` ends the search, as does a gap between entries that were asked. It answers the last entry that was asked,
-    /// with the answer; `None` where there is no entry. Each question is a tick, and there are as many at most as
-    /// `find_key_counted` has comparisons.
+    /// with the answer; `None` where there is no entry. Each question is a tick, and there are no more than the rank of the root,
+    /// and so no more than `find_key_counted` says.
     ///
     /// Where the answers hang on the pointer and the item alone, and go from `Greater` over `Equal` to `Less` along the list,
     /// the entry is one at which `f` answers `Equal`, or else one beside the gap.
@@ -35,6 +36,7 @@ impl<
         ensures similar { (side : ℕ → ℕ × T → Way) → AnswersBy P.index P.generation F.step side
             → IsSimilar P.index P.generation P.Inx.number (answer_at side self.now)
             (IsParted (answer_at side self.now) (order_in P.Inx.number self.now)) result self.now }
+        ensures rank { probes.new ≤ probes.old + rank_of (tree_in P.Inx.number self.now) }
         ensures bound { probes.new ≤ probes.old + fair (size_in self.now) }
         ensures ordered { IsOrdered P.Inx.number self.now }
     {
@@ -47,7 +49,7 @@ impl<
         F: FnMut(P, &T) -> Ordering,
         requires { F.IsAlwaysCallable f }
         ensures asked { (ticks : ℕ) × IsAsked P.index P.generation F.step (entry_in self.now) (order_in P.Inx.number self.now)
-            f result 0 ticks × (ticks ≤ fair (size_in self.now)) }
+            f result 0 ticks × (ticks ≤ rank_of (tree_in P.Inx.number self.now)) × (ticks ≤ fair (size_in self.now)) }
         ensures similar { (side : ℕ → ℕ × T → Way) → AnswersBy P.index P.generation F.step side
             → IsSimilar P.index P.generation P.Inx.number (answer_at side self.now)
             (IsParted (answer_at side self.now) (order_in P.Inx.number self.now)) result self.now }
@@ -66,6 +68,7 @@ impl<
         ensures found { (side : ℕ → ℕ × T → Way) → AnswersBy P.index P.generation F.step side
             → IsFound P.index P.generation (answer_at side self.now)
             (IsParted (answer_at side self.now) (order_in P.Inx.number self.now)) result self.now }
+        ensures rank { probes.new ≤ probes.old + rank_of (tree_in P.Inx.number self.now) }
         ensures bound { probes.new ≤ probes.old + fair (size_in self.now) }
     {
         match self.find_similar_with_counted(f, probes) {
@@ -83,7 +86,8 @@ impl<
         F: FnMut(P, &T) -> Ordering,
         requires { F.IsAlwaysCallable f }
         ensures asked { (ticks : ℕ) × (last : Option (P × Way)) × IsAsked P.index P.generation F.step (entry_in self.now)
-            (order_in P.Inx.number self.now) f last 0 ticks × (result ≡ found_by last) × (ticks ≤ fair (size_in self.now)) }
+            (order_in P.Inx.number self.now) f last 0 ticks × (result ≡ found_by last)
+            × (ticks ≤ rank_of (tree_in P.Inx.number self.now)) × (ticks ≤ fair (size_in self.now)) }
         ensures found { (side : ℕ → ℕ × T → Way) → AnswersBy P.index P.generation F.step side
             → IsFound P.index P.generation (answer_at side self.now)
             (IsParted (answer_at side self.now) (order_in P.Inx.number self.now)) result self.now }

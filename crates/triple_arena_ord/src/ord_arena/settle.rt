@@ -7,7 +7,7 @@ ghost use Rattle.triple_arena_ord.specs.Inserted.{StandsAt, IsSamePlace};
 ghost use Rattle.triple_arena_ord.specs.Ordered.{StandsBeside, order_in};
 
 use crate::knots::read;
-use crate::leaf::neighbours_beside;
+use crate::leaf::neighbors_beside;
 use crate::{SimpleOrdArena, SimpleOrdArenaNode};
 use rank_tree::Side;
 use std::cmp::Ordering;
@@ -30,7 +30,7 @@ impl<
         if read(&self.chains, i).left.is_none() {
             return (i, Ordering::Less);
         }
-        match neighbours_beside(&self.chains, i, Side::Left).0 {
+        match neighbors_beside(&self.chains, i, Side::Left).0 {
             Some(prev) => (prev, Ordering::Greater),
             None => unreachable!(),
         }
@@ -47,7 +47,7 @@ impl<
         if read(&self.chains, i).right.is_none() {
             return (i, Ordering::Greater);
         }
-        match neighbours_beside(&self.chains, i, Side::Right).1 {
+        match neighbors_beside(&self.chains, i, Side::Right).1 {
             Some(next) => (next, Ordering::Less),
             None => unreachable!(),
         }

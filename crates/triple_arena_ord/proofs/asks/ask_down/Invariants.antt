@@ -1,7 +1,7 @@
 use Rattle.std.specs.Option.{option_map}
 use Rattle.rank_tree.specs.Store.{rank_or_link}
 use Rattle.rank_tree.specs.Whole.{tree_of}
-use Rattle.triple_arena_ord.specs.Asked.{knots_among}
+use Rattle.triple_arena_ord.specs.Node.{knots_among}
 use Rattle.triple_arena_ord.proofs.AskedLemmas.{Asking}
 use Rattle.triple_arena_ord.proofs.asks.ask_down.Given as goal
 

@@ -1,17 +1,17 @@
 use Rattle.std.proofs.Common.{rules, ◌<◌, ◌^◌, None, arith}
 use Rattle.std.specs.Option.{option_map}
 use Rattle.triple_arena_ord.proofs.LeafLemmas.{Cut, Linked, Leaf, cut_found, cut_gap, leaf_gap, leaf_works}
-use Rattle.triple_arena_ord.proofs.leaf.insert_leaf.Goals.{After-neighbours_beside-prev, After-inx, After-bring_in}
+use Rattle.triple_arena_ord.proofs.leaf.insert_leaf.Goals.{After-neighbors_beside-prev, After-inx, After-bring_in}
 use Rattle.triple_arena_ord.proofs.leaf.insert_leaf.Goals as goal
 
 -- the list is cut beside the holder
-cut : (g : _) (c : After-neighbours_beside-prev g)
+cut : (g : _) (c : After-neighbors_beside-prev g)
     → Cut g.P.Inx.PtrInx.number (record { chains = c.args.chains.now; root = option_map g.P.Inx.PtrInx.number c.args.root.now })
-    (g.P.Inx.PtrInx.number c.args.holder) c.args.side (option_map g.P.Inx.PtrInx.number c.neighbours_beside-prev.result.0)
-    (option_map g.P.Inx.PtrInx.number c.neighbours_beside-prev.result.1)
+    (g.P.Inx.PtrInx.number c.args.holder) c.args.side (option_map g.P.Inx.PtrInx.number c.neighbors_beside-prev.result.0)
+    (option_map g.P.Inx.PtrInx.number c.neighbors_beside-prev.result.1)
 cut g c =
     cut_found g.P.Inx.PtrInx.number _ c.requires.ordered _ _ _ _ c.requires.lives c.requires.free
-    c.neighbours_beside-prev.ensures.prev c.neighbours_beside-prev.ensures.next
+    c.neighbors_beside-prev.ensures.prev c.neighbors_beside-prev.ensures.next
 
 -- the chain has one more link there
 linked : (g : _) (c : After-inx g)
@@ -25,9 +25,9 @@ linked g c =
     let room = c.requires.room in
     record {
       is = c.requires.ordered;
-      prev = option_map g.P.Inx.PtrInx.number c.neighbours_beside-prev.result.0;
-      next = option_map g.P.Inx.PtrInx.number c.neighbours_beside-prev.result.1;
-      cut = cut g (goal.at.After-inx g c).After-neighbours_beside-prev;
+      prev = option_map g.P.Inx.PtrInx.number c.neighbors_beside-prev.result.0;
+      next = option_map g.P.Inx.PtrInx.number c.neighbors_beside-prev.result.1;
+      cut = cut g (goal.at.After-inx g c).After-neighbors_beside-prev;
       placed = c.in-Ok.ensures.placed;
       index_is = c.inx.ensures;
       small = omega arith;
@@ -44,7 +44,7 @@ leaf g c =
 pub insert_in_gap_within_capacity-requires : goal.insert_in_gap_within_capacity-requires
 insert_in_gap_within_capacity-requires g c =
     cut_gap g.P.Inx.PtrInx.number _ c.requires.ordered _ _ _ _
-    (cut g (goal.at.insert_in_gap_within_capacity-requires g c).After-neighbours_beside-prev)
+    (cut g (goal.at.insert_in_gap_within_capacity-requires g c).After-neighbors_beside-prev)
 
 pub bring_in-requires-clause-gap : goal.bring_in-requires-clause-gap
 bring_in-requires-clause-gap g c = leaf_gap g.P.Inx.PtrInx.number (linked g (goal.at.bring_in-requires-clause-gap g c).After-inx)

@@ -6,9 +6,11 @@ use Rattle.triple_arena_ord.proofs.ord_arena.SimpleOrdArena.find_similar_with.Go
 pub returns-clause-asked : goal.returns-clause-asked
 returns-clause-asked g c =
     let none = c.new.ensures in
+    let rank = c.find_similar_with_counted.ensures.rank in
     let bound = c.find_similar_with_counted.ensures.bound in (
       c.find_similar_with_counted.new.probes,
       subst (λ z. IsAsked g.P.Ptr.index g.P.Ptr.generation (goal.F-step g) (entry_in c.args.self.now) (order_in g.P.Inx.PtrInx.number c.args.self.now) c.args.f c.find_similar_with_counted.result z c.find_similar_with_counted.new.probes)
           none c.find_similar_with_counted.ensures.asked,
+      omega (arith, none, rank),
       omega (arith, none, bound),
     )

@@ -14,6 +14,9 @@ returns-clause-similar g c = λ side by.
     (subst (λ z. IsAsked g.P.Ptr.index g.P.Ptr.generation (goal.F-step g) (entry_in z) (order_in number z) c.args.f c.ask_down.result c.args.probes.now c.ask_down.new.probes) c.self.view_is c.ask_down.ensures.asked)
     side by
 
+pub returns-clause-rank : goal.returns-clause-rank
+returns-clause-rank g c = subst (λ z. c.ask_down.new.probes ≤ c.args.probes.now + rank_of (tree_in g.P.Inx.PtrInx.number z)) c.self.view_is c.ask_down.ensures.bound
+
 pub returns-clause-bound : goal.returns-clause-bound
 returns-clause-bound g c =
     let number = g.P.Inx.PtrInx.number in

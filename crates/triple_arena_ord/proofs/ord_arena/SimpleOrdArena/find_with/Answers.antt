@@ -6,11 +6,13 @@ use Rattle.triple_arena_ord.proofs.ord_arena.SimpleOrdArena.find_with.Goals as g
 pub returns-clause-asked : goal.returns-clause-asked
 returns-clause-asked g c =
     let none = c.new.ensures in
+    let rank = c.find_with_counted.ensures.rank in
     let bound = c.find_with_counted.ensures.bound in (
       c.find_with_counted.new.probes,
       c.find_with_counted.ensures.asked.0,
       subst (λ z. IsAsked g.P.Ptr.index g.P.Ptr.generation (goal.F-step g) (entry_in c.args.self.now) (order_in g.P.Inx.PtrInx.number c.args.self.now) c.args.f c.find_with_counted.ensures.asked.0 z c.find_with_counted.new.probes)
           none c.find_with_counted.ensures.asked.1,
       c.find_with_counted.ensures.asked.2,
+      omega (arith, none, rank),
       omega (arith, none, bound),
     )

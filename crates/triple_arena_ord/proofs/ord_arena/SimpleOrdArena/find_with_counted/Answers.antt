@@ -21,5 +21,6 @@ returns-in_default g c =
       found = λ side by.
           found_asked g.P.Inx.PtrInx.number g.P.Ptr.index g.P.Ptr.generation (goal.F-step g) c.args.self.now c.find_similar_with_counted.ensures.ordered
           c.args.f c.find_similar_with_counted.result c.args.probes.now c.find_similar_with_counted.new.probes c.find_similar_with_counted.ensures.asked side by None other;
+      rank = c.find_similar_with_counted.ensures.rank;
       bound = c.find_similar_with_counted.ensures.bound;
     }

@@ -1,5 +1,5 @@
 use Rattle.std.proofs.Common.{ap, ◌∙◌}
-use Rattle.triple_arena_ord.specs.OrderedWalks.{listed_at}
+use Rattle.triple_arena_ord.specs.Ordered.{listed_at}
 use Rattle.triple_arena_ord.proofs.OrderedWalkLemmas.{whole}
 use Rattle.triple_arena_ord.proofs.ord_arena.SimpleOrdArena.iter_ordered.Goals as goal
 
