@@ -191,6 +191,7 @@ fn runs<H: Allocator + Copy, S: NonZeroInxGenericStack<Slot, Alloc = H> + Drop>(
     match SimpleOrdArena::<P0, Item, S>::with_min_capacity(alloc, 1) {
         Ok(mut pairs) => {
             assert!(rt; heap.has_refused() == had_refused);
+            assert!(rt; pairs.capacity() == 1);
             grows(rt, heap, &mut pairs);
         }
         Err(error) => {
