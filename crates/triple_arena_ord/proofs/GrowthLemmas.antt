@@ -17,6 +17,16 @@ use Rattle.triple_arena_ord.specs.Ordered.{Ordered, IsOrdered, order_in, size_in
 use Rattle.triple_arena_ord.specs.Growth.{IsInRoom}
 use Rattle.triple_arena_ord.specs.Inserted.{Replaces, StandsAt, IsInsertedAt, within_room, growing_room, room_made}
 
+-- where the growth was not refused, the capacity is not at its limit
+pub unlimited : {P : Type 0} (takes : Bool) (len : ℕ) (room : Room) (made : Result P ReallocationError) (p : P)
+    → IsRefusal takes len room made → made ≡ Ok p → room.limit ≢ Some len
+unlimited takes len room made p is at u = let z = is.beyond.1 u in absurd (cc)
+
+-- nothing new stands at a place where an item is replaced
+pub never : (place : Option (ℕ × Ordering)) → Replaces place → (v w : List ℕ) (n : ℕ) → StandsAt place v w n → ⊥
+never None h v w n s = h
+never (Some a) h v w n s = let z : StandsAt (Some (a.0, Equal)) v w n = subst (λ d. StandsAt (Some (a.0, d)) v w n) h s in z
+
 module _ {I T : Type 0} (number : I → ℕ) where
   -- another room leaves the list as it must be
   pub in_room_ordered : (o p : Ordered I T) (r : Room) → p ≡ record { chains = in_room o.chains r; root = o.root } → IsOrdered number o → IsOrdered number p

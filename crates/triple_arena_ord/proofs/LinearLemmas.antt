@@ -13,11 +13,11 @@ use Rattle.triple_arena_chain.specs.Links.{ends_in, values_in}
 use Rattle.triple_arena_ord.specs.Node.{items_in, itemed}
 use Rattle.rank_tree.specs.Tree.{rank_of}
 use Rattle.rank_tree.specs.Search.{IsParted, IsAnswer}
-use Rattle.triple_arena_ord.specs.Near.{IsEndNear, IsAtHand, IsStop, asked_in}
+use Rattle.triple_arena_ord.specs.Near.{IsEndNear, IsAtHand, IsStop, IsWalked, IsPlaceCounted, IsKeyCounted, path_from, asked_in, beyond}
 use Rattle.triple_arena_ord.specs.Ordered.{Ordered, IsOrdered, IsAscending, tree_in, order_in, entry_in, size_in, asked_at}
 use Rattle.triple_arena_ord.proofs.LiveLemmas.{counted_entry, entry_counted}
 use Rattle.triple_arena_ord.proofs.SeekLemmas.{few, unequal}
-use Rattle.triple_arena_ord.proofs.NearLemmas.{AllIn-at}
+use Rattle.triple_arena_ord.proofs.NearLemmas.{AllIn-at, place_ended, place_passed, key_ended, key_passed, key_other}
 use Rattle.triple_arena_ord.proofs.WayLemmas.{counted-walk, walk-counted}
 use Rattle.triple_arena_ord.proofs.FoundLemmas.{stop_answers}
 
@@ -81,6 +81,10 @@ module _ {I T : Type 0} (number : I → ℕ) where
       Reaches num = (w : List ℕ) → IsLinear (ends_in number inside.chains) w → On w start → IsParted (asked_in cmp key k (items_in inside.chains)) w
           → IsAtHand num (asked_in cmp key k (items_in inside.chains)) w start → r ≢ None
 
+      abbrev Walks : (num old new : ℕ) → Type 0
+      Walks num old new = (w : List ℕ) → IsLinear (ends_in number inside.chains) w → (on : On w start)
+          → IsWalked num (path_from (asked_in cmp key k (items_in inside.chains)) on) (option_map (λ a. number a.0) r) old new
+
       on : On (order_in number inside) start
       on = counted-walk (tree_in number inside) start (entry_counted number inside is start lives)
 
@@ -121,3 +125,59 @@ module _ {I T : Type 0} (number : I → ℕ) where
               let answer = linear_answer stops (number x.0) x.1 at in
               let not = unequal (asked_at cmp key k o) (tree_in number o) (Some (number x.0, x.1)) answer (λ i d u v. missed i (at ∙ u ∙ ap (λ d. Some (i, d)) v)) parted in
               AllIn-at (λ y. asked_at cmp key k o y ≢ Equal) (order_in number o) not end.near.to end.at end.near.ends end.equal
+
+      -- how often the walk compared, by what the list is
+      walked : (num old new : ℕ) → Walks num old new → (on : On (order_in number o) start)
+          → IsWalked num (path_from (asked_at cmp key k o) on) (option_map (λ a. number a.0) r) old new
+      walked num old new walks =
+          subst (λ (z : Ordered I T). (on : On (order_in number z) start) → IsWalked num (path_from (asked_at cmp key k z) on) (option_map (λ a. number a.0) r) old new)
+          same (λ on. walks (order_in number inside) is.linear on)
+
+      pub linear_place_ended : (num down old new : ℕ) → Walks num old new → (x : I × Ordering) → r ≡ Some x → (on : On (order_in number o) start)
+          → IsPlaceCounted num down (path_from (asked_at cmp key k o) on) old new
+      linear_place_ended num down old new walks x r_is on =
+          let path = path_from (asked_at cmp key k o) on in
+          place_ended num down old new new path (number x.0)
+          (subst (λ s. IsWalked num path (option_map (λ a. number a.0) s) old new) r_is (walked num old new walks on)) refl
+
+      pub linear_place_passed : (num down old mid new : ℕ) → Walks num old mid → r ≡ None → new ≡ mid + down → (on : On (order_in number o) start)
+          → IsPlaceCounted num down (path_from (asked_at cmp key k o) on) old new
+      linear_place_passed num down old mid new walks r_is ticks on =
+          let path = path_from (asked_at cmp key k o) on in
+          place_passed num down old mid new path
+          (subst (λ s. IsWalked num path (option_map (λ a. number a.0) s) old mid) r_is (walked num old mid walks on)) ticks
+
+      pub linear_key_ended : (num down old new : ℕ) → Stops → Walks num old new → (i : ℕ) → option_map {U = ℕ × Ordering} (λ a. (number a.0, a.1)) r ≡ Some (i, Equal)
+          → (s : ℕ) → start ≡ s → (on : On (order_in number o) s) → IsKeyCounted num down (asked_at cmp key k o) (path_from (asked_at cmp key k o) on) old new
+      linear_key_ended num down old new stops walks i e s start_is =
+          subst (λ s. (on : On (order_in number o) s) → IsKeyCounted num down (asked_at cmp key k o) (path_from (asked_at cmp key k o) on) old new) start_is
+          (λ on.
+          let path = path_from (asked_at cmp key k o) on in
+          key_ended num down old new new (asked_at cmp key k o) path i
+          (subst (λ t. IsWalked num path t old new) (index_of r e) (walked num old new walks on)) ((linear_answer stops i Equal e).asked i Equal refl) refl)
+        where
+          index_of : (t : Option (I × Ordering)) → option_map {U = ℕ × Ordering} (λ a. (number a.0, a.1)) t ≡ Some (i, Equal) → option_map (λ a. number a.0) t ≡ Some i
+          index_of None u = absurd (cc)
+          index_of (Some y) u = ap (option_map {U = ℕ} (λ (p : ℕ × Ordering). p.0)) u
+
+      pub linear_key_passed : (num down old mid new : ℕ) → Stops → Walks num old mid → ((i : ℕ) → option_map {U = ℕ × Ordering} (λ a. (number a.0, a.1)) r ≢ Some (i, Equal))
+          → new ≡ mid + down → (s : ℕ) → start ≡ s → (on : On (order_in number o) s)
+          → IsKeyCounted num down (asked_at cmp key k o) (path_from (asked_at cmp key k o) on) old new
+      linear_key_passed num down old mid new stops walks missed ticks s start_is =
+          subst (λ s. (on : On (order_in number o) s) → IsKeyCounted num down (asked_at cmp key k o) (path_from (asked_at cmp key k o) on) old new) start_is
+          (λ on. by on r refl (walked num old mid walks on))
+        where
+          by : (on : On (order_in number o) start) (t : Option (I × Ordering)) → r ≡ t
+              → IsWalked num (path_from (asked_at cmp key k o) on) (option_map (λ a. number a.0) r) old mid
+              → IsKeyCounted num down (asked_at cmp key k o) (path_from (asked_at cmp key k o) on) old new
+          by on None e told =
+              let path = path_from (asked_at cmp key k o) on in
+              key_passed num down old mid new (asked_at cmp key k o) (asked_at cmp key k o start) (start ∷ beyond (asked_at cmp key k o start) on.front on.back)
+              (subst (λ t. IsWalked num path (option_map (λ a. number a.0) t) old mid) e told) ticks
+          by on (Some x) e told =
+              let path = path_from (asked_at cmp key k o) on in
+              let at : option_map {U = ℕ × Ordering} (λ a. (number a.0, a.1)) r ≡ Some (number x.0, x.1) = ap (option_map {U = ℕ × Ordering} (λ a. (number a.0, a.1))) e in
+              let way : asked_at cmp key k o (number x.0) ≡ x.1 = (linear_answer stops (number x.0) x.1 at).asked (number x.0) x.1 refl in
+              key_other num down old mid new (asked_at cmp key k o) (asked_at cmp key k o start) (start ∷ beyond (asked_at cmp key k o start) on.front on.back) (number x.0)
+              (subst (λ t. IsWalked num path (option_map (λ a. number a.0) t) old mid) e told)
+              (λ equal. missed (number x.0) (at ∙ ap (λ d. Some (number x.0, d)) (sym way ∙ equal))) ticks

@@ -1,13 +1,14 @@
 -- A search along a linear chain, from one of its indexes.
-use Rattle.std.proofs.Common.{◌≡◌, ◌≢◌, ℕ, zero, suc, ◌+◌, ◌<◌, ◌≤◌, List, [], ◌∷◌, ◌++◌, length, slice_get, append_assoc, length-append, Option, Some, None, refl, sym, ap, ◌∙◌, subst, arith, inl, inr, ◌⊎◌}
+use Rattle.std.proofs.Common.{◌≡◌, ◌≢◌, ℕ, zero, suc, ◌+◌, ◌<◌, ◌≤◌, List, [], ◌∷◌, ◌++◌, length, reverse, take, drop, slice_get, append_assoc, length-append, length-take-le, take_all, take-append-drop, Option, Some, None, refl, sym, ap, ◌∙◌, subst, arith, inl, inr, ◌⊎◌}
 use Rattle.std.proofs.lemmas.Bool.{cases_lt}
+use Rattle.std.proofs.lemmas.List.{reverse-append}
 use Rattle.std.specs.declared.cmp.Ordering.{Ordering}
 use Rattle.std.specs.declared.cmp.Ordering.TheVariants.{Less, Equal, Greater}
 use Rattle.triple_arena_chain.specs.Chains.{Ends, IsLinear, first_or, last_or, Off, Apart, On}
 use Rattle.triple_arena_chain.specs.ChainLaws.{Off-not_on}
 use Rattle.triple_arena_chain.specs.UniquenessLaws.{linear_apart}
 use Rattle.rank_tree.specs.Search.{AllIn, Before, IsParted, Places}
-use Rattle.triple_arena_ord.specs.Near.{IsNear, IsEndNear, IsGapNear, onward}
+use Rattle.triple_arena_ord.specs.Near.{IsNear, IsEndNear, IsGapNear, HasEnd, IsWalked, IsPlaceCounted, IsKeyCounted, onward, if_onward, up_to, beyond, path_from}
 use Rattle.rank_tree.proofs.Descents.{AllIn-append, AllIn-back, AllIn-map, parted-after, parted-before}
 use Rattle.triple_arena_ord.proofs.GapLemmas.{Last, last_in, linear_ends, last_snoc}
 
@@ -84,8 +85,18 @@ first_in : (xs : List ℕ) (p : ℕ) → first_or xs None ≡ Some p → First x
 first_in [] p e = absurd (cc)
 first_in (x ∷ xs) p e = record { back = xs; is = let z : x ≡ p = cc in ap (λ y. y ∷ xs) z }
 
+-- the way that a search takes that went `way` and has this answer
+abbrev pub toward : Ordering → Ordering → Ordering
+toward Less answer = Less
+toward Equal answer = answer
+toward Greater answer = Greater
+
+-- what is left of a walk along a path: an index, which comes after what was passed, and those beyond it
+abbrev pub Trod : (ℕ → Ordering) → (path passed : List ℕ) → Ordering → (before : List ℕ) → ℕ → (after : List ℕ) → Type 0
+Trod f path passed way before cur after = path ≡ passed ++ up_to f (toward way (f cur)) (cur ∷ beyond (toward way (f cur)) before after)
+
 -- how far the search has come: what stands before and after the index, and the places
-pub record Walking (f : ℕ → Ordering) (w : List ℕ) (start : ℕ) (way : Ordering) (cur steps : ℕ) : Type 0 where
+pub record Walking (f : ℕ → Ordering) (w : List ℕ) (start : ℕ) (path : List ℕ) (way : Ordering) (cur steps : ℕ) : Type 0 where
   pub before : List ℕ
   pub after : List ℕ
   pub is : w ≡ before ++ cur ∷ after
@@ -94,8 +105,11 @@ pub record Walking (f : ℕ → Ordering) (w : List ℕ) (start : ℕ) (way : Or
   pub right : way ≡ Greater → (a : ℕ) → slice_get w a ≡ Some start → length before ≡ a + steps
   pub left : way ≡ Less → (a : ℕ) → slice_get w a ≡ Some start → length before + steps ≡ a
   pub first : way ≡ Equal → (steps ≡ 0) × (cur ≡ start)
+  pub passed : List ℕ
+  pub made : length passed ≡ steps
+  pub trod : Trod f path passed way before cur after
 
-pub walking_begins : (f : ℕ → Ordering) (w : List ℕ) (start : ℕ) → On w start → Walking f w start Equal start 0
+pub walking_begins : (f : ℕ → Ordering) (w : List ℕ) (start : ℕ) (on : On w start) → Walking f w start (path_from f on) Equal start 0
 walking_begins f w start on = record {
   before = on.front;
   after = on.back;
@@ -105,21 +119,63 @@ walking_begins f w start on = record {
   right = λ u. absurd (cc);
   left = λ u. absurd (cc);
   first = λ u. (refl, refl);
+  passed = [];
+  made = refl;
+  trod = refl;
 }
 
-module _ (e : ℕ → Option Ends) (f : ℕ → Ordering) (w : List ℕ) (start : ℕ) (linear : IsLinear e w) where
+-- one step along the path
+step_on : (path passed : List ℕ) (cur : ℕ) (rest : List ℕ) → path ≡ passed ++ cur ∷ rest → path ≡ (passed ++ cur ∷ []) ++ rest
+step_on path passed cur rest e = e ∙ sym (append_assoc passed (cur ∷ []) rest)
+
+toward_answer : (way d : Ordering) → (way ≡ Less → d ≡ Less) → (way ≡ Greater → d ≡ Greater) → toward way d ≡ d
+toward_answer Less d low high = sym (low refl)
+toward_answer Equal d low high = refl
+toward_answer Greater d low high = sym (high refl)
+
+trod_left : (f : ℕ → Ordering) (path passed : List ℕ) (way : Ordering) (before : List ℕ) (cur : ℕ) (after front : List ℕ) (next : ℕ) → Trod f path passed way before cur after
+    → f cur ≡ Less → way ≢ Greater → before ≡ front ++ next ∷ [] → path ≡ (passed ++ cur ∷ []) ++ up_to f Less (next ∷ reverse front)
+trod_left f path passed way before cur after front next trod here not is =
+    let to : toward way (f cur) ≡ Less = toward_answer way (f cur) (λ u. here) (λ u. absurd (not u)) ∙ here in
+    let left : path ≡ passed ++ up_to f Less (cur ∷ reverse before) = trod ∙ ap (λ d. passed ++ up_to f d (cur ∷ beyond d before after)) to in
+    let on : up_to f Less (cur ∷ reverse before) ≡ cur ∷ up_to f Less (reverse before) = ap (λ d. cur ∷ if_onward Less d (up_to f Less (reverse before))) here in
+    let turned : reverse before ≡ next ∷ reverse front = ap reverse is ∙ reverse-append front (next ∷ []) in
+    step_on path passed cur (up_to f Less (next ∷ reverse front)) (left ∙ ap (λ z. passed ++ z) (on ∙ ap (λ z. cur ∷ up_to f Less z) turned))
+
+trod_right : (f : ℕ → Ordering) (path passed : List ℕ) (way : Ordering) (before : List ℕ) (cur : ℕ) (after : List ℕ) (next : ℕ) (back : List ℕ) → Trod f path passed way before cur after
+    → f cur ≡ Greater → way ≢ Less → after ≡ next ∷ back → path ≡ (passed ++ cur ∷ []) ++ up_to f Greater (next ∷ back)
+trod_right f path passed way before cur after next back trod here not is =
+    let to : toward way (f cur) ≡ Greater = toward_answer way (f cur) (λ u. absurd (not u)) (λ u. here) ∙ here in
+    let right : path ≡ passed ++ up_to f Greater (cur ∷ after) = trod ∙ ap (λ d. passed ++ up_to f d (cur ∷ beyond d before after)) to in
+    let on : up_to f Greater (cur ∷ after) ≡ cur ∷ up_to f Greater after = ap (λ d. cur ∷ if_onward Greater d (up_to f Greater after)) here in
+    step_on path passed cur (up_to f Greater (next ∷ back)) (right ∙ ap (λ z. passed ++ z) (on ∙ ap (λ z. cur ∷ up_to f Greater z) is))
+
+-- where a walk goes nowhere from an index, its path has no more
+path_ends : (f : ℕ → Ordering) (way d : Ordering) (before after : List ℕ) → onward way d (last_or None before, first_or after None) ≡ None
+    → if_onward (toward way d) d (up_to f (toward way d) (beyond (toward way d) before after)) ≡ []
+path_ends f Less Less before after off = ap (λ z. up_to f Less (reverse z)) (no_last before off)
+path_ends f Less Equal before after off = refl
+path_ends f Less Greater before after off = refl
+path_ends f Equal Less before after off = ap (λ z. up_to f Less (reverse z)) (no_last before off)
+path_ends f Equal Equal before after off = refl
+path_ends f Equal Greater before after off = ap (λ z. up_to f Greater z) (no_first after off)
+path_ends f Greater Less before after off = refl
+path_ends f Greater Equal before after off = refl
+path_ends f Greater Greater before after off = ap (λ z. up_to f Greater z) (no_first after off)
+
+module _ (e : ℕ → Option Ends) (f : ℕ → Ordering) (w : List ℕ) (start : ℕ) (path : List ℕ) (linear : IsLinear e w) where
   apart : Apart w
   apart = linear_apart e None w linear
 
-  ends_at : (way : Ordering) (cur steps : ℕ) (k : Walking f w start way cur steps) (ends : Ends) → e cur ≡ Some ends → ends ≡ (last_or None k.before, first_or k.after None)
+  ends_at : (way : Ordering) (cur steps : ℕ) (k : Walking f w start path way cur steps) (ends : Ends) → e cur ≡ Some ends → ends ≡ (last_or None k.before, first_or k.after None)
   ends_at way cur steps k ends at =
       let z : e cur ≡ Some (last_or None k.before, first_or k.after None) = linear_ends e k.before cur k.after (subst (IsLinear e) k.is linear) in cc
 
   placed : (before : List ℕ) (i : ℕ) (after : List ℕ) → w ≡ before ++ i ∷ after → (a : ℕ) → slice_get w a ≡ Some i → length before ≡ a
   placed before i after is a at = position before i after a (subst Apart is apart) (subst (λ l. slice_get l a ≡ Some i) is at)
 
-  to_left : (way : Ordering) (cur steps next : ℕ) (k : Walking f w start way cur steps) → f cur ≡ Less → way ≢ Greater → last_or None k.before ≡ Some next
-      → Walking f w start Less next (steps + 1)
+  to_left : (way : Ordering) (cur steps next : ℕ) (k : Walking f w start path way cur steps) → f cur ≡ Less → way ≢ Greater → last_or None k.before ≡ Some next
+      → Walking f w start path Less next (steps + 1)
   to_left way cur steps next k here not to =
       let l = last_in k.before next to in
       let longer : length k.before ≡ length l.front + 1 = ap length l.is ∙ length-append l.front (next ∷ []) in
@@ -132,6 +188,9 @@ module _ (e : ℕ → Option Ends) (f : ℕ → Ordering) (w : List ℕ) (start 
         right = λ u. absurd (cc);
         left = λ u a at. moved way refl a at (length l.front) longer;
         first = λ u. absurd (cc);
+        passed = k.passed ++ cur ∷ [];
+        made = length-append k.passed (cur ∷ []) ∙ ap (λ n. n + 1) k.made;
+        trod = trod_left f path k.passed way k.before cur k.after l.front next k.trod here not l.is;
       }
     where
       moved : (b : Ordering) → way ≡ b → (a : ℕ) → slice_get w a ≡ Some start → (n : ℕ) → length k.before ≡ n + 1 → n + (steps + 1) ≡ a
@@ -142,8 +201,8 @@ module _ (e : ℕ → Option Ends) (f : ℕ → Ordering) (w : List ℕ) (start 
           let h = placed k.before cur k.after k.is a (at ∙ ap Some (sym z.1)) in omega (arith, h, none, longer)
       moved Greater u a at n longer = absurd (not u)
 
-  to_right : (way : Ordering) (cur steps next : ℕ) (k : Walking f w start way cur steps) → f cur ≡ Greater → way ≢ Less → first_or k.after None ≡ Some next
-      → Walking f w start Greater next (steps + 1)
+  to_right : (way : Ordering) (cur steps next : ℕ) (k : Walking f w start path way cur steps) → f cur ≡ Greater → way ≢ Less → first_or k.after None ≡ Some next
+      → Walking f w start path Greater next (steps + 1)
   to_right way cur steps next k here not to =
       let l = first_in k.after next to in
       let longer : length (k.before ++ cur ∷ []) ≡ length k.before + 1 = length-append k.before (cur ∷ []) in
@@ -157,6 +216,9 @@ module _ (e : ℕ → Option Ends) (f : ℕ → Ordering) (w : List ℕ) (start 
         right = λ u a at. moved way refl a at (length (k.before ++ cur ∷ [])) longer;
         left = λ u. absurd (cc);
         first = λ u. absurd (cc);
+        passed = k.passed ++ cur ∷ [];
+        made = length-append k.passed (cur ∷ []) ∙ ap (λ n. n + 1) k.made;
+        trod = trod_right f path k.passed way k.before cur k.after next l.back k.trod here not l.is;
       }
     where
       moved : (b : Ordering) → way ≡ b → (a : ℕ) → slice_get w a ≡ Some start → (n : ℕ) → n ≡ length k.before + 1 → n ≡ a + (steps + 1)
@@ -168,14 +230,14 @@ module _ (e : ℕ → Option Ends) (f : ℕ → Ordering) (w : List ℕ) (start 
       moved Greater u a at n longer = let h = k.right u a at in omega (arith, h, longer)
 
   -- one step of the search
-  pub walking_step : (way d : Ordering) (cur steps next : ℕ) (ends : Ends) → Walking f w start way cur steps → f cur ≡ d → e cur ≡ Some ends → onward way d ends ≡ Some next
-      → Walking f w start d next (steps + 1)
+  pub walking_step : (way d : Ordering) (cur steps next : ℕ) (ends : Ends) → Walking f w start path way cur steps → f cur ≡ d → e cur ≡ Some ends → onward way d ends ≡ Some next
+      → Walking f w start path d next (steps + 1)
   walking_step way d cur steps next ends k here at on = by way d refl refl
     where
       is : ends ≡ (last_or None k.before, first_or k.after None)
       is = ends_at way cur steps k ends at
 
-      by : (b c : Ordering) → way ≡ b → d ≡ c → Walking f w start d next (steps + 1)
+      by : (b c : Ordering) → way ≡ b → d ≡ c → Walking f w start path d next (steps + 1)
       by Less Less u v = rw v (to_left way cur steps next k (here ∙ v) (λ x. absurd (cc)) (sym (ap (λ z. z.0) is) ∙ sym (ap (λ b. onward b d ends) u ∙ ap (λ c. onward Less c ends) v) ∙ on))
       by Less Equal u v = let z = sym (ap (λ b. onward b d ends) u ∙ ap (λ c. onward Less c ends) v) ∙ on in absurd (cc)
       by Less Greater u v = let z = sym (ap (λ b. onward b d ends) u ∙ ap (λ c. onward Less c ends) v) ∙ on in absurd (cc)
@@ -187,7 +249,7 @@ module _ (e : ℕ → Option Ends) (f : ℕ → Ordering) (w : List ℕ) (start 
       by Greater Greater u v = rw v (to_right way cur steps next k (here ∙ v) (λ x. absurd (cc)) (sym (ap (λ z. z.1) is) ∙ sym (ap (λ b. onward b d ends) u ∙ ap (λ c. onward Greater c ends) v) ∙ on))
 
   -- where it ends there is an index that ends it, or the gap is beside
-  pub walking_stops : (way d : Ordering) (cur steps : ℕ) (ends : Ends) → Walking f w start way cur steps → e cur ≡ Some ends → onward way d ends ≡ None
+  pub walking_stops : (way d : Ordering) (cur steps : ℕ) (ends : Ends) → Walking f w start path way cur steps → e cur ≡ Some ends → onward way d ends ≡ None
       → IsParted f w → Places f w cur d
   walking_stops way d cur steps ends k at off parted = record {
     before = k.before;
@@ -216,14 +278,33 @@ module _ (e : ℕ → Option Ends) (f : ℕ → Ordering) (w : List ℕ) (start 
       upper Equal u v = none_after (sym (ap (λ z. z.1) is) ∙ sym (ap (λ b. onward b d ends) u ∙ ap (λ c. onward Equal c ends) v) ∙ off)
       upper Greater u v = none_after (sym (ap (λ z. z.1) is) ∙ sym (ap (λ b. onward b d ends) u ∙ ap (λ c. onward Greater c ends) v) ∙ off)
 
+  -- there the path ends too
+  pub walking_ended : (way d : Ordering) (cur steps : ℕ) (ends : Ends) → Walking f w start path way cur steps → f cur ≡ d → e cur ≡ Some ends → onward way d ends ≡ None
+      → (last_or None path ≡ Some cur) × (length path ≡ steps + 1)
+  walking_ended way d cur steps ends k here at off =
+      let is : ends ≡ (last_or None k.before, first_or k.after None) = ends_at way cur steps k ends at in
+      let none : onward way (f cur) (last_or None k.before, first_or k.after None) ≡ None =
+      ap (λ x. onward way x (last_or None k.before, first_or k.after None)) here ∙ ap (onward way d) (sym is) ∙ off in
+      let whole : path ≡ k.passed ++ cur ∷ [] = k.trod ∙ ap (λ z. k.passed ++ cur ∷ z) (path_ends f way (f cur) k.before k.after none) in
+      (ap (last_or None) whole ∙ last_snoc k.passed cur, ap length whole ∙ length-append k.passed (cur ∷ []) ∙ ap (λ n. n + 1) k.made)
+
+  -- where the search is there is more of the path
+  pub walking_on : (way : Ordering) (cur steps : ℕ) → Walking f w start path way cur steps → steps < length path
+  walking_on way cur steps k =
+      let t = toward way (f cur) in
+      let rest = if_onward t (f cur) (up_to f t (beyond t k.before k.after)) in
+      let long : length path ≡ length k.passed + suc (length rest) = ap length k.trod ∙ length-append k.passed (cur ∷ rest) in
+      let made = k.made in
+      omega (arith, long, made)
+
   -- after so many steps each near index has answered as the start did
-  near_greater : (cur num : ℕ) → Walking f w start Greater cur num → IsParted f w → (j : ℕ) → IsNear num w start j → f j ≡ Greater
+  near_greater : (cur num : ℕ) → Walking f w start path Greater cur num → IsParted f w → (j : ℕ) → IsNear num w start j → f j ≡ Greater
   near_greater cur num k parted j near =
       let h = k.right refl near.from near.starts in
       let ahead = near.ahead in
       AllIn-at (λ y. f y ≡ Greater) k.before (k.low refl parted) near.to j (at_front k.before (cur ∷ k.after) near.to j (omega (arith, h, ahead)) (subst (λ l. slice_get l near.to ≡ Some j) k.is near.ends))
 
-  near_less : (cur num : ℕ) → Walking f w start Less cur num → IsParted f w → (j : ℕ) → IsNear num w start j → f j ≡ Less
+  near_less : (cur num : ℕ) → Walking f w start path Less cur num → IsParted f w → (j : ℕ) → IsNear num w start j → f j ≡ Less
   near_less cur num k parted j near =
       let h = k.left refl near.from near.starts in
       let behind = near.behind in
@@ -233,14 +314,14 @@ module _ (e : ℕ → Option Ends) (f : ℕ → Ordering) (w : List ℕ) (start 
       AllIn-at (λ y. f y ≡ Less) k.after (k.high refl parted) l.place j l.at
 
   -- so no index that ends the search is near
-  pub end_not_near : (way : Ordering) (cur num : ℕ) → Walking f w start way cur num → IsParted f w → IsEndNear num f w start → ⊥
+  pub end_not_near : (way : Ordering) (cur num : ℕ) → Walking f w start path way cur num → IsParted f w → IsEndNear num f w start → ⊥
   end_not_near Less cur num k parted near = let z = near_less cur num k parted near.at near.near in let y = near.equal in absurd (cc)
   end_not_near Equal cur num k parted near =
       let z = (k.first refl).0 in let a = near.near.ahead in let b = near.near.behind in absurd (omega (arith, z, a, b))
   end_not_near Greater cur num k parted near = let z = near_greater cur num k parted near.at near.near in let y = near.equal in absurd (cc)
 
   -- nor is each neighbor of the gap
-  pub gap_not_near : (way : Ordering) (cur num : ℕ) → On w start → Walking f w start way cur num → IsParted f w → IsGapNear num f w start → ⊥
+  pub gap_not_near : (way : Ordering) (cur num : ℕ) → On w start → Walking f w start path way cur num → IsParted f w → IsGapNear num f w start → ⊥
   gap_not_near way cur num on k parted gap = by way refl (cases_lt (length k.before) (length gap.low))
     where
       whole : length k.before + suc (length k.after) ≡ length gap.low + length gap.high
@@ -253,7 +334,7 @@ module _ (e : ℕ → Option Ends) (f : ℕ → Ordering) (w : List ℕ) (start 
       by Less u (inl h) =
           let p = last_low (omega arith) in
           let near = gap.last p.0 (ap (last_or None) p.1.is ∙ last_snoc p.1.front p.0) in
-          let less = near_less cur num (subst (λ b. Walking f w start b cur num) u k) parted p.0 near in
+          let less = near_less cur num (subst (λ b. Walking f w start path b cur num) u k) parted p.0 near in
           let greater = (AllIn-back (λ j. f j ≡ Greater) p.1.front (p.0 ∷ []) (subst (AllIn (λ j. f j ≡ Greater)) p.1.is gap.greater)).0 in
           absurd (cc)
       by Less u (inr h) =
@@ -285,6 +366,106 @@ module _ (e : ℕ → Option Ends) (f : ℕ → Ordering) (w : List ℕ) (start 
       by Greater u (inr h) =
           let q = has_first gap.high (omega (arith, whole)) in
           let near = gap.first q.0 (ap (λ l. first_or l None) q.1.is) in
-          let greater = near_greater cur num (subst (λ b. Walking f w start b cur num) u k) parted q.0 near in
+          let greater = near_greater cur num (subst (λ b. Walking f w start path b cur num) u k) parted q.0 near in
           let less : f q.0 ≡ Less = (subst (AllIn (λ j. f j ≡ Less)) q.1.is gap.less).0 in
           absurd (cc)
+
+-- of the indexes of a path, one that ends the search is the last
+equal_ends : (f : ℕ → Ordering) (way : Ordering) (xs front : List ℕ) (j : ℕ) (back : List ℕ) → up_to f way xs ≡ front ++ j ∷ back → f j ≡ Equal → back ≡ []
+equal_ends f way [] [] j back e equal = absurd (cc)
+equal_ends f way [] (y ∷ front) j back e equal = absurd (cc)
+equal_ends f way (x ∷ xs) [] j back e equal =
+    let same : x ≡ j = cc in
+    let rest : if_onward way (f x) (up_to f way xs) ≡ back = cc in
+    sym rest ∙ ap (λ d. if_onward way d (up_to f way xs)) (ap f same ∙ equal) ∙ no_more way (up_to f way xs)
+  where
+    no_more : (way : Ordering) (is : List ℕ) → if_onward way Equal is ≡ []
+    no_more Less is = refl
+    no_more Equal is = refl
+    no_more Greater is = refl
+equal_ends f way (x ∷ xs) (y ∷ front) j back e equal =
+    let rest : if_onward way (f x) (up_to f way xs) ≡ front ++ j ∷ back = cc in
+    elim (all_or_none way (f x) (up_to f way xs)) [
+      | inl all ↦ equal_ends f way xs front j back (sym all ∙ rest) equal
+      | inr none ↦ absurd (not_none front (sym none ∙ rest))
+    ]
+  where
+    all_or_none : (way d : Ordering) (is : List ℕ) → (if_onward way d is ≡ is) ⊎ (if_onward way d is ≡ [])
+    all_or_none Less Less is = inl refl
+    all_or_none Less Equal is = inr refl
+    all_or_none Less Greater is = inr refl
+    all_or_none Equal Less is = inr refl
+    all_or_none Equal Equal is = inr refl
+    all_or_none Equal Greater is = inr refl
+    all_or_none Greater Less is = inr refl
+    all_or_none Greater Equal is = inr refl
+    all_or_none Greater Greater is = inl refl
+
+    not_none : (front : List ℕ) → [] ≡ front ++ j ∷ back → ⊥
+    not_none [] e = absurd (cc)
+    not_none (z ∷ front) e = absurd (cc)
+
+module _ (num down old mid new : ℕ) where
+  pub place_ended : (path : List ℕ) (i : ℕ) → IsWalked num path (Some i) old mid → new ≡ mid → IsPlaceCounted num down path old new
+  place_ended path i walked is =
+      let few = walked.1 in
+      let ticks = walked.2 in
+      record { ended = λ h. is ∙ ticks; passed = λ h. absurd (omega (arith, few, h)) }
+
+  pub place_passed : (path : List ℕ) → IsWalked num path None old mid → new ≡ mid + down → IsPlaceCounted num down path old new
+  place_passed path walked is =
+      let more = walked.0 in
+      let ticks = walked.1 in
+      record { ended = λ h. absurd (omega (arith, more, h)); passed = λ h. omega (arith, ticks, is) }
+
+  -- a path that was gone along whole
+  whole : (path : List ℕ) (i : ℕ) → IsWalked num path (Some i) old mid → take num path ≡ path
+  whole path i walked = take_all num path walked.1
+
+  pub key_ended : (f : ℕ → Ordering) (path : List ℕ) (i : ℕ) → IsWalked num path (Some i) old mid → f i ≡ Equal → new ≡ mid → IsKeyCounted num down f path old new
+  key_ended f path i walked equal is =
+      let all = whole path i walked in
+      let l = last_in path i walked.0 in
+      let has : HasEnd f (take num path) = record { at = i; on = record { front = l.front; back = []; is = all ∙ l.is }; equal = equal } in
+      record { ended = λ h. is ∙ walked.2 ∙ ap (λ z. old + length z) (sym all); passed = λ h. absurd (h has) }
+
+  -- none of the indexes that were compared ends the search
+  key_missed : (f : ℕ → Ordering) (path : List ℕ) → mid ≡ old + length (take num path) → (HasEnd f (take num path) → ⊥) → new ≡ mid + down → IsKeyCounted num down f path old new
+  key_missed f path ticks not is = record { ended = λ h. absurd (not h); passed = λ h. omega (arith, ticks, is) }
+
+  module _ (f : ℕ → Ordering) (way : Ordering) (xs : List ℕ) where
+    abbrev path : List ℕ
+    path = up_to f way xs
+
+    pub key_passed : IsWalked num path None old mid → new ≡ mid + down → IsKeyCounted num down f path old new
+    key_passed walked is =
+        let more : num < length path = walked.0 in
+        let made : length (take num path) ≡ num = length-take-le num path (omega (arith, more)) in
+        key_missed f path (walked.1 ∙ ap (λ n. old + n) (sym made)) (λ has. never made more has) is
+      where
+        never : length (take num path) ≡ num → num < length path → HasEnd f (take num path) → ⊥
+        never made more has =
+            let front = has.on.front in
+            let back = has.on.back in
+            let rest = drop num path in
+            let split : path ≡ front ++ has.at ∷ (back ++ rest) =
+            sym (take-append-drop num path) ∙ ap (λ z. z ++ rest) has.on.is ∙ append_assoc front (has.at ∷ back) rest in
+            let none : back ++ rest ≡ [] = equal_ends f way xs front has.at (back ++ rest) split has.equal in
+            let long : length path ≡ length front + suc (length (back ++ rest)) = ap length split ∙ length-append front (has.at ∷ (back ++ rest)) in
+            let short : length (back ++ rest) ≡ 0 = ap length none in
+            let part : length (take num path) ≡ length front + suc (length back) = ap length has.on.is ∙ length-append front (has.at ∷ back) in
+            omega (arith, long, short, part, made, more)
+
+    pub key_other : (i : ℕ) → IsWalked num path (Some i) old mid → f i ≢ Equal → new ≡ mid + down → IsKeyCounted num down f path old new
+    key_other i walked other is =
+        let all = whole path i walked in
+        key_missed f path (walked.2 ∙ ap (λ z. old + length z) (sym all)) (λ has. never all has) is
+      where
+        never : take num path ≡ path → HasEnd f (take num path) → ⊥
+        never all has =
+            let split : path ≡ has.on.front ++ has.at ∷ has.on.back = sym all ∙ has.on.is in
+            let none : has.on.back ≡ [] = equal_ends f way xs has.on.front has.at has.on.back split has.equal in
+            let last : last_or None path ≡ Some has.at = ap (last_or None) (split ∙ ap (λ z. has.on.front ++ has.at ∷ z) none) ∙ last_snoc has.on.front has.at in
+            let first = walked.0 in
+            let same : i ≡ has.at = cc in
+            other (ap f same ∙ has.equal)

@@ -12,9 +12,8 @@ use Rattle.triple_arena_chain.specs.ChainLaws.{Off-not_on, On-cons}
 use Rattle.triple_arena_chain.specs.ListLaws.{On-first}
 use Rattle.triple_arena_chain.specs.Links.{ends_in}
 use Rattle.triple_arena_chain.specs.UniquenessLaws.{linear_apart}
-use Rattle.triple_arena_ord.specs.Ordered.{Ordered, IsOrdered, order_in, entry_in, size_in, listed}
-use Rattle.triple_arena_ord.specs.OrderedDrains.{emptied_after, IsFirstTaken, drain_arena, IsOn, DrainKeepsAlong}
-use Rattle.triple_arena_ord.specs.Ordered.{listed_at}
+use Rattle.triple_arena_ord.specs.Ordered.{Ordered, IsOrdered, order_in, entry_in, size_in, listed, listed_at}
+use Rattle.triple_arena_ord.specs.OrderedDrains.{emptied_after, IsFirstTaken, TakesFirst, drain_arena, drain_lender, drain_rest, IsOn, DrainSteps, DrainKeepsAlong}
 use Rattle.triple_arena_ord.specs.Removal.{Loses, IsRemoved}
 use Rattle.triple_arena_ord.specs.declared.ord_arena.drain.OrderedDrain.{OrderedDrain}
 use Rattle.triple_arena_ord.proofs.OrderedWalkLemmas.{listed_first, on_lives}
@@ -119,6 +118,20 @@ module _ {I T : Type 0} (number : I → ℕ) (o : Ordered I T) (is : IsOrdered n
   removals_left last = long_removals last o.chains.counter (listed number o) ∙ all_listed
 
 module _ {P T S Inx Gen Alloc : Type 0} (last : Option ℕ) (number : Inx → ℕ) (index generation : P → ℕ) where
+  -- the first entry leaves: a drain gives its removal, and is on by one
+  pub drain_steps : (item : Option (InvalidationOption (P × T))) (old new : OrderedDrain P T S Inx Gen Alloc)
+      → TakesFirst number last index generation item (drain_arena old) (drain_arena new) → drain_lender new ≡ drain_lender old
+      → DrainSteps last number index generation old item new
+  drain_steps None old new took lender =
+      let rest : drain_rest last number old ≡ [] = ap (removals last (drain_arena old).chains.counter) took.0 in (
+        (rest, ap (λ (o : Ordered Inx T). removals last o.chains.counter (listed number o)) took.1 ∙ rest),
+        record { lender = lender; leaves = ap (emptied_after last 1) took.1 },
+      )
+  drain_steps (Some item) old new took lender = (
+    ap (removals last (drain_arena old).chains.counter) took.first ∙ rw (took.overflow, took.removed.counter) refl,
+    record { lender = lender; leaves = emptied_next number last 1 (index (value_of item).0) (drain_arena old) (drain_arena new) took.removed },
+  )
+
   -- steps on, one after another
   steps_on : (n : ℕ) (old mid new : OrderedDrain P T S Inx Gen Alloc) → IsOn last 1 old mid → IsOn last n mid new → IsOn last (suc n) old new
   steps_on n old mid new first rest =

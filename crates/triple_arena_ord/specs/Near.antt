@@ -1,5 +1,5 @@
 -- What a search along the list comes to.
-use Rattle.std.specs.Prelude.{◌≡◌, ℕ, ◌+◌, ◌<◌, List, ◌++◌, ◌⊎◌, slice_get, Option, Some, None}
+use Rattle.std.specs.Prelude.{◌≡◌, ℕ, ◌+◌, ◌<◌, ◌≤◌, List, [], ◌∷◌, ◌++◌, length, reverse, take, ◌⊎◌, slice_get, Option, Some, None}
 use Rattle.std.specs.declared.cmp.Ordering.{Ordering}
 use Rattle.std.specs.declared.cmp.Ordering.TheVariants.{Less, Equal, Greater}
 use Rattle.triple_arena_chain.specs.Chains.{Ends, On, first_or, last_or}
@@ -57,3 +57,48 @@ onward Equal Greater ends = ends.1
 onward Greater Less ends = None
 onward Greater Equal ends = None
 onward Greater Greater ends = ends.1
+
+-- a list, if both are the same way and it leads on
+abbrev pub if_onward : Ordering → Ordering → List ℕ → List ℕ
+if_onward Less Less is = is
+if_onward Greater Greater is = is
+if_onward way answer is = []
+
+-- the first indexes of a list, up to one that answers otherwise, which is the last of them
+abbrev pub up_to : (ℕ → Ordering) → Ordering → List ℕ → List ℕ
+up_to f way [] = []
+up_to f way (i ∷ is) = i ∷ if_onward way (f i) (up_to f way is)
+
+-- the indexes that stand on that side of one, the nearest first
+abbrev pub beyond : Ordering → (front back : List ℕ) → List ℕ
+beyond Less front back = reverse front
+beyond Equal front back = []
+beyond Greater front back = back
+
+-- the indexes that a walk comes to from one in a list, itself the first: on the side to which that answers, up to one that
+-- answers otherwise or to an end of the list
+abbrev pub path_from : (ℕ → Ordering) → {w : List ℕ} {i : ℕ} → On w i → List ℕ
+path_from f {w} {i} on = up_to f (f i) (i ∷ beyond (f i) on.front on.back)
+
+-- a walk along these indexes compares once at each, at most `num` times. It ends at the last, or nowhere where there are more
+abbrev pub IsWalked : (num : ℕ) → (path : List ℕ) → Option ℕ → (old new : ℕ) → Type 0
+IsWalked num path None old new = (num < length path) × (new ≡ old + num)
+IsWalked num path (Some i) old new = (last_or None path ≡ Some i) × (length path ≤ num) × (new ≡ old + length path)
+
+-- how often a search compares that walks along these indexes first: once at each, or where there are more `num` times and as
+-- often as from the root
+pub record IsPlaceCounted (num down : ℕ) (path : List ℕ) (old new : ℕ) : Type 0 where
+  pub ended : length path ≤ num → new ≡ old + length path
+  pub passed : num < length path → new ≡ old + (num + down)
+
+-- one of these indexes ends the search
+pub record HasEnd (f : ℕ → Ordering) (is : List ℕ) : Type 0 where
+  pub at : ℕ
+  pub on : On is at
+  pub equal : f at ≡ Equal
+
+-- how often a search compares that looks along these indexes for an equal key first: once at each, at most `num` times, and as
+-- often as from the root where none of them has one
+pub record IsKeyCounted (num down : ℕ) (f : ℕ → Ordering) (path : List ℕ) (old new : ℕ) : Type 0 where
+  pub ended : HasEnd f (take num path) → new ≡ old + length (take num path)
+  pub passed : (HasEnd f (take num path) → ⊥) → new ≡ old + (length (take num path) + down)

@@ -5,7 +5,7 @@ ghost use Rattle.triple_arena_chain.specs.Chains.{IsLinear, On};
 ghost use Rattle.triple_arena_chain.specs.Links.{ends_in, link_ends};
 ghost use Rattle.triple_arena_ord.specs.Node.{items_in};
 ghost use Rattle.rank_tree.specs.Search.{IsParted};
-ghost use Rattle.triple_arena_ord.specs.Near.{IsAtHand, IsStop, asked_in, onward as onward_of};
+ghost use Rattle.triple_arena_ord.specs.Near.{IsAtHand, IsStop, IsWalked, path_from, asked_in, onward as onward_of};
 
 use crate::{IndexNode, SimpleOrdItem};
 use std::cmp::Ordering;
@@ -50,6 +50,9 @@ where
         → IsParted (asked_in T.Key.cmp T.key_of k.now (items_in (A.links arena.now))) w
         → IsAtHand num (asked_in T.Key.cmp T.key_of k.now (items_in (A.links arena.now))) w (P.Inx.number start)
         → result ≢ None }
+    ensures walked { (w : List ℕ) → IsLinear (ends_in P.Inx.number (A.links arena.now)) w → (on : On w (P.Inx.number start))
+        → IsWalked num (path_from (asked_in T.Key.cmp T.key_of k.now (items_in (A.links arena.now))) on)
+        (option_map (λ a. P.Inx.number a.0) result) probes.old probes.new }
     ensures rises { probes.old ≤ probes.new }
     ensures ticks { probes.new ≤ probes.old + num }
 {

@@ -5,7 +5,8 @@ ghost use Rattle.counted_search.specs.Searches.{fair};
 ghost use Rattle.triple_arena.specs.Entries.{value_if};
 ghost use Rattle.rank_tree.specs.Tree.{rank_of};
 ghost use Rattle.rank_tree.specs.Search.{IsParted, IsAnswer, asked_down};
-ghost use Rattle.triple_arena_ord.specs.Near.{IsEndNear, IsAtHand};
+ghost use Rattle.triple_arena_chain.specs.Chains.{On};
+ghost use Rattle.triple_arena_ord.specs.Near.{IsEndNear, IsAtHand, IsPlaceCounted, IsKeyCounted, path_from};
 ghost use Rattle.triple_arena_ord.specs.Found.{IsFound, IsSimilar};
 ghost use Rattle.triple_arena_ord.specs.Ordered.{IsOrdered, IsAscending, tree_in, order_in, entry_in, size_in, asked_at};
 
@@ -37,6 +38,9 @@ impl<
         ensures ticks { probes.new ≤ probes.old + (num + rank_of (tree_in P.Inx.number self.now)) }
         ensures gone { entry_in self.now (P.Inx.number p_init) ≡ None
             → probes.new ≡ probes.old + asked_down (asked_at T.Key.cmp T.key_of k.now self.now) (tree_in P.Inx.number self.now) }
+        ensures counted { IsSome (entry_in self.now (P.Inx.number p_init)) → (on : On (order_in P.Inx.number self.now) (P.Inx.number p_init))
+            → IsPlaceCounted num (asked_down (asked_at T.Key.cmp T.key_of k.now self.now) (tree_in P.Inx.number self.now))
+            (path_from (asked_at T.Key.cmp T.key_of k.now self.now) on) probes.old probes.new }
         ensures near { IsParted (asked_at T.Key.cmp T.key_of k.now self.now) (order_in P.Inx.number self.now)
             → IsSome (entry_in self.now (P.Inx.number p_init))
             → IsAtHand num (asked_at T.Key.cmp T.key_of k.now self.now) (order_in P.Inx.number self.now) (P.Inx.number p_init)
@@ -59,9 +63,9 @@ impl<
     }
 
     /// As `find_key_counted`, but first it compares with the entry of `p_init` and goes on from there along the list, in one
-    /// direction, for at most `num` comparisons. Where these find no equal key, or `p_init` points to no entry, it searches
-    /// from the root. In a list whose keys ascend `num` comparisons are enough where an entry with an equal key stands less
-    /// than `num` steps from that of `p_init`.
+    /// direction, for at most `num` comparisons, one at each entry, and a tick each. Where these find no equal key, or `p_init`
+    /// points to no entry, it searches from the root. In a list whose keys ascend `num` comparisons are enough where an entry
+    /// with an equal key stands less than `num` steps from that of `p_init`.
     pub fn find_key_linear_counted(
         &self,
         p_init: P,
@@ -75,6 +79,9 @@ impl<
         ensures bound { probes.new ≤ probes.old + (num + fair (size_in self.now)) }
         ensures gone { value_if (P.generation p_init) (entry_in self.now (P.index p_init)) ≡ None
             → probes.new ≡ probes.old + asked_down (asked_at T.Key.cmp T.key_of k.now self.now) (tree_in P.Inx.number self.now) }
+        ensures counted { IsSome (value_if (P.generation p_init) (entry_in self.now (P.index p_init))) → (on : On (order_in P.Inx.number self.now) (P.index p_init))
+            → IsKeyCounted num (asked_down (asked_at T.Key.cmp T.key_of k.now self.now) (tree_in P.Inx.number self.now)) (asked_at T.Key.cmp T.key_of k.now self.now)
+            (path_from (asked_at T.Key.cmp T.key_of k.now self.now) on) probes.old probes.new }
         ensures near { IsAscending P.Inx.number T.Key.cmp T.key_of self.now
             → IsSome (value_if (P.generation p_init) (entry_in self.now (P.index p_init)))
             → IsEndNear num (asked_at T.Key.cmp T.key_of k.now self.now) (order_in P.Inx.number self.now) (P.index p_init)
@@ -105,10 +112,10 @@ impl<
     }
 
     /// As `find_similar_key_counted`, but first it compares with the entry at `p_init`, whatever its generation, and goes on
-    /// from there along the list, in one direction, for at most `num` comparisons. It ends at an equal key, at an end of the
-    /// list, and where it comes over the place of the key; else, and where `p_init` is not live, it searches from the root. In
-    /// a list whose keys ascend `num` comparisons are enough where an entry with an equal key, or each entry beside the place
-    /// of the key, stands less than `num` steps from that at `p_init`.
+    /// from there along the list, in one direction, for at most `num` comparisons, one at each entry, and a tick each. It ends
+    /// at an equal key, at an end of the list, and where it comes over the place of the key; else, and where `p_init` is not
+    /// live, it searches from the root. In a list whose keys ascend `num` comparisons are enough where an entry with an equal
+    /// key, or each entry beside the place of the key, stands less than `num` steps from that at `p_init`.
     pub fn find_similar_key_linear_counted(
         &self,
         p_init: P::Inx,
@@ -122,6 +129,9 @@ impl<
         ensures bound { probes.new ≤ probes.old + (num + fair (size_in self.now)) }
         ensures gone { entry_in self.now (P.Inx.number p_init) ≡ None
             → probes.new ≡ probes.old + asked_down (asked_at T.Key.cmp T.key_of k.now self.now) (tree_in P.Inx.number self.now) }
+        ensures counted { IsSome (entry_in self.now (P.Inx.number p_init)) → (on : On (order_in P.Inx.number self.now) (P.Inx.number p_init))
+            → IsPlaceCounted num (asked_down (asked_at T.Key.cmp T.key_of k.now self.now) (tree_in P.Inx.number self.now))
+            (path_from (asked_at T.Key.cmp T.key_of k.now self.now) on) probes.old probes.new }
         ensures near { IsAscending P.Inx.number T.Key.cmp T.key_of self.now
             → IsSome (entry_in self.now (P.Inx.number p_init))
             → IsAtHand num (asked_at T.Key.cmp T.key_of k.now self.now) (order_in P.Inx.number self.now) (P.Inx.number p_init)

@@ -5,7 +5,7 @@ use Rattle.triple_arena_ord.specs.Near.{IsEndNear}
 use Rattle.triple_arena_ord.specs.Ordered.{Ordered, IsOrdered, IsAscending, order_in, entry_in, asked_at}
 use Rattle.triple_arena_ord.proofs.SeekLemmas.{parts_at}
 use Rattle.triple_arena_ord.proofs.FoundLemmas.{found_from}
-use Rattle.triple_arena_ord.proofs.LinearLemmas.{pointed_lives, not_missed, on_chain, stops_live, linear_answer, linear_missed}
+use Rattle.triple_arena_ord.proofs.LinearLemmas.{pointed_lives, not_missed, on_chain, stops_live, linear_answer, linear_missed, linear_key_ended, linear_key_passed}
 use Rattle.triple_arena_ord.proofs.ord_arena.SimpleOrdArena.find_key_linear_counted.Given.{Over}
 use Rattle.triple_arena_ord.proofs.ord_arena.SimpleOrdArena.find_key_linear_counted.Goals.{After-inx}
 use Rattle.triple_arena_ord.proofs.ord_arena.SimpleOrdArena.find_key_linear_counted.Goals as goal
@@ -74,3 +74,19 @@ returns-in-Some-clause-gone g c = λ none. absurd (not_gone g (goal.at.returns-i
 
 pub returns-in-None-clause-gone : goal.returns-in-None-clause-gone
 returns-in-None-clause-gone g c = λ none. absurd (not_gone g (goal.at.returns-in-None-clause-gone g c).After-inx none)
+
+pub returns-in-Some-clause-counted : goal.returns-in-Some-clause-counted
+returns-in-Some-clause-counted g c = λ there on.
+    let number = g.P.Inx.PtrInx.number in
+    let start = (goal.at.returns-in-Some-clause-counted g c).After-inx in
+    linear_key_ended number g.T.Key.Ord.cmp g.T.SimpleOrdItem.key_of c.args.k.now c.args.self.now _ c.self.view_is c.self.invariant.0 _ (lives g start) c.walk_from-place.result
+    c.args.num _ _ _ c.walk_from-place.ensures.stops c.walk_from-place.ensures.walked (g.P.Ptr.index c.in-Some.p) (c.found_at.ensures.some c.in-Some.p c.in-Some.is)
+    (g.P.Ptr.index c.args.p_init) c.inx.ensures on
+
+pub returns-in-None-clause-counted : goal.returns-in-None-clause-counted
+returns-in-None-clause-counted g c = λ there on.
+    let number = g.P.Inx.PtrInx.number in
+    let start = (goal.at.returns-in-None-clause-counted g c).After-inx in
+    linear_key_passed number g.T.Key.Ord.cmp g.T.SimpleOrdItem.key_of c.args.k.now c.args.self.now _ c.self.view_is c.self.invariant.0 _ (lives g start) c.walk_from-place.result
+    c.args.num _ _ _ _ c.walk_from-place.ensures.stops c.walk_from-place.ensures.walked (c.found_at.ensures.none c.in-None.is) c.find_key_counted-in-None.ensures.ticks
+    (g.P.Ptr.index c.args.p_init) c.inx.ensures on

@@ -1,7 +1,7 @@
 use Rattle.std.proofs.Common.{ℕ, not, ap, ◌∙◌, option_map}
 use Rattle.std.specs.declared.cmp.Ordering.{Ordering}
 use Rattle.triple_arena_ord.specs.Ordered.{Ordered}
-use Rattle.triple_arena_ord.proofs.LinearLemmas.{looked_up, on_chain, not_free, linear_answer, linear_near}
+use Rattle.triple_arena_ord.proofs.LinearLemmas.{looked_up, on_chain, not_free, linear_answer, linear_near, linear_place_ended, linear_place_passed}
 use Rattle.triple_arena_ord.proofs.ord_arena.SimpleOrdArena.seek_linear.Goals as goal
 
 pub walk_from-requires : goal.walk_from-requires
@@ -40,3 +40,19 @@ returns-in-None-clause-gone g c = λ none.
     let inside : Ordered g.row.P-Inx.Denot g.row.T.Denot = record { chains = c.self.inside.chains; root = option_map number c.self.inside.root } in
     let lives = looked_up number g.P.Gen.PtrGen.number (λ b. b.now) inside (number c.args.p_init) c.get_inx.result c.get_inx.ensures (c.is_none.ensures ∙ ap not c.if-is_none.false) in
     absurd (not_free number c.args.self.now inside c.self.view_is (number c.args.p_init) lives none)
+
+pub returns-in-Some-clause-counted : goal.returns-in-Some-clause-counted
+returns-in-Some-clause-counted g c = λ there on.
+    let number = g.P.Inx.PtrInx.number in
+    let inside : Ordered g.row.P-Inx.Denot g.row.T.Denot = record { chains = c.self.inside.chains; root = option_map number c.self.inside.root } in
+    let lives = looked_up number g.P.Gen.PtrGen.number (λ b. b.now) inside (number c.args.p_init) c.get_inx.result c.get_inx.ensures (c.is_none.ensures ∙ ap not c.if-is_none.false) in
+    linear_place_ended number g.T.Key.Ord.cmp g.T.SimpleOrdItem.key_of c.args.k.now c.args.self.now inside c.self.view_is c.self.invariant.0 (number c.args.p_init) lives c.walk_from.result
+    c.args.num _ _ _ c.walk_from.ensures.walked c.in-Some.place c.in-Some.is on
+
+pub returns-in-None-clause-counted : goal.returns-in-None-clause-counted
+returns-in-None-clause-counted g c = λ there on.
+    let number = g.P.Inx.PtrInx.number in
+    let inside : Ordered g.row.P-Inx.Denot g.row.T.Denot = record { chains = c.self.inside.chains; root = option_map number c.self.inside.root } in
+    let lives = looked_up number g.P.Gen.PtrGen.number (λ b. b.now) inside (number c.args.p_init) c.get_inx.result c.get_inx.ensures (c.is_none.ensures ∙ ap not c.if-is_none.false) in
+    linear_place_passed number g.T.Key.Ord.cmp g.T.SimpleOrdItem.key_of c.args.k.now c.args.self.now inside c.self.view_is c.self.invariant.0 (number c.args.p_init) lives c.walk_from.result
+    c.args.num _ _ _ _ c.walk_from.ensures.walked c.in-None.is c.seek-in-None.ensures.ticks on
