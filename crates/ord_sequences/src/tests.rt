@@ -1,14 +1,17 @@
 mod calls;
 mod canonical;
 mod counted_keys;
+mod counting;
 mod entries;
 mod falling_keys;
 mod growing;
 mod insertions;
+mod items;
 mod nodes;
 mod pairs;
 mod refusals;
 mod removals;
 mod rows;
 mod searches;
+mod six_searches;
 mod walks;

@@ -1,10 +1,11 @@
 //! The calls on single entries, on the counter and on all entries, in a row.
+use std::num::NonZeroU8;
 use std::process::Abort;
 use std::test::Fail;
 use triple_arena::{ArenaSlot, NonZeroInxArray, P1, P5, Ptr};
 use triple_arena_chain::LinkNoGen;
 use triple_arena_ord::{OrdPair, SimpleOrdArena, SimpleOrdArenaNode};
-use triple_arena_ptr::{Advancer, InvalidationOption, PtrGen};
+use triple_arena_ptr::{Advancer, InvalidationOption, InvalidationResult, PtrGen};
 
 type Item = OrdPair<u8, u8>;
 
@@ -97,6 +98,56 @@ fn counters(rt: HostRuntime) -> Result<(), Fail> {
     assert!(rt; few.find_first_inx_ptr().is_none());
     assert!(rt; few.find_key(&20).is_none());
     Ok(())
+}
+
+// Puts the key 20 in, and sets the counter to the last generation, so that its next step starts the generations again.
+fn put_last(rt: &impl Abort, few: &mut Few<P1>) -> P1 {
+    let p = put(rt, few, 20);
+    few.set_generation(NonZeroU8::MAX);
+    p
+}
+
+#[test]
+fn removals_start_the_generations_again(rt: HostRuntime) {
+    let mut few: Few<P1> = SimpleOrdArena::default();
+    let item = OrdPair::new(20, 0);
+    let p = put_last(&rt, &mut few);
+    assert!(rt; few.remove(p) == InvalidationResult::GenerationOverflow(item));
+    assert!(rt; few.generation() == PtrGen::two());
+    let p = put_last(&rt, &mut few);
+    let entry = (p.generation(), item);
+    assert!(rt; few.remove_inx(p.inx()) == InvalidationResult::GenerationOverflow(entry));
+    assert!(rt; few.generation() == PtrGen::two());
+    let p = put_last(&rt, &mut few);
+    {
+        let mut drain = few.drain();
+        assert!(rt; drain.next() == Some(InvalidationOption::GenerationOverflow((p, item))));
+    }
+    assert!(rt; few.generation() == PtrGen::two());
+    let p = put_last(&rt, &mut few);
+    {
+        let mut drain = few.drain_ordered();
+        assert!(rt; drain.next() == Some(InvalidationOption::GenerationOverflow((p, item))));
+    }
+    assert!(rt; few.generation() == NonZeroU8::MIN.saturating_add(2));
+}
+
+#[test]
+fn other_calls_start_the_generations_again(rt: HostRuntime) {
+    let mut few: Few<P1> = SimpleOrdArena::default();
+    let p = put_last(&rt, &mut few);
+    match few.invalidate(p) {
+        InvalidationResult::GenerationOverflow(q) => {
+            assert!(rt; q.inx() == p.inx() && q.generation() == PtrGen::two());
+        }
+        _ => panic!(rt; "the generations do not start again"),
+    }
+    few.set_generation(NonZeroU8::MAX);
+    assert!(rt; few.clear() == InvalidationOption::GenerationOverflow(()));
+    assert!(rt; few.generation() == PtrGen::two());
+    few.set_generation(NonZeroU8::MAX);
+    assert!(rt; few.inc_generation() == InvalidationOption::GenerationOverflow(()));
+    assert!(rt; few.generation() == PtrGen::two());
 }
 
 #[test]

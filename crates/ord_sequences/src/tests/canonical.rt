@@ -40,7 +40,7 @@ fn lists_compared(rt: HostRuntime) -> Result<(), Fail> {
     assert!(rt; few.canonical_cmp(&rising(&rt, 2)) == Ordering::Less);
     assert!(rt; few.canonical_partial_cmp(&rising(&rt, 0)) == Some(Ordering::Greater));
     let mut less = falling(&rt);
-    let _ = less.remove_inx(P0::invalid().inx());
+    assert!(rt; less.remove_inx(P0::invalid().inx()).is_invalid());
     assert!(rt; few.canonical_cmp(&less) == Ordering::Equal);
     match less.last() {
         Some(p) => assert!(rt; less.remove(p).is_success()),

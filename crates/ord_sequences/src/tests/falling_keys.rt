@@ -86,18 +86,23 @@ fn finds<P: Ptr, S: NonZeroInxGenericStack<Slot<P>> + Drop>(
     found.is_some()
 }
 
-// How a key compares with the one that a search for a similar one ends at, where it is not equal: it is the greater one of
-// the two in this order, if it is the lesser number.
-fn is_beside<P: Ptr, S: NonZeroInxGenericStack<Slot<P>> + Drop>(
+// Of the keys up to `n` the entry has the one that is nearest to `key`, and the answer is what `key` compares as with it: the
+// greater one of the two in this order is the lesser number.
+fn is_nearest<P: Ptr, S: NonZeroInxGenericStack<Slot<P>> + Drop>(
     rt: &impl Abort,
     arena: &SimpleOrdArena<P, Item, S>,
+    similar: Option<(P, Ordering)>,
     key: u64,
     n: u64,
 ) {
-    match arena.find_similar_key(&Falling { n: key }) {
-        Some((_, Ordering::Less)) => assert!(rt; n < key),
-        Some((_, Ordering::Equal)) => assert!(rt; 1 <= key && key <= n),
-        Some((_, Ordering::Greater)) => assert!(rt; key == 0),
+    match similar {
+        Some((p, answer)) => match arena.get(p) {
+            Some(item) => {
+                assert!(rt; item.k().n == key.max(1).min(n));
+                assert!(rt; answer == item.k().n.cmp(&key));
+            }
+            None => panic!(rt; "what is similar is not there"),
+        },
         None => assert!(rt; n == 0),
     }
 }
@@ -123,6 +128,27 @@ fn asks<P: Ptr, S: NonZeroInxGenericStack<Slot<P>> + Drop>(
     found.is_some()
 }
 
+// So does one for a similar key, which it answers.
+fn asks_for_similar<P: Ptr, S: NonZeroInxGenericStack<Slot<P>> + Drop>(
+    rt: &impl Abort,
+    arena: &SimpleOrdArena<P, Item, S>,
+    key: u64,
+    most: u64,
+) -> Option<(P, Ordering)> {
+    let asked = Cell::new(0u64);
+    let mut probes = Probes::new();
+    let similar = arena.find_similar_with_counted(
+        |_, item| {
+            asked.set(asked.get().wrapping_add(1));
+            Falling { n: key }.cmp(item.k())
+        },
+        &mut probes,
+    );
+    assert!(rt; asked.get() == probes.count());
+    assert!(rt; probes.count() <= most);
+    similar
+}
+
 // How many keys there are, their list, and the most comparisons: the greatest c with `2^(c+1) <= (n+1)^2`, and 0 for none.
 const CASES: [(u64, u64, u64); 6] = [
     (0, 0, 0),
@@ -145,7 +171,9 @@ fn searches<P: Ptr, H: Copy, S: NonZeroInxGenericStack<Slot<P>, Alloc = H> + Dro
             let is_there = 1 <= key && key <= n;
             assert!(rt; finds(rt, &arena, key, most) == is_there);
             assert!(rt; asks(rt, &arena, key, most) == is_there);
-            is_beside(rt, &arena, key, n);
+            let similar = arena.find_similar_key(&Falling { n: key });
+            is_nearest(rt, &arena, similar, key, n);
+            assert!(rt; asks_for_similar(rt, &arena, key, most) == similar);
         }
     }
 }

@@ -15,6 +15,17 @@ pub(crate) type Pairs = SimpleOrdArena<P0, Item, NonZeroInxArray<Slot, 1000>>;
 // The greatest c with `2^(c+1) <= 1001^2`.
 const MOST: u64 = 18;
 
+// The list is that of the keys up to 1000 which `step` divides, each with its pointer.
+pub(crate) fn lists(rt: &impl Abort, pairs: &Pairs, step: u64) {
+    let mut key = 0;
+    for (p, item) in pairs {
+        key = step.wrapping_add(key);
+        assert!(rt; *item.k() == key);
+        assert!(rt; pairs.find_key(&key) == Some(p));
+    }
+    assert!(rt; key == 1000);
+}
+
 // The keys from 1 to 1000 in the order of their products with `factor`, modulo the prime 1009: 1 puts them in rising, 1008
 // falling. It answers the most comparisons that a search took.
 pub(crate) fn fills(rt: &impl Abort, factor: u64) -> (Pairs, u64) {
@@ -40,6 +51,7 @@ pub(crate) fn fills(rt: &impl Abort, factor: u64) -> (Pairs, u64) {
     }
     assert!(rt; pairs.find_key(&0).is_none());
     assert!(rt; pairs.find_key(&1001).is_none());
+    lists(rt, &pairs, 1);
     (pairs, most)
 }
 

@@ -1,5 +1,6 @@
-//! Pairs: their texts, and their values written.
+//! Pairs: their texts, and their values written and recast.
 use std::test::Fail;
+use triple_arena::{ArenaInsertTrait, ArenaTrait, ArrayArena, P0, Ptr, Recast};
 use triple_arena_ord::OrdPair;
 
 #[test]
@@ -18,5 +19,20 @@ fn a_pair_is_shown_and_written(rt: HostRuntime) -> Result<(), Fail> {
         Ok(shown) => assert!(rt; shown.as_str() == "(\n    1,\n    2,\n)"),
         Err(_) => panic!(rt; "no memory for a text"),
     }
+    Ok(())
+}
+
+// A recaster renames the pointer that is the value of a pair, and not the key.
+#[test]
+fn the_value_of_a_pair_is_recast(rt: HostRuntime) -> Result<(), Fail> {
+    let mut renaming = ArrayArena::<P0, P0, 2>::new(());
+    let image = P0::invalid();
+    let p = renaming.insert(image)?;
+    let mut pair = OrdPair::new(p, p);
+    assert!(rt; pair.recast(&renaming) == Ok(()));
+    assert!(rt; pair.into_k_v() == (p, image));
+    // The image has no image.
+    assert!(rt; pair.recast(&renaming) == Err(image));
+    assert!(rt; pair.into_k_v() == (p, image));
     Ok(())
 }

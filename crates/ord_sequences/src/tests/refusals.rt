@@ -155,19 +155,47 @@ fn grows<S: NonZeroInxGenericStack<Slot> + Drop>(
     is_refused_with_the_heap(rt, heap, pairs, &was, error);
 }
 
+// The first entry of an arena that was made without room, by a call: four entries have room then, or none, where the heap
+// refuses the memory.
+fn begins<H: Allocator + Copy, S: NonZeroInxGenericStack<Slot, Alloc = H> + Drop>(
+    rt: &(impl Abort + Alloc<A = Global>),
+    heap: &Heap,
+    alloc: H,
+    call: Call,
+) {
+    let mut pairs = SimpleOrdArena::<P0, Item, S>::new(alloc);
+    let was = seen(rt, heap, &pairs);
+    assert!(rt; was.capacity == 0);
+    let error = insert_by(&mut pairs, call, OrdPair::new(7, 7)).err();
+    is_refused_with_the_heap(rt, heap, &pairs, &was, error);
+    let (len, room) = if error.is_none() { (1, 4) } else { (0, 0) };
+    assert!(rt; pairs.len() == len);
+    assert!(rt; pairs.capacity() == room);
+}
+
 // All of them over one heap, which `alloc` is as an arena takes it.
 fn runs<H: Allocator + Copy, S: NonZeroInxGenericStack<Slot, Alloc = H> + Drop>(
     rt: &(impl Abort + Alloc<A = Global>),
     heap: &Heap,
     alloc: H,
 ) {
+    for call in [
+        Call::Insert,
+        Call::InsertReallocating,
+        Call::EntryInsert,
+        Call::EntryInsertReallocating,
+    ] {
+        begins::<H, S>(rt, heap, alloc, call);
+    }
+    let had_refused = heap.has_refused();
     match SimpleOrdArena::<P0, Item, S>::with_min_capacity(alloc, 1) {
         Ok(mut pairs) => {
-            assert!(rt; !heap.has_refused());
+            assert!(rt; heap.has_refused() == had_refused);
+            assert!(rt; pairs.capacity() == 1);
             grows(rt, heap, &mut pairs);
         }
         Err(error) => {
-            assert!(rt; heap.has_refused());
+            assert!(rt; heap.has_refused() && !had_refused);
             assert!(rt; error == ReallocationError::AllocError);
         }
     }
@@ -175,13 +203,13 @@ fn runs<H: Allocator + Copy, S: NonZeroInxGenericStack<Slot, Alloc = H> + Drop>(
 
 #[test]
 fn each_request_in_turn(rt: HostRuntime) {
-    for nth in 1..9u64 {
+    for nth in 1..13u64 {
         let vector = RefusingAllocator::new(rt.alloc(), nth);
         runs::<&Heap, NonZeroInxVec<Slot, &Heap>>(&rt, &vector, &vector);
         let limited = RefusingAllocator::new(rt.alloc(), nth);
         runs::<&Heap, NonZeroInxLimitedVec<Slot, &Heap>>(&rt, &limited, &limited);
-        // The arena, the growths by the five calls, and that without an item.
-        assert!(rt; vector.has_refused() == (nth <= 7));
-        assert!(rt; limited.has_refused() == (nth <= 7));
+        // The first growths by four calls, an arena with room, the growths by the five calls, and that without an item.
+        assert!(rt; vector.has_refused() == (nth <= 11));
+        assert!(rt; limited.has_refused() == (nth <= 11));
     }
 }

@@ -1,12 +1,13 @@
 //! Keys that are taken out again, and the searches among those that are left.
-use crate::tests::insertions::{Pairs, fills};
+use crate::tests::counting::{Slot, THOUSAND, even_keys, even_keys_are_listed};
+use crate::tests::insertions::{Pairs, fills, lists};
+use crate::tests::six_searches::searches;
+use std::cell::Cell;
 use std::process::Abort;
 use std::test::Fail;
+use triple_arena::{NonZeroInxArray, P0};
 use triple_arena_ord::OrdPair;
-use triple_arena_ptr::{Probes, Ptr};
-
-// The greatest c with `2^(c+1) <= 501^2`.
-const MOST_OF_HALF: u64 = 16;
+use triple_arena_ptr::Ptr;
 
 // Each odd key leaves by its pointer, which then finds nothing.
 fn odd_keys_leave(rt: &impl Abort, pairs: &mut Pairs) {
@@ -20,24 +21,10 @@ fn odd_keys_leave(rt: &impl Abort, pairs: &mut Pairs) {
                 None => panic!(rt; "a key is not removed"),
             }
             assert!(rt; pairs.remove(p).is_invalid());
+            assert!(rt; pairs.find_key(&key).is_none());
         }
     }
     assert!(rt; pairs.len() == 500);
-}
-
-// The even keys are found, and no other. It answers the most comparisons that a search took.
-fn even_keys_stay(rt: &impl Abort, pairs: &Pairs) -> u64 {
-    let mut most = 0;
-    for key in 0..1002u64 {
-        let mut probes = Probes::new();
-        let found = pairs.find_key_counted(&key, &mut probes);
-        assert!(rt; found.is_some() == (key % 2 == 0 && 0 < key && key <= 1000));
-        assert!(rt; probes.count() <= MOST_OF_HALF);
-        if most < probes.count() {
-            most = probes.count();
-        }
-    }
-    most
 }
 
 // The even keys leave by their indexes in a shuffled order, and an index that is free answers that it is not valid.
@@ -58,11 +45,23 @@ fn every_other_key_leaves(rt: HostRuntime) -> Result<(), Fail> {
     for factor in [1, 1008, 389] {
         let (mut pairs, _) = fills(&rt, factor);
         odd_keys_leave(&rt, &mut pairs);
-        let most = even_keys_stay(&rt, &pairs);
-        println!(rt; "keys by {factor}, every other one gone: at most {most} comparisons")?;
+        lists(&rt, &pairs, 2);
         all_keys_leave(&rt, &mut pairs);
         assert!(rt; pairs.insert_within_capacity(OrdPair::new(7, 14)).is_ok());
         assert!(rt; pairs.find_key(&7).is_some());
+    }
+    Ok(())
+}
+
+#[test]
+fn searches_among_every_other_key(rt: HostRuntime) -> Result<(), Fail> {
+    let calls = Cell::new(0);
+    for factor in [1, 1008, 389] {
+        let arena = even_keys::<P0, NonZeroInxArray<Slot<P0>, 1000>>(&rt, &calls, (), 1000, factor);
+        even_keys_are_listed(&rt, &arena, 1000);
+        let (most, most_along) = searches(&rt, &arena, &calls, THOUSAND);
+        println!(rt; "keys by {factor}, every other one gone: at most {most} comparisons")?;
+        println!(rt; "and {most_along} along the list")?;
     }
     Ok(())
 }

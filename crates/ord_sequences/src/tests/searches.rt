@@ -1,4 +1,5 @@
 //! Searches by a closure and along the list, with no count, among four keys: 10, 20, 30 and 40.
+use std::cell::Cell;
 use std::cmp::Ordering;
 use std::process::Abort;
 use std::test::Fail;
@@ -73,15 +74,26 @@ fn by_a_closure(rt: HostRuntime) {
         four.find_similar_with(|_, item| 45.cmp(item.k())),
         45,
     );
-    let mut probes = Probes::new();
-    is_beside(
-        &rt,
-        &four,
-        four.find_similar_with_counted(|_, item| 5.cmp(item.k()), &mut probes),
-        5,
-    );
-    // The greatest c with `2^(c+1) <= 5^2`.
-    assert!(rt; 0 < probes.count() && probes.count() <= 3);
+}
+
+#[test]
+fn by_a_closure_that_counts(rt: HostRuntime) {
+    let (four, _, _) = four_keys(&rt);
+    for key in [5, 15, 25, 45] {
+        let asked = Cell::new(0u64);
+        let mut probes = Probes::new();
+        let similar = four.find_similar_with_counted(
+            |_, item| {
+                asked.set(asked.get().wrapping_add(1));
+                key.cmp(item.k())
+            },
+            &mut probes,
+        );
+        assert!(rt; asked.get() == probes.count());
+        // The greatest c with `2^(c+1) <= 5^2`.
+        assert!(rt; 0 < probes.count() && probes.count() <= 3);
+        is_beside(&rt, &four, similar, key);
+    }
 }
 
 #[test]

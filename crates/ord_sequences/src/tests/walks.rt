@@ -91,7 +91,8 @@ fn lists_by_index(rt: HostRuntime) -> Result<(), Fail> {
     Ok(())
 }
 
-// A drain that is dropped after two items of five leaves no entry, and the arena can be filled again.
+// A drain that is dropped after two items of five leaves no entry, and the arena can be filled again. The counter steps for each
+// of the two, and once more for the others.
 #[test]
 fn drains_along_the_list(rt: HostRuntime) -> Result<(), Fail> {
     let mut few = five(&rt);
@@ -104,10 +105,12 @@ fn drains_along_the_list(rt: HostRuntime) -> Result<(), Fail> {
     }
     assert!(rt; few.len() == 0);
     assert!(rt; few.first().is_none());
+    assert!(rt; few.generation().get() == 5);
     assert!(rt; few.insert_within_capacity(OrdPair::new(4, 4)).is_ok());
     Ok(())
 }
 
+// Here the counter steps for each of the five.
 #[test]
 fn drains_by_index(rt: HostRuntime) -> Result<(), Fail> {
     let mut few = five(&rt);
@@ -121,6 +124,7 @@ fn drains_by_index(rt: HostRuntime) -> Result<(), Fail> {
     }
     assert!(rt; few.len() == 0);
     assert!(rt; few.last().is_none());
+    assert!(rt; few.generation().get() == 7);
     assert!(rt; few.insert_within_capacity(OrdPair::new(4, 4)).is_ok());
     Ok(())
 }
