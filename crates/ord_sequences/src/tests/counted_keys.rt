@@ -4,7 +4,7 @@ use crate::tests::counting::{
     Counted, Counting, Keys, NARROW, Slot, THOUSAND, even_keys, even_keys_are_listed, pointer_to,
 };
 use crate::tests::entries::tells;
-use crate::tests::six_searches::searches;
+use crate::tests::key_searches::searches;
 use std::alloc::Global;
 use std::cell::Cell;
 use std::process::Abort;

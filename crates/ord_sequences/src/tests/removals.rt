@@ -1,7 +1,7 @@
 //! Keys that are taken out again, and the searches among those that are left.
 use crate::tests::counting::{Slot, THOUSAND, even_keys, even_keys_are_listed};
 use crate::tests::insertions::{Pairs, fills, lists};
-use crate::tests::six_searches::searches;
+use crate::tests::key_searches::searches;
 use std::cell::Cell;
 use std::process::Abort;
 use std::test::Fail;

@@ -4,9 +4,7 @@ ghost use Rattle.triple_arena_user.specs.OrderBooks.{IsBook};
 use std::alloc::Global;
 use std::process::Abort;
 use std::test::Fail;
-use triple_arena::{
-    NonZeroInxArray, NonZeroInxGenericStack, NonZeroInxVec, P0, Ptr, ReallocationError,
-};
+use triple_arena::{NonZeroInxArray, NonZeroInxGenericStack, NonZeroInxVec, P0, Ptr};
 use triple_arena_ptr::OrdInsertionError;
 use triple_arena_user::{
     OrderBook, OrderSlot, add_order, best_order, cancel_order, next_order, open_book,
@@ -56,21 +54,8 @@ fn trades<S: NonZeroInxGenericStack<OrderSlot<P0, u64>> + Drop>(
     Ok(())
 }
 
-// There is no book of this type for so many orders.
-fn is_refused<S: NonZeroInxGenericStack<OrderSlot<P0, u64>> + Drop>(
-    rt: &impl Abort,
-    alloc: S::Alloc,
-    orders: usize,
-) {
-    match open_book::<P0, u64, S>(alloc, orders) {
-        Ok(_) => panic!(rt; "a book past its limit is opened"),
-        Err(error) => assert!(rt; error == ReallocationError::BeyondMaxCapacity),
-    }
-}
-
 #[test]
 fn trades_in_an_array(rt: HostRuntime) -> Result<(), Fail> {
-    is_refused::<NonZeroInxArray<OrderSlot<P0, u64>, 3>>(&rt, (), 4);
     trades::<NonZeroInxArray<OrderSlot<P0, u64>, 3>>(&rt, ())
 }
 

@@ -1,4 +1,4 @@
-//! The six searches among the even keys up to a last one: what each finds, and that its comparisons are its ticks. Each
+//! The four searches by key among the even keys up to a last one: what each finds, and that its comparisons are its ticks. Each
 //! answers how many they were.
 use crate::tests::counting::{Counted, Counting, Keys, Slot, just_ticks, pointer_to};
 use std::cell::Cell;
@@ -79,34 +79,6 @@ fn by_similar_key<'a, P: Ptr, S: NonZeroInxGenericStack<Slot<'a, P>> + Drop>(
     just_ticks(rt, k.calls, before, &probes, keys.most)
 }
 
-fn by_closure<'a, P: Ptr, S: NonZeroInxGenericStack<Slot<'a, P>> + Drop>(
-    rt: &impl Abort,
-    arena: &Counted<'a, P, S>,
-    k: &Counting<'a>,
-    keys: Keys,
-) -> u64 {
-    let mut probes = Probes::new();
-    let before = k.calls.get();
-    let found = arena.find_with_counted(|_, item| k.cmp(item.k()), &mut probes);
-    let count = just_ticks(rt, k.calls, before, &probes, keys.most);
-    is_the_entry(rt, arena, found, k.n, keys.last);
-    count
-}
-
-fn by_similar_closure<'a, P: Ptr, S: NonZeroInxGenericStack<Slot<'a, P>> + Drop>(
-    rt: &impl Abort,
-    arena: &Counted<'a, P, S>,
-    k: &Counting<'a>,
-    keys: Keys,
-) -> u64 {
-    let mut probes = Probes::new();
-    let before = k.calls.get();
-    let similar = arena.find_similar_with_counted(|_, item| k.cmp(item.k()), &mut probes);
-    let count = just_ticks(rt, k.calls, before, &probes, keys.most);
-    is_similar(rt, arena, similar, k.n);
-    count
-}
-
 fn along<'a, P: Ptr, S: NonZeroInxGenericStack<Slot<'a, P>> + Drop>(
     rt: &impl Abort,
     arena: &Counted<'a, P, S>,
@@ -141,16 +113,14 @@ fn similar_along<'a, P: Ptr, S: NonZeroInxGenericStack<Slot<'a, P>> + Drop>(
     just_ticks(rt, k.calls, before, &probes, keys.most)
 }
 
-// The most comparisons of the four searches from the root.
+// The most comparisons of the two searches from the root.
 fn from_the_root<'a, P: Ptr, S: NonZeroInxGenericStack<Slot<'a, P>> + Drop>(
     rt: &impl Abort,
     arena: &Counted<'a, P, S>,
     k: &Counting<'a>,
     keys: Keys,
 ) -> u64 {
-    let by_keys = by_key(rt, arena, k, keys).max(by_similar_key(rt, arena, k, keys));
-    let by_closures = by_closure(rt, arena, k, keys).max(by_similar_closure(rt, arena, k, keys));
-    by_keys.max(by_closures)
+    by_key(rt, arena, k, keys).max(by_similar_key(rt, arena, k, keys))
 }
 
 // The most comparisons of the two searches that go along the list from `start`, by seven comparisons at most, and then from
@@ -192,7 +162,7 @@ fn from_near<'a, P: Ptr, S: NonZeroInxGenericStack<Slot<'a, P>> + Drop>(
     similar_along(rt, arena, start, k, near);
 }
 
-// The six searches for each key, and for one before the first and one after the last. It answers the most comparisons of a
+// The four searches for each key, and for one before the first and one after the last. It answers the most comparisons of a
 // search from the root, and those of one along the list.
 pub(crate) fn searches<'a, P: Ptr, S: NonZeroInxGenericStack<Slot<'a, P>> + Drop>(
     rt: &impl Abort,
