@@ -12,6 +12,7 @@ use std::marker::{Model, PhantomData};
 use std::num::NonZeroUsize;
 use triple_arena_ptr::{Advancer, Ptr, PtrInx};
 use triple_arena_stack::NonZeroInxGenericStack;
+use unreached::unreached;
 
 /// Gives the pointers to the entries of an arena, one a call, by rising or by falling index. The arena is free
 /// between the calls.
@@ -89,7 +90,7 @@ impl<P: Ptr> PtrAdvancer<P> {
             Some(p) => match p.inx().try_into_usize() {
                 Some(i) if self.rev => self.end = i.get() - 1,
                 Some(i) => self.start = i.get(),
-                None => unreachable!(),
+                None => unreached!(),
             },
             None => self.end = 0,
         }
@@ -172,7 +173,7 @@ pub(crate) trait LivePointers<P: Ptr, T> {
         match self.last_live(0, self.slots_len()) {
             Some(p) => match p.inx().try_into_usize() {
                 Some(i) => i.get(),
-                None => unreachable!(),
+                None => unreached!(),
             },
             None => 0,
         }

@@ -45,6 +45,7 @@ use triple_arena_stack::{
     NonZeroInxArray, NonZeroInxBoxedSlice, NonZeroInxGenericStack, NonZeroInxLimitedVec,
     NonZeroInxVec,
 };
+use unreached::unreached;
 
 /// A generational arena, which keeps its slots in the stack `S`.
 ///
@@ -102,7 +103,7 @@ pub(crate) fn max_index<P: Ptr>() -> usize
 {
     match P::Inx::max_index().try_into_usize() {
         Some(max) => max.get(),
-        None => unreachable!(),
+        None => unreached!(),
     }
 }
 
@@ -114,7 +115,7 @@ pub(crate) fn pointer_at<P: Ptr>(index: NonZeroUsize, generation: P::Gen) -> P
 {
     match P::Inx::try_from_usize(index) {
         Some(inx) => P::_from_raw(inx, generation),
-        None => unreachable!(),
+        None => unreached!(),
     }
 }
 

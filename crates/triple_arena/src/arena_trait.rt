@@ -16,6 +16,7 @@ ghost use Rattle.triple_arena.specs.Compression.{compression_wraps, index_of, ge
 use triple_arena_ptr::{
     Advancer, InvalidationOption, InvalidationResult, Ptr, PtrGen, ReallocationError,
 };
+use unreached::unreached;
 
 /// An arena of values of type `T`, to which pointers of type `P` point.
 pub trait ArenaTrait<P: Ptr, T: Drop> {
@@ -344,7 +345,7 @@ pub trait ArenaTrait<P: Ptr, T: Drop> {
     {
         match self.get_inx(i) {
             Some((_, value)) => value,
-            None => unreachable!(),
+            None => unreached!(),
         }
     }
 

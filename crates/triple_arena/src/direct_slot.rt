@@ -8,6 +8,7 @@ ghost use Rattle.triple_arena.specs.Entries.{value_if};
 use crate::slot::{EntrySlot, ValueIfMut, ValueMut};
 use std::marker::Model;
 use triple_arena_ptr::Ptr;
+use unreached::unreached;
 
 /// A slot of a `DirectArena`: free, or allocated, with a generation and a value.
 #[derive(Drop)]
@@ -31,7 +32,7 @@ impl<G, T> ValueMut<T> for DirectState<G, T> {
     fn value_mut(&mut self) -> &mut T {
         match self {
             DirectState::Used(_, value) => value,
-            DirectState::Free => unreachable!(),
+            DirectState::Free => unreached!(),
         }
     }
 }
@@ -116,7 +117,7 @@ impl<P: Ptr, T> DirectSlot<P, T> {
         let DirectSlot { state } = self;
         match state {
             DirectState::Used(generation, value) => (generation, value),
-            DirectState::Free => unreachable!(),
+            DirectState::Free => unreached!(),
         }
     }
 }

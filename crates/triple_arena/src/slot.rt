@@ -12,6 +12,7 @@ use std::mem;
 use std::num::NonZeroUsize;
 use triple_arena_ptr::{Ptr, PtrGen};
 use triple_arena_stack::{NonZeroInxGenericStack, get_disjoint_mut};
+use unreached::unreached;
 
 /// A slot of an arena: free, with a link to the next free one, or allocated, with a generation and a value.
 #[derive(Drop)]
@@ -47,7 +48,7 @@ impl<G, T> ValueMut<T> for SlotState<G, T> {
     fn value_mut(&mut self) -> &mut T {
         match self {
             SlotState::Used(_, value) => value,
-            SlotState::Free(_) => unreachable!(),
+            SlotState::Free(_) => unreached!(),
         }
     }
 }
@@ -196,7 +197,7 @@ impl<P: Ptr, T> ArenaSlot<P, T> {
         let ArenaSlot { state } = self;
         match state {
             SlotState::Used(generation, value) => (generation, value),
-            SlotState::Free(_) => unreachable!(),
+            SlotState::Free(_) => unreached!(),
         }
     }
 }

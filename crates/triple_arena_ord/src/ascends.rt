@@ -11,6 +11,7 @@ use crate::{IndexNode, SimpleOrdItem};
 use std::cmp::Ordering;
 use triple_arena::{Ptr, PtrInx};
 use triple_arena_chain::{ChainArenaTrait, IndexLink};
+use unreached::unreached;
 
 // The link at an index that is live.
 fn link_at<P, T, A>(arena: &A, i: P::Inx) -> &IndexLink<P::Inx, IndexNode<P::Inx, T>>
@@ -23,7 +24,7 @@ where
 {
     match arena.get_inx_link_no_gen(i) {
         Some((_, link)) => link,
-        None => unreachable!(),
+        None => unreached!(),
     }
 }
 

@@ -10,6 +10,7 @@ use crate::IndexNode;
 use std::cmp::Ordering;
 use triple_arena::{ArenaTrait, Ptr};
 use triple_arena_ptr::Probes;
+use unreached::unreached;
 
 /// Asks `f` on the way down from the root, and says what it answered last, and where.
 pub(crate) fn ask_down<P, T, A, F>(
@@ -36,7 +37,7 @@ where
     'down: while let Some(i) = link {
         let (generation, node) = match arena.get_inx(i) {
             Some(entry) => entry,
-            None => unreachable!(),
+            None => unreached!(),
         };
         probes.tick();
         let p = P::_from_raw(i, generation);

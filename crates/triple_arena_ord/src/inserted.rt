@@ -12,6 +12,7 @@ use crate::turn::turn;
 use rank_tree::{Side, TreeLinks, side_of};
 use triple_arena::{ArenaSlot, NonZeroInxGenericStack, Ptr};
 use triple_arena_chain::{ChainArena, LinkNoGen};
+use unreached::unreached;
 
 fn lean<
     P: Ptr,
@@ -25,7 +26,7 @@ fn lean<
 {
     let below = read(chains, low);
     let Some(high) = below.parent else {
-        unreachable!()
+        unreached!()
     };
     let above = read(chains, high);
     let side = side_of(above, low);
@@ -34,7 +35,7 @@ fn lean<
     if rank_at(chains, inner) + 1 < rank {
         turn(chains, root, low, rank, rank - 1);
     } else {
-        let Some(middle) = inner else { unreachable!() };
+        let Some(middle) = inner else { unreached!() };
         turn(chains, root, middle, rank, rank - 1);
         turn(chains, root, middle, rank, rank - 1);
     }

@@ -12,6 +12,7 @@ use crate::{IndexNode, SimpleOrdArenaNode};
 use rank_tree::Side;
 use triple_arena::{ArenaSlot, ArenaTrait, NonZeroInxGenericStack, Ptr, PtrInx};
 use triple_arena_chain::{ChainArena, ChainArenaTrait, LinkNoGen};
+use unreached::unreached;
 
 // A new entry directly before or after that of `holder`, which has no child on this side.
 #[inline(always)]
@@ -53,7 +54,7 @@ pub(crate) fn insert_leaf<
             bring_in(chains, root, holder, side, p.inx());
             p
         }
-        Err(_) => unreachable!(),
+        Err(_) => unreached!(),
     }
 }
 
@@ -78,7 +79,7 @@ pub(crate) fn neighbors_beside<
             Side::Left => (link.prev(), Some(holder)),
             Side::Right => (Some(holder), link.next()),
         },
-        None => unreachable!(),
+        None => unreached!(),
     }
 }
 

@@ -9,6 +9,7 @@ use crate::knots::{rank_at, read};
 use rank_tree::side_of;
 use triple_arena::{ArenaSlot, NonZeroInxGenericStack, Ptr, PtrInx};
 use triple_arena_chain::{ChainArena, LinkNoGen};
+use unreached::unreached;
 
 #[derive(Clone, Copy, Drop)]
 pub(crate) struct Around<I> {
@@ -34,7 +35,7 @@ pub(crate) fn look_around<
 {
     let below = read(chains, low);
     let Some(high) = below.parent else {
-        unreachable!()
+        unreached!()
     };
     let above = read(chains, high);
     let side = side_of(above, low);

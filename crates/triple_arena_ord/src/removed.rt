@@ -15,6 +15,7 @@ use crate::turn::turn;
 use rank_tree::Side;
 use triple_arena::{ArenaSlot, NonZeroInxGenericStack, Ptr, PtrInx};
 use triple_arena_chain::{ChainArena, LinkNoGen};
+use unreached::unreached;
 
 /// The higher child `low` turns up, or its inner child does, twice.
 fn shorten<
@@ -33,7 +34,7 @@ fn shorten<
         turn(chains, root, low, rank, near.inner_rank + 1);
     } else {
         let Some(middle) = near.inner else {
-            unreachable!()
+            unreached!()
         };
         turn(chains, root, middle, rank, rank - 2);
         turn(chains, root, middle, rank, rank - 2);
@@ -89,7 +90,7 @@ fn mend<
         return above.parent;
     }
     let Some(low) = above.child(higher(left, right)) else {
-        unreachable!()
+        unreached!()
     };
     let near = look_around(chains, low);
     if near.low_rank <= near.outer_rank.max(near.inner_rank) + 1 {

@@ -20,6 +20,7 @@ use crate::knots::{read, relink, reparent, write};
 use crate::removed::bring_out;
 use triple_arena::{ArenaSlot, ArenaTrait, InvalidationResult, NonZeroInxGenericStack, Ptr};
 use triple_arena_chain::{ChainArena, ChainArenaTrait, LinkNoGen};
+use unreached::unreached;
 
 // `new`, which is not in the tree, takes the place and the rank of `old`.
 fn exchange<
@@ -71,7 +72,7 @@ fn uproot<
         None => bring_out(chains, root, gone),
         Some(_) => {
             let Some(successor) = next else {
-                unreachable!()
+                unreached!()
             };
             bring_out(chains, root, successor);
             exchange(chains, root, gone, successor);

@@ -10,6 +10,7 @@ use crate::knots::{read, relink, reparent, write};
 use rank_tree::{TreeLinks, side_of};
 use triple_arena::{ArenaSlot, NonZeroInxGenericStack, Ptr};
 use triple_arena_chain::{ChainArena, LinkNoGen};
+use unreached::unreached;
 
 /// `low` takes the place of its parent, which becomes its child; both get new ranks.
 pub(crate) fn turn<
@@ -30,7 +31,7 @@ pub(crate) fn turn<
 {
     let below = read(chains, low);
     let Some(high) = below.parent else {
-        unreachable!()
+        unreached!()
     };
     let above = read(chains, high);
     let side = side_of(above, low);

@@ -12,6 +12,7 @@ use std::cmp::Ordering;
 use triple_arena::{Ptr, PtrInx};
 use triple_arena_chain::{ChainArenaTrait, IndexLink};
 use triple_arena_ptr::Probes;
+use unreached::unreached;
 
 // Where a search along the list goes from a link that answered so, after it went `way`: nowhere, where it ends.
 fn onward<I: PtrInx, N>(link: &IndexLink<I, N>, way: Ordering, answer: Ordering) -> Option<I>
@@ -61,7 +62,7 @@ where
     'along: for _made in 0..num {
         let link = match arena.get_inx_link_no_gen(i) {
             Some((_, link)) => link,
-            None => unreachable!(),
+            None => unreached!(),
         };
         probes.tick();
         let answer = k.cmp(link.t.t.key());

@@ -18,6 +18,7 @@ use triple_arena_ptr::{
     InvalidationOption, InvalidationResult, Ptr, PtrGen, PtrInx, ReallocationError,
 };
 use triple_arena_stack::{NonZeroInxArray, NonZeroInxGenericStack};
+use unreached::unreached;
 
 impl<P: Ptr, T: Drop, S: NonZeroInxGenericStack<ArenaSlot<P, T>> + Drop> ArenaTrait<P, T>
     for Arena<P, T, S> {
@@ -147,7 +148,7 @@ impl<P: Ptr, T: Drop, S: NonZeroInxGenericStack<ArenaSlot<P, T>> + Drop> ArenaTr
         let _ = self.slots.len();
         match i.try_into_usize() {
             Some(i) => self.value_at_mut(i),
-            None => unreachable!(),
+            None => unreached!(),
         }
     }
 

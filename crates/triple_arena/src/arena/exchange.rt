@@ -10,6 +10,7 @@ use crate::{ArenaSlot, DisjointableArenaTrait};
 use std::num::NonZeroUsize;
 use triple_arena_ptr::{GetDisjointMutError, Ptr};
 use triple_arena_stack::NonZeroInxGenericStack;
+use unreached::unreached;
 
 impl<P: Ptr, T: Drop, S: NonZeroInxGenericStack<ArenaSlot<P, T>> + Drop> DisjointableArenaTrait<
     P,
@@ -26,7 +27,7 @@ impl<P: Ptr, T: Drop, S: NonZeroInxGenericStack<ArenaSlot<P, T>> + Drop> Disjoin
                     self.exchange_at(i, j);
                 }
             }
-            _ => unreachable!(),
+            _ => unreached!(),
         }
     }
 

@@ -10,6 +10,7 @@ use std::mem;
 use std::num::NonZeroUsize;
 use triple_arena_ptr::{NotWithinCapacityError, Ptr, ReallocationError};
 use triple_arena_stack::NonZeroInxGenericStack;
+use unreached::unreached;
 
 impl<P: Ptr, T: Drop, S: NonZeroInxGenericStack<ArenaSlot<P, T>> + Drop> ArenaInsertTrait<P, T>
     for Arena<P, T, S> {
@@ -54,7 +55,7 @@ impl<P: Ptr, T: Drop, S: NonZeroInxGenericStack<ArenaSlot<P, T>>> Arena<P, T, S>
         }
         match NonZeroUsize::new(self.slots.len() + 1) {
             Some(index) => pointer_at(index, self.counter),
-            None => unreachable!(),
+            None => unreached!(),
         }
     }
 
@@ -81,7 +82,7 @@ impl<P: Ptr, T: Drop, S: NonZeroInxGenericStack<ArenaSlot<P, T>>> Arena<P, T, S>
                     self.len += 1;
                     pointer_at(index, self.counter)
                 }
-                Err(_) => unreachable!(),
+                Err(_) => unreached!(),
             },
         }
     }

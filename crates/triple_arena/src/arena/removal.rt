@@ -12,6 +12,7 @@ use std::mem;
 use std::num::NonZeroUsize;
 use triple_arena_ptr::{InvalidationOption, Ptr, PtrGen};
 use triple_arena_stack::NonZeroInxGenericStack;
+use unreached::unreached;
 
 impl<P: Ptr, T: Drop, S: NonZeroInxGenericStack<ArenaSlot<P, T>>> Arena<P, T, S> {
     // Removes the entry at `i`, which is live, and steps the counter.
@@ -53,7 +54,7 @@ impl<P: Ptr, T: Drop, S: NonZeroInxGenericStack<ArenaSlot<P, T>>> Arena<P, T, S>
                     self.len -= 1;
                     slot.into_entry()
                 }
-                None => unreachable!(),
+                None => unreached!(),
             }
         } else {
             let slot = mem::replace(self.slots.item_mut(i), ArenaSlot::free(self.head));

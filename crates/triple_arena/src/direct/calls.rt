@@ -14,6 +14,7 @@ use triple_arena_ptr::{
     InvalidationOption, InvalidationResult, Ptr, PtrGen, PtrInx, ReallocationError,
 };
 use triple_arena_stack::{NonZeroInxArray, NonZeroInxGenericStack};
+use unreached::unreached;
 
 impl<P: Ptr, T: Drop, S: NonZeroInxGenericStack<DirectSlot<P, T>> + Drop> ArenaTrait<P, T>
     for DirectArena<P, T, S> {
@@ -142,7 +143,7 @@ impl<P: Ptr, T: Drop, S: NonZeroInxGenericStack<DirectSlot<P, T>> + Drop> ArenaT
         let _ = self.slots.len();
         match i.try_into_usize() {
             Some(i) => self.value_at_mut(i),
-            None => unreachable!(),
+            None => unreached!(),
         }
     }
 

@@ -10,6 +10,7 @@ use crate::{DirectSlot, DisjointableArenaTrait};
 use std::num::NonZeroUsize;
 use triple_arena_ptr::{GetDisjointMutError, Ptr};
 use triple_arena_stack::NonZeroInxGenericStack;
+use unreached::unreached;
 
 impl<P: Ptr, T: Drop, S: NonZeroInxGenericStack<DirectSlot<P, T>> + Drop> DisjointableArenaTrait<
     P,
@@ -27,7 +28,7 @@ impl<P: Ptr, T: Drop, S: NonZeroInxGenericStack<DirectSlot<P, T>> + Drop> Disjoi
                     self.exchange_at(i, j);
                 }
             }
-            _ => unreachable!(),
+            _ => unreached!(),
         }
     }
 

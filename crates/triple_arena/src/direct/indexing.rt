@@ -7,6 +7,7 @@ use crate::{ArenaTrait, DirectArena, DirectSlot};
 use std::ops::{Index, IndexMut};
 use triple_arena_ptr::Ptr;
 use triple_arena_stack::NonZeroInxGenericStack;
+use unreached::unreached;
 
 impl<P: Ptr, T: Drop, S: NonZeroInxGenericStack<DirectSlot<P, T>> + Drop> Index<P>
     for DirectArena<P, T, S> {
@@ -19,7 +20,7 @@ impl<P: Ptr, T: Drop, S: NonZeroInxGenericStack<DirectSlot<P, T>> + Drop> Index<
     fn index(&self, p: P) -> &T {
         match self.get(p) {
             Some(value) => value,
-            None => unreachable!(),
+            None => unreached!(),
         }
     }
 }

@@ -10,6 +10,7 @@ use crate::direct::DirectArena;
 use std::num::NonZeroUsize;
 use triple_arena_ptr::{DirectInsertionError, Ptr, PtrInx};
 use triple_arena_stack::NonZeroInxGenericStack;
+use unreached::unreached;
 
 // Appends free slots, so that there are `n` at least.
 fn reach<P: Ptr, T: Drop, S: NonZeroInxGenericStack<DirectSlot<P, T>>>(slots: &mut S, n: usize)
@@ -20,7 +21,7 @@ fn reach<P: Ptr, T: Drop, S: NonZeroInxGenericStack<DirectSlot<P, T>>>(slots: &m
     while slots.len() < n {
         match slots.push_within_capacity(DirectSlot::free()) {
             Ok(_) => {}
-            Err(_) => unreachable!(),
+            Err(_) => unreached!(),
         }
     }
 }

@@ -17,6 +17,7 @@ use std::cmp::Ordering;
 use triple_arena::{ArenaSlot, NonZeroInxGenericStack, Ptr};
 use triple_arena_chain::LinkNoGen;
 use triple_arena_ptr::OrdInsertionError;
+use unreached::unreached;
 
 /// A place for one item more. Dropped unused, it leaves the entries as they are.
 #[derive(Drop)]
@@ -73,7 +74,7 @@ impl<
         let place = arena.settle(place);
         match arena.insert_at_within_capacity(place, t) {
             Ok((_, replaced)) => replaced,
-            Err(_) => unreachable!(),
+            Err(_) => unreached!(),
         }
     }
 }

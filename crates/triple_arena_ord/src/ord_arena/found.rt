@@ -9,6 +9,7 @@ use crate::SimpleOrdArenaNode;
 use std::cmp::Ordering;
 use triple_arena::{ArenaSlot, ArenaTrait, NonZeroInxGenericStack, Ptr, PtrInx};
 use triple_arena_chain::{ChainArena, LinkNoGen};
+use unreached::unreached;
 
 // The pointer to the entry at an index that is live.
 pub(crate) fn ptr_at<
@@ -22,7 +23,7 @@ pub(crate) fn ptr_at<
 {
     match chains.get_inx(i) {
         Some(entry) => P::_from_raw(i, entry.0),
-        None => unreachable!(),
+        None => unreached!(),
     }
 }
 

@@ -8,6 +8,7 @@ use crate::{SimpleOrdArena, SimpleOrdArenaNode};
 use std::ops::{Index, IndexMut};
 use triple_arena::{ArenaSlot, NonZeroInxGenericStack, Ptr};
 use triple_arena_chain::LinkNoGen;
+use unreached::unreached;
 
 impl<
     P: Ptr,
@@ -23,7 +24,7 @@ impl<
     fn index(&self, p: P) -> &T {
         match self.get(p) {
             Some(item) => item,
-            None => unreachable!(),
+            None => unreached!(),
         }
     }
 }

@@ -16,6 +16,7 @@ use triple_arena::{
 };
 use triple_arena_chain::{ChainArena, LinkNoGen};
 use triple_arena_ptr::{OrdInsertionError, Probes};
+use unreached::unreached;
 
 // Another item in a node, and the one that it had.
 fn renew<
@@ -34,7 +35,7 @@ fn renew<
             let old = mem::replace(&mut node.t, t);
             (P::_from_raw(i, generation), old)
         }
-        None => unreachable!(),
+        None => unreached!(),
     }
 }
 

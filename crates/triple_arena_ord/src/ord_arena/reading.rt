@@ -8,6 +8,7 @@ use crate::{SimpleOrdArena, SimpleOrdArenaNode};
 use triple_arena::arena_iterators::PtrAdvancer;
 use triple_arena::{ArenaSlot, ArenaTrait, NonZeroInxGenericStack, Ptr};
 use triple_arena_chain::{ChainArena, LinkNoGen};
+use unreached::unreached;
 
 impl<
     P: Ptr,
@@ -48,7 +49,7 @@ impl<
     {
         match self.get_inx(i) {
             Some((_, item)) => item,
-            None => unreachable!(),
+            None => unreached!(),
         }
     }
 

@@ -18,6 +18,7 @@ use triple_arena::{
     ArenaSlot, ArenaTrait, InvalidationResult, NonZeroInxGenericStack, Ptr, PtrInx,
 };
 use triple_arena_chain::{ChainArena, ChainArenaTrait, LinkNoGen};
+use unreached::unreached;
 
 // The neighbors of an index in the list.
 fn neighbors<
@@ -33,7 +34,7 @@ fn neighbors<
 {
     match chains.get_inx_link_no_gen(i) {
         Some((_, link)) => (link.prev(), link.next()),
-        None => unreachable!(),
+        None => unreached!(),
     }
 }
 

@@ -13,6 +13,7 @@ use rank_tree::Side;
 use std::cmp::Ordering;
 use triple_arena::{ArenaSlot, NonZeroInxGenericStack, Ptr};
 use triple_arena_chain::LinkNoGen;
+use unreached::unreached;
 
 impl<
     P: Ptr,
@@ -32,7 +33,7 @@ impl<
         }
         match neighbors_beside(&self.chains, i, Side::Left).0 {
             Some(prev) => (prev, Ordering::Greater),
-            None => unreachable!(),
+            None => unreached!(),
         }
     }
 
@@ -49,7 +50,7 @@ impl<
         }
         match neighbors_beside(&self.chains, i, Side::Right).1 {
             Some(next) => (next, Ordering::Less),
-            None => unreachable!(),
+            None => unreached!(),
         }
     }
 

@@ -5,7 +5,7 @@ use std::alloc::Global;
 use std::process::Abort;
 use std::test::Fail;
 use triple_arena::{NonZeroInxArray, NonZeroInxGenericStack, NonZeroInxVec, P0, Ptr};
-use triple_arena_ptr::OrdInsertionError;
+use triple_arena_ptr::{OrdInsertionError, ReallocationError};
 use triple_arena_user::{
     OrderBook, OrderSlot, add_order, best_order, cancel_order, next_order, open_book,
 };
@@ -62,4 +62,13 @@ fn trades_in_an_array(rt: HostRuntime) -> Result<(), Fail> {
 #[test]
 fn trades_on_the_heap(rt: HostRuntime) -> Result<(), Fail> {
     trades::<NonZeroInxVec<OrderSlot<P0, u64>, Global>>(&rt, rt.alloc())
+}
+
+// A book for four orders does not open in an array of three slots.
+#[test]
+fn a_book_past_its_array_is_refused(rt: HostRuntime) {
+    match open_book::<P0, u64, NonZeroInxArray<OrderSlot<P0, u64>, 3>>((), 4) {
+        Err(why) => assert!(rt; why == ReallocationError::BeyondMaxCapacity),
+        Ok(_) => assert!(rt; false),
+    }
 }
