@@ -52,10 +52,10 @@ overflow_add-rank_at g c =
     let h = c.requires.1 in
     omega (arith, h, h.fits, read g (goal.at.overflow_add-rank_at g c).After-rank_at _ h)
 
-pub unreachable-requires-in_default-inner : goal.unreachable-requires-in_default-inner
-unreachable-requires-in_default-inner g c =
+pub unreachable-requires-then-is_empty-2 : goal.unreachable-requires-then-is_empty-2
+unreachable-requires-then-is_empty-2 g c =
     let h = c.requires.1 in
-    let r = read g (goal.at.unreachable-requires-in_default-inner g c).After-rank_at _ h in
+    let r = read g (goal.at.unreachable-requires-then-is_empty-2 g c).After-rank_at _ h in
     root-some h.inner (omega arith) (sym r.inner_is ∙ ap (option_map g.P.Inx.PtrInx.number) c.in_default-inner.is)
 
 pub overflow_sub-rank-else-rank_at-rank : goal.overflow_sub-rank-else-rank_at-rank
