@@ -32,8 +32,8 @@ twice g c w h =
 pub read-below-requires : goal.read-below-requires
 read-below-requires g c = spot_low _ _ _ (lean_spot _ _ _ _ c.requires.1)
 
-pub unreachable-requires : goal.unreachable-requires
-unreachable-requires g c =
+pub unreached-unreachable-requires : goal.unreached-unreachable-requires
+unreached-unreachable-requires g c =
     not_some g.P.Inx.PtrInx.number c.read-below.result.parent _
     (spot_parent _ _ _ _ c.read-below.ensures (lean_spot _ _ _ _ c.requires.1)) c.in_default.not-Some
 
@@ -52,10 +52,10 @@ overflow_add-rank_at g c =
     let h = c.requires.1 in
     omega (arith, h, h.fits, read g (goal.at.overflow_add-rank_at g c).After-rank_at _ h)
 
-pub unreachable-requires-then-is_empty-2 : goal.unreachable-requires-then-is_empty-2
-unreachable-requires-then-is_empty-2 g c =
+pub unreached-unreachable-requires-in_default-inner : goal.unreached-unreachable-requires-in_default-inner
+unreached-unreachable-requires-in_default-inner g c =
     let h = c.requires.1 in
-    let r = read g (goal.at.unreachable-requires-then-is_empty-2 g c).After-rank_at _ h in
+    let r = read g (goal.at.unreached-unreachable-requires-in_default-inner g c).After-rank_at _ h in
     root-some h.inner (omega arith) (sym r.inner_is ∙ ap (option_map g.P.Inx.PtrInx.number) c.in_default-inner.is)
 
 pub overflow_sub-rank-else-rank_at-rank : goal.overflow_sub-rank-else-rank_at-rank

@@ -21,8 +21,8 @@ read g c root spot =
 pub read-below-requires : goal.read-below-requires
 read-below-requires g c = spot_low _ _ _ c.requires.1
 
-pub unreachable-requires : goal.unreachable-requires
-unreachable-requires g c =
+pub unreached-unreachable-requires : goal.unreached-unreachable-requires
+unreached-unreachable-requires g c =
     not_some g.P.Inx.PtrInx.number c.read-below.result.parent _
     (spot_parent _ _ _ _ c.read-below.ensures c.requires.1) c.in_default.not-Some
 

@@ -102,10 +102,10 @@ returns-then-max-rank-clause-rises g c =
     if_named number (λ i. rank_in old (number c.args.high) < rank_in (knots_in number c.set_rank.new.chains) i) c.read-above.result.parent
     (falls g (goal.at.returns-then-max-rank-clause-rises g c).After-set_rank _ c.requires.1).rises
 
-pub unreachable-requires : goal.unreachable-requires
-unreachable-requires g c =
+pub unreached-unreachable-requires : goal.unreached-unreachable-requires
+unreached-unreachable-requires g c =
     let h = c.requires.1 in
-    higher_some _ _ _ _ _ _ h (higher g (goal.at.unreachable-requires g c).After-child _ h)
+    higher_some _ _ _ _ _ _ h (higher g (goal.at.unreached-unreachable-requires g c).After-child _ h)
     (ap (option_map g.P.Inx.PtrInx.number) c.in_default.is)
 
 pub look_around-near-requires : goal.look_around-near-requires

@@ -16,8 +16,8 @@ bring_out-requires g c =
     _ c.read-knot.ensures (ap (option_map number) c.in-None.is)).loose
 
 -- a node with a right child has one after it
-pub unreachable-requires : goal.unreachable-requires
-unreachable-requires g c =
+pub unreached-unreachable-requires : goal.unreached-unreachable-requires
+unreached-unreachable-requires g c =
     let number = g.P.Inx.PtrInx.number in
     let o : Ordered g.row.P-Inx.Denot g.row.T.Denot = record { chains = c.args.chains.now; root = option_map number c.args.root.now } in
     let s = successor number o c.requires.ordered (number c.args.gone) (small _ _ c.len-count.ensures.value (search rules)) c.requires.lives

@@ -9,8 +9,8 @@ use Rattle.triple_arena_ord.proofs.turn.turn.Goals as goal
 pub read-below-requires : goal.read-below-requires
 read-below-requires g c = spot_low _ _ _ c.requires
 
-pub unreachable-requires : goal.unreachable-requires
-unreachable-requires g c = not_some g.P.Inx.PtrInx.number c.read-below.result.parent _ (spot_parent _ _ _ _ c.read-below.ensures c.requires) c.in_default.not-Some
+pub unreached-unreachable-requires : goal.unreached-unreachable-requires
+unreached-unreachable-requires g c = not_some g.P.Inx.PtrInx.number c.read-below.result.parent _ (spot_parent _ _ _ _ c.read-below.ensures c.requires) c.in_default.not-Some
 
 pub read-above-requires : goal.read-above-requires
 read-above-requires g c = spot_high _ _ _ _ _ c.read-below.ensures (ap (option_map g.P.Inx.PtrInx.number) c.in-Some.is) c.requires

@@ -14,8 +14,8 @@ along-init g c = (
       (g.P.Inx.PtrInx.number c.args.start) on,
 )
 
-pub unreachable-requires : goal.unreachable-requires
-unreachable-requires g c =
+pub unreached-unreachable-requires : goal.unreached-unreachable-requires
+unreached-unreachable-requires g c =
     let number = g.P.Inx.PtrInx.number in
     let links = g.A.ChainArenaTrait.links c.args.arena.now in
     walk_lives number g.T.Key.Ord.cmp g.T.SimpleOrdItem.key_of c.args.k.now links c.requires.0 (number c.args.start) _ c.requires.1 c.along.way (number c.along.i) c.along._made

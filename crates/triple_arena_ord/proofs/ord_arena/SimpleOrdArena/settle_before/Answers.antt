@@ -6,8 +6,8 @@ use Rattle.triple_arena_ord.specs.Ordered.{Ordered}
 use Rattle.triple_arena_ord.proofs.SettleLemmas.{settled_prev, settled_at}
 use Rattle.triple_arena_ord.proofs.ord_arena.SimpleOrdArena.settle_before.Goals as goal
 
-pub unreachable-requires : goal.unreachable-requires
-unreachable-requires g c =
+pub unreached-unreachable-requires : goal.unreached-unreachable-requires
+unreached-unreachable-requires g c =
     let number = g.P.Inx.PtrInx.number in
     let o : Ordered g.row.P-Inx.Denot g.row.T.Denot = record { chains = c.self.inside.chains; root = option_map number c.self.inside.root } in
     let s = settled_prev number o c.self.invariant.0 (number c.args.i) _ c.read.ensures c.read.result.left c.if-is_none.ensures refl c.neighbors_beside.result.0 c.neighbors_beside.ensures.prev in
