@@ -1,17 +1,12 @@
 mod calls;
 mod canonical;
-mod counted_keys;
-mod counting;
 mod entries;
 mod falling_keys;
 mod growing;
-mod insertions;
 mod items;
-mod key_searches;
 mod nodes;
 mod pairs;
 mod refusals;
-mod removals;
 mod rows;
 mod searches;
 mod walks;

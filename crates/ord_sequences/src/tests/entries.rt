@@ -40,7 +40,7 @@ pub(crate) fn digits<
 }
 
 // What an entry tells, which is dropped then.
-pub(crate) fn tells<
+fn tells<
     P: Ptr,
     T: SimpleOrdItem + Drop,
     S: NonZeroInxGenericStack<ArenaSlot<P, LinkNoGen<P, SimpleOrdArenaNode<P, T>>>> + Drop,

@@ -3,7 +3,6 @@
 use crate::tests::counting::{
     Counted, Counting, Keys, NARROW, Slot, THOUSAND, even_keys, even_keys_are_listed, pointer_to,
 };
-use crate::tests::entries::tells;
 use crate::tests::key_searches::searches;
 use std::alloc::Global;
 use std::cell::Cell;
@@ -45,11 +44,11 @@ fn is_new_entry<'a, P: Ptr, S: NonZeroInxGenericStack<Slot<'a, P>> + Drop>(
     kind: OrdInsertKind<P, &Counting<'a>>,
 ) -> bool {
     let before = calls.get();
-    let told = tells(arena, kind);
-    assert!(rt; calls.get().wrapping_sub(before) <= 7);
-    match told {
-        Ok(OrdEntryKind::New(_)) => true,
-        Ok(OrdEntryKind::Replacing(_)) => false,
+    match arena.entry_insert_within_capacity(kind) {
+        Ok(entry) => {
+            assert!(rt; calls.get().wrapping_sub(before) <= 7);
+            matches!(entry.ptr(), OrdEntryKind::New(_))
+        }
         Err(_) => panic!(rt; "there is room"),
     }
 }

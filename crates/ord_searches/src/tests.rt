@@ -1,0 +1,5 @@
+mod counted_keys;
+mod counting;
+mod insertions;
+mod key_searches;
+mod removals;
