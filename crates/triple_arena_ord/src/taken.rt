@@ -71,9 +71,7 @@ fn uproot<
     match knot.right {
         None => bring_out(chains, root, gone),
         Some(_) => {
-            let Some(successor) = next else {
-                unreached!()
-            };
+            let Some(successor) = next else { unreached!() };
             bring_out(chains, root, successor);
             exchange(chains, root, gone, successor);
         }
