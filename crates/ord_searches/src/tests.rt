@@ -1,3 +1,4 @@
+mod closures;
 mod counted_keys;
 mod counting;
 mod insertions;

@@ -10,7 +10,7 @@ use triple_arena_ord::OrdPair;
 use triple_arena_ptr::Ptr;
 
 // Each odd key leaves by its pointer, which then finds nothing.
-fn odd_keys_leave(rt: &impl Abort, pairs: &mut Pairs) {
+pub(crate) fn odd_keys_leave(rt: &impl Abort, pairs: &mut Pairs) {
     for key in 1..1001u64 {
         if key % 2 == 1 {
             let Some(p) = pairs.find_key(&key) else {

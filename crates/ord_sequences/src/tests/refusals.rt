@@ -4,8 +4,8 @@ use std::alloc::{Allocator, Global};
 use std::process::Abort;
 use std::test::Fail;
 use triple_arena::{
-    ArenaSlot, NonZeroInxGenericStack, NonZeroInxLimitedVec, NonZeroInxVec, P0, Ptr,
-    ReallocationError,
+    ArenaSlot, NonZeroInxBoxedSlice, NonZeroInxGenericStack, NonZeroInxLimitedVec, NonZeroInxVec,
+    P0, Ptr, ReallocationError,
 };
 use triple_arena_chain::LinkNoGen;
 use triple_arena_ord::{InsertKind, OrdPair, SimpleOrdArena, SimpleOrdArenaNode};
@@ -211,5 +211,36 @@ fn each_request_in_turn(rt: HostRuntime) {
         // The first growths by four calls, an arena with room, the growths by the five calls, and that without an item.
         assert!(rt; vector.has_refused() == (nth <= 11));
         assert!(rt; limited.has_refused() == (nth <= 11));
+    }
+}
+
+// An arena in a boxed slice takes its memory when it is made, and one that is full asks for no more.
+fn is_boxed(rt: &(impl Abort + Alloc<A = Global>), heap: &Heap) {
+    match SimpleOrdArena::<P0, Item, NonZeroInxBoxedSlice<Slot, &Heap>>::with_min_capacity(
+        heap, 3,
+    ) {
+        Ok(mut pairs) => {
+            let key = fills(rt, &mut pairs);
+            assert!(rt; key == 3);
+            let was = seen(rt, heap, &pairs);
+            let error = pairs.insert(OrdPair::new(key, key)).err();
+            assert!(rt; error == Some(OrdInsertionError::BeyondMaxCapacity));
+            let is = seen(rt, heap, &pairs);
+            assert!(rt; is.text.as_str() == was.text.as_str());
+            assert!(rt; !is.has_refused);
+        }
+        Err(error) => {
+            assert!(rt; heap.has_refused());
+            assert!(rt; error == ReallocationError::AllocError);
+        }
+    }
+}
+
+#[test]
+fn a_box_is_its_only_request(rt: HostRuntime) {
+    for nth in 1..4u64 {
+        let heap = RefusingAllocator::new(rt.alloc(), nth);
+        is_boxed(&rt, &heap);
+        assert!(rt; heap.has_refused() == (nth == 1));
     }
 }
