@@ -215,10 +215,12 @@ fn each_request_in_turn(rt: HostRuntime) {
 }
 
 // An arena in a boxed slice takes its memory when it is made, and one that is full asks for no more.
-fn is_boxed(rt: &(impl Abort + Alloc<A = Global>), heap: &Heap) {
-    match SimpleOrdArena::<P0, Item, NonZeroInxBoxedSlice<Slot, &Heap>>::with_min_capacity(
-        heap, 3,
-    ) {
+fn is_boxed<H: Allocator + Copy, S: NonZeroInxGenericStack<Slot, Alloc = H> + Drop>(
+    rt: &(impl Abort + Alloc<A = Global>),
+    heap: &Heap,
+    alloc: H,
+) {
+    match SimpleOrdArena::<P0, Item, S>::with_min_capacity(alloc, 3) {
         Ok(mut pairs) => {
             let key = fills(rt, &mut pairs);
             assert!(rt; key == 3);
@@ -240,7 +242,7 @@ fn is_boxed(rt: &(impl Abort + Alloc<A = Global>), heap: &Heap) {
 fn a_box_is_its_only_request(rt: HostRuntime) {
     for nth in 1..4u64 {
         let heap = RefusingAllocator::new(rt.alloc(), nth);
-        is_boxed(&rt, &heap);
+        is_boxed::<&Heap, NonZeroInxBoxedSlice<Slot, &Heap>>(&rt, &heap, &heap);
         assert!(rt; heap.has_refused() == (nth == 1));
     }
 }
