@@ -9,14 +9,14 @@ use std::process::Abort;
 use std::test::Fail;
 use triple_arena::{
     Arena, ArenaCloneFromWith, ArenaCloneSource, ArenaInsertTrait, ArenaSlot, ArenaTrait,
-    ArrayArena, ArrayDirectArena, BoxedArena, BoxedDirectArena, HeapArena, HeapDirectArena,
-    LimitedArena, LimitedDirectArena, NonZeroInxGenericStack, P0, P1, P5, Ptr, PtrGen, PtrInx,
-    ReallocationError, SetMaxCapacity,
+    ArrayArena, ArrayDirectArena, BoxedArena, BoxedDirectArena, DirectArena, DirectSlot, HeapArena,
+    HeapDirectArena, LimitedArena, LimitedDirectArena, NonZeroInxGenericStack, P0, P1, P5, Ptr,
+    PtrGen, PtrInx, ReallocationError, SetMaxCapacity,
 };
 
-pub(super) fn insert<P: Ptr, A: ArenaInsertTrait<P, u64>>(
+pub(super) fn insert<P: Ptr, S: NonZeroInxGenericStack<ArenaSlot<P, u64>> + Drop>(
     rt: &impl Abort,
-    arena: &mut A,
+    arena: &mut Arena<P, u64, S>,
     value: u64,
 ) -> P {
     match arena.insert(value) {
@@ -26,7 +26,10 @@ pub(super) fn insert<P: Ptr, A: ArenaInsertTrait<P, u64>>(
 }
 
 // Stores 10 to 40 at the indexes 1 to 4, and removes those at 1 and then at 3: 3 is the next index to be taken.
-pub(super) fn fills<P: Ptr, A: ArenaInsertTrait<P, u64>>(rt: &impl Abort, arena: &mut A) {
+pub(super) fn fills<P: Ptr, S: NonZeroInxGenericStack<ArenaSlot<P, u64>> + Drop>(
+    rt: &impl Abort,
+    arena: &mut Arena<P, u64, S>,
+) {
     let first = insert(rt, arena, 10);
     insert(rt, arena, 20);
     let third = insert(rt, arena, 30);
@@ -87,9 +90,9 @@ fn is_past_the_limit<P: Ptr, S: ArenaCloneSource<P, u64>, A: ArenaCloneFromWith<
 }
 
 // The two free indexes are taken, the smaller one first, with this generation.
-fn takes_the_free<P: Ptr, A: ArenaInsertTrait<P, u64>>(
+fn takes_the_free<P: Ptr, S: NonZeroInxGenericStack<ArenaSlot<P, u64>> + Drop>(
     rt: &impl Abort,
-    arena: &mut A,
+    arena: &mut Arena<P, u64, S>,
     generation: P::Gen,
 ) {
     let first = insert(rt, arena, 0);
@@ -164,25 +167,31 @@ fn clones_directly<P: Ptr, S: NonZeroInxGenericStack<ArenaSlot<P, u64>> + Drop>(
     Ok(())
 }
 
+// An arena with one entry becomes a copy as soon as its limit lets it.
+fn copies_up_to_the_limit<
+    P: Ptr,
+    S: ArenaCloneSource<P, u64>,
+    A: ArenaCloneFromWith<P, u64> + SetMaxCapacity,
+>(rt: &impl Abort, source: &S, copy: &mut A) {
+    assert!(rt; copy.set_max_capacity(3).is_ok());
+    is_past_the_limit(rt, source, copy);
+    assert!(rt; copy.set_max_capacity(4).is_ok());
+    doubles(rt, source, copy, 40, 80);
+}
+
 // Copies over stacks with a limit.
-fn copies_within_a_limit<P: Ptr, S: NonZeroInxGenericStack<ArenaSlot<P, u64>> + Drop>(
+fn copies_within_a_limit<P: Ptr, S: ArenaCloneSource<P, u64>>(
     rt: &impl Abort,
     alloc: Global,
-    source: &Arena<P, u64, S>,
-) {
-    let mut arena = LimitedArena::<P, u64, Global>::new(alloc);
-    assert!(rt; arena.set_max_capacity(3).is_ok());
-    insert(rt, &mut arena, 1);
-    is_past_the_limit(rt, source, &mut arena);
-    assert!(rt; arena.set_max_capacity(4).is_ok());
-    doubles(rt, source, &mut arena, 40, 80);
-    let mut direct = LimitedDirectArena::<P, u64, Global>::new(alloc);
-    assert!(rt; direct.set_max_capacity(3).is_ok());
-    assert!(rt; direct.reallocate_min_capacity(1).is_ok());
+    source: &S,
+) -> Result<(), ReallocationError> {
+    let mut arena = LimitedArena::<P, u64, Global>::with_min_capacity(alloc, 1)?;
+    assert!(rt; arena.insert_within_capacity(1).is_ok());
+    copies_up_to_the_limit(rt, source, &mut arena);
+    let mut direct = LimitedDirectArena::<P, u64, Global>::with_min_capacity(alloc, 1)?;
     assert!(rt; put(&mut direct, at(index(0)), 1) == Ok(()));
-    is_past_the_limit(rt, source, &mut direct);
-    assert!(rt; direct.set_max_capacity(4).is_ok());
-    doubles(rt, source, &mut direct, 40, 80);
+    copies_up_to_the_limit(rt, source, &mut direct);
+    Ok(())
 }
 
 // Copies over boxed slots, which take room once.
@@ -210,7 +219,7 @@ fn all_copies<P: Ptr, S: NonZeroInxGenericStack<ArenaSlot<P, u64>> + Drop>(
     fills(rt, source);
     copies(rt, alloc, source);
     clones(rt, alloc, source)?;
-    copies_within_a_limit(rt, alloc, source);
+    copies_within_a_limit(rt, alloc, source)?;
     copies_into_boxes(rt, alloc, source)
 }
 
@@ -223,18 +232,38 @@ fn copies_have_the_pointers(rt: HostRuntime) -> Result<(), Fail> {
     Ok(())
 }
 
+// Into an arena and a direct arena with room, and not into an arena without.
+fn copies_into<
+    P: Ptr,
+    S: ArenaCloneSource<P, u64>,
+    A: NonZeroInxGenericStack<ArenaSlot<P, u64>> + Drop,
+    D: NonZeroInxGenericStack<DirectSlot<P, u64>> + Drop,
+    B: NonZeroInxGenericStack<ArenaSlot<P, u64>> + Drop,
+>(
+    rt: &impl Abort,
+    source: &S,
+    arena: &mut Arena<P, u64, A>,
+    direct: &mut DirectArena<P, u64, D>,
+    small: &mut Arena<P, u64, B>,
+) {
+    doubles(rt, source, arena, 40, 80);
+    doubles(rt, source, direct, 40, 80);
+    insert(rt, small, 1);
+    is_past_the_limit(rt, source, small);
+}
+
 // Into an array, which takes no memory.
 #[test]
 fn copies_into_arrays(rt: HostRuntime) {
     let mut source = ArrayArena::<P0, u64, 5>::new(());
     fills(&rt, &mut source);
-    let mut copy = ArrayArena::<P0, u64, 4>::new(());
-    doubles(&rt, &source, &mut copy, 40, 80);
-    let mut direct = ArrayDirectArena::<P0, u64, 4>::new(());
-    doubles(&rt, &source, &mut direct, 40, 80);
-    let mut small = ArrayArena::<P0, u64, 3>::new(());
-    insert(&rt, &mut small, 1);
-    is_past_the_limit(&rt, &source, &mut small);
+    copies_into(
+        &rt,
+        &source,
+        &mut ArrayArena::<P0, u64, 4>::new(()),
+        &mut ArrayDirectArena::<P0, u64, 4>::new(()),
+        &mut ArrayArena::<P0, u64, 3>::new(()),
+    );
 }
 
 // A map is called once for each entry, not again after a refusal, and not where the growth is refused.
@@ -277,6 +306,22 @@ fn has_room_for_two<S: ArenaCloneSource<P0, u64>, A: ArenaCloneFromWith<P0, u64>
     reads(rt, copy, "{P0[1](2): 20, P0[2](2): 40}");
 }
 
+// The last two of four entries go.
+fn loses_two<A: ArenaTrait<P0, u64>>(rt: &impl Abort, arena: &mut A) {
+    assert!(rt; arena.remove(at(index(2))).is_success());
+    assert!(rt; arena.remove(at(index(3))).is_success());
+}
+
+// A copy of each of the two.
+fn have_room_for_two<
+    S: ArenaCloneSource<P0, u64>,
+    M: ArenaCloneSource<P0, u64>,
+    A: ArenaCloneFromWith<P0, u64> + Debug,
+>(rt: &(impl Abort + Alloc), source: &S, mirror: &M, copy: &mut A) {
+    has_room_for_two(rt, source, copy);
+    has_room_for_two(rt, mirror, copy);
+}
+
 #[test]
 fn free_slots_at_the_end_are_not_copied(rt: HostRuntime) {
     let mut source = ArrayArena::<P0, u64, 4>::new(());
@@ -286,15 +331,10 @@ fn free_slots_at_the_end_are_not_copied(rt: HostRuntime) {
         let p = insert(&rt, &mut source, value);
         assert!(rt; put(&mut mirror, p, value) == Ok(()));
     }
-    for before in 2..4u8 {
-        assert!(rt; source.remove(at(index(before))).is_success());
-        assert!(rt; mirror.remove(at(index(before))).is_success());
-    }
+    loses_two(&rt, &mut source);
+    loses_two(&rt, &mut mirror);
     let mut copy = ArrayArena::<P0, u64, 2>::new(());
-    has_room_for_two(&rt, &source, &mut copy);
-    assert!(rt; copy.generation() == source.generation());
-    has_room_for_two(&rt, &mirror, &mut copy);
+    have_room_for_two(&rt, &source, &mirror, &mut copy);
     let mut direct = ArrayDirectArena::<P0, u64, 2>::new(());
-    has_room_for_two(&rt, &source, &mut direct);
-    has_room_for_two(&rt, &mirror, &mut direct);
+    have_room_for_two(&rt, &source, &mirror, &mut direct);
 }

@@ -48,14 +48,21 @@ fn takes_whole_pointers<
     reads(rt, arena, text);
 }
 
+fn takes_whole_pointers_in_one<P: Ptr>(
+    rt: &(impl Abort + Alloc),
+    alloc: Global,
+    text: &str,
+) -> Result<(), ReallocationError> {
+    let mut arena = HeapDirectArena::<P, &str, Global>::with_min_capacity(alloc, 4)?;
+    takes_whole_pointers(rt, &mut arena, "x", text);
+    Ok(())
+}
+
 #[test]
 fn takes_whole_pointers_in_a_vector(rt: HostRuntime) -> Result<(), Fail> {
-    let mut wide = HeapDirectArena::<P0, &str, Global>::with_min_capacity(rt.alloc(), 4)?;
-    takes_whole_pointers(&rt, &mut wide, "x", "{P0[1](9): \"x\"}");
-    let mut narrow = HeapDirectArena::<P1, &str, Global>::with_min_capacity(rt.alloc(), 4)?;
-    takes_whole_pointers(&rt, &mut narrow, "x", "{P1[1](9): \"x\"}");
-    let mut uncounted = HeapDirectArena::<P5, &str, Global>::with_min_capacity(rt.alloc(), 4)?;
-    takes_whole_pointers(&rt, &mut uncounted, "x", "{P5[1]: \"x\"}");
+    takes_whole_pointers_in_one::<P0>(&rt, rt.alloc(), "{P0[1](9): \"x\"}")?;
+    takes_whole_pointers_in_one::<P1>(&rt, rt.alloc(), "{P1[1](9): \"x\"}")?;
+    takes_whole_pointers_in_one::<P5>(&rt, rt.alloc(), "{P5[1]: \"x\"}")?;
     Ok(())
 }
 
@@ -82,42 +89,48 @@ fn takes_whole_pointers_in_an_array(rt: HostRuntime) {
 }
 
 // Two values are shown, and the first is removed.
-fn shows_two<P: Ptr, A: ArenaInsertTrait<P, &'static str> + Debug>(
+fn shows_two<
+    P: Ptr,
+    T: Copy + Debug + PartialEq + Drop,
+    S: NonZeroInxGenericStack<ArenaSlot<P, T>> + Drop,
+>(
     rt: &(impl Abort + Alloc),
-    arena: &mut A,
+    arena: &mut Arena<P, T, S>,
+    first: T,
+    second: T,
     text: &str,
 ) -> Result<(), ReallocationError> {
-    let first = arena.insert("test")?;
-    arena.insert("hello")?;
+    let p = arena.insert(first)?;
+    arena.insert(second)?;
     reads(rt, arena, text);
-    assert!(rt; arena.remove(first) == InvalidationResult::Success("test"));
-    assert!(rt; arena.get(first) == None);
+    assert!(rt; arena.remove(p) == InvalidationResult::Success(first));
+    assert!(rt; arena.get(p).is_none());
     Ok(())
+}
+
+fn shows_two_in_a_vector<P: Ptr>(
+    rt: &(impl Abort + Alloc),
+    alloc: Global,
+    text: &str,
+) -> Result<(), ReallocationError> {
+    let mut arena = HeapArena::<P, &str, Global>::new(alloc);
+    shows_two(rt, &mut arena, "test", "hello", text)
 }
 
 #[test]
 fn shows_two_of_each_pointer(rt: HostRuntime) -> Result<(), Fail> {
-    let shown = "{P0[1](2): \"test\", P0[2](2): \"hello\"}";
-    shows_two(
-        &rt,
-        &mut HeapArena::<P0, &str, Global>::new(rt.alloc()),
-        shown,
-    )?;
-    shows_two(&rt, &mut ArrayArena::<P0, &str, 2>::new(()), shown)?;
+    let wide = "{P0[1](2): \"test\", P0[2](2): \"hello\"}";
+    shows_two_in_a_vector::<P0>(&rt, rt.alloc(), wide)?;
+    let mut arena = ArrayArena::<P0, &str, 2>::new(());
+    shows_two(&rt, &mut arena, "test", "hello", wide)?;
     let narrow = "{P1[1](2): \"test\", P1[2](2): \"hello\"}";
-    shows_two(
-        &rt,
-        &mut HeapArena::<P1, &str, Global>::new(rt.alloc()),
-        narrow,
-    )?;
-    shows_two(&rt, &mut ArrayArena::<P1, &str, 2>::new(()), narrow)?;
+    shows_two_in_a_vector::<P1>(&rt, rt.alloc(), narrow)?;
+    let mut arena = ArrayArena::<P1, &str, 2>::new(());
+    shows_two(&rt, &mut arena, "test", "hello", narrow)?;
     let uncounted = "{P5[1]: \"test\", P5[2]: \"hello\"}";
-    shows_two(
-        &rt,
-        &mut HeapArena::<P5, &str, Global>::new(rt.alloc()),
-        uncounted,
-    )?;
-    shows_two(&rt, &mut ArrayArena::<P5, &str, 2>::new(()), uncounted)?;
+    shows_two_in_a_vector::<P5>(&rt, rt.alloc(), uncounted)?;
+    let mut arena = ArrayArena::<P5, &str, 2>::new(());
+    shows_two(&rt, &mut arena, "test", "hello", uncounted)?;
     Ok(())
 }
 
@@ -143,28 +156,24 @@ fn drops_the_free_end<P: Ptr, S: NonZeroInxGenericStack<ArenaSlot<P, u64>> + Dro
     }
 }
 
+fn drops_the_free_end_of_a_vector<P: Ptr>(
+    rt: &(impl Abort + Alloc),
+    alloc: Global,
+    texts: &[&str; 3],
+) {
+    drops_the_free_end(rt, &mut HeapArena::<P, u64, Global>::new(alloc), texts);
+}
+
 #[test]
 fn drops_the_free_end_of_each_stack(rt: HostRuntime) {
-    let steps = ["P0[1](6)", "P0[2](6)", "P0[4](6)"];
-    drops_the_free_end(
-        &rt,
-        &mut HeapArena::<P0, u64, Global>::new(rt.alloc()),
-        &steps,
-    );
-    drops_the_free_end(&rt, &mut ArrayArena::<P0, u64, 5>::new(()), &steps);
+    let wide = ["P0[1](6)", "P0[2](6)", "P0[4](6)"];
+    drops_the_free_end_of_a_vector::<P0>(&rt, rt.alloc(), &wide);
+    drops_the_free_end(&rt, &mut ArrayArena::<P0, u64, 5>::new(()), &wide);
     let narrow = ["P1[1](6)", "P1[2](6)", "P1[4](6)"];
-    drops_the_free_end(
-        &rt,
-        &mut HeapArena::<P1, u64, Global>::new(rt.alloc()),
-        &narrow,
-    );
+    drops_the_free_end_of_a_vector::<P1>(&rt, rt.alloc(), &narrow);
     drops_the_free_end(&rt, &mut ArrayArena::<P1, u64, 5>::new(()), &narrow);
     let uncounted = ["P5[1]", "P5[2]", "P5[4]"];
-    drops_the_free_end(
-        &rt,
-        &mut HeapArena::<P5, u64, Global>::new(rt.alloc()),
-        &uncounted,
-    );
+    drops_the_free_end_of_a_vector::<P5>(&rt, rt.alloc(), &uncounted);
     drops_the_free_end(&rt, &mut ArrayArena::<P5, u64, 5>::new(()), &uncounted);
 }
 
