@@ -235,13 +235,13 @@ fn copies_have_the_pointers(rt: HostRuntime) -> Result<(), Fail> {
 // Into an arena and a direct arena with room, and not into an arena without.
 fn copies_into<
     P: Ptr,
-    S: ArenaCloneSource<P, u64>,
+    S: NonZeroInxGenericStack<ArenaSlot<P, u64>> + Drop,
     A: NonZeroInxGenericStack<ArenaSlot<P, u64>> + Drop,
     D: NonZeroInxGenericStack<DirectSlot<P, u64>> + Drop,
     B: NonZeroInxGenericStack<ArenaSlot<P, u64>> + Drop,
 >(
     rt: &impl Abort,
-    source: &S,
+    source: &Arena<P, u64, S>,
     arena: &mut Arena<P, u64, A>,
     direct: &mut DirectArena<P, u64, D>,
     small: &mut Arena<P, u64, B>,

@@ -5,7 +5,10 @@ ghost use Rattle.triple_arena.specs.Entries.{generation_at};
 use super::sequences::{InArray, InVec, insert, shows};
 use std::process::Abort;
 use std::test::Fail;
-use triple_arena::{Advancer, ArenaInsertTrait, ArenaTrait, InvalidationResult, P0, P1, Ptr};
+use triple_arena::arena_iterators::PtrAdvancer;
+use triple_arena::{
+    Advancer, Arena, ArenaSlot, ArenaTrait, InvalidationResult, NonZeroInxGenericStack, P0, P1, Ptr,
+};
 
 // Removes the entries one by one: an advancer comes to each of them, over an arena that changes.
 fn remove_each<P: Ptr, T: Drop, A: ArenaTrait<P, T>>(arena: &mut A)
@@ -45,29 +48,30 @@ fn gives<P: Ptr, A: ArenaTrait<P, u64>>(
             None => panic!(rt; "an advancer ends early"),
         }
     }
-    assert_eq!(rt; advancer.advance(arena), None);
+    assert!(rt; advancer.advance(arena) == None);
 }
 
 // Five entries, of which the second and the last are removed.
-fn goes_over<P: Ptr, A: ArenaInsertTrait<P, u64>>(
+fn goes_over<P: Ptr, S: NonZeroInxGenericStack<ArenaSlot<P, u64>> + Drop>(
     rt: &(impl Abort + Alloc),
-    arena: &mut A,
+    arena: &mut Arena<P, u64, S>,
     texts: &[&str; 4],
 ) {
-    assert_eq!(rt; arena.find_first_inx_ptr(), None);
-    assert_eq!(rt; arena.find_last_inx_ptr(), None);
+    assert!(rt; arena.find_first_inx_ptr() == None);
+    assert!(rt; arena.find_last_inx_ptr() == None);
     gives(rt, arena, &mut arena.advancer(), &[]);
-    gives(rt, arena, &mut A::PtrAdvancer::empty(), &[]);
+    let mut empty = <PtrAdvancer<P> as Advancer<Arena<P, u64, S>>>::empty();
+    gives(rt, arena, &mut empty, &[]);
     let a = insert(rt, arena, 10);
     let b = insert(rt, arena, 11);
     let c = insert(rt, arena, 12);
     let d = insert(rt, arena, 13);
     let e = insert(rt, arena, 14);
-    assert_eq!(rt; arena.remove(b), InvalidationResult::Success(11));
-    assert_eq!(rt; arena.remove(e), InvalidationResult::Success(14));
-    assert_eq!(rt; arena.find_first_inx_ptr(), Some(a));
-    assert_eq!(rt; arena.find_last_inx_ptr(), Some(d));
-    assert_eq!(rt; last_by_steps(arena), Some(d));
+    assert!(rt; arena.remove(b) == InvalidationResult::Success(11));
+    assert!(rt; arena.remove(e) == InvalidationResult::Success(14));
+    assert!(rt; arena.find_first_inx_ptr() == Some(a));
+    assert!(rt; arena.find_last_inx_ptr() == Some(d));
+    assert!(rt; last_by_steps(arena) == Some(d));
 
     let [first, third, fourth, again] = texts;
     gives(rt, arena, &mut arena.advancer(), &[*first, *third, *fourth]);
@@ -93,16 +97,16 @@ fn goes_over<P: Ptr, A: ArenaInsertTrait<P, u64>>(
 
     // An entry that comes ahead of an advancer is given, and one that goes is not.
     let mut advancer = arena.advancer();
-    assert_eq!(rt; advancer.advance(arena), Some(a));
+    assert!(rt; advancer.advance(arena) == Some(a));
     let _ = insert(rt, arena, 15);
-    assert_eq!(rt; arena.remove(c), InvalidationResult::Success(12));
+    assert!(rt; arena.remove(c) == InvalidationResult::Success(12));
     gives(rt, arena, &mut advancer, &[*again, *fourth]);
     // An advancer that has ended gives nothing more.
     let _ = insert(rt, arena, 16);
     gives(rt, arena, &mut advancer, &[]);
 
     remove_each(arena);
-    assert_eq!(rt; arena.len(), 0);
+    assert!(rt; arena.len() == 0);
 }
 
 #[test]

@@ -5,16 +5,24 @@ use std::num::NonZeroUsize;
 use std::process::Abort;
 use std::test::Fail;
 use triple_arena::{
-    ArenaInsertTrait, ArenaTrait, CompactArenaTrait, InvalidationOption, P0, P1, P5, Ptr, PtrInx,
+    Arena, ArenaInsertTrait, ArenaSlot, ArenaTrait, InvalidationOption, NonZeroInxGenericStack, P0,
+    P1, P5, Ptr, PtrInx,
 };
 
-fn remove<P: Ptr, A: ArenaInsertTrait<P, u64>>(rt: &impl Abort, arena: &mut A, p: P) {
+fn remove<P: Ptr, S: NonZeroInxGenericStack<ArenaSlot<P, u64>> + Drop>(
+    rt: &impl Abort,
+    arena: &mut Arena<P, u64, S>,
+    p: P,
+) {
     assert!(rt; !arena.remove(p).is_invalid());
 }
 
 // Six entries with the values from 10 on, of which the second and the fourth stay: there are free slots in front,
 // between the two and behind them.
-fn with_holes<P: Ptr, A: ArenaInsertTrait<P, u64>>(rt: &impl Abort, arena: &mut A) {
+fn with_holes<P: Ptr, S: NonZeroInxGenericStack<ArenaSlot<P, u64>> + Drop>(
+    rt: &impl Abort,
+    arena: &mut Arena<P, u64, S>,
+) {
     let a = insert(rt, arena, 10);
     insert(rt, arena, 11);
     let c = insert(rt, arena, 12);
@@ -28,9 +36,9 @@ fn with_holes<P: Ptr, A: ArenaInsertTrait<P, u64>>(rt: &impl Abort, arena: &mut 
 }
 
 // The map gets the two entries in order, each with its old and its new pointer, and changes the value.
-fn maps_in_order<P: Ptr, A: ArenaInsertTrait<P, u64> + CompactArenaTrait<P, u64>>(
+fn maps_in_order<P: Ptr, S: NonZeroInxGenericStack<ArenaSlot<P, u64>> + Drop>(
     rt: &(impl Abort + Alloc),
-    arena: &mut A,
+    arena: &mut Arena<P, u64, S>,
     reset: bool,
     texts: &[&str; 5],
 ) {
@@ -43,16 +51,16 @@ fn maps_in_order<P: Ptr, A: ArenaInsertTrait<P, u64> + CompactArenaTrait<P, u64>
         value ^ 64
     });
     assert!(rt; !refused);
-    assert_eq!(rt; answer, InvalidationOption::Success(()));
-    assert_eq!(rt; arena.len(), 2);
-    assert_eq!(rt; arena.capacity(), capacity);
-    assert_eq!(rt; moves.len(), 2);
+    assert!(rt; answer == InvalidationOption::Success(()));
+    assert!(rt; arena.len() == 2);
+    assert!(rt; arena.capacity() == capacity);
+    assert!(rt; moves.len() == 2);
     for (place, (from, value, to)) in moves.iter().enumerate() {
-        assert_eq!(rt; *value, 11 + 2 * place as u64);
+        assert!(rt; *value == 11 + 2 * place as u64);
         shows(rt, *from, texts[2 * place]);
         shows(rt, *to, texts[2 * place + 1]);
-        assert_eq!(rt; arena.get(*to), Some(&(*value ^ 64)));
-        assert_eq!(rt; arena.get_inx(from.inx()).is_some(), place == 0);
+        assert!(rt; arena.get(*to) == Some(&(*value ^ 64)));
+        assert!(rt; arena.get_inx(from.inx()).is_some() == (place == 0));
     }
     let next = insert(rt, arena, 16);
     shows(rt, next, texts[4]);
@@ -93,7 +101,10 @@ fn moves_without_generations(rt: HostRuntime) {
 }
 
 // The value at an index, by its number.
-fn value_at<P: Ptr, A: ArenaTrait<P, u64>>(arena: &A, index: usize) -> Option<u64> {
+fn value_at<P: Ptr, S: NonZeroInxGenericStack<ArenaSlot<P, u64>> + Drop>(
+    arena: &Arena<P, u64, S>,
+    index: usize,
+) -> Option<u64> {
     let inx = P::Inx::try_from_usize(NonZeroUsize::new(index)?)?;
     match arena.get_inx(inx) {
         Some((_, value)) => Some(*value),
@@ -102,23 +113,23 @@ fn value_at<P: Ptr, A: ArenaTrait<P, u64>>(arena: &A, index: usize) -> Option<u6
 }
 
 // Two compressions leave the values, whatever the second one answers. Then one with a reset counts from the start.
-fn keeps_the_values<P: Ptr, A: ArenaInsertTrait<P, u64>>(
+fn keeps_the_values<P: Ptr, S: NonZeroInxGenericStack<ArenaSlot<P, u64>> + Drop>(
     rt: &(impl Abort + Alloc),
-    arena: &mut A,
+    arena: &mut Arena<P, u64, S>,
     second: InvalidationOption<()>,
     texts: &[&str; 2],
 ) {
     with_holes(rt, arena);
-    assert_eq!(rt; arena.compress(false), InvalidationOption::Success(()));
-    assert_eq!(rt; arena.compress(false), second);
+    assert!(rt; arena.compress(false) == InvalidationOption::Success(()));
+    assert!(rt; arena.compress(false) == second);
     for (index, value) in [(1, Some(11)), (2, Some(13)), (3, None)] {
-        assert_eq!(rt; value_at(arena, index), value);
+        assert!(rt; value_at(arena, index) == value);
     }
     let next = insert(rt, arena, 15);
     shows(rt, next, texts[0]);
-    assert_eq!(rt; arena.compress(false), InvalidationOption::Success(()));
-    assert_eq!(rt; arena.compress(true), InvalidationOption::Success(()));
-    assert_eq!(rt; value_at(arena, 3), Some(15));
+    assert!(rt; arena.compress(false) == InvalidationOption::Success(()));
+    assert!(rt; arena.compress(true) == InvalidationOption::Success(()));
+    assert!(rt; value_at(arena, 3) == Some(15));
     let next = insert(rt, arena, 16);
     shows(rt, next, texts[1]);
 }
@@ -140,14 +151,14 @@ fn steps_past_the_last_generation(rt: HostRuntime) {
 #[test]
 fn steps_without_entries(rt: HostRuntime) {
     let mut arena = InVec::<P0>::new(rt.alloc());
-    assert_eq!(rt; arena.compress(false), InvalidationOption::Success(()));
+    assert!(rt; arena.compress(false) == InvalidationOption::Success(()));
     assert!(rt; arena.is_empty());
     let p = insert(&rt, &mut arena, 10);
     shows(&rt, p, "P0[1](3)");
-    assert_eq!(rt; arena.remove(p).allow(), Some(10));
+    assert!(rt; arena.remove(p).allow() == Some(10));
     let answer = arena.compress_with(true, |_, value, _| value);
-    assert_eq!(rt; answer, InvalidationOption::Success(()));
-    assert_eq!(rt; arena.capacity(), 4);
+    assert!(rt; answer == InvalidationOption::Success(()));
+    assert!(rt; arena.capacity() == 4);
     let p = insert(&rt, &mut arena, 11);
     shows(&rt, p, "P0[1](2)");
 }

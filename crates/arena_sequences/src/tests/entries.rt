@@ -62,7 +62,7 @@ fn told<P: Ptr, S: NonZeroInxGenericStack<ArenaSlot<P, u64>>>(
     match arena.entry_insert_within_capacity() {
         Ok(entry) => {
             let told = entry.ptr();
-            assert_eq!(rt; entry.insert(t), told);
+            assert!(rt; entry.insert(t) == told);
             told
         }
         Err(_) => panic!(rt; "an entry is refused"),
@@ -74,7 +74,7 @@ fn an_entry_tells_its_pointer(rt: HostRuntime) -> Result<(), Fail> {
     let mut arena = Arena::<P0, u64, NonZeroInxVec<ArenaSlot<P0, u64>, Global>>::new(rt.alloc());
     assert!(rt; arena.entry_insert_within_capacity().is_err());
     assert!(rt; only_asks(&mut arena));
-    assert_eq!(rt; arena.capacity(), 4);
+    assert!(rt; arena.capacity() == 4);
     assert!(rt; arena.is_empty());
     let a = told(&rt, &mut arena, 10);
     let b = told(&rt, &mut arena, 11);
@@ -82,26 +82,23 @@ fn an_entry_tells_its_pointer(rt: HostRuntime) -> Result<(), Fail> {
 
     // The free index is told again and again, and is taken once.
     assert!(rt; only_asks(&mut arena));
-    assert_eq!(rt; arena.len(), 1);
+    assert!(rt; arena.len() == 1);
     let c = told(&rt, &mut arena, 12);
-    assert_eq!(rt; c.inx(), a.inx());
-    assert_eq!(rt; c.generation().get(), 3);
+    assert!(rt; c.inx() == a.inx());
+    assert!(rt; c.generation().get() == 3);
     told(&rt, &mut arena, 13);
     told(&rt, &mut arena, 14);
-    assert_eq!(rt; arena.capacity(), 4);
+    assert!(rt; arena.capacity() == 4);
 
     // The arena is full: an entry that is not used leaves a growth alone.
-    assert_eq!(rt;
-        arena.entry_insert_within_capacity().err(),
-        Some(NotWithinCapacityError)
-    );
+    assert!(rt; arena.entry_insert_within_capacity().err() == Some(NotWithinCapacityError));
     assert!(rt; only_asks(&mut arena));
-    assert_eq!(rt; arena.capacity(), 8);
-    assert_eq!(rt; arena.len(), 4);
-    assert_eq!(rt; arena.get(b), Some(&11));
-    assert_eq!(rt; arena.get(c), Some(&12));
+    assert!(rt; arena.capacity() == 8);
+    assert!(rt; arena.len() == 4);
+    assert!(rt; arena.get(b) == Some(&11));
+    assert!(rt; arena.get(c) == Some(&12));
     match insert_by_entry(&mut arena, 15) {
-        Some(p) => assert_eq!(rt; arena.get(p), Some(&15)),
+        Some(p) => assert!(rt; arena.get(p) == Some(&15)),
         None => panic!(rt; "an entry is refused"),
     }
     Ok(())
@@ -111,16 +108,12 @@ fn an_entry_tells_its_pointer(rt: HostRuntime) -> Result<(), Fail> {
 fn a_full_array_has_no_entry(rt: HostRuntime) -> Result<(), Fail> {
     let mut arena = Arena::<P5, u64, NonZeroInxArray<ArenaSlot<P5, u64>, 1>>::new(());
     let p = told(&rt, &mut arena, 10);
-    assert_eq!(rt;
-        arena.entry_insert().err(),
-        Some(ReallocationError::BeyondMaxCapacity)
+    assert!(rt; arena.entry_insert().err() == Some(ReallocationError::BeyondMaxCapacity));
+    assert!(rt;
+        arena.entry_insert_reallocating().err() == Some(ReallocationError::BeyondMaxCapacity)
     );
-    assert_eq!(rt;
-        arena.entry_insert_reallocating().err(),
-        Some(ReallocationError::BeyondMaxCapacity)
-    );
-    assert_eq!(rt; arena.get(p), Some(&10));
-    assert_eq!(rt; arena.capacity(), 1);
+    assert!(rt; arena.get(p) == Some(&10));
+    assert!(rt; arena.capacity() == 1);
     Ok(())
 }
 
@@ -133,27 +126,18 @@ fn values_change_places(rt: HostRuntime) -> Result<(), Fail> {
     let a = told(&rt, &mut arena, 12);
 
     // Each pointer keeps its generation, and finds the value of the other.
-    assert_eq!(rt; arena.swap(a, b), Ok(()));
-    assert_eq!(rt; arena.get(a), Some(&11));
-    assert_eq!(rt; arena.get(b), Some(&12));
-    assert_eq!(rt;
-        arena.swap(a, gone),
-        Err(GetDisjointMutError::IndexOutOfBounds)
-    );
-    assert_eq!(rt;
-        arena.swap(gone, gone),
-        Err(GetDisjointMutError::IndexOutOfBounds)
-    );
-    assert_eq!(rt;
-        arena.swap(b, b),
-        Err(GetDisjointMutError::OverlappingIndices)
-    );
+    assert!(rt; arena.swap(a, b) == Ok(()));
+    assert!(rt; arena.get(a) == Some(&11));
+    assert!(rt; arena.get(b) == Some(&12));
+    assert!(rt; arena.swap(a, gone) == Err(GetDisjointMutError::IndexOutOfBounds));
+    assert!(rt; arena.swap(gone, gone) == Err(GetDisjointMutError::IndexOutOfBounds));
+    assert!(rt; arena.swap(b, b) == Err(GetDisjointMutError::OverlappingIndices));
     assert!(rt; arena.contains(a));
     assert!(rt; arena.contains(b));
     arena.swap_inx(b.inx(), a.inx());
-    assert_eq!(rt; arena.get(a), Some(&12));
+    assert!(rt; arena.get(a) == Some(&12));
     assert!(rt; arena.contains(b));
     arena.swap_inx(b.inx(), b.inx());
-    assert_eq!(rt; arena.get(b), Some(&11));
+    assert!(rt; arena.get(b) == Some(&11));
     Ok(())
 }

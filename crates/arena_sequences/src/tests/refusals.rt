@@ -18,11 +18,11 @@ type Heap = RefusingAllocator<Global>;
 
 // The arena holds this many entries, whose values are their places, and has this capacity.
 fn holds<A: ArenaInsertTrait<P0, u64>>(rt: &impl Abort, arena: &A, len: usize, capacity: usize) {
-    assert_eq!(rt; arena.len(), len);
-    assert_eq!(rt; arena.capacity(), capacity);
+    assert!(rt; arena.len() == len);
+    assert!(rt; arena.capacity() == capacity);
     for place in 0..len {
         let p = P0::_from_raw(NonZeroUsize::MIN.saturating_add(place), PtrGen::two());
-        assert_eq!(rt; arena.get(p), Some(&(place as u64)));
+        assert!(rt; arena.get(p) == Some(&(place as u64)));
     }
 }
 
@@ -50,9 +50,9 @@ fn is_refused_with_the_heap<T: Drop, A: ArenaInsertTrait<P0, u64>>(
     was: &Before,
     answer: Result<T, ReallocationError>,
 ) {
-    assert_eq!(rt; answer.is_err(), heap.has_refused() != was.has_refused);
+    assert!(rt; answer.is_err() == (heap.has_refused() != was.has_refused));
     if let Err(refused) = answer {
-        assert_eq!(rt; refused, ReallocationError::AllocError);
+        assert!(rt; refused == ReallocationError::AllocError);
         holds(rt, arena, was.len, was.capacity);
     }
 }
@@ -113,8 +113,8 @@ fn grows<S: NonZeroInxGenericStack<Slot> + Drop>(
     // What has room takes no memory.
     arena.clear();
     let capacity = arena.capacity();
-    assert_eq!(rt; arena.entry_insert_within_capacity().is_ok(), 0 < capacity);
-    assert_eq!(rt; arena.insert_within_capacity(0).is_ok(), 0 < capacity);
+    assert!(rt; arena.entry_insert_within_capacity().is_ok() == (0 < capacity));
+    assert!(rt; arena.insert_within_capacity(0).is_ok() == (0 < capacity));
 }
 
 // An arena for three entries, whose one request the heap may refuse.
@@ -125,10 +125,10 @@ fn makes<H: Allocator, A: ArenaInsertTrait<P0, u64, Alloc = H> + Drop>(
 ) {
     let had_refused = heap.has_refused();
     let made = A::with_min_capacity(alloc, 3);
-    assert_eq!(rt; made.is_err(), heap.has_refused() != had_refused);
+    assert!(rt; made.is_err() == (heap.has_refused() != had_refused));
     match made {
         Ok(made) => holds(rt, &made, 0, 3),
-        Err(refused) => assert_eq!(rt; refused, ReallocationError::AllocError),
+        Err(refused) => assert!(rt; refused == ReallocationError::AllocError),
     }
 }
 
@@ -164,10 +164,10 @@ fn each_request_in_turn(rt: HostRuntime) -> Result<(), Fail> {
         in_vec(&rt, &first, &first, &first);
         let second = RefusingAllocator::new(rt.alloc(), nth);
         in_limited(&rt, &second, &second, &second);
-        assert_eq!(rt; first.has_refused(), second.has_refused());
+        assert!(rt; first.has_refused() == second.has_refused());
         let third = RefusingAllocator::new(rt.alloc(), nth);
         in_boxed(&rt, &third, &third);
-        assert_eq!(rt; third.has_refused(), nth == 1);
+        assert!(rt; third.has_refused() == (nth == 1));
         if !first.has_refused() {
             break;
         }

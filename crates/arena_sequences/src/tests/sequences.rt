@@ -4,8 +4,9 @@ use std::alloc::Global;
 use std::process::Abort;
 use std::test::Fail;
 use triple_arena::{
-    ArenaInsertTrait, ArenaTrait, ArrayArena, BoxedArena, HeapArena, InvalidationResult,
-    LimitedArena, NotWithinCapacityError, P0, P1, P5, Ptr, ReallocationError,
+    Arena, ArenaInsertTrait, ArenaSlot, ArenaTrait, ArrayArena, BoxedArena, HeapArena,
+    InvalidationResult, LimitedArena, NonZeroInxGenericStack, NotWithinCapacityError, P0, P1, P5,
+    Ptr, ReallocationError,
 };
 
 pub(super) type InVec<P> = HeapArena<P, u64, Global>;
@@ -23,9 +24,9 @@ pub(super) fn shows<P: Ptr>(rt: &(impl Abort + Alloc), p: P, text: &str) {
     }
 }
 
-pub(super) fn insert<P: Ptr, A: ArenaInsertTrait<P, u64>>(
+pub(super) fn insert<P: Ptr, S: NonZeroInxGenericStack<ArenaSlot<P, u64>> + Drop>(
     rt: &impl Abort,
-    arena: &mut A,
+    arena: &mut Arena<P, u64, S>,
     value: u64,
 ) -> P {
     match arena.insert(value) {
@@ -35,29 +36,34 @@ pub(super) fn insert<P: Ptr, A: ArenaInsertTrait<P, u64>>(
 }
 
 // Inserts as many values as there are texts, and finds each by a pointer that shows its text.
-fn inserts<P: Ptr, A: ArenaInsertTrait<P, u64>>(
+fn inserts<P: Ptr, S: NonZeroInxGenericStack<ArenaSlot<P, u64>> + Drop>(
     rt: &(impl Abort + Alloc),
-    arena: &mut A,
+    arena: &mut Arena<P, u64, S>,
     texts: &[&str],
 ) {
     for (place, text) in texts.iter().enumerate() {
         let p = insert(rt, arena, place as u64);
         shows(rt, p, *text);
-        assert_eq!(rt; arena.get(p), Some(&(place as u64)));
+        assert!(rt; arena.get(p) == Some(&(place as u64)));
     }
 }
 
-fn removes<P: Ptr, A: ArenaInsertTrait<P, u64>>(rt: &impl Abort, arena: &mut A, p: P, value: u64) {
+fn removes<P: Ptr, S: NonZeroInxGenericStack<ArenaSlot<P, u64>> + Drop>(
+    rt: &impl Abort,
+    arena: &mut Arena<P, u64, S>,
+    p: P,
+    value: u64,
+) {
     assert!(rt; arena.contains(p));
-    assert_eq!(rt; arena.remove(p), InvalidationResult::Success(value));
+    assert!(rt; arena.remove(p) == InvalidationResult::Success(value));
     assert!(rt; !arena.contains(p));
-    assert_eq!(rt; arena.remove(p), InvalidationResult::InvalidPtr);
+    assert!(rt; arena.remove(p) == InvalidationResult::InvalidPtr);
 }
 
 // Two free slots are taken before a new one, the one that was left last at first.
-fn takes_the_last_freed_first<P: Ptr, A: ArenaInsertTrait<P, u64>>(
+fn takes_the_last_freed_first<P: Ptr, S: NonZeroInxGenericStack<ArenaSlot<P, u64>> + Drop>(
     rt: &(impl Abort + Alloc),
-    arena: &mut A,
+    arena: &mut Arena<P, u64, S>,
     texts: &[&str; 3],
 ) {
     let a = insert(rt, arena, 10);
@@ -66,14 +72,14 @@ fn takes_the_last_freed_first<P: Ptr, A: ArenaInsertTrait<P, u64>>(
     removes(rt, arena, a, 10);
     removes(rt, arena, b, 11);
     inserts(rt, arena, texts);
-    assert_eq!(rt; arena.get(c), Some(&12));
-    assert_eq!(rt; arena.len(), 4);
+    assert!(rt; arena.get(c) == Some(&12));
+    assert!(rt; arena.len() == 4);
 }
 
 // A removal of the last slot leaves no free one there.
-fn pops_the_last_slot<P: Ptr, A: ArenaInsertTrait<P, u64>>(
+fn pops_the_last_slot<P: Ptr, S: NonZeroInxGenericStack<ArenaSlot<P, u64>> + Drop>(
     rt: &(impl Abort + Alloc),
-    arena: &mut A,
+    arena: &mut Arena<P, u64, S>,
     texts: &[&str; 2],
 ) {
     let a = insert(rt, arena, 10);
@@ -81,51 +87,48 @@ fn pops_the_last_slot<P: Ptr, A: ArenaInsertTrait<P, u64>>(
     removes(rt, arena, a, 10);
     removes(rt, arena, b, 11);
     inserts(rt, arena, texts);
-    assert_eq!(rt; arena.len(), 2);
+    assert!(rt; arena.len() == 2);
 }
 
 // The arena is full, and nothing makes it greater.
-fn is_at_limit<P: Ptr, A: ArenaInsertTrait<P, u64>>(rt: &impl Abort, arena: &mut A) {
+fn is_at_limit<P: Ptr, S: NonZeroInxGenericStack<ArenaSlot<P, u64>> + Drop>(
+    rt: &impl Abort,
+    arena: &mut Arena<P, u64, S>,
+) {
     let len = arena.len();
-    assert_eq!(rt; arena.capacity(), len);
-    assert_eq!(rt; arena.max_capacity(), Some(len));
-    assert_eq!(rt;
-        arena.insert_within_capacity(7).err(),
-        Some(NotWithinCapacityError)
-    );
-    assert_eq!(rt;
-        arena.insert(7).err(),
-        Some(ReallocationError::BeyondMaxCapacity)
-    );
-    assert_eq!(rt;
-        arena.insert_reallocating(7).err(),
-        Some(ReallocationError::BeyondMaxCapacity)
-    );
-    assert_eq!(rt; arena.len(), len);
+    assert!(rt; arena.capacity() == len);
+    assert!(rt; arena.max_capacity() == Some(len));
+    assert!(rt; arena.insert_within_capacity(7).err() == Some(NotWithinCapacityError));
+    assert!(rt; arena.insert(7).err() == Some(ReallocationError::BeyondMaxCapacity));
+    assert!(rt; arena.insert_reallocating(7).err() == Some(ReallocationError::BeyondMaxCapacity));
+    assert!(rt; arena.len() == len);
 }
 
 // Without generations, a pointer outlives its invalidation.
-fn keeps_its_pointer<P: Ptr, A: ArenaInsertTrait<P, u64>>(rt: &impl Abort, arena: &mut A) {
+fn keeps_its_pointer<P: Ptr, S: NonZeroInxGenericStack<ArenaSlot<P, u64>> + Drop>(
+    rt: &impl Abort,
+    arena: &mut Arena<P, u64, S>,
+) {
     let p = insert(rt, arena, 10);
-    assert_eq!(rt; arena.invalidate(p), InvalidationResult::Success(p));
-    assert_eq!(rt; arena.get(p), Some(&10));
+    assert!(rt; arena.invalidate(p) == InvalidationResult::Success(p));
+    assert!(rt; arena.get(p) == Some(&10));
 }
 
 // With generations, it ends, and another pointer takes its place.
-fn ends_its_pointer<P: Ptr, A: ArenaInsertTrait<P, u64>>(
+fn ends_its_pointer<P: Ptr, S: NonZeroInxGenericStack<ArenaSlot<P, u64>> + Drop>(
     rt: &(impl Abort + Alloc),
-    arena: &mut A,
+    arena: &mut Arena<P, u64, S>,
     text: &str,
 ) {
     let p = insert(rt, arena, 10);
     match arena.invalidate(p) {
         InvalidationResult::Success(q) => {
             shows(rt, q, text);
-            assert_eq!(rt; arena.get(q), Some(&10));
+            assert!(rt; arena.get(q) == Some(&10));
         }
         _ => panic!(rt; "an invalidation is refused"),
     }
-    assert_eq!(rt; arena.get(p), None);
+    assert!(rt; arena.get(p).is_none());
 }
 
 #[test]
@@ -210,17 +213,20 @@ fn an_invalidation_keeps_a_pointer_without_generations(rt: HostRuntime) {
 }
 
 // The generations 2, 3, and 2 again.
-fn starts_again<P: Ptr, A: ArenaInsertTrait<P, u64>>(rt: &(impl Abort + Alloc), arena: &mut A) {
+fn starts_again<P: Ptr, S: NonZeroInxGenericStack<ArenaSlot<P, u64>> + Drop>(
+    rt: &(impl Abort + Alloc),
+    arena: &mut Arena<P, u64, S>,
+) {
     let a = insert(rt, arena, 10);
     shows(rt, a, "N3[1](2)");
-    assert_eq!(rt; arena.remove(a), InvalidationResult::Success(10));
+    assert!(rt; arena.remove(a) == InvalidationResult::Success(10));
     let b = insert(rt, arena, 11);
     shows(rt, b, "N3[1](3)");
-    assert_eq!(rt; arena.get(a), None);
-    assert_eq!(rt; arena.remove(b), InvalidationResult::GenerationOverflow(11));
+    assert!(rt; arena.get(a).is_none());
+    assert!(rt; arena.remove(b) == InvalidationResult::GenerationOverflow(11));
     let c = insert(rt, arena, 12);
     shows(rt, c, "N3[1](2)");
-    assert_eq!(rt; arena.get(b), None);
+    assert!(rt; arena.get(b).is_none());
 }
 
 #[test]

@@ -55,12 +55,12 @@ fn writes<P: Ptr, A: ArenaInsertTrait<P, u64>>(
     let second = arena.insert(20)?;
     assert!(rt; write_at(arena, first.inx(), 11));
     assert!(rt; write(arena, second, 21));
-    assert_eq!(rt; arena.get(first), Some(&11));
-    assert_eq!(rt; arena.get(second), Some(&21));
+    assert!(rt; arena.get(first) == Some(&11));
+    assert!(rt; arena.get(second) == Some(&21));
     assert!(rt; !arena.remove(first).is_invalid());
     assert!(rt; !write_at(arena, first.inx(), 12));
     assert!(rt; !write(arena, first, 12));
-    assert_eq!(rt; arena.get(second), Some(&21));
+    assert!(rt; arena.get(second) == Some(&21));
     Ok(())
 }
 
