@@ -306,20 +306,23 @@ fn has_room_for_two<S: ArenaCloneSource<P0, u64>, A: ArenaCloneFromWith<P0, u64>
     reads(rt, copy, "{P0[1](2): 20, P0[2](2): 40}");
 }
 
-// The last two of four entries go.
-fn loses_two<A: ArenaTrait<P0, u64>>(rt: &impl Abort, arena: &mut A) {
-    assert!(rt; arena.remove(at(index(2))).is_success());
-    assert!(rt; arena.remove(at(index(3))).is_success());
-}
-
-// A copy of each of the two.
+// An arena and a direct arena have room for what either has.
 fn have_room_for_two<
-    S: ArenaCloneSource<P0, u64>,
-    M: ArenaCloneSource<P0, u64>,
-    A: ArenaCloneFromWith<P0, u64> + Debug,
->(rt: &(impl Abort + Alloc), source: &S, mirror: &M, copy: &mut A) {
+    S: NonZeroInxGenericStack<ArenaSlot<P0, u64>> + Drop,
+    M: NonZeroInxGenericStack<DirectSlot<P0, u64>> + Drop,
+    A: NonZeroInxGenericStack<ArenaSlot<P0, u64>> + Drop,
+    D: NonZeroInxGenericStack<DirectSlot<P0, u64>> + Drop,
+>(
+    rt: &(impl Abort + Alloc),
+    source: &Arena<P0, u64, S>,
+    mirror: &DirectArena<P0, u64, M>,
+    copy: &mut Arena<P0, u64, A>,
+    direct: &mut DirectArena<P0, u64, D>,
+) {
     has_room_for_two(rt, source, copy);
     has_room_for_two(rt, mirror, copy);
+    has_room_for_two(rt, source, direct);
+    has_room_for_two(rt, mirror, direct);
 }
 
 #[test]
@@ -331,10 +334,15 @@ fn free_slots_at_the_end_are_not_copied(rt: HostRuntime) {
         let p = insert(&rt, &mut source, value);
         assert!(rt; put(&mut mirror, p, value) == Ok(()));
     }
-    loses_two(&rt, &mut source);
-    loses_two(&rt, &mut mirror);
-    let mut copy = ArrayArena::<P0, u64, 2>::new(());
-    have_room_for_two(&rt, &source, &mirror, &mut copy);
-    let mut direct = ArrayDirectArena::<P0, u64, 2>::new(());
-    have_room_for_two(&rt, &source, &mirror, &mut direct);
+    for before in 2..4u8 {
+        assert!(rt; source.remove(at(index(before))).is_success());
+        assert!(rt; mirror.remove(at(index(before))).is_success());
+    }
+    have_room_for_two(
+        &rt,
+        &source,
+        &mirror,
+        &mut ArrayArena::<P0, u64, 2>::new(()),
+        &mut ArrayDirectArena::<P0, u64, 2>::new(()),
+    );
 }

@@ -196,19 +196,39 @@ fn directly_in_turn<M: ArenaCloneSource<P0, u64>>(rt: &impl Abort, alloc: Global
     }
 }
 
+// Into both kinds of arena, from an arena.
+fn from_an_arena<S: NonZeroInxGenericStack<Slot> + Drop>(
+    rt: &impl Abort,
+    alloc: Global,
+    source: &mut Arena<P0, u64, S>,
+) {
+    fills(rt, source);
+    in_turn(rt, alloc, source);
+    directly_in_turn(rt, alloc, source);
+}
+
+// The same from a direct arena.
+fn from_a_mirror<S: NonZeroInxGenericStack<Direct> + Drop>(
+    rt: &impl Abort,
+    alloc: Global,
+    mirror: &mut DirectArena<P0, u64, S>,
+) {
+    assert!(rt; put(mirror, at(index(3)), 40) == Ok(()));
+    assert!(rt; put(mirror, at(index(1)), 20) == Ok(()));
+    in_turn(rt, alloc, mirror);
+    directly_in_turn(rt, alloc, mirror);
+}
+
 #[test]
 fn each_request_in_turn(rt: HostRuntime) {
-    let mut source = ArrayArena::<P0, u64, 5>::new(());
-    fills(&rt, &mut source);
-    in_turn(&rt, rt.alloc(), &source);
-    directly_in_turn(&rt, rt.alloc(), &source);
+    from_an_arena(&rt, rt.alloc(), &mut ArrayArena::<P0, u64, 5>::new(()));
 }
 
 #[test]
 fn each_request_in_turn_of_a_mirror(rt: HostRuntime) {
-    let mut mirror = ArrayDirectArena::<P0, u64, 5>::new(());
-    assert!(rt; put(&mut mirror, at(index(3)), 40) == Ok(()));
-    assert!(rt; put(&mut mirror, at(index(1)), 20) == Ok(()));
-    in_turn(&rt, rt.alloc(), &mirror);
-    directly_in_turn(&rt, rt.alloc(), &mirror);
+    from_a_mirror(
+        &rt,
+        rt.alloc(),
+        &mut ArrayDirectArena::<P0, u64, 5>::new(()),
+    );
 }
