@@ -134,36 +134,18 @@ fn directly_in_turn<
     }
 }
 
-// Into both kinds of arena, from an arena.
-fn from_an_arena<
-    E: NonZeroInxGenericStack<ArenaSlot<P1, u64>> + Drop,
-    S: NonZeroInxGenericStack<ArenaSlot<P1, u64>> + Drop,
->(rt: &impl Abort, alloc: Global, entries: &Arena<P1, u64, E>, source: &mut Arena<P1, u64, S>) {
-    in_turn(rt, alloc, entries, source);
-    directly_in_turn(rt, alloc, entries, source);
-}
-
-// The same from a direct arena.
-fn from_a_mirror<
-    E: NonZeroInxGenericStack<ArenaSlot<P1, u64>> + Drop,
-    S: NonZeroInxGenericStack<DirectSlot<P1, u64>> + Drop,
->(
-    rt: &impl Abort,
-    alloc: Global,
-    entries: &Arena<P1, u64, E>,
-    source: &mut DirectArena<P1, u64, S>,
-) {
-    in_turn(rt, alloc, entries, source);
-    directly_in_turn(rt, alloc, entries, source);
-}
-
 #[test]
 fn each_request_in_turn(rt: HostRuntime) {
-    from_an_arena(&rt, rt.alloc(), &five(&rt), &mut five(&rt));
+    let entries = five(&rt);
+    let mut source = five(&rt);
+    in_turn(&rt, rt.alloc(), &entries, &mut source);
+    directly_in_turn(&rt, rt.alloc(), &entries, &mut source);
 }
 
 #[test]
 fn each_request_in_turn_from_a_mirror(rt: HostRuntime) {
+    let entries = five(&rt);
     let mut source = ArrayDirectArena::<P1, u64, 5>::new(());
-    from_a_mirror(&rt, rt.alloc(), &five(&rt), &mut source);
+    in_turn(&rt, rt.alloc(), &entries, &mut source);
+    directly_in_turn(&rt, rt.alloc(), &entries, &mut source);
 }
