@@ -320,6 +320,7 @@ fn have_room_for_two<
     direct: &mut DirectArena<P0, u64, D>,
 ) {
     has_room_for_two(rt, source, copy);
+    assert!(rt; copy.generation() == source.generation());
     has_room_for_two(rt, mirror, copy);
     has_room_for_two(rt, source, direct);
     has_room_for_two(rt, mirror, direct);

@@ -48,6 +48,7 @@ fn takes_whole_pointers<
     reads(rt, arena, text);
 }
 
+// In a vector, whatever the pointer.
 fn takes_whole_pointers_in_one<P: Ptr>(
     rt: &(impl Abort + Alloc),
     alloc: Global,
@@ -108,6 +109,7 @@ fn shows_two<
     Ok(())
 }
 
+// In a vector, whatever the pointer.
 fn shows_two_in_a_vector<P: Ptr>(
     rt: &(impl Abort + Alloc),
     alloc: Global,
@@ -156,6 +158,7 @@ fn drops_the_free_end<P: Ptr, S: NonZeroInxGenericStack<ArenaSlot<P, u64>> + Dro
     }
 }
 
+// In a vector, whatever the pointer.
 fn drops_the_free_end_of_a_vector<P: Ptr>(
     rt: &(impl Abort + Alloc),
     alloc: Global,
