@@ -47,11 +47,11 @@ fn recasts_up_to_the_first_that_is_missing(rt: HostRuntime) -> Result<(), Fail> 
     let new = P0::_from_raw(NonZeroUsize::MIN, PtrGen::two());
     let renaming = Renaming { from: old, to: new };
     let mut value = (Some(old), (7u64, (old, None::<P0>)));
-    assert_eq!(rt; recast_items(&mut value, &renaming), Ok(()));
-    assert_eq!(rt; value, (Some(new), (7, (new, None))));
+    assert!(rt; recast_items(&mut value, &renaming) == Ok(()));
+    assert!(rt; value == (Some(new), (7, (new, None))));
     let mut value = ((old, new), old);
-    assert_eq!(rt; value.recast(&renaming), Err(new));
-    assert_eq!(rt; value, ((new, new), old));
+    assert!(rt; value.recast(&renaming) == Err(new));
+    assert!(rt; value == ((new, new), old));
     Ok(())
 }
 
@@ -103,12 +103,12 @@ fn advances_over_what_changes(rt: HostRuntime) -> Result<(), Fail> {
         next: 0,
         over: false,
     };
-    assert_eq!(rt; advancer.advance(&bytes), Some(1));
+    assert!(rt; advancer.advance(&bytes) == Some(1));
     bytes[1] = 5;
-    assert_eq!(rt; advancer.advance(&bytes), Some(5));
+    assert!(rt; advancer.advance(&bytes) == Some(5));
     drain(&mut advancer, &bytes);
-    assert_eq!(rt; advancer.advance(&bytes), None);
-    assert_eq!(rt; Bytes::empty().advance(&bytes), None);
+    assert!(rt; advancer.advance(&bytes) == None);
+    assert!(rt; Bytes::empty().advance(&bytes) == None);
     Ok(())
 }
 
@@ -125,15 +125,15 @@ fn sum(start: NonZeroUsize, end: Option<NonZeroUsize>) -> usize {
 fn indexes_from_both_ends(rt: HostRuntime) -> Result<(), Fail> {
     let two = NonZeroUsize::MIN.saturating_add(1);
     let four = NonZeroUsize::MIN.saturating_add(3);
-    assert_eq!(rt; sum(two, Some(four)), 9);
-    assert_eq!(rt; sum(four, Some(two)), 0);
-    assert_eq!(rt; sum(two, None), 0);
-    assert_eq!(rt; sum(NonZeroUsize::MAX, Some(NonZeroUsize::MAX)), usize::MAX);
+    assert!(rt; sum(two, Some(four)) == 9);
+    assert!(rt; sum(four, Some(two)) == 0);
+    assert!(rt; sum(two, None) == 0);
+    assert!(rt; sum(NonZeroUsize::MAX, Some(NonZeroUsize::MAX)) == usize::MAX);
     let mut left = nzusize_iter(two, Some(four)).into_iter();
-    assert_eq!(rt; left.next_back(), Some(four));
-    assert_eq!(rt; left.next(), Some(two));
-    assert_eq!(rt; left.next_back().map(|inx| inx.get()), Some(3));
-    assert_eq!(rt; left.next(), None);
+    assert!(rt; left.next_back() == Some(four));
+    assert!(rt; left.next() == Some(two));
+    assert!(rt; left.next_back().map(|inx| inx.get()) == Some(3));
+    assert!(rt; left.next() == None);
     Ok(())
 }
 
@@ -141,20 +141,17 @@ fn indexes_from_both_ends(rt: HostRuntime) -> Result<(), Fail> {
 fn answers_of_invalidation(rt: HostRuntime) -> Result<(), Fail> {
     let success = InvalidationOption::Success(3u8);
     assert!(rt; success.is_success());
-    assert_eq!(rt; success.map(|n| n / 2), InvalidationOption::Success(1));
-    assert_eq!(rt;
-        InvalidationOption::GenerationOverflow(3u8).overflowing(),
-        (3, true)
-    );
-    assert_eq!(rt; InvalidationOption::GenerationOverflow(3u8).strict(), None);
-    assert_eq!(rt; InvalidationResult::Success(3u8).allow(), Some(3));
-    assert_eq!(rt;
+    assert!(rt; success.map(|n| n / 2) == InvalidationOption::Success(1));
+    assert!(rt; InvalidationOption::GenerationOverflow(3u8).overflowing() == (3, true));
+    assert!(rt; InvalidationOption::GenerationOverflow(3u8).strict() == None);
+    assert!(rt; InvalidationResult::Success(3u8).allow() == Some(3));
+    assert!(rt;
         InvalidationResult::GenerationOverflow(3u8)
             .map(|n| n / 2)
-            .overflowing(),
-        Some((1, true))
+            .overflowing()
+            == Some((1, true))
     );
     assert!(rt; InvalidationResult::<u8>::InvalidPtr.is_invalid());
-    assert_eq!(rt; InvalidationResult::Success(3u8).unwrap().allow(), 3);
+    assert!(rt; InvalidationResult::Success(3u8).unwrap().allow() == 3);
     Ok(())
 }

@@ -12,12 +12,12 @@ fn ends_at<I: PtrInx>(rt: &impl Abort, greatest: NonZeroUsize) {
             Some(inx) => inx.try_into_usize(),
             None => None,
         };
-        assert_eq!(rt; back, Some(number));
+        assert!(rt; back == Some(number));
     }
     if let Some(past) = greatest.checked_add(1) {
         assert!(rt; I::try_from_usize(past).is_none());
     }
-    assert_eq!(rt; I::max_index().try_into_usize(), Some(greatest));
+    assert!(rt; I::max_index().try_into_usize() == Some(greatest));
     assert!(rt; I::best_effort_invalid() == I::max_index());
 }
 

@@ -115,16 +115,18 @@ fn laws_at<P: Ptr>(rt: &impl Abort, p: P, is_counted: bool) {
     assert!(rt; is_same(rebuilt(p), p));
     assert!(rt; feeds_alike(p, p));
     assert!(rt; clone_of(p) == p);
-    assert_eq!(rt; clones_of((p, p.inx())), Ok((p, p.inx())));
-    assert_eq!(rt; p == in_next_generation(p), !is_counted);
-    assert_eq!(rt; counts::<P::Gen>(), is_counted);
+    assert!(rt; clones_of((p, p.inx())) == Ok((p, p.inx())));
+    assert!(rt; (p == in_next_generation(p)) == !is_counted);
+    assert!(rt; counts::<P::Gen>() == is_counted);
     assert!(rt; !first_step_starts_again::<P::Gen>());
-    assert_eq!(rt; there_and_back(p.inx()), Some(p.inx()));
-    assert_eq!(rt;
-        back_and_there::<P::Inx>(NonZeroUsize::MIN),
-        Some(NonZeroUsize::MIN)
-    );
-    assert_eq!(rt; greatest::<P::Inx>(), P::invalid().inx().try_into_usize());
+    assert!(rt; there_and_back(p.inx()) == Some(p.inx()));
+    assert!(rt; back_and_there::<P::Inx>(NonZeroUsize::MIN) == Some(NonZeroUsize::MIN));
+    assert!(rt; greatest::<P::Inx>() == P::invalid().inx().try_into_usize());
+}
+
+// Named at a pointer that is a parameter: at `P0` itself the check takes a minute longer.
+fn laws_without_the_generation<P: Ptr>(rt: &impl Abort) {
+    laws_at(rt, PtrNoGen::<P>::invalid(), false);
 }
 
 #[test]
@@ -133,10 +135,10 @@ fn laws_at_each_kind_of_pointer(rt: HostRuntime) -> Result<(), Fail> {
     laws_at(&rt, P1::invalid(), true);
     laws_at(&rt, P4::invalid(), true);
     laws_at(&rt, P5::invalid(), false);
-    laws_at(&rt, PtrNoGen::<P0>::invalid(), false);
+    laws_without_the_generation::<P0>(&rt);
     let p = P0::_from_raw(NonZeroUsize::MIN, PtrGen::one());
     assert!(rt; is_before_by_index(p, P0::invalid()));
     assert!(rt; is_before_by_generation(p, in_next_generation(p)));
-    assert_eq!(rt; text(rt.alloc(), p)?.as_str(), "P0[1](1)");
+    assert!(rt; text(rt.alloc(), p)?.as_str() == "P0[1](1)");
     Ok(())
 }

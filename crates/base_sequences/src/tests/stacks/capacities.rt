@@ -13,35 +13,31 @@ fn pushes<S: NonZeroInxGenericStack<u64>>(rt: &impl Abort, stack: &mut S, capaci
     for capacity in capacities {
         let len = stack.len();
         match stack.push(len as u64) {
-            Ok(i) => assert_eq!(rt; i.get() - 1, len),
+            Ok(i) => assert!(rt; i.get() - 1 == len),
             Err(_) => panic!(rt; "a push is refused"),
         }
-        assert_eq!(rt; stack.capacity(), *capacity);
+        assert!(rt; stack.capacity() == *capacity);
     }
     for (place, item) in stack.as_slice().iter().enumerate() {
-        assert_eq!(rt; *item, place as u64);
+        assert!(rt; *item == place as u64);
     }
 }
 
 // The stack is full, and nothing makes it greater.
 fn is_at_limit<S: NonZeroInxGenericStack<u64>>(rt: &impl Abort, stack: &mut S) {
     let len = stack.len();
-    assert_eq!(rt; stack.max_capacity(), Some(len));
-    assert_eq!(rt; stack.push_within_capacity(7), Err(NotWithinCapacityError));
-    assert_eq!(rt; stack.push(7), Err(ReallocationError::BeyondMaxCapacity));
-    assert_eq!(rt;
-        stack.push_reallocating(7),
-        Err(ReallocationError::BeyondMaxCapacity)
-    );
-    assert_eq!(rt; stack.reallocate_min_capacity(len), Ok(()));
+    assert!(rt; stack.max_capacity() == Some(len));
+    assert!(rt; stack.push_within_capacity(7) == Err(NotWithinCapacityError));
+    assert!(rt; stack.push(7) == Err(ReallocationError::BeyondMaxCapacity));
+    assert!(rt; stack.push_reallocating(7) == Err(ReallocationError::BeyondMaxCapacity));
+    assert!(rt; stack.reallocate_min_capacity(len) == Ok(()));
     if len < usize::MAX {
-        assert_eq!(rt;
-            stack.reallocate_min_capacity(len + 1),
-            Err(ReallocationError::BeyondMaxCapacity)
+        assert!(rt;
+            stack.reallocate_min_capacity(len + 1) == Err(ReallocationError::BeyondMaxCapacity)
         );
     }
-    assert_eq!(rt; stack.len(), len);
-    assert_eq!(rt; stack.capacity(), len);
+    assert!(rt; stack.len() == len);
+    assert!(rt; stack.capacity() == len);
 }
 
 const GROWN: [usize; 20] = [
@@ -53,13 +49,13 @@ const TWENTY: [usize; 20] = [20; 20];
 #[test]
 fn growth(rt: HostRuntime) -> Result<(), Fail> {
     let mut vec = NonZeroInxVec::<u64, Global>::new(rt.alloc());
-    assert_eq!(rt; vec.capacity(), 0);
+    assert!(rt; vec.capacity() == 0);
     pushes(&rt, &mut vec, &GROWN);
-    assert_eq!(rt; vec.max_capacity(), None);
+    assert!(rt; vec.max_capacity() == None);
 
     let mut limited = NonZeroInxLimitedVec::<u64, Global>::new(rt.alloc());
     pushes(&rt, &mut limited, &GROWN);
-    assert_eq!(rt; limited.max_capacity(), None);
+    assert!(rt; limited.max_capacity() == None);
 
     let mut boxed = NonZeroInxBoxedSlice::<u64, Global>::with_min_capacity(rt.alloc(), 20)?;
     pushes(&rt, &mut boxed, &TWENTY);
@@ -76,16 +72,16 @@ fn a_capacity_that_is_asked_for(rt: HostRuntime) -> Result<(), Fail> {
     let mut vec = NonZeroInxVec::<u64, Global>::with_min_capacity(rt.alloc(), 3)?;
     pushes(&rt, &mut vec, &[3, 3, 3, 6]);
     vec.reallocate_min_capacity(5)?;
-    assert_eq!(rt; vec.capacity(), 6);
+    assert!(rt; vec.capacity() == 6);
     vec.reallocate_min_capacity(7)?;
-    assert_eq!(rt; vec.capacity(), 7);
+    assert!(rt; vec.capacity() == 7);
     vec.clear();
     pushes(&rt, &mut vec, &[7, 7]);
 
     let mut limited = NonZeroInxLimitedVec::<u64, Global>::with_min_capacity(rt.alloc(), 3)?;
     pushes(&rt, &mut limited, &[3, 3, 3, 6]);
     limited.reallocate_min_capacity(7)?;
-    assert_eq!(rt; limited.capacity(), 7);
+    assert!(rt; limited.capacity() == 7);
 
     let mut none = NonZeroInxBoxedSlice::<u64, Global>::new(rt.alloc());
     is_at_limit(&rt, &mut none);
@@ -93,7 +89,7 @@ fn a_capacity_that_is_asked_for(rt: HostRuntime) -> Result<(), Fail> {
     let mut array = NonZeroInxArray::<u64, 2>::with_min_capacity((), 2)?;
     pushes(&rt, &mut array, &[2, 2]);
     let more = NonZeroInxArray::<u64, 2>::with_min_capacity((), 3);
-    assert_eq!(rt; more.err(), Some(ReallocationError::BeyondMaxCapacity));
+    assert!(rt; more.err() == Some(ReallocationError::BeyondMaxCapacity));
     Ok(())
 }
 
@@ -110,8 +106,8 @@ fn a_limit_that_is_set(rt: HostRuntime) -> Result<(), Fail> {
     is_at_limit(&rt, &mut stack);
 
     // One short of what is in use.
-    assert_eq!(rt; stack.set_max_capacity(8), Err(MaxCapacityReductionError));
-    assert_eq!(rt; stack.max_capacity(), Some(9));
+    assert!(rt; stack.set_max_capacity(8) == Err(MaxCapacityReductionError));
+    assert!(rt; stack.max_capacity() == Some(9));
 
     // The reserved slots stay where the limit falls, and come back where it rises.
     stack.pop();
@@ -119,6 +115,6 @@ fn a_limit_that_is_set(rt: HostRuntime) -> Result<(), Fail> {
     stack.set_max_capacity(7)?;
     is_at_limit(&rt, &mut stack);
     stack.set_max_capacity(20)?;
-    assert_eq!(rt; stack.capacity(), 9);
+    assert!(rt; stack.capacity() == 9);
     Ok(())
 }

@@ -102,20 +102,20 @@ fn three<S: NonZeroInxGenericStackEntries<u64>>(rt: &impl Abort, stack: &mut S) 
     assert!(rt; stack.is_empty());
     match stack.entry_push_reallocating() {
         Ok(entry) => {
-            assert_eq!(rt; entry.inx(), NonZeroUsize::MIN);
+            assert!(rt; entry.inx() == NonZeroUsize::MIN);
             entry.push(5);
         }
         Err(_) => panic!(rt; "an entry is refused"),
     }
     assert!(rt; stack.push(6).is_ok());
     match stack.entry_push() {
-        Ok(entry) => assert_eq!(rt; entry.push(7).get(), 3),
+        Ok(entry) => assert!(rt; entry.push(7).get() == 3),
         Err(_) => panic!(rt; "an entry is refused"),
     }
     drop(stack.entry_push_within_capacity());
-    assert_eq!(rt; stack.len(), 3);
+    assert!(rt; stack.len() == 3);
     assert!(rt; push_by_entry(stack, 9));
-    assert_eq!(rt; stack.pop(), Some(9));
+    assert!(rt; stack.pop() == Some(9));
 }
 
 fn reads_and_writes<S: NonZeroInxGenericStackEntries<u64>>(rt: &impl Abort, stack: &mut S) {
@@ -124,25 +124,21 @@ fn reads_and_writes<S: NonZeroInxGenericStackEntries<u64>>(rt: &impl Abort, stac
         return;
     };
     assert!(rt; write_at(stack, two, 8));
-    assert_eq!(rt; stack.get(two), Some(&8));
+    assert!(rt; stack.get(two) == Some(&8));
     write_first(stack, 4);
-    assert_eq!(rt; exchange(stack, two, NonZeroUsize::MIN), Ok(()));
-    assert_eq!(rt; stack.as_slice(), [8u64, 4, 7].as_slice());
-    assert_eq!(rt; exchange(stack, NonZeroUsize::MIN, two), Ok(()));
-    assert_eq!(rt; stack.as_slice(), [4u64, 8, 7].as_slice());
-    assert_eq!(rt;
-        exchange(stack, two, NonZeroUsize::MAX),
-        Err(GetDisjointMutError::IndexOutOfBounds)
+    assert!(rt; exchange(stack, two, NonZeroUsize::MIN) == Ok(()));
+    assert!(rt; stack.as_slice() == [8u64, 4, 7].as_slice());
+    assert!(rt; exchange(stack, NonZeroUsize::MIN, two) == Ok(()));
+    assert!(rt; stack.as_slice() == [4u64, 8, 7].as_slice());
+    assert!(rt;
+        exchange(stack, two, NonZeroUsize::MAX) == Err(GetDisjointMutError::IndexOutOfBounds)
     );
-    assert_eq!(rt;
-        exchange(stack, two, two),
-        Err(GetDisjointMutError::OverlappingIndices)
-    );
-    assert_eq!(rt; stack.pop(), Some(7));
+    assert!(rt; exchange(stack, two, two) == Err(GetDisjointMutError::OverlappingIndices));
+    assert!(rt; stack.pop() == Some(7));
     stack.clear();
     assert!(rt; !write_at(stack, NonZeroUsize::MIN, 9));
-    assert_eq!(rt; stack.get(NonZeroUsize::MIN), None);
-    assert_eq!(rt; stack.pop(), None);
+    assert!(rt; stack.get(NonZeroUsize::MIN) == None);
+    assert!(rt; stack.pop() == None);
 }
 
 #[test]
@@ -151,7 +147,7 @@ fn all_stacks(rt: HostRuntime) -> Result<(), Fail> {
     let mut limited = NonZeroInxLimitedVec::<u64, Global>::new(rt.alloc());
     assert!(rt; limit_to(&mut limited, 4));
     reads_and_writes(&rt, &mut limited);
-    assert_eq!(rt; limited.capacity(), 4);
+    assert!(rt; limited.capacity() == 4);
     reads_and_writes(
         &rt,
         &mut NonZeroInxBoxedSlice::<u64, Global>::with_min_capacity(rt.alloc(), 4)?,

@@ -14,10 +14,10 @@ type Heap = RefusingAllocator<Global>;
 
 // The stack holds its own indexes, from 0 on, and has this length and capacity.
 fn holds<S: NonZeroInxGenericStack<u64>>(rt: &impl Abort, stack: &S, len: usize, capacity: usize) {
-    assert_eq!(rt; stack.len(), len);
-    assert_eq!(rt; stack.capacity(), capacity);
+    assert!(rt; stack.len() == len);
+    assert!(rt; stack.capacity() == capacity);
     for (place, item) in stack.as_slice().iter().enumerate() {
-        assert_eq!(rt; *item, place as u64);
+        assert!(rt; *item == place as u64);
     }
 }
 
@@ -48,9 +48,9 @@ fn is_refused_with_the_heap<T, S: NonZeroInxGenericStack<u64>>(
 where
     T: Drop,
 {
-    assert_eq!(rt; answer.is_err(), heap.has_refused() != was.has_refused);
+    assert!(rt; answer.is_err() == (heap.has_refused() != was.has_refused));
     if let Err(refused) = answer {
-        assert_eq!(rt; refused, ReallocationError::AllocError);
+        assert!(rt; refused == ReallocationError::AllocError);
         holds(rt, stack, was.len, was.capacity);
     }
 }
@@ -101,10 +101,10 @@ fn makes<'a, S: NonZeroInxGenericStack<u64, Alloc = &'a Heap> + Drop>(
 ) {
     let had_refused = heap.has_refused();
     let made = S::with_min_capacity(heap, 3);
-    assert_eq!(rt; made.is_err(), heap.has_refused() != had_refused);
+    assert!(rt; made.is_err() == (heap.has_refused() != had_refused));
     match made {
         Ok(made) => holds(rt, &made, 0, 3),
-        Err(refused) => assert_eq!(rt; refused, ReallocationError::AllocError),
+        Err(refused) => assert!(rt; refused == ReallocationError::AllocError),
     }
 }
 
@@ -125,10 +125,10 @@ fn each_request_in_turn(rt: HostRuntime) -> Result<(), Fail> {
         runs::<NonZeroInxVec<u64, &Heap>>(&rt, &first);
         let second = RefusingAllocator::new(rt.alloc(), nth);
         runs::<NonZeroInxLimitedVec<u64, &Heap>>(&rt, &second);
-        assert_eq!(rt; first.has_refused(), second.has_refused());
+        assert!(rt; first.has_refused() == second.has_refused());
         let third = RefusingAllocator::new(rt.alloc(), nth);
         makes::<NonZeroInxBoxedSlice<u64, &Heap>>(&rt, &third);
-        assert_eq!(rt; third.has_refused(), nth == 1);
+        assert!(rt; third.has_refused() == (nth == 1));
         if !first.has_refused() {
             break;
         }
@@ -145,9 +145,9 @@ fn asks_for_nothing<'a, S: NonZeroInxGenericStack<u64, Alloc = &'a Heap> + Drop>
     heap: &'a Heap,
 ) {
     let mut stack = S::new(heap);
-    assert_eq!(rt; stack.pop(), None);
+    assert!(rt; stack.pop() == None);
     stack.clear();
-    assert_eq!(rt; stack.capacity(), 0);
+    assert!(rt; stack.capacity() == 0);
     assert!(rt; !heap.has_refused());
 }
 

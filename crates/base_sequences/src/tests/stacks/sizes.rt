@@ -26,7 +26,7 @@ fn makes_for<S: NonZeroInxGenericStack<u64, Alloc = Global> + Drop>(
     size: usize,
 ) {
     match S::with_min_capacity(alloc, size) {
-        Ok(stack) => assert_eq!(rt; stack.capacity(), size),
+        Ok(stack) => assert!(rt; stack.capacity() == size),
         Err(_) => panic!(rt; "a stack of {size} is refused"),
     }
 }
@@ -35,7 +35,7 @@ fn makes_for<S: NonZeroInxGenericStack<u64, Alloc = Global> + Drop>(
 fn reallocates<S: NonZeroInxGenericStack<u64>>(rt: &impl Abort, stack: &mut S) {
     for size in 0..SIZES {
         assert!(rt; stack.reallocate_min_capacity(size).is_ok());
-        assert_eq!(rt; stack.capacity(), size);
+        assert!(rt; stack.capacity() == size);
     }
     for power in 13..24u32 {
         assert!(rt; stack.reallocate_min_capacity(1 << power).is_ok());
@@ -53,7 +53,7 @@ fn fills<S: NonZeroInxGenericStackEntries<u64>>(rt: &impl Abort, stack: &mut S) 
         };
         assert!(rt; pushed);
     }
-    assert_eq!(rt; stack.len(), 100_000);
+    assert!(rt; stack.len() == 100_000);
 }
 
 #[test]
