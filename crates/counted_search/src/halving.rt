@@ -1,3 +1,4 @@
+//! The search by halves.
 ghost use Rattle.std.specs.Prelude.{◌≡◌, ℕ, ◌+◌, ◌-◌, ◌<◌, ◌≤◌, IfOk, IfErr};
 ghost use Rattle.counted_search.specs.Searches.{fair};
 

@@ -1,3 +1,4 @@
+//! What the bound on the comparisons is.
 ghost use Rattle.std.specs.Prelude.{◌≡◌, ℕ, ◌+◌, ◌*◌, ◌^◌, ◌<◌, ◌≤◌};
 ghost use Rattle.counted_search.specs.Searches.{fair};
 

@@ -88,7 +88,7 @@ place_top top e = refl
 place_top (under c Left x k far) e = absurd (cc)
 place_top (under c Right x k far) e = absurd (cc)
 
--- at the end, the last that was asked is a neighbour of the gap
+-- at the end, the last that was asked is a neighbor of the gap
 place_places : (f : ℕ → Ordering) (c : Context) (i : ℕ) (d : Ordering) → last_of c ≡ Some (i, d)
     → AllIn (λ y. f y ≡ Greater) (before c) → AllIn (λ y. f y ≡ Less) (after c) → Places f (walk (plug c leaf)) i d
 place_places f top i d e lo hi = absurd (cc)

@@ -23,7 +23,7 @@ same_place ps i j sorted in_i in_j same =
       ]
     ]
 
--- where the neighbours of a gap lie on either side of the key, all places do
+-- where the neighbors of a gap lie on either side of the key, all places do
 pub below_gap : (ps : List Place) (at key : ℕ) → AreByKey ps → at ≤ length ps → (0 < at → (place_at ps (at - 1)).key < key) → (i : ℕ) → i < at → (place_at ps i).key < key
 below_gap ps at key sorted within before i less =
     let last = before (omega arith) in

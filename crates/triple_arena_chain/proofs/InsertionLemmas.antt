@@ -72,7 +72,7 @@ put_at e e' n (Between before after) vacant gap agreed same =
 put_at e e' n OwnRing vacant gap agreed same = is_own_ring e e' n vacant same
 
 module _ {I T : Type 0} (number : I → ℕ) where
-  -- what the neighbours are after they name one more
+  -- what the neighbors are after they name one more
   ends-joined : (c d : Content (IndexLink I T)) (place : Place I) (i : I) (t : T)
       → ((k : ℕ) → ends_in number d k ≡ added (ends_in number c) (number i) (link_ends number (link_for number place i t)) k)
       → (k : ℕ) → ends_in number (joined_to number d place i) k ≡ put_in (ends_in number c) (number i) (place_by number place) k
@@ -121,7 +121,7 @@ module _ {I T : Type 0} (number : I → ℕ) where
     pub chained : IsChained number new
     pub room : new.room ≡ c.room
 
-  -- an insertion of the link for a place, whose neighbours name it then
+  -- an insertion of the link for a place, whose neighbors name it then
   pub placed_in : (c new : Content (IndexLink I T)) (place : Place I) (i : I) (t : T) → IsChained number c
       → live_count c < arena_capacity c → IsPlace (ends_in number c) (place_by number place) → number i ≡ next_index c
       → new ≡ joined_to number (inserted c (link_for number place i t)) place i → Placed c new place (number i) c.counter t

@@ -15,7 +15,7 @@ use Rattle.triple_arena_chain.proofs.InsertionLemmas.{with_next_if-same, with_pr
 use Rattle.triple_arena_chain.specs.KindLaws.{found}
 use Rattle.triple_arena_chain.proofs.ReversalLemmas.{linked_back, unlinked_back, exchanged_back, next_exchanged}
 
--- two that have no neighbours to each other's side
+-- two that have no neighbors to each other's side
 record AreOpen (o o' : Option Ends) : Type 0 where
   first : Ends
   second : Ends

@@ -1,4 +1,4 @@
--- The pointers to the neighbours of a link.
+-- The pointers to the neighbors of a link.
 use Rattle.std.proofs.Common.{◌≡◌, ℕ, Option, Some, None, IsSome, IfSome, is_some, option_map, true≢false, refl, sym, ap, ◌∙◌}
 use Rattle.triple_arena.specs.Content.{Content, entry_at, get}
 use Rattle.triple_arena_chain.specs.declared.link.IndexLink.{IndexLink}

@@ -66,7 +66,7 @@ module _ {I T : Type 0} (number : I → ℕ) where
         | inr differs ↦ rw differs.0 at
       ]
 
-  -- a link is as it was once its neighbours are joined
+  -- a link is as it was once its neighbors are joined
   pub entry-bridged : (c : Content (IndexLink I T)) (p g : ℕ) (l : IndexLink I T) → entry_at c p ≡ Some (g, l) → entry_at (bridged_over number c l) p ≡ Some (g, l)
   entry-bridged c p g l at = prev_again (with_next_of number c l.prev l.next) p g l l.next (next_again c p g l l.prev at)
 
@@ -97,7 +97,7 @@ module _ {I T : Type 0} (number : I → ℕ) where
     pub taken : IsTakenOut number last p c new
     pub chained : IsChained number new
 
-  -- a link is removed once its neighbours are joined
+  -- a link is removed once its neighbors are joined
   pub taken_out_by : (last : Option ℕ) (c joined new : Content (IndexLink I T)) (p g : ℕ) (l : IndexLink I T) → IsChained number c
       → entry_at c p ≡ Some (g, l) → joined ≡ bridged_over number c l → new ≡ removed last joined p → TakenOut last p c new
   taken_out_by last c joined new p g l chained at join remove =
@@ -143,7 +143,7 @@ module _ {I T : Type 0} (number : I → ℕ) where
         };
       })
 
-  -- the neighbours of a link are live, also once a next was written
+  -- the neighbors of a link are live, also once a next was written
   pub neighbor_live_after : (c d : Content (IndexLink I T)) (p g : ℕ) (l : IndexLink I T) → IsChained number c → entry_at c p ≡ Some (g, l)
       → d ≡ with_next_of number c l.prev l.next → IfSome l.next (λ i. IsSome (entry_at d (number i)))
   neighbor_live_after c d p g l chained at written =

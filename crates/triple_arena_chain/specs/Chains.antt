@@ -1,4 +1,4 @@
--- The chains that interlinks make, over a plain function from an index to its two neighbours, which has a value where the index
+-- The chains that interlinks make, over a plain function from an index to its two neighbors, which has a value where the index
 -- is live.
 use Rattle.std.specs.Prelude.{◌≡◌, ◌≢◌, ℕ, ◌==◌, List, [], ◌∷◌, ◌++◌, Option, Some, None, if◌then◌else◌, IsSome, ◌⊎◌}
 use Rattle.triple_arena_chain.specs.declared.place.Place.{Place}
@@ -110,7 +110,7 @@ with_prev_if ends (Some i) prev = with_prev ends i prev
 abbrev pub dropped : (ℕ → Option Ends) → ℕ → ℕ → Option Ends
 dropped ends p i = if i == p then None else ends i
 
--- the interlinks with two neighbours joined over what is between them
+-- the interlinks with two neighbors joined over what is between them
 abbrev pub bridged : (ℕ → Option Ends) → Option ℕ → Option ℕ → ℕ → Option Ends
 bridged ends before after = with_prev_if (with_next_if ends before after) after before
 
@@ -123,7 +123,7 @@ abbrev pub exchanged : (ℕ → Option Ends) → ℕ → ℕ → ℕ → ℕ →
 exchanged ends p q s t = with_prev (with_prev (with_next (with_next ends p (Some t)) q (Some s)) t (Some p)) s (Some q)
 
 -- where one more index may stand: behind the first of these, if any, and before the second, if any. They are valid, and
--- neither has another neighbour on that side
+-- neither has another neighbor on that side
 pub record IsGap (ends : ℕ → Option Ends) (gap : Ends) : Type 0 where
   pub before : (p : ℕ) → gap.0 ≡ Some p → IsSome (ends p) × ((next_at ends p ≡ None) ⊎ (next_at ends p ≡ gap.1))
   pub after : (q : ℕ) → gap.1 ≡ Some q → IsSome (ends q) × ((prev_at ends q ≡ None) ⊎ (prev_at ends q ≡ gap.0))
@@ -142,11 +142,11 @@ abbrev pub put_in : (ℕ → Option Ends) → ℕ → Place ℕ → ℕ → Opti
 put_in ends n (Between before after) = placed ends n (before, after)
 put_in ends n OwnRing = added ends n (Some n, Some n)
 
--- the interlinks where this index, which has these neighbours, was taken out from between them
+-- the interlinks where this index, which has these neighbors, was taken out from between them
 abbrev pub taken_from : (ℕ → Option Ends) → ℕ → Option Ends → ℕ → Option Ends
 taken_from ends p None = ends
 taken_from ends p (Some own) = dropped (bridged ends own.0 own.1) p
 
--- the interlinks where an index was taken out from between its neighbours
+-- the interlinks where an index was taken out from between its neighbors
 abbrev pub taken_out : (ℕ → Option Ends) → ℕ → ℕ → Option Ends
 taken_out ends p = taken_from ends p (ends p)

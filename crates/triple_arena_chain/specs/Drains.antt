@@ -38,7 +38,7 @@ abbrev pub but_not : ℕ → Option ℕ → Option ℕ
 but_not i None = None
 but_not i (Some j) = if j == i then None else Some j
 
--- where a walk goes from an index with these neighbours, once it was taken out: to its next, or else to its previous one
+-- where a walk goes from an index with these neighbors, once it was taken out: to its next, or else to its previous one
 abbrev pub next_or_prev : ℕ → Ends → Option ℕ
 next_or_prev i own = but_not i (option_or own.1 own.0)
 

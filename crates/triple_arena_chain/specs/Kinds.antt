@@ -12,7 +12,7 @@ module _ {I : Type 0} (number : I → ℕ) where
   abbrev pub ends_by : Option I × Option I → Ends
   ends_by ends = (option_map number ends.0, option_map number ends.1)
 
-  -- a place by the numbers of its neighbours
+  -- a place by the numbers of its neighbors
   abbrev pub place_by : Place I → Place ℕ
   place_by (Between before after) = Between (option_map number before) (option_map number after)
   place_by OwnRing = OwnRing

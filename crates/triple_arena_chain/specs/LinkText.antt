@@ -4,17 +4,17 @@ use Rattle.std.specs.Fmt.{◌++?◌}
 use Rattle.triple_arena_chain.specs.declared.link.IndexLink.{IndexLink}
 use Rattle.triple_arena_chain.specs.declared.ptr_link.Link.{Link}
 
--- the text of a neighbour, or `-` where there is none
-abbrev pub neighbour_text : {N : Type 0} → (N → Option (List ℕ)) → Option N → Option (List ℕ)
-neighbour_text text None = Some (codes "-")
-neighbour_text text (Some n) = text n
+-- the text of a neighbor, or `-` where there is none
+abbrev pub neighbor_text : {N : Type 0} → (N → Option (List ℕ)) → Option N → Option (List ℕ)
+neighbor_text text None = Some (codes "-")
+neighbor_text text (Some n) = text n
 
--- both neighbours in parentheses, and the value, where its text is known
+-- both neighbors in parentheses, and the value, where its text is known
 abbrev pub between_text : Option (List ℕ) → Option (List ℕ) → Option (List ℕ) → Option (List ℕ)
 between_text prev next value = Some (codes "(") ++? prev ++? Some (codes ", ") ++? next ++? Some (codes ") ") ++? value
 
 abbrev pub index_link_text : {I T : Type 0} → (I → Option (List ℕ)) → (T → Option (List ℕ)) → IndexLink I T → Option (List ℕ)
-index_link_text inx value link = between_text (neighbour_text inx link.prev) (neighbour_text inx link.next) (value link.t)
+index_link_text inx value link = between_text (neighbor_text inx link.prev) (neighbor_text inx link.next) (value link.t)
 
 abbrev pub link_text : {P T Inx Gen : Type 0} → (P → Option (List ℕ)) → (T → Option (List ℕ)) → Link P T Inx Gen → Option (List ℕ)
-link_text pointer value link = between_text (neighbour_text pointer link.prev) (neighbour_text pointer link.next) (value link.t)
+link_text pointer value link = between_text (neighbor_text pointer link.prev) (neighbor_text pointer link.next) (value link.t)

@@ -82,21 +82,21 @@ module _ {I T : Type 0} (number : I → ℕ) where
   link_for (Between before after) i t = record { prev = before; next = after; t = t }
   link_for OwnRing i t = record { prev = Some i; next = Some i; t = t }
 
-  -- the neighbours at this place are live
+  -- the neighbors at this place are live
   abbrev pub AreNeighborsLive : Content (IndexLink I T) → Place I → Type 0
   AreNeighborsLive c (Between before after) = IfSome before (λ i. IsSome (entry_at c (number i))) × IfSome after (λ i. IsSome (entry_at c (number i)))
   AreNeighborsLive c OwnRing = Unit {0}
 
-  -- the neighbours at this place name what is at `i`
+  -- the neighbors at this place name what is at `i`
   abbrev pub joined_to : Content (IndexLink I T) → Place I → I → Content (IndexLink I T)
   joined_to c (Between before after) i = with_prev_of (with_next_of c before (Some i)) after (Some i)
   joined_to c OwnRing i = c
 
-  -- the neighbours of a link name one another over it
+  -- the neighbors of a link name one another over it
   abbrev pub bridged_over : Content (IndexLink I T) → IndexLink I T → Content (IndexLink I T)
   bridged_over c link = with_prev_of (with_next_of c link.prev link.next) link.next link.prev
 
-  -- the links without this one at an index, if there is one, whose neighbours are joined; the counter steps
+  -- the links without this one at an index, if there is one, whose neighbors are joined; the counter steps
   abbrev pub link_removed_of : Option ℕ → Content (IndexLink I T) → ℕ → Option (ℕ × IndexLink I T) → Content (IndexLink I T)
   link_removed_of last c i None = c
   link_removed_of last c i (Some entry) = removed last (bridged_over c entry.1) i
@@ -124,7 +124,7 @@ module _ {I T : Type 0} (number : I → ℕ) where
     pub values : (k : ℕ) → values_in new k ≡ values_in old k
     pub kept : IsKept old new
 
-  -- the link at this index is gone, and its neighbours are joined; all others stay, and the counter steps
+  -- the link at this index is gone, and its neighbors are joined; all others stay, and the counter steps
   pub record IsTakenOut (last : Option ℕ) (i : ℕ) (old new : Content (IndexLink I T)) : Type 0 where
     pub ends : (k : ℕ) → ends_in new k ≡ taken_out (ends_in old) i k
     pub lists : IsTaken i (ends_in old) (ends_in new)

@@ -73,7 +73,7 @@ pub record IsPutIn (gap : Ends) (n : ℕ) (old new : ℕ → Option Ends) : Type
       → before ≢ after → IsLinear new (before ++ n ∷ after)
   -- between the end and the start of one linear chain, which is a ring then
   pub closed : (q : ℕ) (after : List ℕ) → last_or (Some q) after ≡ gap.0 → Some q ≡ gap.1 → IsLinear old (q ∷ after) → IsRing new (n ∷ q ∷ after)
-  -- between two neighbours in a ring
+  -- between two neighbors in a ring
   pub in_ring : (q : ℕ) (after : List ℕ) → last_or (Some q) after ≡ gap.0 → Some q ≡ gap.1 → IsRing old (q ∷ after) → IsRing new (n ∷ q ∷ after)
   -- each chain that has none of the two is as it was
   pub others : (c : Chain) → IsChainOf old c → IsOffIf (members c) gap.0 → IsOffIf (members c) gap.1 → IsChainOf new c

@@ -24,7 +24,7 @@ abbrev pub renamed : (ℕ → ℕ) → Chain → Chain
 renamed to (Linear xs) = Linear (map to xs)
 renamed to (Cyclic xs) = Cyclic (map to xs)
 
--- two neighbours under the new indexes
+-- two neighbors under the new indexes
 abbrev pub ends_renamed : (ℕ → ℕ) → Ends → Ends
 ends_renamed to v = (option_map to v.0, option_map to v.1)
 

@@ -74,7 +74,7 @@ module _ (e : ℕ → Option Ends) (agreed : IsAgreed e) (i : ℕ) (b n : Option
                 rw (differs.0, one) (ap (λ o. Some (o, w)) (prev ∙ sym (kept u off) ∙ ap (over i b) (sym prev)))
           ]
 
-  -- an index that stays has the neighbours of the one that goes in its place
+  -- an index that stays has the neighbors of the one that goes in its place
   pub taken_at : (x : ℕ) (v : Ends) → e x ≡ Some v → x ≢ i → taken_out e i x ≡ Some (over i b v.0, over i n v.1)
   taken_at x v found differs = taken_is x ∙ rw (ne_eqb x i differs) (after_prev x v (over i n v.1) found (after_next x v found))
 

@@ -44,7 +44,7 @@ pub trait ChainArenaTrait<P: Ptr, T: Drop>: ArenaTrait<P, T> {
         ensures { option_map (λ e. (P.Gen.number e.0, e.1.now)) result
             ≡ entry_at (links self.now) (P.Inx.number i) };
 
-    /// The link that `p` points to, if it is live, with whole pointers to its neighbours.
+    /// The link that `p` points to, if it is live, with whole pointers to its neighbors.
     fn get_link(&self, p: P) -> Option<Link<P, &T>>
         ensures value { option_map (λ l. l.t.now) result
             ≡ value_if (P.generation p) (values_in (links self.now) (P.index p)) }
@@ -170,7 +170,7 @@ pub trait ChainArenaTrait<P: Ptr, T: Drop>: ArenaTrait<P, T> {
         ensures formed { IsChained P.Inx.number (links self.new) }
         ensures none { IfNone result (self.new ≡ self.old) };
 
-    /// Removes the link that `p` points to, joins its neighbours, and steps the counter. The link is given back with the
+    /// Removes the link that `p` points to, joins its neighbors, and steps the counter. The link is given back with the
     /// interlinks that it had. It answers `InvalidPtr`, and changes nothing, where `p` points to none.
     fn remove_link_no_gen(&mut self, p: P) -> InvalidationResult<LinkNoGen<P, T>>
         ensures value { option_map value_of (answer_of result)

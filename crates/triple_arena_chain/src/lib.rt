@@ -40,3 +40,4 @@ pub use chain_arena_trait::ChainArenaTrait;
 pub use kind::{InsertKind, LinkInsertKind};
 pub use link::{IndexLink, LinkNoGen};
 pub use ptr_link::Link;
+pub use triple_arena_ptr::ChainInsertionError;

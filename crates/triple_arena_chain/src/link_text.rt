@@ -1,7 +1,7 @@
-//! The text of links: the neighbours in parentheses, `-` where there is none, and the value, as `(-, 2) hello`.
+//! The text of links: the neighbors in parentheses, `-` where there is none, and the value, as `(-, 2) hello`.
 ghost use Rattle.std.specs.Prelude.{Some};
 ghost use Rattle.triple_arena_ptr.specs.Hexadecimal.{hexadecimal};
-ghost use Rattle.triple_arena_chain.specs.LinkText.{neighbour_text, index_link_text, link_text};
+ghost use Rattle.triple_arena_chain.specs.LinkText.{neighbor_text, index_link_text, link_text};
 
 use crate::{IndexLink, Link};
 use std::fmt;
@@ -12,7 +12,7 @@ use triple_arena_ptr::{Ptr, PtrInx};
 struct InxText<I>(Option<I>);
 
 impl<I: PtrInx> fmt::Display for InxText<I> {
-    ghost output = { λ x. neighbour_text (λ i. Some (hexadecimal (I.number i))) x.0 };
+    ghost output = { λ x. neighbor_text (λ i. Some (hexadecimal (I.number i))) x.0 };
 
     fn fmt<W: fmt::Write>(&self, f: &mut fmt::Formatter<W>) -> fmt::Result {
         match self.0 {
@@ -27,7 +27,7 @@ impl<I: PtrInx> fmt::Display for InxText<I> {
 struct PtrText<P>(Option<P>);
 
 impl<P: Ptr> fmt::Display for PtrText<P> {
-    ghost output = { λ x. neighbour_text P.debug_output x.0 };
+    ghost output = { λ x. neighbor_text P.debug_output x.0 };
 
     fn fmt<W: fmt::Write>(&self, f: &mut fmt::Formatter<W>) -> fmt::Result {
         match self.0 {
@@ -37,7 +37,7 @@ impl<P: Ptr> fmt::Display for PtrText<P> {
     }
 }
 
-/// The indexes of the neighbours in lower-case hexadecimal digits, and the value: `(-, 2) hello`.
+/// The indexes of the neighbors in lower-case hexadecimal digits, and the value: `(-, 2) hello`.
 impl<I: PtrInx, T: fmt::Display> fmt::Display for IndexLink<I, T> {
     ghost output = { index_link_text (λ i. Some (hexadecimal (I.number i))) T.output };
 
@@ -48,7 +48,7 @@ impl<I: PtrInx, T: fmt::Display> fmt::Display for IndexLink<I, T> {
     }
 }
 
-/// The pointers to the neighbours, and the value: `(-, P0[2](2)) hello`.
+/// The pointers to the neighbors, and the value: `(-, P0[2](2)) hello`.
 impl<P: Ptr, T: fmt::Display> fmt::Display for Link<P, T> {
     ghost output = { link_text P.debug_output T.output };
 

@@ -1,4 +1,4 @@
-//! A link with whole pointers to its neighbours.
+//! A link with whole pointers to its neighbors.
 ghost use Rattle.std.specs.Prelude.{◌≡◌};
 ghost use Rattle.std.specs.Option.{option_map};
 
@@ -59,7 +59,7 @@ impl<P: Ptr, T> Link<P, T> {
         (self.prev, self.next)
     }
 
-    /// The link with the indexes of its neighbours alone.
+    /// The link with the indexes of its neighbors alone.
     pub fn no_gen(self) -> LinkNoGen<P, T>
         ensures prev { option_map P.Inx.number result.prev ≡ option_map P.index self.prev }
         ensures next { option_map P.Inx.number result.next ≡ option_map P.index self.next }

@@ -1,4 +1,4 @@
--- Where a linear chain is cut, and the neighbours of one of its indexes.
+-- Where a linear chain is cut, and the neighbors of one of its indexes.
 use Rattle.std.proofs.Common.{◌≡◌, ℕ, List, [], ◌∷◌, ◌++◌, Option, Some, None, IsSome, refl, sym, ap, subst, inr, ◌⊎◌}
 use Rattle.triple_arena_chain.specs.Chains.{Ends, Stands, IsLinear, first_or, last_or, IsGap, next_in, prev_in, prev_at}
 use Rattle.triple_arena_chain.specs.ChainLaws.{Stands-front, Stands-back, last_or-append}
@@ -38,7 +38,7 @@ linear_gap e xs ys s = record {
         let at : e q ≡ Some (last_or None xs, first_or zs None) = subst (λ y. e y ≡ Some (last_or None xs, first_or zs None)) w s.0 in
         (some_at at, inr (ap prev_in at))
 
--- the neighbours of an index
+-- the neighbors of an index
 pub linear_ends : (e : ℕ → Option Ends) (xs : List ℕ) (h : ℕ) (ys : List ℕ) → IsLinear e (xs ++ h ∷ ys) → e h ≡ Some (last_or None xs, first_or ys None)
 linear_ends e xs h ys s = (Stands-back e None None xs (h ∷ ys) s).0
 

@@ -224,6 +224,7 @@ module _ {I T : Type 0} where
     pub record Stepped (old : Ordered I T) (item : InvalidationOption (P × T)) (new : Ordered I T) : Type 0 where
       pub first : removals last old.chains.counter (indexed old) ≡ removal_of index generation item ∷ removals last new.chains.counter (indexed new)
       pub leaves : emptied_after last (size_in new) new ≡ emptied_after last (size_in old) old
+      pub removed : IsRemoved number last (index (value_of item).0) old new
 
     pub stepped : (old new : Ordered I T) (w : Walk) (p : P) (item : InvalidationOption (P × T)) → IsAllAhead old.chains w
         → IsFirstLive (values_in old.chains) w (index p) (generation p) → (value_of item).0 ≡ p
@@ -243,6 +244,7 @@ module _ {I T : Type 0} where
               ∙ ap (λ b. ((index p, (generation p, (value_of item).1)), b) ∷ removals last new.chains.counter (indexed new)) (sym told)
               ∙ ap (λ q. ((index q, (generation q, (value_of item).1)), overflowed item) ∷ removals last new.chains.counter (indexed new)) (sym pointer);
           leaves = emptied_next number last (size_in new) (index p) old new removed ∙ ap (λ n. emptied_after last n old) more;
+          removed = subst (λ q. IsRemoved number last (index q) old new) (sym pointer) removed;
         }
 
   -- so many removals are left as entries
@@ -252,9 +254,9 @@ module _ {I T : Type 0} where
   pub removals_over : (last : Option ℕ) (o : Ordered I T) → ((j : ℕ) → entry_in o j ≡ None) → removals last o.chains.counter (indexed o) ≡ []
   removals_over last o none = ap (removals last o.chains.counter) (none_indexed o none)
 
-module _ {P T S Inx Gen Alloc : Type 0} (last : Option ℕ) (index generation : P → ℕ) where
+module _ {P T S Inx Gen Alloc : Type 0} (last : Option ℕ) (number : Inx → ℕ) (index generation : P → ℕ) where
   -- what a drain keeps at a step it keeps at every later one
-  pub keeps_along : (first : Drain P T S Inx Gen Alloc) → DrainKeepsAlong last index generation first
+  pub keeps_along : (first : Drain P T S Inx Gen Alloc) → DrainKeepsAlong last number index generation first
   keeps_along first [] later run = subst (DrainKeeps last first) run (refl, refl)
   keeps_along first (item ∷ items) later run =
       let step = run.1.1 in

@@ -83,7 +83,7 @@ module _ {I T : Type 0} (number : I → ℕ) where
       → IsReplaced number i g t u o p
   replaced o inside p same i g t u root r is =
       let q = renewed_ordered inside p i g t u root r is in
-      subst (λ z. IsReplaced number i g t u z p) same (record { was = r.was; order = q.order; entries = r.items; kept = r.kept })
+      subst (λ z. IsReplaced number i g t u z p) same (record { was = r.was; order = q.order; entries = r.items; root = root; knots = r.knots; kept = r.kept })
 
   module _ {K : Type 0} (cmp : K → K → Ordering) (key : T → K) (total : IsTotalOrder cmp) where
     -- where a search ended is where the key belongs

@@ -81,10 +81,10 @@ module _ {I T : Type 0} (number : I → ℕ) where
           (plug-opens (knots_in number o.chains) o.root found.context (node found.left h found.rank found.right)
           (subst (Stands (knots_in number o.chains) o.root) found.is is.whole.stands)).1.0
 
-      -- the link names its neighbours in the list
-      neighbours : (xs ys : List ℕ) → order_in number o ≡ xs ++ h ∷ ys
+      -- the link names its neighbors in the list
+      neighbors : (xs ys : List ℕ) → order_in number o ≡ xs ++ h ∷ ys
           → (option_map number l.prev ≡ last_or None xs) × (option_map number l.next ≡ first_or ys None)
-      neighbours xs ys order =
+      neighbors xs ys order =
           let ends : ends_in number o.chains h ≡ Some (option_map number l.prev, option_map number l.next) =
           ap (option_map (entry_ends number)) at in
           let e : Some (option_map number l.prev, option_map number l.next) ≡ Some (last_or None xs, first_or ys None) =
@@ -109,7 +109,7 @@ module _ {I T : Type 0} (number : I → ℕ) where
             front = before c;
             back = h ∷ (walk r ++ after c);
             is = order;
-            prev_is = (neighbours (before c) (walk r ++ after c) order).0;
+            prev_is = (neighbors (before c) (walk r ++ after c) order).0;
             next_is = refl;
             filled_is = λ n. plug-walk_is (under c Left h k r) (node leaf n 1 leaf);
             stands = λ n. record { before = before c; after = walk r ++ after c; was = order; is = refl };
@@ -136,7 +136,7 @@ module _ {I T : Type 0} (number : I → ℕ) where
             back = after c;
             is = order;
             prev_is = sym (ap (last_or None) snoc ∙ last_snoc (before c ++ walk a) h);
-            next_is = (neighbours (before c ++ walk a) (after c) (order ∙ flat (after c))).1;
+            next_is = (neighbors (before c ++ walk a) (after c) (order ∙ flat (after c))).1;
             filled_is = λ n. plug-walk_is (under c Right h k a) (node leaf n 1 leaf);
             stands = λ n. record { before = before c ++ walk a; after = after c; was = order ∙ flat (after c); is = flat (n ∷ after c) };
           }

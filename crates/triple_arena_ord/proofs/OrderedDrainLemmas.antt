@@ -126,10 +126,12 @@ module _ {P T S Inx Gen Alloc : Type 0} (last : Option ℕ) (number : Inx → �
       let rest : drain_rest last number old ≡ [] = ap (removals last (drain_arena old).chains.counter) took.0 in (
         (rest, ap (λ (o : Ordered Inx T). removals last o.chains.counter (listed number o)) took.1 ∙ rest),
         record { lender = lender; leaves = ap (emptied_after last 1) took.1 },
+        took,
       )
   drain_steps (Some item) old new took lender = (
     ap (removals last (drain_arena old).chains.counter) took.first ∙ rw (took.overflow, took.removed.counter) refl,
     record { lender = lender; leaves = emptied_next number last 1 (index (value_of item).0) (drain_arena old) (drain_arena new) took.removed },
+    took,
   )
 
   -- steps on, one after another

@@ -8,6 +8,7 @@ use Rattle.triple_arena_chain.specs.IndexDrains.{IsAllAhead}
 use Rattle.triple_arena_ord.specs.Indexed.{indexed}
 use Rattle.triple_arena_ord.specs.Ordered.{Ordered, size_in}
 use Rattle.triple_arena_ord.specs.OrderedDrains.{emptied_after}
+use Rattle.triple_arena_ord.specs.Removal.{Removes}
 use Rattle.triple_arena_ord.specs.declared.ord_arena.index_drain.Drain.{Drain}
 
 module _ {P T S Inx Gen Alloc : Type 0} where
@@ -36,10 +37,11 @@ module _ {P T S Inx Gen Alloc : Type 0} where
     abbrev pub DrainKeeps : Drain P T S Inx Gen Alloc → Drain P T S Inx Gen Alloc → Type 0
     DrainKeeps old new = (drain_lender new ≡ drain_lender old) × (drain_leaves new ≡ drain_leaves old)
 
-    module _ (index generation : P → ℕ) where
-      -- a step gives the first removal that is still to come, or nothing where there is none
+    module _ (number : Inx → ℕ) (index generation : P → ℕ) where
+      -- a step gives the first removal that is still to come, which it has made, or nothing where there is none
       abbrev pub DrainSteps : Drain P T S Inx Gen Alloc → Option (InvalidationOption (P × T)) → Drain P T S Inx Gen Alloc → Type 0
       DrainSteps old item new = YieldsFirstBy (removal_of index generation) drain_rest old item new × DrainKeeps old new × DrainCanStep new
+          × Removes number last index item (drain_arena old) (drain_arena new)
 
       -- each state that steps lead to keeps what the first one keeps
       abbrev pub DrainKeepsAlong : Drain P T S Inx Gen Alloc → Type 0

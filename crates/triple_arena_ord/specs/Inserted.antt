@@ -93,6 +93,8 @@ module _ {I T : Type 0} (number : I → ℕ) where
     pub was : entry_in old i ≡ Some (g, u)
     pub order : order_in number new ≡ order_in number old
     pub entries : (k : ℕ) → entry_in new k ≡ with_entry (entry_in old) i (g, t) k
+    pub root : new.root ≡ old.root
+    pub knots : (k : ℕ) → knots_in number new.chains k ≡ knots_in number old.chains k
     pub kept : IsKept old.chains new.chains
 
   -- one more entry, under the next index, which is no longer free, and the counter; all others stay

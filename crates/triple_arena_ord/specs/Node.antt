@@ -27,7 +27,7 @@ module _ {I : Type 0} (number : I → ℕ) where
   abbrev pub knots_in : {T : Type 0} → Content (IndexLink I (IndexNode I T)) → Store
   knots_in c = knots_among (values_in c)
 
-  -- the neighbours of one more link directly before or after another
+  -- the neighbors of one more link directly before or after another
   abbrev pub prev_for : {T : Type 0} → Side → IndexLink I (IndexNode I T) → ℕ → Option ℕ
   prev_for Left l h = option_map number l.prev
   prev_for Right l h = Some h

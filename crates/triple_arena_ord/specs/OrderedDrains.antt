@@ -61,9 +61,10 @@ module _ {P T S Inx Gen Alloc : Type 0} where
       drain_rest d = removals last (drain_arena d).chains.counter (listed number (drain_arena d))
 
       module _ (index generation : P → ℕ) where
-        -- a step gives the first removal that is still to come, or nothing where there is none
+        -- a step gives the first removal that is still to come, which it has made, or nothing where there is none
         abbrev pub DrainSteps : OrderedDrain P T S Inx Gen Alloc → Option (InvalidationOption (P × T)) → OrderedDrain P T S Inx Gen Alloc → Type 0
         DrainSteps old item new = YieldsFirstBy (removal_of index generation) drain_rest old item new × IsOn (steps_made item) old new
+            × TakesFirst number last index generation item (drain_arena old) (drain_arena new)
 
         -- each state that steps lead to is on by as many as the items that they gave
         abbrev pub DrainKeepsAlong : OrderedDrain P T S Inx Gen Alloc → Type 0

@@ -1,4 +1,4 @@
-//! A leaf is attached below a node.
+//! A leaf that comes below a node, and a node with at most one child that leaves.
 ghost use Rattle.std.specs.Prelude.{◌≡◌, ℕ, Some, None, IsSome};
 ghost use Rattle.std.specs.Option.{option_map};
 ghost use Rattle.rank_tree.specs.Tree.{walk};

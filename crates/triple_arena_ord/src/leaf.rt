@@ -58,7 +58,7 @@ pub(crate) fn insert_leaf<
     }
 }
 
-// The neighbours of one more link directly before or after that of `holder`.
+// The neighbors of one more link directly before or after that of `holder`.
 pub(crate) fn neighbors_beside<
     P: Ptr,
     T: Drop,

@@ -44,3 +44,4 @@ pub use node::{IndexNode, SimpleOrdArenaNode};
 pub use ord_arena::SimpleOrdArena;
 pub use ord_arena::entry::SimpleOrdArenaInsertEntry;
 pub use pair::OrdPair;
+pub use triple_arena_ptr::{OrdInsertionError, Probes};

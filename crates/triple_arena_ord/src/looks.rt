@@ -1,4 +1,4 @@
-//! What the repairs read round a node and its parent.
+//! What the repair after a removal reads round a node and its parent.
 ghost use Rattle.std.specs.Prelude.{◌≡◌, ℕ, ◌+◌, ◌<◌, ◌≤◌, Option};
 ghost use Rattle.std.specs.Option.{option_map};
 ghost use Rattle.triple_arena_ord.specs.Node.{knots_in};

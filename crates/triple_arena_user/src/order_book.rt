@@ -12,8 +12,7 @@ use triple_arena_chain::LinkNoGen;
 use triple_arena_ord::laws::{
     entries_stand_in_the_list, keys_ascend_along_the_list, removals_keep_keys_ascending,
 };
-use triple_arena_ord::{OrdPair, SimpleOrdArena, SimpleOrdArenaNode};
-use triple_arena_ptr::OrdInsertionError;
+use triple_arena_ord::{OrdInsertionError, OrdPair, SimpleOrdArena, SimpleOrdArenaNode};
 
 /// Orders by their prices.
 pub type OrderBook<P, V, S> = SimpleOrdArena<P, OrdPair<u64, V>, S>;

@@ -12,8 +12,9 @@ ghost use Rattle.triple_arena_chain.specs.Walks.{IsWalkFrom};
 ghost use Rattle.triple_arena_user.specs.Playlists.{length_at, IsMoved};
 
 use triple_arena::{Advancer, ArenaSlot, ArenaTrait, NonZeroInxGenericStack, Ptr};
-use triple_arena_chain::{ChainArena, ChainArenaTrait, LinkInsertKind, LinkNoGen};
-use triple_arena_ptr::ChainInsertionError;
+use triple_arena_chain::{
+    ChainArena, ChainArenaTrait, ChainInsertionError, LinkInsertKind, LinkNoGen,
+};
 
 /// Adds a song directly after the one at `p`, if there is room. It answers `FailedLinkRequirement` where `p` is invalid,
 /// and else `NotWithinCapacity` where there is no room; all songs stay as they are then, and this one is dropped.

@@ -110,8 +110,8 @@ fn link_named<P: Ptr>(links: &Named<P>, name: usize) -> P {
     }
 }
 
-// The value of a neighbour, or 0 where there is none.
-fn neighbour<P: Ptr, S: NonZeroInxGenericStack<Slot<P>> + Drop>(
+// The value of a neighbor, or 0 where there is none.
+fn neighbor<P: Ptr, S: NonZeroInxGenericStack<Slot<P>> + Drop>(
     chains: &ChainArena<P, u64, S>,
     i: Option<P::Inx>,
 ) -> u64 {
@@ -125,15 +125,12 @@ fn neighbour<P: Ptr, S: NonZeroInxGenericStack<Slot<P>> + Drop>(
 }
 
 // The previous value of a link, and its next one.
-fn neighbours<P: Ptr, S: NonZeroInxGenericStack<Slot<P>> + Drop>(
+fn neighbors<P: Ptr, S: NonZeroInxGenericStack<Slot<P>> + Drop>(
     chains: &ChainArena<P, u64, S>,
     p: P,
 ) -> (u64, u64) {
     match chains.get_link_no_gen(p) {
-        Some(link) => (
-            neighbour(chains, link.prev()),
-            neighbour(chains, link.next()),
-        ),
+        Some(link) => (neighbor(chains, link.prev()), neighbor(chains, link.next())),
         None => (0, 0),
     }
 }
@@ -156,7 +153,7 @@ pub(crate) fn walk<P: Ptr, S: NonZeroInxGenericStack<Slot<P>> + Drop>(
     digits
 }
 
-// What a kind does at two links: the neighbours that the link 9 gets, and a walk from there. Where that is 0, the
+// What a kind does at two links: the neighbors that the link 9 gets, and a walk from there. Where that is 0, the
 // requirement is not met.
 type Case = (usize, usize, (u64, u64), u64);
 
@@ -171,7 +168,7 @@ fn is_put<P: Ptr, S: NonZeroInxGenericStack<Slot<P>> + Drop>(
     match chains.insert_reallocating(kind, 9) {
         Ok(p) => {
             assert!(rt; meets);
-            assert!(rt; neighbours(chains, p) == case.2);
+            assert!(rt; neighbors(chains, p) == case.2);
             assert!(rt; walk(chains, p) == case.3);
         }
         Err(refused) => {

@@ -58,7 +58,7 @@ fn walks<P: Ptr, S: NonZeroInxGenericStack<Slot<P>> + Drop>(
     assert!(rt; digits == wanted);
 }
 
-// The nexts of neighbours are exchanged: the second becomes a ring of one. The same call again takes that back.
+// The nexts of neighbors are exchanged: the second becomes a ring of one. The same call again takes that back.
 fn exchanges<P: Ptr, S: NonZeroInxGenericStack<Slot<P>> + Drop>(
     rt: &impl Abort,
     chains: &mut ChainArena<P, u64, S>,

@@ -14,7 +14,7 @@ use triple_arena::{ArenaSlot, InvalidationOption, NonZeroInxGenericStack, Ptr, P
 /// Takes the links of one chain out of an arena: from a link on to the end and then backwards from the link before it, or
 /// once round a ring.
 ///
-/// Each item is one removal, which joins the neighbours and steps the counter; it is `GenerationOverflow` where that step
+/// Each item is one removal, which joins the neighbors and steps the counter; it is `GenerationOverflow` where that step
 /// started the generations again. Dropped, at whatever item, it takes those of the chain that are left in the same way.
 /// All other chains stay.
 pub struct ChainDrain<
@@ -28,7 +28,7 @@ pub struct ChainDrain<
     at: Option<P::Inx>,
 }
 
-// Where a walk goes on from a link with these neighbours, once the link is gone: to its next, or at the end of the chain
+// Where a walk goes on from a link with these neighbors, once the link is gone: to its next, or at the end of the chain
 // to its previous one, which is the end then.
 fn onward<I: PtrInx>(i: I, own: (Option<I>, Option<I>)) -> Option<I>
     ensures { option_map I.number result ≡ next_or_prev (I.number i) (ends_by I.number own) }

@@ -20,7 +20,7 @@ impl<P: Ptr, T: Drop, S: NonZeroInxGenericStack<ArenaSlot<P, LinkNoGen<P, T>>> +
     S,
 > {
     /// Stores `t` in a link between the links at these two indexes, of which either may be missing, if there is room.
-    /// They are neighbours, or each has none on that side. It answers `NotWithinCapacityError`, and changes nothing,
+    /// They are neighbors, or each has none on that side. It answers `NotWithinCapacityError`, and changes nothing,
     /// where there is no room; `t` is dropped then.
     pub fn insert_in_gap_within_capacity(
         &mut self,

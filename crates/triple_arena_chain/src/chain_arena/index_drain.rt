@@ -21,7 +21,7 @@ use triple_arena::{
 
 /// Takes the links out of a chain arena, in the order of the indexes, and gives their pointers and values.
 ///
-/// Each item is one removal, which joins the neighbours and steps the counter; it is `GenerationOverflow` where that step
+/// Each item is one removal, which joins the neighbors and steps the counter; it is `GenerationOverflow` where that step
 /// started the generations again. Dropped, at whatever item, it takes those that are left in the same way, and leaves no
 /// slot.
 pub struct Drain<

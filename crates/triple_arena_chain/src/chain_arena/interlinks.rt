@@ -35,7 +35,7 @@ pub(crate) fn set_prev<
     }
 }
 
-// The neighbours at a place, which are live, name what is at `i`.
+// The neighbors at a place, which are live, name what is at `i`.
 #[tactic(auto, using(crate::specs::LinkLaws::live_links))]
 pub(crate) fn join<
     P: Ptr,

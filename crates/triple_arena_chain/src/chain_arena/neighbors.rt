@@ -1,4 +1,4 @@
-//! Links with their neighbours.
+//! Links with their neighbors.
 ghost use Rattle.std.specs.Prelude.{◌≡◌, Some};
 ghost use Rattle.std.specs.Option.{option_map};
 ghost use Rattle.triple_arena_chain.specs.Values.{ptr_to};

@@ -50,7 +50,7 @@ impl<P: Ptr> ChainPtrAdvancer<P> {
         }
     }
 
-    // Goes on from a link with these neighbours, which it gave.
+    // Goes on from a link with these neighbors, which it gave.
     fn go_on<T: Drop, S: NonZeroInxGenericStack<ArenaSlot<P, LinkNoGen<P, T>>> + Drop>(
         &mut self,
         chains: &ChainArena<P, T, S>,

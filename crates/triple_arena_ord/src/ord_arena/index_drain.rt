@@ -46,7 +46,7 @@ impl<
         ensures entries { drain_arena result ≡ self.old }
         ensures same_reference { drain_lender result ≡ self.entry.ghost_name }
         ensures ready { DrainCanStep result }
-        ensures stays { DrainKeepsAlong P.Gen.last P.index P.generation result }
+        ensures stays { DrainKeepsAlong P.Gen.last P.Inx.number P.index P.generation result }
     {
         Drain {
             walk: self.chains.advancer(),
@@ -118,7 +118,7 @@ impl<
 
     ghost can_next = { DrainCanStep };
 
-    ghost next_gives = { DrainSteps P.Gen.last P.index P.generation };
+    ghost next_gives = { DrainSteps P.Gen.last P.Inx.number P.index P.generation };
 
     ghost remaining = { item_count (drain_rest P.Gen.last) };
 

@@ -8,7 +8,7 @@ returns-in_err-p-clause-steps g c =
     let old = c.args.self.now.arena.now in
     let none = none_ahead old c.args.self.now.walk c.requires c.in_err-p.ensures.0 in
     let over = removals_over g.P.Gen.PtrGen.last old none in
-    (rw c.from_residual.ensures (over, over), (refl, refl), all_gone old c.go_along.new.walk none)
+    (rw c.from_residual.ensures (over, over), (refl, refl), all_gone old c.go_along.new.walk none, rw c.from_residual.ensures refl)
 
 -- what the step took
 took : (g : _) (c : goal.In_ok-item g)
@@ -25,7 +25,7 @@ ready g c =
     c.in_ok-p.ensures.0 c.in_ok-item.ensures.removed.entries)
 
 pub returns-clause-steps : goal.returns-clause-steps
-returns-clause-steps g c = let t = took g c in (t.first, (refl, t.leaves), ready g c)
+returns-clause-steps g c = let t = took g c in (t.first, (refl, t.leaves), ready g c, t.removed)
 
 pub returns-clause-goes : goal.returns-clause-goes
 returns-clause-goes g c =
