@@ -3,7 +3,7 @@ ghost use Rattle.std.specs.Prelude.{◌<◌};
 
 use std::alloc::Global;
 use triple_arena::{Arena, ArenaInsertTrait, ArenaSlot, ArenaTrait};
-use triple_arena_ptr::{Advancer, InvalidationResult, P0, Ptr, ReallocationError};
+use triple_arena_ptr::{Advancer, InvalidationResult, P0, PtrCore, ReallocationError};
 use triple_arena_stack::NonZeroInxVec;
 
 // `bench/run` also builds the program over `P3`.

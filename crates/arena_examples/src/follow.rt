@@ -7,17 +7,17 @@ ghost use Rattle.triple_arena.specs.Changes.{IsCompressed};
 ghost use Rattle.triple_arena.specs.Compression.{index_of, value_of};
 ghost use Rattle.arena_examples.specs.Follow.{IsFollowed, IsNamed, IsNamedBy, Keeps};
 
-use triple_arena::{Advancer, ArenaTrait, Ptr};
+use triple_arena::{Advancer, ArenaTrait, Ptr, PtrCore};
 
 /// A value with the pointer that its entry had before the entries moved.
 #[derive(Drop)]
-pub struct Moved<P: Ptr, T> {
+pub struct Moved<P: PtrCore, T> {
     pub was: P,
     pub value: T,
 }
 
 // Moves the entries to the first indexes, and has each keep the pointer that it had.
-fn remember<P: Ptr, T: Drop, A: ArenaTrait<P, Moved<P, T>>>(arena: &mut A)
+fn remember<P: PtrCore, T: Drop, A: ArenaTrait<P, Moved<P, T>>>(arena: &mut A)
     ensures kept { AllZip (Keeps P.index P.generation (λ m. m.was) (λ m. m.value))
         (A.live_entries arena.old) (A.live_entries arena.new) }
     ensures values { list_map (λ m. m.value) (list_map value_of (A.live_entries arena.new))

@@ -5,7 +5,7 @@ ghost use Rattle.arena_examples.specs.Scheduler.{HasEnded, endings_left, task_at
 
 use std::alloc::Global;
 use std::marker::Model;
-use triple_arena::{ArenaInsertTrait, ArenaTrait, HeapArena, P0, Ptr, ReallocationError};
+use triple_arena::{ArenaInsertTrait, ArenaTrait, HeapArena, P0, PtrCore, ReallocationError};
 
 /// A task, with the steps that it has left.
 #[derive(Drop)]
@@ -52,12 +52,12 @@ impl Scheduler {
     /// It answers `AllocError` where the memory was refused, and `BeyondMaxCapacity` where no pointer is left to give.
     /// Then nothing changes.
     pub fn spawn(&mut self, task: Task) -> Result<P0, ReallocationError>
-        ensures vacant { IfOk result (λ p. task_at self.old (⟦<P0 as Ptr>⟧.index p)
-            (⟦<P0 as Ptr>⟧.generation p) ≡ None) }
-        ensures stored { IfOk result (λ p. task_at self.new (⟦<P0 as Ptr>⟧.index p)
-            (⟦<P0 as Ptr>⟧.generation p) ≡ Some task) }
+        ensures vacant { IfOk result (λ p. task_at self.old (⟦<P0 as PtrCore>⟧.index p)
+            (⟦<P0 as PtrCore>⟧.generation p) ≡ None) }
+        ensures stored { IfOk result (λ p. task_at self.new (⟦<P0 as PtrCore>⟧.index p)
+            (⟦<P0 as PtrCore>⟧.generation p) ≡ Some task) }
         ensures others { IfOk result (λ p. (index generation : ℕ)
-            → (index ≢ ⟦<P0 as Ptr>⟧.index p) ⊎ (generation ≢ ⟦<P0 as Ptr>⟧.generation p)
+            → (index ≢ ⟦<P0 as PtrCore>⟧.index p) ⊎ (generation ≢ ⟦<P0 as PtrCore>⟧.generation p)
             → task_at self.new index generation ≡ task_at self.old index generation) }
         ensures ended { (index generation : ℕ) → HasEnded self.old index generation
             → HasEnded self.new index generation }
@@ -76,9 +76,9 @@ impl Scheduler {
 
     /// The task that `p` names; none once it was cancelled, whatever happened since.
     pub fn get(&self, p: P0) -> Option<&Task>
-        ensures found { option_copied result ≡ task_at self.now (⟦<P0 as Ptr>⟧.index p)
-            (⟦<P0 as Ptr>⟧.generation p) }
-        ensures ended { HasEnded self.now (⟦<P0 as Ptr>⟧.index p) (⟦<P0 as Ptr>⟧.generation p)
+        ensures found { option_copied result ≡ task_at self.now (⟦<P0 as PtrCore>⟧.index p)
+            (⟦<P0 as PtrCore>⟧.generation p) }
+        ensures ended { HasEnded self.now (⟦<P0 as PtrCore>⟧.index p) (⟦<P0 as PtrCore>⟧.generation p)
             → result ≡ None }
     {
         self.tasks.get(p)
@@ -86,14 +86,14 @@ impl Scheduler {
 
     /// Ends the task that `p` names, and gives it back.
     pub fn cancel(&mut self, p: P0) -> Option<Task>
-        ensures task { result ≡ task_at self.old (⟦<P0 as Ptr>⟧.index p)
-            (⟦<P0 as Ptr>⟧.generation p) }
-        ensures ends { IsSome result → HasEnded self.new (⟦<P0 as Ptr>⟧.index p)
-            (⟦<P0 as Ptr>⟧.generation p) }
+        ensures task { result ≡ task_at self.old (⟦<P0 as PtrCore>⟧.index p)
+            (⟦<P0 as PtrCore>⟧.generation p) }
+        ensures ends { IsSome result → HasEnded self.new (⟦<P0 as PtrCore>⟧.index p)
+            (⟦<P0 as PtrCore>⟧.generation p) }
         ensures ended { (index generation : ℕ) → HasEnded self.old index generation
             → HasEnded self.new index generation }
         ensures others { (index generation : ℕ)
-            → (index ≢ ⟦<P0 as Ptr>⟧.index p) ⊎ (generation ≢ ⟦<P0 as Ptr>⟧.generation p)
+            → (index ≢ ⟦<P0 as PtrCore>⟧.index p) ⊎ (generation ≢ ⟦<P0 as PtrCore>⟧.generation p)
             → task_at self.new index generation ≡ task_at self.old index generation }
         ensures lasts { endings_left self.old ≤ endings_left self.new + 1 }
         ensures room { self.new.tasks.room ≡ self.old.tasks.room }
@@ -109,15 +109,15 @@ impl Scheduler {
     /// Does a step of the task that `p` names, and says whether there is one.
     #[tactic(auto, using(triple_arena::specs::ContentLaws::writes))]
     pub fn run(&mut self, p: P0) -> bool
-        ensures task { task_at self.new (⟦<P0 as Ptr>⟧.index p) (⟦<P0 as Ptr>⟧.generation p)
+        ensures task { task_at self.new (⟦<P0 as PtrCore>⟧.index p) (⟦<P0 as PtrCore>⟧.generation p)
             ≡ option_map (λ task. record { left = task.left - 1 })
-            (task_at self.old (⟦<P0 as Ptr>⟧.index p) (⟦<P0 as Ptr>⟧.generation p)) }
-        ensures ran { IsTrue result ↔ IsSome (task_at self.old (⟦<P0 as Ptr>⟧.index p)
-            (⟦<P0 as Ptr>⟧.generation p)) }
+            (task_at self.old (⟦<P0 as PtrCore>⟧.index p) (⟦<P0 as PtrCore>⟧.generation p)) }
+        ensures ran { IsTrue result ↔ IsSome (task_at self.old (⟦<P0 as PtrCore>⟧.index p)
+            (⟦<P0 as PtrCore>⟧.generation p)) }
         ensures ended { (index generation : ℕ) → HasEnded self.old index generation
             → HasEnded self.new index generation }
         ensures others { (index generation : ℕ)
-            → (index ≢ ⟦<P0 as Ptr>⟧.index p) ⊎ (generation ≢ ⟦<P0 as Ptr>⟧.generation p)
+            → (index ≢ ⟦<P0 as PtrCore>⟧.index p) ⊎ (generation ≢ ⟦<P0 as PtrCore>⟧.generation p)
             → task_at self.new index generation ≡ task_at self.old index generation }
         ensures lasts { endings_left self.new ≡ endings_left self.old }
         ensures room { self.new.tasks.room ≡ self.old.tasks.room }

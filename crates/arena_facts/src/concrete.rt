@@ -12,14 +12,13 @@ ghost use Rattle.triple_arena.specs.Content.{get, entry_at as entry_of_index, li
 ghost use Rattle.triple_arena.specs.LiveEntries.{live_entries as live_entries_of};
 ghost use Rattle.triple_arena.specs.Compression.{renewed, renewal_wraps, entry_of_listed, generation_of, live_values, compacted, IsCompact, IsMapped};
 
-use triple_arena::{Arena, ArenaInsertTrait, ArenaSlot, ArenaTrait, DisjointableArenaTrait};
+use triple_arena::{Arena, ArenaInsertTrait, ArenaSlots, ArenaTrait, DisjointableArenaTrait};
 use triple_arena_ptr::{
-    GetDisjointMutError, InvalidationOption, InvalidationResult, NotWithinCapacityError, Ptr,
+    GetDisjointMutError, InvalidationOption, InvalidationResult, NotWithinCapacityError, PtrCore,
     ReallocationError,
 };
-use triple_arena_stack::NonZeroInxGenericStack;
 
-pub fn insert_within_capacity<P: Ptr, T: Drop, S: NonZeroInxGenericStack<ArenaSlot<P, T>> + Drop>(
+pub fn insert_within_capacity<P: PtrCore, T: Drop, S: ArenaSlots<P, T>>(
     arena: &mut Arena<P, T, S>,
     t: T,
 ) -> Result<P, NotWithinCapacityError>
@@ -42,7 +41,7 @@ pub fn insert_within_capacity<P: Ptr, T: Drop, S: NonZeroInxGenericStack<ArenaSl
     arena.insert_within_capacity(t)
 }
 
-pub fn insert_reallocating<P: Ptr, T: Drop, S: NonZeroInxGenericStack<ArenaSlot<P, T>> + Drop>(
+pub fn insert_reallocating<P: PtrCore, T: Drop, S: ArenaSlots<P, T>>(
     arena: &mut Arena<P, T, S>,
     t: T,
 ) -> Result<P, ReallocationError>
@@ -72,7 +71,7 @@ pub fn insert_reallocating<P: Ptr, T: Drop, S: NonZeroInxGenericStack<ArenaSlot<
     arena.insert_reallocating(t)
 }
 
-pub fn insert<P: Ptr, T: Drop, S: NonZeroInxGenericStack<ArenaSlot<P, T>> + Drop>(
+pub fn insert<P: PtrCore, T: Drop, S: ArenaSlots<P, T>>(
     arena: &mut Arena<P, T, S>,
     t: T,
 ) -> Result<P, ReallocationError>
@@ -102,7 +101,7 @@ pub fn insert<P: Ptr, T: Drop, S: NonZeroInxGenericStack<ArenaSlot<P, T>> + Drop
     arena.insert(t)
 }
 
-pub fn remove<P: Ptr, T: Drop, S: NonZeroInxGenericStack<ArenaSlot<P, T>> + Drop>(
+pub fn remove<P: PtrCore, T: Drop, S: ArenaSlots<P, T>>(
     arena: &mut Arena<P, T, S>,
     p: P,
 ) -> InvalidationResult<T>
@@ -128,7 +127,7 @@ pub fn remove<P: Ptr, T: Drop, S: NonZeroInxGenericStack<ArenaSlot<P, T>> + Drop
     arena.remove(p)
 }
 
-pub fn remove_inx<P: Ptr, T: Drop, S: NonZeroInxGenericStack<ArenaSlot<P, T>> + Drop>(
+pub fn remove_inx<P: PtrCore, T: Drop, S: ArenaSlots<P, T>>(
     arena: &mut Arena<P, T, S>,
     i: P::Inx,
 ) -> InvalidationResult<(P::Gen, T)>
@@ -154,7 +153,7 @@ pub fn remove_inx<P: Ptr, T: Drop, S: NonZeroInxGenericStack<ArenaSlot<P, T>> + 
     arena.remove_inx(i)
 }
 
-pub fn invalidate<P: Ptr, T: Drop, S: NonZeroInxGenericStack<ArenaSlot<P, T>> + Drop>(
+pub fn invalidate<P: PtrCore, T: Drop, S: ArenaSlots<P, T>>(
     arena: &mut Arena<P, T, S>,
     p: P,
 ) -> InvalidationResult<P>
@@ -184,7 +183,7 @@ pub fn invalidate<P: Ptr, T: Drop, S: NonZeroInxGenericStack<ArenaSlot<P, T>> + 
     arena.invalidate(p)
 }
 
-pub fn clear<P: Ptr, T: Drop, S: NonZeroInxGenericStack<ArenaSlot<P, T>> + Drop>(
+pub fn clear<P: PtrCore, T: Drop, S: ArenaSlots<P, T>>(
     arena: &mut Arena<P, T, S>,
 ) -> InvalidationOption<()>
     ensures content { arena.new ≡ cleared P.Gen.last arena.old }
@@ -198,9 +197,7 @@ pub fn clear<P: Ptr, T: Drop, S: NonZeroInxGenericStack<ArenaSlot<P, T>> + Drop>
     arena.clear()
 }
 
-pub fn new<P: Ptr, T: Drop, S: NonZeroInxGenericStack<ArenaSlot<P, T>> + Drop>(
-    alloc: S::Alloc,
-) -> Arena<P, T, S>
+pub fn new<P: PtrCore, T: Drop, S: ArenaSlots<P, T>>(alloc: S::Alloc) -> Arena<P, T, S>
     ensures slots { result.slots ≡ [] }
     ensures counter { result.counter ≡ second_generation P.Gen.last }
     ensures free { result.free ≡ [] }
@@ -211,7 +208,7 @@ pub fn new<P: Ptr, T: Drop, S: NonZeroInxGenericStack<ArenaSlot<P, T>> + Drop>(
     Arena::new(alloc)
 }
 
-pub fn with_min_capacity<P: Ptr, T: Drop, S: NonZeroInxGenericStack<ArenaSlot<P, T>> + Drop>(
+pub fn with_min_capacity<P: PtrCore, T: Drop, S: ArenaSlots<P, T>>(
     alloc: S::Alloc,
     min: usize,
 ) -> Result<Arena<P, T, S>, ReallocationError>
@@ -229,9 +226,7 @@ pub fn with_min_capacity<P: Ptr, T: Drop, S: NonZeroInxGenericStack<ArenaSlot<P,
     Arena::with_min_capacity(alloc, min)
 }
 
-pub fn capacity<P: Ptr, T: Drop, S: NonZeroInxGenericStack<ArenaSlot<P, T>> + Drop>(
-    arena: &Arena<P, T, S>,
-) -> usize
+pub fn capacity<P: PtrCore, T: Drop, S: ArenaSlots<P, T>>(arena: &Arena<P, T, S>) -> usize
     ensures value { result ≡ arena_capacity arena.now }
     ensures holds_all { live_count_of arena.now ≤ result }
     ensures indexes { (j : ℕ) → IsSome (entry_of_index arena.now j) → j ≤ result }
@@ -243,7 +238,7 @@ pub fn capacity<P: Ptr, T: Drop, S: NonZeroInxGenericStack<ArenaSlot<P, T>> + Dr
     arena.capacity()
 }
 
-pub fn reallocate_min_capacity<P: Ptr, T: Drop, S: NonZeroInxGenericStack<ArenaSlot<P, T>> + Drop>(
+pub fn reallocate_min_capacity<P: PtrCore, T: Drop, S: ArenaSlots<P, T>>(
     arena: &mut Arena<P, T, S>,
     min: usize,
 ) -> Result<(), ReallocationError>
@@ -266,7 +261,7 @@ pub fn reallocate_min_capacity<P: Ptr, T: Drop, S: NonZeroInxGenericStack<ArenaS
     arena.reallocate_min_capacity(min)
 }
 
-pub fn swap_inx<P: Ptr, T: Drop, S: NonZeroInxGenericStack<ArenaSlot<P, T>> + Drop>(
+pub fn swap_inx<P: PtrCore, T: Drop, S: ArenaSlots<P, T>>(
     arena: &mut Arena<P, T, S>,
     i: P::Inx,
     j: P::Inx,
@@ -287,7 +282,7 @@ pub fn swap_inx<P: Ptr, T: Drop, S: NonZeroInxGenericStack<ArenaSlot<P, T>> + Dr
     arena.swap_inx(i, j);
 }
 
-pub fn swap<P: Ptr, T: Drop, S: NonZeroInxGenericStack<ArenaSlot<P, T>> + Drop>(
+pub fn swap<P: PtrCore, T: Drop, S: ArenaSlots<P, T>>(
     arena: &mut Arena<P, T, S>,
     p: P,
     q: P,
@@ -315,12 +310,11 @@ pub fn swap<P: Ptr, T: Drop, S: NonZeroInxGenericStack<ArenaSlot<P, T>> + Drop>(
     arena.swap(p, q)
 }
 
-pub fn compress_with<
-    P: Ptr,
-    T: Drop,
-    S: NonZeroInxGenericStack<ArenaSlot<P, T>> + Drop,
-    F: FnMut(P, T, P) -> T,
->(arena: &mut Arena<P, T, S>, reset: bool, map: F) -> InvalidationOption<()>
+pub fn compress_with<P: PtrCore, T: Drop, S: ArenaSlots<P, T>, F: FnMut(P, T, P) -> T>(
+    arena: &mut Arena<P, T, S>,
+    reset: bool,
+    map: F,
+) -> InvalidationOption<()>
     requires { F.IsAlwaysCallable map }
     ensures content { arena.new ≡ compacted (renewed P.Gen.last reset arena.old.counter)
         (live_values arena.new) arena.old }
@@ -341,7 +335,7 @@ pub fn compress_with<
     arena.compress_with(reset, map)
 }
 
-pub fn compress<P: Ptr, T: Drop, S: NonZeroInxGenericStack<ArenaSlot<P, T>> + Drop>(
+pub fn compress<P: PtrCore, T: Drop, S: ArenaSlots<P, T>>(
     arena: &mut Arena<P, T, S>,
     reset: bool,
 ) -> InvalidationOption<()>

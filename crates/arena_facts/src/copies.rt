@@ -7,12 +7,12 @@ ghost use Rattle.triple_arena.specs.DirectContent.{empty, live_entries};
 ghost use Rattle.triple_arena.specs.Entries.{generation_at};
 
 use triple_arena::{
-    AllocError, Arena, ArenaCloneFromWith, ArenaCloneSource, ArenaSlot, DirectArena, DirectSlot,
-    NonZeroInxGenericStack, Ptr, ReallocationError,
+    AllocError, Arena, ArenaCloneFromWith, ArenaCloneSource, ArenaSlots, DirectArena, DirectSlots,
+    PtrCore, ReallocationError,
 };
 
 /// A copy by a map, from bounds alone.
-pub fn clone_from_with<P: Ptr, T: Drop, U: Drop, A, B, F>(
+pub fn clone_from_with<P: PtrCore, T: Drop, U: Drop, A, B, F>(
     arena: &mut A,
     source: &B,
     map: F,
@@ -39,7 +39,7 @@ where
 }
 
 /// A clone, with its exact state.
-pub fn clone<P: Ptr, S: NonZeroInxGenericStack<ArenaSlot<P, u64>> + Drop>(
+pub fn clone<P: PtrCore, S: ArenaSlots<P, u64>>(
     arena: &Arena<P, u64, S>,
     alloc: S::Alloc,
 ) -> Result<Arena<P, u64, S>, ReallocationError>
@@ -49,7 +49,7 @@ pub fn clone<P: Ptr, S: NonZeroInxGenericStack<ArenaSlot<P, u64>> + Drop>(
 }
 
 /// A clone of an arena to which the caller gives the pointers.
-pub fn clone_direct<P: Ptr, S: NonZeroInxGenericStack<DirectSlot<P, u64>> + Drop>(
+pub fn clone_direct<P: PtrCore, S: DirectSlots<P, u64>>(
     arena: &DirectArena<P, u64, S>,
     alloc: S::Alloc,
 ) -> Result<DirectArena<P, u64, S>, ReallocationError>

@@ -7,12 +7,12 @@ ghost use Rattle.triple_arena.specs.DirectContent.{entry_at, get, live_count, in
 use std::alloc::Global;
 use triple_arena::{
     ArenaDirectInsertEntryTrait, ArenaDirectInsertTrait, ArenaTrait, ArrayDirectArena, DirectArena,
-    DirectInsertionError, DirectSlot, HeapDirectArena, InvalidationOption, InvalidationResult,
-    NonZeroInxGenericStack, P0, Ptr,
+    DirectInsertionError, DirectSlots, HeapDirectArena, InvalidationOption, InvalidationResult, P0,
+    PtrCore,
 };
 
 /// An entry under a pointer of the caller's choice.
-pub fn put<P: Ptr, S: NonZeroInxGenericStack<DirectSlot<P, u64>> + Drop>(
+pub fn put<P: PtrCore, S: DirectSlots<P, u64>>(
     arena: &mut DirectArena<P, u64, S>,
     p: P,
     t: u64,
@@ -39,9 +39,9 @@ pub fn put<P: Ptr, S: NonZeroInxGenericStack<DirectSlot<P, u64>> + Drop>(
 pub fn take(arena: &mut HeapDirectArena<P0, u64, Global>, p: P0) -> InvalidationResult<u64>
     ensures never { IfSome (answer_of result) (λ a. overflowed a ≡ false) }
     ensures exact { OnSome (answer_of result) (arena.new
-        ≡ removed arena.old (⟦<P0 as Ptr>⟧.index p)) }
+        ≡ removed arena.old (⟦<P0 as PtrCore>⟧.index p)) }
     ensures gone { OnSome (answer_of result)
-        (entry_at arena.new (⟦<P0 as Ptr>⟧.index p) ≡ None) }
+        (entry_at arena.new (⟦<P0 as PtrCore>⟧.index p) ≡ None) }
 {
     arena.remove(p)
 }

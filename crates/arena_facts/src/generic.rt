@@ -10,11 +10,11 @@ ghost use Rattle.triple_arena.specs.Compression.{renewed, generation_given, comp
 
 use triple_arena::{ArenaInsertTrait, ArenaTrait, DisjointableArenaTrait};
 use triple_arena_ptr::{
-    GetDisjointMutError, InvalidationOption, InvalidationResult, NotWithinCapacityError, Ptr,
+    GetDisjointMutError, InvalidationOption, InvalidationResult, NotWithinCapacityError, PtrCore,
     ReallocationError,
 };
 
-pub fn insert_within_capacity<P: Ptr, T: Drop, A: ArenaInsertTrait<P, T>>(
+pub fn insert_within_capacity<P: PtrCore, T: Drop, A: ArenaInsertTrait<P, T>>(
     arena: &mut A,
     t: T,
 ) -> Result<P, NotWithinCapacityError>
@@ -33,7 +33,7 @@ pub fn insert_within_capacity<P: Ptr, T: Drop, A: ArenaInsertTrait<P, T>>(
     arena.insert_within_capacity(t)
 }
 
-pub fn insert_reallocating<P: Ptr, T: Drop, A: ArenaInsertTrait<P, T>>(
+pub fn insert_reallocating<P: PtrCore, T: Drop, A: ArenaInsertTrait<P, T>>(
     arena: &mut A,
     t: T,
 ) -> Result<P, ReallocationError>
@@ -57,7 +57,7 @@ pub fn insert_reallocating<P: Ptr, T: Drop, A: ArenaInsertTrait<P, T>>(
     arena.insert_reallocating(t)
 }
 
-pub fn insert<P: Ptr, T: Drop, A: ArenaInsertTrait<P, T>>(
+pub fn insert<P: PtrCore, T: Drop, A: ArenaInsertTrait<P, T>>(
     arena: &mut A,
     t: T,
 ) -> Result<P, ReallocationError>
@@ -81,7 +81,10 @@ pub fn insert<P: Ptr, T: Drop, A: ArenaInsertTrait<P, T>>(
     arena.insert(t)
 }
 
-pub fn remove<P: Ptr, T: Drop, A: ArenaTrait<P, T>>(arena: &mut A, p: P) -> InvalidationResult<T>
+pub fn remove<P: PtrCore, T: Drop, A: ArenaTrait<P, T>>(
+    arena: &mut A,
+    p: P,
+) -> InvalidationResult<T>
     ensures value { option_map value_of (answer_of result)
         ≡ value_if (P.generation p) (A.entry_at arena.old (P.index p)) }
     ensures overflow { IfSome (answer_of result)
@@ -98,7 +101,7 @@ pub fn remove<P: Ptr, T: Drop, A: ArenaTrait<P, T>>(arena: &mut A, p: P) -> Inva
     arena.remove(p)
 }
 
-pub fn remove_inx<P: Ptr, T: Drop, A: ArenaTrait<P, T>>(
+pub fn remove_inx<P: PtrCore, T: Drop, A: ArenaTrait<P, T>>(
     arena: &mut A,
     i: P::Inx,
 ) -> InvalidationResult<(P::Gen, T)>
@@ -118,7 +121,7 @@ pub fn remove_inx<P: Ptr, T: Drop, A: ArenaTrait<P, T>>(
     arena.remove_inx(i)
 }
 
-pub fn invalidate<P: Ptr, T: Drop, A: ArenaTrait<P, T>>(
+pub fn invalidate<P: PtrCore, T: Drop, A: ArenaTrait<P, T>>(
     arena: &mut A,
     p: P,
 ) -> InvalidationResult<P>
@@ -143,7 +146,7 @@ pub fn invalidate<P: Ptr, T: Drop, A: ArenaTrait<P, T>>(
     arena.invalidate(p)
 }
 
-pub fn clear<P: Ptr, T: Drop, A: ArenaTrait<P, T>>(arena: &mut A) -> InvalidationOption<()>
+pub fn clear<P: PtrCore, T: Drop, A: ArenaTrait<P, T>>(arena: &mut A) -> InvalidationOption<()>
     ensures overflow { overflowed result ≡ counter_wraps P.Gen.last (A.counter arena.old) }
     ensures entries { (j : ℕ) → A.entry_at arena.new j ≡ None }
     ensures live { A.live_count arena.new ≡ 0 }
@@ -154,7 +157,7 @@ pub fn clear<P: Ptr, T: Drop, A: ArenaTrait<P, T>>(arena: &mut A) -> Invalidatio
     arena.clear()
 }
 
-pub fn new<P: Ptr, T: Drop, A: ArenaTrait<P, T>>(alloc: A::Alloc) -> A
+pub fn new<P: PtrCore, T: Drop, A: ArenaTrait<P, T>>(alloc: A::Alloc) -> A
     ensures entries { (j : ℕ) → A.entry_at result j ≡ None }
     ensures live { A.live_count result ≡ 0 }
     ensures counter { A.counter result ≡ number_if A.has_counter (second_generation P.Gen.last) }
@@ -163,7 +166,7 @@ pub fn new<P: Ptr, T: Drop, A: ArenaTrait<P, T>>(alloc: A::Alloc) -> A
     A::new(alloc)
 }
 
-pub fn with_min_capacity<P: Ptr, T: Drop, A: ArenaTrait<P, T>>(
+pub fn with_min_capacity<P: PtrCore, T: Drop, A: ArenaTrait<P, T>>(
     alloc: A::Alloc,
     min: usize,
 ) -> Result<A, ReallocationError>
@@ -182,7 +185,7 @@ pub fn with_min_capacity<P: Ptr, T: Drop, A: ArenaTrait<P, T>>(
     A::with_min_capacity(alloc, min)
 }
 
-pub fn reallocate_min_capacity<P: Ptr, T: Drop, A: ArenaTrait<P, T>>(
+pub fn reallocate_min_capacity<P: PtrCore, T: Drop, A: ArenaTrait<P, T>>(
     arena: &mut A,
     min: usize,
 ) -> Result<(), ReallocationError>
@@ -201,7 +204,7 @@ pub fn reallocate_min_capacity<P: Ptr, T: Drop, A: ArenaTrait<P, T>>(
     arena.reallocate_min_capacity(min)
 }
 
-pub fn swap_inx<P: Ptr, T: Drop, A: DisjointableArenaTrait<P, T>>(
+pub fn swap_inx<P: PtrCore, T: Drop, A: DisjointableArenaTrait<P, T>>(
     arena: &mut A,
     i: P::Inx,
     j: P::Inx,
@@ -217,7 +220,7 @@ pub fn swap_inx<P: Ptr, T: Drop, A: DisjointableArenaTrait<P, T>>(
     arena.swap_inx(i, j);
 }
 
-pub fn swap<P: Ptr, T: Drop, A: DisjointableArenaTrait<P, T>>(
+pub fn swap<P: PtrCore, T: Drop, A: DisjointableArenaTrait<P, T>>(
     arena: &mut A,
     p: P,
     q: P,
@@ -240,7 +243,7 @@ pub fn swap<P: Ptr, T: Drop, A: DisjointableArenaTrait<P, T>>(
     arena.swap(p, q)
 }
 
-pub fn compress_with<P: Ptr, T: Drop, A: ArenaTrait<P, T>, F: FnMut(P, T, P) -> T>(
+pub fn compress_with<P: PtrCore, T: Drop, A: ArenaTrait<P, T>, F: FnMut(P, T, P) -> T>(
     arena: &mut A,
     reset: bool,
     map: F,
@@ -265,7 +268,7 @@ pub fn compress_with<P: Ptr, T: Drop, A: ArenaTrait<P, T>, F: FnMut(P, T, P) -> 
     arena.compress_with(reset, map)
 }
 
-pub fn compress<P: Ptr, T: Drop, A: ArenaTrait<P, T>>(
+pub fn compress<P: PtrCore, T: Drop, A: ArenaTrait<P, T>>(
     arena: &mut A,
     reset: bool,
 ) -> InvalidationOption<()>

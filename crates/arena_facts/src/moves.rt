@@ -12,16 +12,14 @@ ghost use Rattle.triple_arena.specs.Drains.{drained};
 ghost use Rattle.triple_arena.specs.Transfer.{IsTransferred};
 
 use triple_arena::{
-    Arena, ArenaSlot, ArenaTransferSource, ArenaTransferTrait, DirectArena, DirectSlot,
-    InvalidationOption, MaxCapacityReductionError, NonZeroInxGenericStack, NonZeroInxLimitedStack,
-    Ptr, ReallocationError, SetMaxCapacity,
+    Arena, ArenaSlot, ArenaSlots, ArenaTransferSource, ArenaTransferTrait, DirectArena, DirectSlot,
+    DirectSlots, InvalidationOption, MaxCapacityReductionError, NonZeroInxLimitedStack, PtrCore,
+    ReallocationError, SetMaxCapacity,
 };
 
 /// A drain that is dropped at once.
 #[tactic(auto, using(triple_arena::specs::TransferLaws::drains))]
-pub fn drain<P: Ptr, T: Drop, S: NonZeroInxGenericStack<ArenaSlot<P, T>> + Drop>(
-    arena: &mut Arena<P, T, S>,
-)
+pub fn drain<P: PtrCore, T: Drop, S: ArenaSlots<P, T>>(arena: &mut Arena<P, T, S>)
     ensures exact { arena.new ≡ drained P.Gen.last arena.old }
     ensures entries { (j : ℕ) → entry_at arena.new j ≡ None }
     ensures count { live_count arena.new ≡ 0 }
@@ -34,7 +32,7 @@ pub fn drain<P: Ptr, T: Drop, S: NonZeroInxGenericStack<ArenaSlot<P, T>> + Drop>
 }
 
 /// A drain that is dropped after its first item leaves the same.
-pub fn take_first<P: Ptr, T: Drop, S: NonZeroInxGenericStack<ArenaSlot<P, T>> + Drop>(
+pub fn take_first<P: PtrCore, T: Drop, S: ArenaSlots<P, T>>(
     arena: &mut Arena<P, T, S>,
 ) -> Option<InvalidationOption<(P, T)>>
     ensures { arena.new ≡ drained P.Gen.last arena.old }
@@ -44,9 +42,7 @@ pub fn take_first<P: Ptr, T: Drop, S: NonZeroInxGenericStack<ArenaSlot<P, T>> + 
 }
 
 /// A drain of an arena to which the caller gives the pointers.
-pub fn drain_direct<P: Ptr, T: Drop, S: NonZeroInxGenericStack<DirectSlot<P, T>> + Drop>(
-    arena: &mut DirectArena<P, T, S>,
-)
+pub fn drain_direct<P: PtrCore, T: Drop, S: DirectSlots<P, T>>(arena: &mut DirectArena<P, T, S>)
     ensures exact { arena.new ≡ cleared arena.old }
     ensures count { direct_live_count arena.new ≡ 0 }
 {
@@ -54,7 +50,7 @@ pub fn drain_direct<P: Ptr, T: Drop, S: NonZeroInxGenericStack<DirectSlot<P, T>>
 }
 
 /// A transfer, from bounds alone.
-pub fn transfer_reallocating<P: Ptr, T: Drop, Q: Ptr, U: Drop, A, B, F>(
+pub fn transfer_reallocating<P: PtrCore, T: Drop, Q: PtrCore, U: Drop, A, B, F>(
     arena: &mut A,
     generation: P::Gen,
     source: &mut B,
@@ -92,14 +88,14 @@ where
 
 /// What a transfer leaves of the one arena, and makes of the other.
 #[tactic(auto, using(triple_arena::specs::TransferLaws::fillings))]
-pub fn transfer_to_arena<P: Ptr, T: Drop, S, R>(
+pub fn transfer_to_arena<P: PtrCore, T: Drop, S, R>(
     arena: &mut Arena<P, T, S>,
     generation: P::Gen,
     source: &mut Arena<P, T, R>,
 ) -> Result<(), ReallocationError>
 where
-    S: NonZeroInxGenericStack<ArenaSlot<P, T>> + Drop,
-    R: NonZeroInxGenericStack<ArenaSlot<P, T>> + Drop,
+    S: ArenaSlots<P, T>,
+    R: ArenaSlots<P, T>,
     ensures source_exact { OnOk result (source.new ≡ drained P.Gen.last source.old) }
     ensures counter { OnOk result (arena.new.counter ≡ P.Gen.number generation) }
     ensures free { OnOk result (arena.new.free ≡ []) }
@@ -111,7 +107,7 @@ where
 
 /// A limit that is set.
 #[tactic(auto, using(triple_arena::specs::LimitLaws::limits))]
-pub fn limit<P: Ptr, T: Drop, S: NonZeroInxLimitedStack<ArenaSlot<P, T>> + Drop>(
+pub fn limit<P: PtrCore, T: Drop, S: NonZeroInxLimitedStack<Item = ArenaSlot<P, T>> + Drop>(
     arena: &mut Arena<P, T, S>,
     max: usize,
 ) -> Result<(), MaxCapacityReductionError>
@@ -127,7 +123,7 @@ pub fn limit<P: Ptr, T: Drop, S: NonZeroInxLimitedStack<ArenaSlot<P, T>> + Drop>
 
 /// The same of an arena to which the caller gives the pointers.
 #[tactic(auto, using(triple_arena::specs::DirectLaws::direct_limits))]
-pub fn limit_direct<P: Ptr, T: Drop, S: NonZeroInxLimitedStack<DirectSlot<P, T>> + Drop>(
+pub fn limit_direct<P: PtrCore, T: Drop, S: NonZeroInxLimitedStack<Item = DirectSlot<P, T>> + Drop>(
     arena: &mut DirectArena<P, T, S>,
     max: usize,
 ) -> Result<(), MaxCapacityReductionError>

@@ -4,18 +4,18 @@ ghost use Rattle.triple_arena_ptr.specs.InvalidationOption.{value_of};
 ghost use Rattle.triple_arena_ptr.specs.InvalidationResult.{answer_of};
 
 use triple_arena::{
-    ArenaInsertTrait, ArenaTrait, ArrayArena, InvalidationResult, Ptr, ReallocationError,
+    ArenaInsertTrait, ArenaTrait, ArrayArena, InvalidationResult, PtrCore, ReallocationError,
 };
 
 /// The next index after a `clear`, from bounds alone.
-pub fn clear_starts_again<P: Ptr, T: Drop, A: ArenaInsertTrait<P, T>>(arena: &mut A)
+pub fn clear_starts_again<P: PtrCore, T: Drop, A: ArenaInsertTrait<P, T>>(arena: &mut A)
     ensures { A.next_index arena.new ≡ 1 }
 {
     arena.clear();
 }
 
 /// The next index under a write, from bounds alone.
-pub fn write_keeps_the_next_index<P: Ptr, T: Drop, A: ArenaInsertTrait<P, T>>(
+pub fn write_keeps_the_next_index<P: PtrCore, T: Drop, A: ArenaInsertTrait<P, T>>(
     arena: &mut A,
     i: P::Inx,
     t: T,
@@ -28,14 +28,14 @@ pub fn write_keeps_the_next_index<P: Ptr, T: Drop, A: ArenaInsertTrait<P, T>>(
 }
 
 /// A generation is at most the greatest one.
-pub fn is_counted<P: Ptr, T: Drop, A: ArenaTrait<P, T>>(arena: &A, p: P, greatest: u64) -> bool
+pub fn is_counted<P: PtrCore, T: Drop, A: ArenaTrait<P, T>>(arena: &A, p: P, greatest: u64) -> bool
     ensures { P.Gen.last ≡ Some greatest → P.generation p ≤ greatest }
 {
     arena.contains(p)
 }
 
 /// A pointer without generations stays.
-pub fn invalidate_uncounted<P: Ptr, T: Drop, A: ArenaTrait<P, T>>(
+pub fn invalidate_uncounted<P: PtrCore, T: Drop, A: ArenaTrait<P, T>>(
     arena: &mut A,
     p: P,
 ) -> InvalidationResult<P>
@@ -45,7 +45,7 @@ pub fn invalidate_uncounted<P: Ptr, T: Drop, A: ArenaTrait<P, T>>(
 }
 
 /// An insertion into an array takes no memory.
-pub fn store_in_array<P: Ptr, T: Drop, const LIMIT: usize>(
+pub fn store_in_array<P: PtrCore, T: Drop, const LIMIT: usize>(
     arena: &mut ArrayArena<P, T, LIMIT>,
     t: T,
 ) -> Result<P, ReallocationError>
@@ -55,7 +55,7 @@ pub fn store_in_array<P: Ptr, T: Drop, const LIMIT: usize>(
 }
 
 /// And neither does a request for room.
-pub fn widen_array<P: Ptr, T: Drop, const LIMIT: usize>(
+pub fn widen_array<P: PtrCore, T: Drop, const LIMIT: usize>(
     arena: &mut ArrayArena<P, T, LIMIT>,
     min: usize,
 ) -> Result<(), ReallocationError>

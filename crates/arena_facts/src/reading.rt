@@ -3,10 +3,10 @@ ghost use Rattle.std.specs.Prelude.{◌≡◌, ℕ, ◌<◌, Some, None, IfSome,
 ghost use Rattle.std.specs.Option.{option_map};
 ghost use Rattle.triple_arena.specs.Entries.{value_if, generation_at};
 
-use triple_arena::{ArenaInsertTrait, ArenaTrait, Ptr, PtrGen, ReallocationError};
+use triple_arena::{ArenaInsertTrait, ArenaTrait, PtrCore, PtrGenCore, ReallocationError};
 
 /// The value under a pointer.
-pub fn get<P: Ptr, T: Drop, A: ArenaTrait<P, T>>(arena: &A, p: P) -> Option<&T>
+pub fn get<P: PtrCore, T: Drop, A: ArenaTrait<P, T>>(arena: &A, p: P) -> Option<&T>
     ensures { option_copied result
         ≡ value_if (P.generation p) (A.entry_at arena.now (P.index p)) }
 {
@@ -14,7 +14,10 @@ pub fn get<P: Ptr, T: Drop, A: ArenaTrait<P, T>>(arena: &A, p: P) -> Option<&T>
 }
 
 /// The generation and the value at an index.
-pub fn get_inx<P: Ptr, T: Drop, A: ArenaTrait<P, T>>(arena: &A, i: P::Inx) -> Option<(P::Gen, &T)>
+pub fn get_inx<P: PtrCore, T: Drop, A: ArenaTrait<P, T>>(
+    arena: &A,
+    i: P::Inx,
+) -> Option<(P::Gen, &T)>
     ensures { option_map (λ e. (P.Gen.number e.0, e.1.now)) result
         ≡ A.entry_at arena.now (P.Inx.number i) }
 {
@@ -22,7 +25,7 @@ pub fn get_inx<P: Ptr, T: Drop, A: ArenaTrait<P, T>>(arena: &A, i: P::Inx) -> Op
 }
 
 /// The pointer of a value that was just stored finds it.
-pub fn store_and_get<P: Ptr, A: ArenaInsertTrait<P, u64>>(
+pub fn store_and_get<P: PtrCore, A: ArenaInsertTrait<P, u64>>(
     arena: &mut A,
     t: u64,
 ) -> Result<u64, ReallocationError>
@@ -37,7 +40,7 @@ pub fn store_and_get<P: Ptr, A: ArenaInsertTrait<P, u64>>(
 }
 
 /// The entry with the least index.
-pub fn first<P: Ptr, T: Drop, A: ArenaTrait<P, T>>(arena: &A) -> Option<P>
+pub fn first<P: PtrCore, T: Drop, A: ArenaTrait<P, T>>(arena: &A) -> Option<P>
     ensures live { IfSome result (λ p. generation_at (A.entry_at arena.now) (P.index p)
         ≡ Some (P.generation p)) }
     ensures first { IfSome result (λ p. (j : ℕ) → j < P.index p → A.entry_at arena.now j ≡ None) }
@@ -47,7 +50,7 @@ pub fn first<P: Ptr, T: Drop, A: ArenaTrait<P, T>>(arena: &A) -> Option<P>
 }
 
 /// The entry with the greatest index.
-pub fn last<P: Ptr, T: Drop, A: ArenaTrait<P, T>>(arena: &A) -> Option<P>
+pub fn last<P: PtrCore, T: Drop, A: ArenaTrait<P, T>>(arena: &A) -> Option<P>
     ensures live { IfSome result (λ p. generation_at (A.entry_at arena.now) (P.index p)
         ≡ Some (P.generation p)) }
     ensures last { IfSome result (λ p. (j : ℕ) → P.index p < j → A.entry_at arena.now j ≡ None) }

@@ -12,17 +12,17 @@ ghost use Rattle.triple_arena.specs.Recaster.{IsRecaster};
 ghost use Rattle.triple_arena.specs.Recasting.{content_items};
 
 use triple_arena::{
-    Arena, ArenaSlot, DirectArena, DirectSlot, NonZeroInxGenericStack, Ptr, ReallocationError,
-    Recast, Recaster, compress_recaster,
+    Arena, ArenaSlots, DirectArena, DirectSlots, PtrCore, ReallocationError, Recast, Recaster,
+    compress_recaster,
 };
 
 /// The entries after a recast.
 #[tactic(auto, using(triple_arena::specs::RecastingLaws::recastings))]
 pub fn recast<I, P, T, S, R>(arena: &mut Arena<P, T, S>, recaster: &R) -> Result<(), I>
 where
-    P: Ptr,
+    P: PtrCore,
     T: Recast<I> + Drop,
-    S: NonZeroInxGenericStack<ArenaSlot<P, T>>,
+    S: ArenaSlots<P, T>,
     R: Recaster<Item = I>,
     ensures answer { result ≡ recast_answer (R.image recaster.now)
         (content_items T.items arena.old) }
@@ -39,9 +39,9 @@ where
 #[tactic(auto, using(triple_arena::specs::RecastingLaws::direct_recastings))]
 pub fn recast_direct<I, P, T, S, R>(arena: &mut DirectArena<P, T, S>, recaster: &R) -> Result<(), I>
 where
-    P: Ptr,
+    P: PtrCore,
     T: Recast<I> + Drop,
-    S: NonZeroInxGenericStack<DirectSlot<P, T>>,
+    S: DirectSlots<P, T>,
     R: Recaster<Item = I>,
     ensures answer { result ≡ recast_answer (R.image recaster.now)
         (content_items T.items (as_content arena.old)) }
@@ -61,10 +61,10 @@ pub fn compress_to_map<P, T, S, R>(
     alloc: R::Alloc,
 ) -> Result<DirectArena<P, P, R>, ReallocationError>
 where
-    P: Ptr,
+    P: PtrCore,
     T: Drop,
-    S: NonZeroInxGenericStack<ArenaSlot<P, T>> + Drop,
-    R: NonZeroInxGenericStack<DirectSlot<P, P>> + Drop,
+    S: ArenaSlots<P, T>,
+    R: DirectSlots<P, P>,
     ensures map { IfOk result (λ map. IsRecaster P.index P.generation (live_entries arena.old)
         (live_entries arena.new) (direct_live_entries map)) }
     ensures values { OnOk result (live_values arena.new ≡ live_values arena.old) }

@@ -5,14 +5,14 @@ ghost use Rattle.triple_arena.specs.DirectContent.{entry_at as direct_entry_at, 
 ghost use Rattle.triple_arena.specs.Content.{entry_at, live_count, next_index, IsWellFormed};
 
 use triple_arena::{
-    Arena, ArenaInsertTrait, ArenaSlot, ArenaTrait, DirectArena, DirectSlot,
+    Arena, ArenaInsertTrait, ArenaSlots, ArenaTrait, DirectArena, DirectSlots,
     DisjointableArenaTrait, GetDisjointMutError, InvalidationOption, InvalidationResult,
-    NonZeroInxGenericStack, NotWithinCapacityError, Ptr, ReallocationError,
+    NotWithinCapacityError, PtrCore, ReallocationError,
 };
 
 /// The slots and the free indexes after an insertion.
 #[tactic(auto, using(triple_arena::specs::InsertionLaws::insertions))]
-pub fn insert<P: Ptr, T: Drop, S: NonZeroInxGenericStack<ArenaSlot<P, T>> + Drop>(
+pub fn insert<P: PtrCore, T: Drop, S: ArenaSlots<P, T>>(
     arena: &mut Arena<P, T, S>,
     t: T,
 ) -> Result<P, NotWithinCapacityError>
@@ -27,7 +27,7 @@ pub fn insert<P: Ptr, T: Drop, S: NonZeroInxGenericStack<ArenaSlot<P, T>> + Drop
 
 /// The entries after a growth.
 #[tactic(auto, using(triple_arena::specs::InsertionLaws::growths))]
-pub fn grow<P: Ptr, T: Drop, S: NonZeroInxGenericStack<ArenaSlot<P, T>> + Drop>(
+pub fn grow<P: PtrCore, T: Drop, S: ArenaSlots<P, T>>(
     arena: &mut Arena<P, T, S>,
     min: usize,
 ) -> Result<(), ReallocationError>
@@ -38,7 +38,7 @@ pub fn grow<P: Ptr, T: Drop, S: NonZeroInxGenericStack<ArenaSlot<P, T>> + Drop>(
 
 /// The slots after a growth of an arena to which the caller gives the pointers.
 #[tactic(auto, using(triple_arena::specs::DirectLaws::direct_growths))]
-pub fn grow_direct<P: Ptr, T: Drop, S: NonZeroInxGenericStack<DirectSlot<P, T>> + Drop>(
+pub fn grow_direct<P: PtrCore, T: Drop, S: DirectSlots<P, T>>(
     arena: &mut DirectArena<P, T, S>,
     min: usize,
 ) -> Result<(), ReallocationError>
@@ -51,7 +51,7 @@ pub fn grow_direct<P: Ptr, T: Drop, S: NonZeroInxGenericStack<DirectSlot<P, T>> 
 }
 
 /// The entries where the counter stepped.
-pub fn inc_generation<P: Ptr, T: Drop, S: NonZeroInxGenericStack<ArenaSlot<P, T>> + Drop>(
+pub fn inc_generation<P: PtrCore, T: Drop, S: ArenaSlots<P, T>>(
     arena: &mut Arena<P, T, S>,
 ) -> InvalidationOption<()>
     ensures entries { (j : ℕ) → entry_at arena.new j ≡ entry_at arena.old j }
@@ -63,7 +63,7 @@ pub fn inc_generation<P: Ptr, T: Drop, S: NonZeroInxGenericStack<ArenaSlot<P, T>
 
 /// The slots and the free indexes after a removal.
 #[tactic(auto, using(triple_arena::specs::RemovalLaws::removals))]
-pub fn remove<P: Ptr, T: Drop, S: NonZeroInxGenericStack<ArenaSlot<P, T>> + Drop>(
+pub fn remove<P: PtrCore, T: Drop, S: ArenaSlots<P, T>>(
     arena: &mut Arena<P, T, S>,
     p: P,
 ) -> InvalidationResult<T>
@@ -77,7 +77,7 @@ pub fn remove<P: Ptr, T: Drop, S: NonZeroInxGenericStack<ArenaSlot<P, T>> + Drop
 
 /// The slots and the free indexes after a compression.
 #[tactic(auto, using(triple_arena::specs::CompactedLaws::compressions))]
-pub fn compress<P: Ptr, T: Drop, S: NonZeroInxGenericStack<ArenaSlot<P, T>> + Drop>(
+pub fn compress<P: PtrCore, T: Drop, S: ArenaSlots<P, T>>(
     arena: &mut Arena<P, T, S>,
     reset: bool,
 ) -> InvalidationOption<()>
@@ -89,7 +89,7 @@ pub fn compress<P: Ptr, T: Drop, S: NonZeroInxGenericStack<ArenaSlot<P, T>> + Dr
 
 /// The slots after a compression of an arena to which the caller gives the pointers.
 #[tactic(auto, using(triple_arena::specs::CompactedLaws::direct_compressions))]
-pub fn compress_direct<P: Ptr, T: Drop, S: NonZeroInxGenericStack<DirectSlot<P, T>> + Drop>(
+pub fn compress_direct<P: PtrCore, T: Drop, S: DirectSlots<P, T>>(
     arena: &mut DirectArena<P, T, S>,
     reset: bool,
 ) -> InvalidationOption<()>
@@ -100,7 +100,7 @@ pub fn compress_direct<P: Ptr, T: Drop, S: NonZeroInxGenericStack<DirectSlot<P, 
 
 /// The slots and the next index after a clearing.
 #[tactic(auto, using(triple_arena::specs::RemovalLaws::clearings))]
-pub fn clear<P: Ptr, T: Drop, S: NonZeroInxGenericStack<ArenaSlot<P, T>> + Drop>(
+pub fn clear<P: PtrCore, T: Drop, S: ArenaSlots<P, T>>(
     arena: &mut Arena<P, T, S>,
 ) -> InvalidationOption<()>
     ensures slots { length arena.new.slots ≡ 0 }
@@ -112,7 +112,7 @@ pub fn clear<P: Ptr, T: Drop, S: NonZeroInxGenericStack<ArenaSlot<P, T>> + Drop>
 
 /// The slots and the free indexes after a pointer ended.
 #[tactic(auto, using(triple_arena::specs::GenerationLaws::invalidations))]
-pub fn invalidate<P: Ptr, T: Drop, S: NonZeroInxGenericStack<ArenaSlot<P, T>> + Drop>(
+pub fn invalidate<P: PtrCore, T: Drop, S: ArenaSlots<P, T>>(
     arena: &mut Arena<P, T, S>,
     p: P,
 ) -> InvalidationResult<P>
@@ -124,7 +124,7 @@ pub fn invalidate<P: Ptr, T: Drop, S: NonZeroInxGenericStack<ArenaSlot<P, T>> + 
 
 /// The slots and the free indexes after an exchange.
 #[tactic(auto, using(triple_arena::specs::ExchangeLaws::exchanges))]
-pub fn swap<P: Ptr, T: Drop, S: NonZeroInxGenericStack<ArenaSlot<P, T>> + Drop>(
+pub fn swap<P: PtrCore, T: Drop, S: ArenaSlots<P, T>>(
     arena: &mut Arena<P, T, S>,
     p: P,
     q: P,
@@ -137,9 +137,7 @@ pub fn swap<P: Ptr, T: Drop, S: NonZeroInxGenericStack<ArenaSlot<P, T>> + Drop>(
 
 /// The slots and the entries where the free ones at the end are gone.
 #[tactic(auto, using(triple_arena::specs::FreeListLaws::free_end_removals))]
-pub fn remove_free_end_slots<P: Ptr, T: Drop, S: NonZeroInxGenericStack<ArenaSlot<P, T>> + Drop>(
-    arena: &mut Arena<P, T, S>,
-)
+pub fn remove_free_end_slots<P: PtrCore, T: Drop, S: ArenaSlots<P, T>>(arena: &mut Arena<P, T, S>)
     ensures entries { (j : ℕ) → entry_at arena.new j ≡ entry_at arena.old j }
     ensures count { live_count arena.new ≡ live_count arena.old }
 {
@@ -148,9 +146,7 @@ pub fn remove_free_end_slots<P: Ptr, T: Drop, S: NonZeroInxGenericStack<ArenaSlo
 
 /// The entries where the free indexes rise.
 #[tactic(auto, using(triple_arena::specs::FreeListLaws::canonical_orders))]
-pub fn canonicalize_freelist<P: Ptr, T: Drop, S: NonZeroInxGenericStack<ArenaSlot<P, T>> + Drop>(
-    arena: &mut Arena<P, T, S>,
-)
+pub fn canonicalize_freelist<P: PtrCore, T: Drop, S: ArenaSlots<P, T>>(arena: &mut Arena<P, T, S>)
     ensures entries { (j : ℕ) → entry_at arena.new j ≡ entry_at arena.old j }
     ensures slots { length arena.new.slots ≡ length arena.old.slots }
 {

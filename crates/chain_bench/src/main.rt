@@ -5,7 +5,7 @@
 use std::alloc::Global;
 use std::process::ExitCode;
 use std::{env, io};
-use triple_arena::{Advancer, ArenaSlot, ArenaTrait, P0, Ptr};
+use triple_arena::{Advancer, ArenaSlot, ArenaTrait, P0, PtrCore};
 use triple_arena_chain::{ChainArena, ChainArenaTrait, LinkInsertKind, LinkNoGen};
 use triple_arena_ptr::ChainInsertionError;
 use triple_arena_stack::NonZeroInxVec;

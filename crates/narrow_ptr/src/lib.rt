@@ -10,7 +10,7 @@ ghost use Rattle.triple_arena_ptr.specs.NonZeros.{u8_determined};
 use std::fmt;
 use std::marker::Model;
 use std::num::NonZeroU8;
-use triple_arena_ptr::{Pointer, PtrGen, PtrKind};
+use triple_arena_ptr::{Pointer, PtrGen, PtrGenCore, PtrKind};
 
 /// A pointer with a `u8` index and a generation from 1 to 3.
 pub type N3 = Pointer<NonZeroU8, Gen3, N3Kind>;
@@ -47,7 +47,7 @@ impl Model for Gen3 {
     ghost inverse = { λ number. record { number = number } };
 }
 
-impl PtrGen for Gen3 {
+impl PtrGenCore for Gen3 {
     ghost number = { non_zero_u8_get };
 
     ghost last = { Some 3 };
@@ -57,8 +57,6 @@ impl PtrGen for Gen3 {
     ghost positive = { λ a. a.ok };
 
     ghost determined = { u8_determined };
-
-    ghost ordered = { λ a b. Prim.search (comparing, rules) };
 
     ghost equal = { λ a b. Prim.search (comparing, rules) };
 
@@ -93,12 +91,16 @@ impl PtrGen for Gen3 {
     }
 }
 
+impl PtrGen for Gen3 {
+    ghost ordered = { λ a b. Prim.search (comparing, rules) };
+}
+
 #[cfg(test)]
 mod tests {
     use crate::{Gen3, N3};
     use std::num::NonZeroU8;
     use std::test::Fail;
-    use triple_arena_ptr::{Ptr, PtrGen};
+    use triple_arena_ptr::{PtrCore, PtrGenCore};
 
     #[test]
     fn generations_start_again_at_two(rt: HostRuntime) -> Result<(), Fail> {

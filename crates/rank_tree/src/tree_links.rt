@@ -5,7 +5,7 @@ ghost use Rattle.rank_tree.specs.Store.{child_of, with_child};
 ghost use Rattle.rank_tree.specs.Named.{named};
 
 use crate::Side;
-use triple_arena_ptr::PtrInx;
+use triple_arena_ptr::PtrInxCore;
 
 /// A node without its item: its parent and its children, by indexes of the type `I`, and its rank.
 #[derive(Clone, Copy, Drop)]
@@ -20,7 +20,7 @@ pub struct TreeLinks<I> {
     pub rank: u8,
 }
 
-impl<I: PtrInx> TreeLinks<I> {
+impl<I: PtrInxCore> TreeLinks<I> {
     /// The child on a side.
     pub fn child(self, side: Side) -> Option<I>
         ensures { option_map I.number result ≡ child_of side (named I.number self) }
@@ -49,7 +49,7 @@ impl<I: PtrInx> TreeLinks<I> {
 }
 
 /// The side on which a node has this child: the left one where it is the left child, and else the right one.
-pub fn side_of<I: PtrInx>(knot: TreeLinks<I>, child: I) -> Side
+pub fn side_of<I: PtrInxCore>(knot: TreeLinks<I>, child: I) -> Side
     ensures left { option_map I.number knot.left ≡ Some (I.number child) → result ≡ Side.Left }
     ensures right { option_map I.number knot.left ≢ Some (I.number child) → result ≡ Side.Right }
 {

@@ -7,11 +7,10 @@ ghost use Rattle.triple_arena.specs.Content.{Content, entry_at, last_index as la
 ghost use Rattle.triple_arena.specs.DirectContent.{entry_at as entry_of, as_content};
 ghost use Rattle.triple_arena.specs.Walk.{past, to_come, Finds, IsOver, Steps};
 
-use crate::{Arena, ArenaSlot, DirectArena, DirectSlot};
+use crate::{Arena, ArenaSlots, DirectArena, DirectSlots};
 use std::marker::{Model, PhantomData};
 use std::num::NonZeroUsize;
-use triple_arena_ptr::{Advancer, Ptr, PtrInx};
-use triple_arena_stack::NonZeroInxGenericStack;
+use triple_arena_ptr::{Advancer, PtrCore, PtrInxCore};
 use unreached::unreached;
 
 /// Gives the pointers to the entries of an arena, one a call, by rising or by falling index. The arena is free
@@ -20,7 +19,7 @@ use unreached::unreached;
 /// A call gives the pointer at the first index that is live then, of those that no call has passed. Once there is
 /// none, no call gives one.
 #[derive(Drop)]
-pub struct PtrAdvancer<P: Ptr> {
+pub struct PtrAdvancer<P: PtrCore> {
     // The indexes that are left are those after `start`, up to `end`.
     start: usize,
     end: usize,
@@ -28,7 +27,7 @@ pub struct PtrAdvancer<P: Ptr> {
     pointers: PhantomData<P>,
 }
 
-impl<P: Ptr> Model for PtrAdvancer<P> {
+impl<P: PtrCore> Model for PtrAdvancer<P> {
     ghost use Rattle.std.specs.Prelude.{◌+◌};
     ghost use Rattle.triple_arena.specs.Walk.{Walk};
 
@@ -37,7 +36,7 @@ impl<P: Ptr> Model for PtrAdvancer<P> {
     ghost view = { λ a. record { low = a.start + 1; high = a.end; falls = a.rev } };
 }
 
-impl<P: Ptr> PtrAdvancer<P> {
+impl<P: PtrCore> PtrAdvancer<P> {
     // Over the indexes after `start`, up to `end`.
     pub(crate) fn over(start: usize, end: usize, rev: bool) -> Self
         ensures { result ≡ record { low = start + 1; high = end; falls = rev } }
@@ -98,7 +97,7 @@ impl<P: Ptr> PtrAdvancer<P> {
 }
 
 // What finds its live entries by the indexes of its slots.
-pub(crate) trait LivePointers<P: Ptr, T> {
+pub(crate) trait LivePointers<P: PtrCore, T> {
     // What it holds, as an `Arena` would hold it.
     ghost content: { Self → Content T };
 
@@ -193,8 +192,7 @@ pub(crate) trait LivePointers<P: Ptr, T> {
     }
 }
 
-impl<P: Ptr, T: Drop, S: NonZeroInxGenericStack<ArenaSlot<P, T>>> LivePointers<P, T>
-    for Arena<P, T, S> {
+impl<P: PtrCore, T: Drop, S: ArenaSlots<P, T>> LivePointers<P, T> for Arena<P, T, S> {
     ghost content = { λ c. c };
 
     fn slots_len(&self) -> usize {
@@ -206,8 +204,7 @@ impl<P: Ptr, T: Drop, S: NonZeroInxGenericStack<ArenaSlot<P, T>>> LivePointers<P
     }
 }
 
-impl<P: Ptr, T: Drop, S: NonZeroInxGenericStack<DirectSlot<P, T>>> LivePointers<P, T>
-    for DirectArena<P, T, S> {
+impl<P: PtrCore, T: Drop, S: DirectSlots<P, T>> LivePointers<P, T> for DirectArena<P, T, S> {
     ghost content = { as_content };
 
     fn slots_len(&self) -> usize {
@@ -219,8 +216,7 @@ impl<P: Ptr, T: Drop, S: NonZeroInxGenericStack<DirectSlot<P, T>>> LivePointers<
     }
 }
 
-impl<P: Ptr, T: Drop, S: NonZeroInxGenericStack<ArenaSlot<P, T>>> Advancer<Arena<P, T, S>>
-    for PtrAdvancer<P> {
+impl<P: PtrCore, T: Drop, S: ArenaSlots<P, T>> Advancer<Arena<P, T, S>> for PtrAdvancer<P> {
     type Item = P;
 
     ghost remaining = { λ a _. to_come a };
@@ -239,8 +235,7 @@ impl<P: Ptr, T: Drop, S: NonZeroInxGenericStack<ArenaSlot<P, T>>> Advancer<Arena
     }
 }
 
-impl<P: Ptr, T: Drop, S: NonZeroInxGenericStack<DirectSlot<P, T>>> Advancer<DirectArena<P, T, S>>
-    for PtrAdvancer<P> {
+impl<P: PtrCore, T: Drop, S: DirectSlots<P, T>> Advancer<DirectArena<P, T, S>> for PtrAdvancer<P> {
     type Item = P;
 
     ghost remaining = { λ a _. to_come a };

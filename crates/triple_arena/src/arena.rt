@@ -28,7 +28,7 @@ mod room;
 mod text;
 mod transfer;
 
-use crate::ArenaSlot;
+use crate::{ArenaSlot, ArenaSlots};
 pub use capacity_drain::CapacityDrain;
 pub(crate) use compression::{compact, keep_first, take_entry};
 pub use drain::Drain;
@@ -40,10 +40,9 @@ pub(crate) use removal::equal_uncounted;
 use std::marker::{Model, PhantomData};
 use std::num::NonZeroUsize;
 pub(crate) use text::write_entries;
-use triple_arena_ptr::{Ptr, PtrGen, PtrInx};
+use triple_arena_ptr::{PtrCore, PtrGenCore, PtrInxCore};
 use triple_arena_stack::{
-    NonZeroInxArray, NonZeroInxBoxedSlice, NonZeroInxGenericStack, NonZeroInxLimitedVec,
-    NonZeroInxVec,
+    NonZeroInxArray, NonZeroInxBoxedSlice, NonZeroInxLimitedVec, NonZeroInxVec,
 };
 use unreached::unreached;
 
@@ -53,7 +52,7 @@ use unreached::unreached;
 /// counter. Each removal steps the counter. A pointer finds its own value or nothing, until the generations start
 /// again.
 #[derive(Drop)]
-pub struct Arena<P: Ptr, T: Drop, S: NonZeroInxGenericStack<ArenaSlot<P, T>>> {
+pub struct Arena<P: PtrCore, T: Drop, S: ArenaSlots<P, T>> {
     slots: S,
     counter: P::Gen,
     // The first free index.
@@ -63,7 +62,7 @@ pub struct Arena<P: Ptr, T: Drop, S: NonZeroInxGenericStack<ArenaSlot<P, T>>> {
     values: PhantomData<T>,
 }
 
-impl<P: Ptr, T: Drop, S: NonZeroInxGenericStack<ArenaSlot<P, T>>> Model for Arena<P, T, S> {
+impl<P: PtrCore, T: Drop, S: ArenaSlots<P, T>> Model for Arena<P, T, S> {
     ghost use Rattle.std.specs.Int.NonZero.{non_zero_usize_get};
     ghost use Rattle.std.specs.Option.{option_map};
     ghost use Rattle.triple_arena.specs.ArenaRoom.{room_of};
@@ -98,7 +97,7 @@ pub type ArrayArena<P, T, const LIMIT: usize> = Arena<
 >;
 
 // The greatest index that is a number.
-pub(crate) fn max_index<P: Ptr>() -> usize
+pub(crate) fn max_index<P: PtrCore>() -> usize
     ensures { result ≡ max_index_of P.Inx.greatest }
 {
     match P::Inx::max_index().try_into_usize() {
@@ -108,7 +107,7 @@ pub(crate) fn max_index<P: Ptr>() -> usize
 }
 
 // The pointer with this index and generation.
-pub(crate) fn pointer_at<P: Ptr>(index: NonZeroUsize, generation: P::Gen) -> P
+pub(crate) fn pointer_at<P: PtrCore>(index: NonZeroUsize, generation: P::Gen) -> P
     requires { non_zero_usize_get index ≤ P.Inx.greatest }
     ensures has_index { P.index result ≡ non_zero_usize_get index }
     ensures has_generation { P.generation result ≡ P.Gen.number generation }
@@ -119,7 +118,7 @@ pub(crate) fn pointer_at<P: Ptr>(index: NonZeroUsize, generation: P::Gen) -> P
     }
 }
 
-impl<P: Ptr, T: Drop, S: NonZeroInxGenericStack<ArenaSlot<P, T>>> Arena<P, T, S> {
+impl<P: PtrCore, T: Drop, S: ArenaSlots<P, T>> Arena<P, T, S> {
     // An arena over an empty stack.
     pub(crate) fn over(slots: S) -> Self
         requires { S.items slots ≡ [] }

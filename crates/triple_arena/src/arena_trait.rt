@@ -14,12 +14,12 @@ ghost use Rattle.std.specs.List.Sorted.{IsStrictlyIncreasing};
 ghost use Rattle.triple_arena.specs.Compression.{compression_wraps, index_of, generation_of, value_of as value_of_entry, IsMapped};
 
 use triple_arena_ptr::{
-    Advancer, InvalidationOption, InvalidationResult, Ptr, PtrGen, ReallocationError,
+    Advancer, InvalidationOption, InvalidationResult, PtrCore, PtrGenCore, ReallocationError,
 };
 use unreached::unreached;
 
 /// An arena of values of type `T`, to which pointers of type `P` point.
-pub trait ArenaTrait<P: Ptr, T: Drop> {
+pub trait ArenaTrait<P: PtrCore, T: Drop> {
     /// What the arena takes its memory from.
     type Alloc;
 
@@ -365,4 +365,4 @@ pub trait ArenaTrait<P: Ptr, T: Drop> {
 }
 
 /// The arenas that a compression leaves with every index from 1 to the number of entries live.
-pub trait CompactArenaTrait<P: Ptr, T: Drop>: ArenaTrait<P, T> {}
+pub trait CompactArenaTrait<P: PtrCore, T: Drop>: ArenaTrait<P, T> {}

@@ -10,11 +10,11 @@ use crate::arena::pointer_at;
 use crate::iterators::LentEntry;
 use crate::slot::EntrySlot;
 use std::num::NonZeroUsize;
-use triple_arena_ptr::{AllocError, Ptr, ReallocationError};
+use triple_arena_ptr::{AllocError, PtrCore, ReallocationError};
 use triple_arena_stack::NonZeroInxGenericStack;
 
 /// The arenas that copies are made of: an `Arena` or a `DirectArena`, with any stack.
-pub trait ArenaCloneSource<P: Ptr, U: Drop>: ArenaTrait<P, U> {
+pub trait ArenaCloneSource<P: PtrCore, U: Drop>: ArenaTrait<P, U> {
     /// What an entry stands in.
     type Slot: LentEntry<P, U>;
 
@@ -26,7 +26,7 @@ pub trait ArenaCloneSource<P: Ptr, U: Drop>: ArenaTrait<P, U> {
 }
 
 /// The arenas that become a copy of another one.
-pub trait ArenaCloneFromWith<P: Ptr, T: Drop>: ArenaTrait<P, T> {
+pub trait ArenaCloneFromWith<P: PtrCore, T: Drop>: ArenaTrait<P, T> {
     // The arena with these entries alone, with this counter where both have one, and with room for the last of them.
     ghost copied: { Self → Option ℕ → List (ℕ × (ℕ × T)) → Self };
 
@@ -68,7 +68,7 @@ pub trait ArenaCloneFromWith<P: Ptr, T: Drop>: ArenaTrait<P, T> {
 }
 
 // The slots up to the last one that is allocated.
-pub(crate) fn up_to_last<P: Ptr, U, E: LentEntry<P, U>>(slots: &[E]) -> &[E]
+pub(crate) fn up_to_last<P: PtrCore, U, E: LentEntry<P, U>>(slots: &[E]) -> &[E]
     ensures entries { listed_from 1 (list_map E.shown result.now)
         ≡ listed_from 1 (list_map E.shown slots.now) }
     ensures last { length result.now
@@ -92,11 +92,11 @@ pub(crate) fn append_copies<P, T, U, L, E, S, F>(
     mut map: F,
 ) -> Result<usize, AllocError>
 where
-    P: Ptr,
+    P: PtrCore,
     T: Drop,
     L: EntrySlot<P, T> + Drop,
     E: LentEntry<P, U>,
-    S: NonZeroInxGenericStack<L>,
+    S: NonZeroInxGenericStack<Item = L>,
     F: FnMut(P, &U) -> Result<T, AllocError>,
     requires empty { S.items slots.old ≡ [] }
     requires fits { length source.now ≤ capacity_of (S.room slots.old) }
@@ -129,7 +129,7 @@ where
 }
 
 // Appends a slot, for which there is room.
-fn append<L: Drop, S: NonZeroInxGenericStack<L>>(slots: &mut S, slot: L)
+fn append<L: Drop, S: NonZeroInxGenericStack<Item = L>>(slots: &mut S, slot: L)
     requires { length (S.items slots.old) < capacity_of (S.room slots.old) }
     ensures items { S.items slots.new ≡ S.items slots.old ++ slot ∷ [] }
     ensures room { S.room slots.new ≡ S.room slots.old }

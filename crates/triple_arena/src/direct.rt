@@ -20,15 +20,14 @@ mod room;
 mod text;
 mod transfer;
 
-use crate::DirectSlot;
+use crate::{DirectSlot, DirectSlots};
 pub use capacity_drain::CapacityDrain;
 pub use drain::Drain;
 pub use entry::ArenaDirectInsertEntry;
 use std::marker::{Model, PhantomData};
-use triple_arena_ptr::Ptr;
+use triple_arena_ptr::PtrCore;
 use triple_arena_stack::{
-    NonZeroInxArray, NonZeroInxBoxedSlice, NonZeroInxGenericStack, NonZeroInxLimitedVec,
-    NonZeroInxVec,
+    NonZeroInxArray, NonZeroInxBoxedSlice, NonZeroInxLimitedVec, NonZeroInxVec,
 };
 
 /// An arena without a counter and without a list of free indexes, which keeps its slots in the stack `S`. The caller
@@ -36,14 +35,14 @@ use triple_arena_stack::{
 ///
 /// It serves as a mirror of another arena, or as a map from its pointers.
 #[derive(Drop)]
-pub struct DirectArena<P: Ptr, T: Drop, S: NonZeroInxGenericStack<DirectSlot<P, T>>> {
+pub struct DirectArena<P: PtrCore, T: Drop, S: DirectSlots<P, T>> {
     slots: S,
     // How many slots are live.
     len: usize,
     values: PhantomData<(P, T)>,
 }
 
-impl<P: Ptr, T: Drop, S: NonZeroInxGenericStack<DirectSlot<P, T>>> Model for DirectArena<P, T, S> {
+impl<P: PtrCore, T: Drop, S: DirectSlots<P, T>> Model for DirectArena<P, T, S> {
     ghost use Rattle.triple_arena.specs.ArenaRoom.{room_of};
     ghost use Rattle.triple_arena.specs.DirectContent.{DirectContent, direct_code};
     ghost use Rattle.triple_arena.specs.DirectLayout.{direct_of, IsSound};
@@ -74,7 +73,7 @@ pub type ArrayDirectArena<P, T, const LIMIT: usize> = DirectArena<
     NonZeroInxArray<DirectSlot<P, T>, LIMIT>,
 >;
 
-impl<P: Ptr, T: Drop, S: NonZeroInxGenericStack<DirectSlot<P, T>>> DirectArena<P, T, S> {
+impl<P: PtrCore, T: Drop, S: DirectSlots<P, T>> DirectArena<P, T, S> {
     // An arena over an empty stack.
     pub(crate) fn over(slots: S) -> Self
         requires { S.items slots ≡ [] }

@@ -4,12 +4,11 @@ ghost use Rattle.std.specs.Borrow.{sem, RestsIfErr};
 ghost use Rattle.triple_arena.specs.DirectEntry.{entry_arena, entry_lender, entry_index, entry_generation};
 ghost use Rattle.triple_arena.specs.DirectContent.{DirectContent, entry_at, arena_capacity, IsPlace};
 
-use crate::{ArenaDirectInsertEntry, ArenaTrait, DirectSlot};
-use triple_arena_ptr::{DirectInsertionError, Ptr};
-use triple_arena_stack::NonZeroInxGenericStack;
+use crate::{ArenaDirectInsertEntry, ArenaTrait, DirectSlots};
+use triple_arena_ptr::{DirectInsertionError, PtrCore};
 
 /// What a place for an entry at a pointer of the caller's choice does.
-pub trait ArenaDirectInsertEntryTrait<P: Ptr, T> {
+pub trait ArenaDirectInsertEntryTrait<P: PtrCore, T> {
     // The index is within the capacity, and no entry is there, as when the place was made.
     ghost has_place: { Self → Type 0 };
 
@@ -19,9 +18,9 @@ pub trait ArenaDirectInsertEntryTrait<P: Ptr, T> {
 }
 
 /// The arenas to which the caller gives whole pointers.
-pub trait ArenaDirectInsertTrait<P: Ptr, T: Drop>: ArenaTrait<P, T> {
+pub trait ArenaDirectInsertTrait<P: PtrCore, T: Drop>: ArenaTrait<P, T> {
     /// The stack that the arena keeps its slots in.
-    type Stack: NonZeroInxGenericStack<DirectSlot<P, T>>;
+    type Stack: DirectSlots<P, T>;
 
     // The arena as its entries see it.
     ghost content: { Self → DirectContent T };

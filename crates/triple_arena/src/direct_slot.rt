@@ -7,12 +7,12 @@ ghost use Rattle.triple_arena.specs.Entries.{value_if};
 
 use crate::slot::{EntrySlot, ValueIfMut, ValueMut};
 use std::marker::Model;
-use triple_arena_ptr::Ptr;
+use triple_arena_ptr::PtrCore;
 use unreached::unreached;
 
 /// A slot of a `DirectArena`: free, or allocated, with a generation and a value.
 #[derive(Drop)]
-pub struct DirectSlot<P: Ptr, T> {
+pub struct DirectSlot<P: PtrCore, T> {
     state: DirectState<P::Gen, T>,
 }
 
@@ -37,7 +37,7 @@ impl<G, T> ValueMut<T> for DirectState<G, T> {
     }
 }
 
-impl<P: Ptr, T> Model for DirectSlot<P, T> {
+impl<P: PtrCore, T> Model for DirectSlot<P, T> {
     ghost use Rattle.std.specs.Prelude.{ℕ, Option};
     ghost use Rattle.triple_arena.specs.DirectState.{slot_of};
 
@@ -46,7 +46,7 @@ impl<P: Ptr, T> Model for DirectSlot<P, T> {
     ghost view = { λ s. slot_of P.Gen.number s.state };
 }
 
-impl<P: Ptr, T> DirectSlot<P, T> {
+impl<P: PtrCore, T> DirectSlot<P, T> {
     pub(crate) fn free() -> Self
         ensures { result ≡ None }
     {
@@ -122,7 +122,7 @@ impl<P: Ptr, T> DirectSlot<P, T> {
     }
 }
 
-impl<P: Ptr, T> EntrySlot<P, T> for DirectSlot<P, T> {
+impl<P: PtrCore, T> EntrySlot<P, T> for DirectSlot<P, T> {
     ghost entry = { λ s. s };
 
     fn vacant() -> Self {
@@ -142,7 +142,7 @@ impl<P: Ptr, T> EntrySlot<P, T> for DirectSlot<P, T> {
     }
 }
 
-impl<P: Ptr, T> ValueMut<T> for DirectSlot<P, T> {
+impl<P: PtrCore, T> ValueMut<T> for DirectSlot<P, T> {
     ghost held = { value_of };
 
     ghost with_held = { with_slot_value };
@@ -152,7 +152,7 @@ impl<P: Ptr, T> ValueMut<T> for DirectSlot<P, T> {
     }
 }
 
-impl<P: Ptr, T> ValueIfMut<P::Gen, T> for DirectSlot<P, T> {
+impl<P: PtrCore, T> ValueIfMut<P::Gen, T> for DirectSlot<P, T> {
     ghost found = { λ s g. value_if (P.Gen.number g) s };
 
     ghost with_found = { with_slot_value };
@@ -166,7 +166,7 @@ impl<P: Ptr, T> ValueIfMut<P::Gen, T> for DirectSlot<P, T> {
     }
 }
 
-impl<P: Ptr, T> Default for DirectSlot<P, T> {
+impl<P: PtrCore, T> Default for DirectSlot<P, T> {
     ghost is_default = { λ s. s ≡ None };
 
     /// A free slot.

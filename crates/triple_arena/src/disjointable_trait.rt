@@ -4,10 +4,10 @@ ghost use Rattle.triple_arena.specs.Changes.{IsExchanged};
 ghost use Rattle.triple_arena.specs.Entries.{value_if};
 
 use crate::ArenaTrait;
-use triple_arena_ptr::{GetDisjointMutError, Ptr};
+use triple_arena_ptr::{GetDisjointMutError, PtrCore};
 
 /// The arenas in which the values of two entries change places.
-pub trait DisjointableArenaTrait<P: Ptr, T: Drop>: ArenaTrait<P, T> {
+pub trait DisjointableArenaTrait<P: PtrCore, T: Drop>: ArenaTrait<P, T> {
     // The arena with the values at two indexes exchanged, if both are live.
     ghost exchanged: { Self → ℕ → ℕ → Self };
 

@@ -5,10 +5,10 @@ ghost use Rattle.triple_arena_stack.specs.Room.{capacity as capacity_of, room_af
 ghost use Rattle.triple_arena.specs.Changes.{IsInserted};
 
 use crate::ArenaTrait;
-use triple_arena_ptr::{NotWithinCapacityError, Ptr, ReallocationError};
+use triple_arena_ptr::{NotWithinCapacityError, PtrCore, ReallocationError};
 
 /// The arenas that choose the index of an entry. Each entry gets the generation of the counter.
-pub trait ArenaInsertTrait<P: Ptr, T: Drop>: ArenaTrait<P, T> {
+pub trait ArenaInsertTrait<P: PtrCore, T: Drop>: ArenaTrait<P, T> {
     // The index of the next entry.
     ghost next_index: { Self → ℕ };
 

@@ -13,10 +13,10 @@ use crate::{ArenaSlot, DirectSlot};
 use std::iter::FusedIterator;
 use std::marker::{Model, PhantomData};
 use std::num::NonZeroUsize;
-use triple_arena_ptr::Ptr;
+use triple_arena_ptr::PtrCore;
 
 /// A slot, of which an iterator gives what it holds.
-pub trait LentEntry<P: Ptr, T> {
+pub trait LentEntry<P: PtrCore, T> {
     // The generation and the value, if it is allocated.
     ghost shown: { Self → Option (ℕ × T) };
 
@@ -25,7 +25,7 @@ pub trait LentEntry<P: Ptr, T> {
         ensures { option_map (λ e. (P.Gen.number e.0, e.1.now)) result ≡ shown self.now };
 }
 
-impl<P: Ptr, T> LentEntry<P, T> for ArenaSlot<P, T> {
+impl<P: PtrCore, T> LentEntry<P, T> for ArenaSlot<P, T> {
     ghost shown = { entry_of };
 
     fn lent_entry(&self) -> Option<(P::Gen, &T)> {
@@ -33,7 +33,7 @@ impl<P: Ptr, T> LentEntry<P, T> for ArenaSlot<P, T> {
     }
 }
 
-impl<P: Ptr, T> LentEntry<P, T> for DirectSlot<P, T> {
+impl<P: PtrCore, T> LentEntry<P, T> for DirectSlot<P, T> {
     ghost shown = { λ s. s };
 
     fn lent_entry(&self) -> Option<(P::Gen, &T)> {
@@ -44,7 +44,7 @@ impl<P: Ptr, T> LentEntry<P, T> for DirectSlot<P, T> {
 /// The pointers and the values of the live entries, in the order of the indexes, seen as the list of the entries that
 /// are left.
 #[derive(Drop)]
-pub struct Iter<'a, P: Ptr, T, E: LentEntry<P, T>> {
+pub struct Iter<'a, P: PtrCore, T, E: LentEntry<P, T>> {
     // The slots that are left.
     slots: &'a [E],
     // The index before that of the first of them.
@@ -52,7 +52,7 @@ pub struct Iter<'a, P: Ptr, T, E: LentEntry<P, T>> {
     entries: PhantomData<(P, &'a T)>,
 }
 
-impl<'a, P: Ptr, T, E: LentEntry<P, T>> Model for Iter<'a, P, T, E> {
+impl<'a, P: PtrCore, T, E: LentEntry<P, T>> Model for Iter<'a, P, T, E> {
     ghost use Rattle.std.specs.Prelude.{ℕ, ◌+◌, ◌≤◌, List, length, map};
     ghost use Rattle.triple_arena_ptr.specs.Index.{max_index_of};
     ghost use Rattle.triple_arena.specs.LiveEntries.{listed_from};
@@ -64,7 +64,7 @@ impl<'a, P: Ptr, T, E: LentEntry<P, T>> Model for Iter<'a, P, T, E> {
     ghost invariant = { λ it. it.passed + length it.slots.now ≤ max_index_of P.Inx.greatest };
 }
 
-impl<'a, P: Ptr, T, E: LentEntry<P, T>> Iter<'a, P, T, E> {
+impl<'a, P: PtrCore, T, E: LentEntry<P, T>> Iter<'a, P, T, E> {
     // Over the slots from index 1 on.
     pub(crate) fn over(slots: &'a [E]) -> Self
         requires { length slots.now ≤ max_index_of P.Inx.greatest }
@@ -78,7 +78,7 @@ impl<'a, P: Ptr, T, E: LentEntry<P, T>> Iter<'a, P, T, E> {
     }
 }
 
-impl<'a, P: Ptr, T, E: LentEntry<P, T>> Iterator for Iter<'a, P, T, E> {
+impl<'a, P: PtrCore, T, E: LentEntry<P, T>> Iterator for Iter<'a, P, T, E> {
     type Item = (P, &'a T);
 
     ghost next_gives = { YieldsFirstBy (λ e. (P.index e.0, (P.generation e.0, e.1.now))) (λ left. left) };
@@ -103,15 +103,15 @@ impl<'a, P: Ptr, T, E: LentEntry<P, T>> Iterator for Iter<'a, P, T, E> {
     }
 }
 
-impl<'a, P: Ptr, T, E: LentEntry<P, T>> FusedIterator for Iter<'a, P, T, E> {}
+impl<'a, P: PtrCore, T, E: LentEntry<P, T>> FusedIterator for Iter<'a, P, T, E> {}
 
 /// The pointers to the live entries, in the order of the indexes, seen as the list of those that are left.
 #[derive(Drop)]
-pub struct Ptrs<'a, P: Ptr, T, E: LentEntry<P, T>> {
+pub struct Ptrs<'a, P: PtrCore, T, E: LentEntry<P, T>> {
     entries: Iter<'a, P, T, E>,
 }
 
-impl<'a, P: Ptr, T, E: LentEntry<P, T>> Model for Ptrs<'a, P, T, E> {
+impl<'a, P: PtrCore, T, E: LentEntry<P, T>> Model for Ptrs<'a, P, T, E> {
     ghost use Rattle.std.specs.Prelude.{ℕ, List, map};
     ghost use Rattle.triple_arena.specs.Iterators.{pointer_of};
 
@@ -120,7 +120,7 @@ impl<'a, P: Ptr, T, E: LentEntry<P, T>> Model for Ptrs<'a, P, T, E> {
     ghost view = { λ it. map pointer_of it.entries };
 }
 
-impl<'a, P: Ptr, T, E: LentEntry<P, T>> Ptrs<'a, P, T, E> {
+impl<'a, P: PtrCore, T, E: LentEntry<P, T>> Ptrs<'a, P, T, E> {
     // Of the entries that are left.
     pub(crate) fn of(entries: Iter<'a, P, T, E>) -> Self
         ensures { result ≡ list_map pointer_of entries.entry }
@@ -129,7 +129,7 @@ impl<'a, P: Ptr, T, E: LentEntry<P, T>> Ptrs<'a, P, T, E> {
     }
 }
 
-impl<'a, P: Ptr, T, E: LentEntry<P, T>> Iterator for Ptrs<'a, P, T, E> {
+impl<'a, P: PtrCore, T, E: LentEntry<P, T>> Iterator for Ptrs<'a, P, T, E> {
     type Item = P;
 
     ghost next_gives = { YieldsFirstBy (λ p. (P.index p, P.generation p)) (λ left. left) };
@@ -148,15 +148,15 @@ impl<'a, P: Ptr, T, E: LentEntry<P, T>> Iterator for Ptrs<'a, P, T, E> {
     }
 }
 
-impl<'a, P: Ptr, T, E: LentEntry<P, T>> FusedIterator for Ptrs<'a, P, T, E> {}
+impl<'a, P: PtrCore, T, E: LentEntry<P, T>> FusedIterator for Ptrs<'a, P, T, E> {}
 
 /// The values of the live entries, in the order of the indexes, seen as the list of those that are left.
 #[derive(Drop)]
-pub struct Vals<'a, P: Ptr, T, E: LentEntry<P, T>> {
+pub struct Vals<'a, P: PtrCore, T, E: LentEntry<P, T>> {
     entries: Iter<'a, P, T, E>,
 }
 
-impl<'a, P: Ptr, T, E: LentEntry<P, T>> Model for Vals<'a, P, T, E> {
+impl<'a, P: PtrCore, T, E: LentEntry<P, T>> Model for Vals<'a, P, T, E> {
     ghost use Rattle.std.specs.Prelude.{List, map};
     ghost use Rattle.triple_arena.specs.Compression.{value_of};
 
@@ -165,7 +165,7 @@ impl<'a, P: Ptr, T, E: LentEntry<P, T>> Model for Vals<'a, P, T, E> {
     ghost view = { λ it. map value_of it.entries };
 }
 
-impl<'a, P: Ptr, T, E: LentEntry<P, T>> Vals<'a, P, T, E> {
+impl<'a, P: PtrCore, T, E: LentEntry<P, T>> Vals<'a, P, T, E> {
     // Of the entries that are left.
     pub(crate) fn of(entries: Iter<'a, P, T, E>) -> Self
         ensures { result ≡ list_map value_of entries.entry }
@@ -174,7 +174,7 @@ impl<'a, P: Ptr, T, E: LentEntry<P, T>> Vals<'a, P, T, E> {
     }
 }
 
-impl<'a, P: Ptr, T, E: LentEntry<P, T>> Iterator for Vals<'a, P, T, E> {
+impl<'a, P: PtrCore, T, E: LentEntry<P, T>> Iterator for Vals<'a, P, T, E> {
     type Item = &'a T;
 
     ghost next_gives = { YieldsFirstBy (λ value. value.now) (λ left. left) };
@@ -193,4 +193,4 @@ impl<'a, P: Ptr, T, E: LentEntry<P, T>> Iterator for Vals<'a, P, T, E> {
     }
 }
 
-impl<'a, P: Ptr, T, E: LentEntry<P, T>> FusedIterator for Vals<'a, P, T, E> {}
+impl<'a, P: PtrCore, T, E: LentEntry<P, T>> FusedIterator for Vals<'a, P, T, E> {}

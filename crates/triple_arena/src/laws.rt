@@ -23,11 +23,11 @@ ghost use Rattle.triple_arena.specs.LiveEntries.{live_entries};
 ghost use Rattle.triple_arena.specs.Recaster.{IsRecaster, IsRenaming};
 
 use crate::ArenaTrait;
-use triple_arena_ptr::Ptr;
+use triple_arena_ptr::PtrCore;
 
 /// From a new arena on, each pointer that an insertion, an `invalidate` or a compression gives is one that no earlier
 /// step gave.
-pub fn pointers_are_given_once<P: Ptr, T: Drop, A: ArenaTrait<P, T>>()
+pub fn pointers_are_given_once<P: PtrCore, T: Drop, A: ArenaTrait<P, T>>()
     ensures { (greatest : ℕ) (made : A) (history : List (Step T × A)) → P.Gen.last ≡ Some greatest
         → IsNew A.entry_at A.live_count A.counter A.room (Some 2) (A.room made) made
         → Happens A.entry_at A.live_count A.counter A.room A.live_entries P.Gen.last made history
@@ -35,7 +35,7 @@ pub fn pointers_are_given_once<P: Ptr, T: Drop, A: ArenaTrait<P, T>>()
 {}
 
 /// A pointer that was given and has ended finds nothing ever after.
-pub fn ended_pointers_find_nothing<P: Ptr, T: Drop, A: ArenaTrait<P, T>>()
+pub fn ended_pointers_find_nothing<P: PtrCore, T: Drop, A: ArenaTrait<P, T>>()
     ensures { (greatest : ℕ) (made : A) (before after : List (Step T × A)) (p : ℕ × ℕ) → P.Gen.last ≡ Some greatest
         → IsNew A.entry_at A.live_count A.counter A.room (Some 2) (A.room made) made
         → Happens A.entry_at A.live_count A.counter A.room A.live_entries P.Gen.last made before
@@ -45,7 +45,7 @@ pub fn ended_pointers_find_nothing<P: Ptr, T: Drop, A: ArenaTrait<P, T>>()
 {}
 
 /// A pointer with the first generation, as `invalid()` has, never finds anything.
-pub fn invalid_pointers_find_nothing<P: Ptr, T: Drop, A: ArenaTrait<P, T>>()
+pub fn invalid_pointers_find_nothing<P: PtrCore, T: Drop, A: ArenaTrait<P, T>>()
     ensures { (greatest : ℕ) (made : A) (history : List (Step T × A)) (index : ℕ) → P.Gen.last ≡ Some greatest
         → IsNew A.entry_at A.live_count A.counter A.room (Some 2) (A.room made) made
         → Happens A.entry_at A.live_count A.counter A.room A.live_entries P.Gen.last made history
@@ -53,14 +53,14 @@ pub fn invalid_pointers_find_nothing<P: Ptr, T: Drop, A: ArenaTrait<P, T>>()
 {}
 
 /// A value that is written where it was lent is a step of a history.
-pub fn writes_are_steps<P: Ptr, T: Drop, A: ArenaTrait<P, T>>()
+pub fn writes_are_steps<P: PtrCore, T: Drop, A: ArenaTrait<P, T>>()
     ensures { (arena : A) (index : ℕ) (value : T) → Takes A.entry_at A.live_count A.counter A.room
         A.live_entries P.Gen.last (write index value) arena (A.with_value arena index value) }
 {}
 
 /// What is done to an `Arena` and leaves each pointer is a step of a history too: a recast, the free slots put in order
 /// or taken from the end, a limit that is set, and the growth for a place that is let go.
-pub fn what_keeps_pointers_is_a_step<I, P: Ptr, T: Drop>()
+pub fn what_keeps_pointers_is_a_step<I, P: PtrCore, T: Drop>()
     ensures recast { (items : T → List I) (image : I → Option I) (recasted : T → T)
         (arena : Content T) → Takes entry_at live_count some_counter (λ c. c.room) live_entries
         P.Gen.last keep arena (content_recasted items image recasted arena) }
@@ -76,7 +76,7 @@ pub fn what_keeps_pointers_is_a_step<I, P: Ptr, T: Drop>()
 
 /// What a drain of an `Arena` leaves, however far it went, is a step of a history, and so is what a transfer from here
 /// leaves; and what is left of a copy to here whose map refused.
-pub fn what_takes_all_is_a_step<P: Ptr, T: Drop>()
+pub fn what_takes_all_is_a_step<P: PtrCore, T: Drop>()
     ensures drain { (arena : Content T) → Takes entry_at live_count some_counter (λ c. c.room)
         live_entries P.Gen.last drain arena (drained P.Gen.last arena) }
     ensures refused_copy { (arena : Content T) (n : ℕ) → Takes entry_at live_count some_counter
@@ -87,7 +87,7 @@ pub fn what_takes_all_is_a_step<P: Ptr, T: Drop>()
 /// Over an arena that stays as it is, an advancer gives the pointers ahead of it in turn, one a call, and then nothing.
 /// They are the pointers of the live entries from its start on, each once, by rising index, or by falling index
 /// where it falls. What `advancer` answers has all of them ahead.
-pub fn advancers_give_each_entry_once<P: Ptr, T: Drop, A: ArenaTrait<P, T>>()
+pub fn advancers_give_each_entry_once<P: PtrCore, T: Drop, A: ArenaTrait<P, T>>()
     ensures given { (arena : A) (advancer left : A.PtrAdvancer) (given : List (Option P))
         → FoldsTo (λ before p after. A.PtrAdvancer.advance_gives before arena p after)
         advancer given left
@@ -106,7 +106,7 @@ pub fn advancers_give_each_entry_once<P: Ptr, T: Drop, A: ArenaTrait<P, T>>()
 /// The map that `compress_recaster` answers is one-to-one and onto: each pointer that was valid, and no other, has a
 /// new name, two have two, and the new names are the pointers that are valid afterwards. Each finds what its pointer
 /// found.
-pub fn recasters_rename_one_to_one<P: Ptr, T: Drop>()
+pub fn recasters_rename_one_to_one<P: PtrCore, T: Drop>()
     ensures { (before after : Content T) (map : DirectContent P)
         → IsRecaster P.index P.generation (live_entries before) (live_entries after) (live_entries_of map)
         → live_values after ≡ live_values before → IsCompact (live_entries after)

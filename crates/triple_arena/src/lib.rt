@@ -19,7 +19,7 @@
 //! `with_value`, and the rules `writes` (`specs/ContentLaws.antt`), named on a function as
 //! `#[tactic(auto, using(triple_arena::specs::ContentLaws::writes))]`, say what that changes and keeps.
 //! `specs/CompressionLaws.antt` says what follows from the calls of a compression's map. Where the pointer type is a
-//! concrete one, a clause writes `⟦<P0 as Ptr>⟧.index p` for what is `P.index p` at a type parameter.
+//! concrete one, a clause writes `⟦<P0 as PtrCore>⟧.index p` for what is `P.index p` at a type parameter.
 #![tactic(auto)]
 
 mod advancer;
@@ -34,6 +34,7 @@ mod insert_trait;
 mod iterators;
 pub mod laws;
 mod slot;
+mod slots;
 mod stack_room;
 mod transfer;
 
@@ -84,11 +85,13 @@ pub use direct_slot::DirectSlot;
 pub use disjointable_trait::DisjointableArenaTrait;
 pub use insert_trait::ArenaInsertTrait;
 pub use slot::ArenaSlot;
+pub use slots::{ArenaSlots, DirectSlots};
 pub use transfer::{ArenaTransferSource, ArenaTransferTrait};
 pub use triple_arena_ptr::{
     Advancer, AllocError, DirectInsertionError, GetDisjointMutError, InvalidationOption,
     InvalidationResult, MaxCapacityReductionError, NotWithinCapacityError, P0, P1, P2, P3, P4, P5,
-    Pointer, Ptr, PtrGen, PtrInx, PtrKind, PtrNoGen, Q2, ReallocationError, Recast, Recaster,
+    Pointer, Ptr, PtrCore, PtrGen, PtrGenCore, PtrInx, PtrInxCore, PtrKind, PtrNoGen, Q2,
+    ReallocationError, Recast, Recaster,
 };
 pub use triple_arena_stack::{
     NonZeroInxArray, NonZeroInxBoxedSlice, NonZeroInxGenericStack, NonZeroInxLimitedStack,

@@ -10,13 +10,13 @@ ghost use Rattle.triple_arena.specs.Entries.{value_if};
 use std::marker::Model;
 use std::mem;
 use std::num::NonZeroUsize;
-use triple_arena_ptr::{Ptr, PtrGen};
+use triple_arena_ptr::{PtrCore, PtrGenCore};
 use triple_arena_stack::{NonZeroInxGenericStack, get_disjoint_mut};
 use unreached::unreached;
 
 /// A slot of an arena: free, with a link to the next free one, or allocated, with a generation and a value.
 #[derive(Drop)]
-pub struct ArenaSlot<P: Ptr, T> {
+pub struct ArenaSlot<P: PtrCore, T> {
     state: SlotState<P::Gen, T>,
 }
 
@@ -54,7 +54,7 @@ impl<G, T> ValueMut<T> for SlotState<G, T> {
 }
 
 // A slot as compressions, copies and transfers use it: made, read, filled and emptied.
-pub(crate) trait EntrySlot<P: Ptr, T> {
+pub(crate) trait EntrySlot<P: PtrCore, T> {
     // The generation and the value, if it is allocated.
     ghost entry: { Self → Option (ℕ × T) };
 
@@ -80,7 +80,7 @@ pub(crate) trait ValueIfMut<G, T> {
         ensures value { option_copied_mut result ≡ found self.old generation };
 }
 
-impl<P: Ptr, T> Model for ArenaSlot<P, T> {
+impl<P: PtrCore, T> Model for ArenaSlot<P, T> {
     ghost use Rattle.triple_arena.specs.Slot.{Slot};
     ghost use Rattle.triple_arena.specs.SlotState.{slot_of};
 
@@ -89,7 +89,7 @@ impl<P: Ptr, T> Model for ArenaSlot<P, T> {
     ghost view = { λ s. slot_of P.Gen.number s.state };
 }
 
-impl<P: Ptr, T> ArenaSlot<P, T> {
+impl<P: PtrCore, T> ArenaSlot<P, T> {
     pub(crate) fn free(next: Option<NonZeroUsize>) -> Self
         ensures { result ≡ free (option_map non_zero_usize_get next) }
     {
@@ -202,7 +202,7 @@ impl<P: Ptr, T> ArenaSlot<P, T> {
     }
 }
 
-impl<P: Ptr, T> EntrySlot<P, T> for ArenaSlot<P, T> {
+impl<P: PtrCore, T> EntrySlot<P, T> for ArenaSlot<P, T> {
     ghost entry = { entry_of };
 
     fn vacant() -> Self {
@@ -222,7 +222,7 @@ impl<P: Ptr, T> EntrySlot<P, T> for ArenaSlot<P, T> {
     }
 }
 
-impl<P: Ptr, T> ValueMut<T> for ArenaSlot<P, T> {
+impl<P: PtrCore, T> ValueMut<T> for ArenaSlot<P, T> {
     ghost held = { value_of };
 
     ghost with_held = { with_slot_value };
@@ -232,7 +232,7 @@ impl<P: Ptr, T> ValueMut<T> for ArenaSlot<P, T> {
     }
 }
 
-impl<P: Ptr, T> ValueIfMut<P::Gen, T> for ArenaSlot<P, T> {
+impl<P: PtrCore, T> ValueIfMut<P::Gen, T> for ArenaSlot<P, T> {
     ghost found = { λ s g. value_if (P.Gen.number g) (entry_of s) };
 
     ghost with_found = { with_slot_value };
@@ -257,7 +257,7 @@ fn exchange_value<T, L: ValueMut<T>>(first: &mut L, second: &mut L)
 }
 
 // Exchanges the values of the allocated slots at two indexes.
-pub(crate) fn exchange_values<T, L: ValueMut<T> + Drop, S: NonZeroInxGenericStack<L>>(
+pub(crate) fn exchange_values<T, L: ValueMut<T> + Drop, S: NonZeroInxGenericStack<Item = L>>(
     slots: &mut S,
     i: NonZeroUsize,
     j: NonZeroUsize,
@@ -282,7 +282,7 @@ pub(crate) fn exchange_values<T, L: ValueMut<T> + Drop, S: NonZeroInxGenericStac
     exchange_value(first, second);
 }
 
-impl<P: Ptr, T> Default for ArenaSlot<P, T> {
+impl<P: PtrCore, T> Default for ArenaSlot<P, T> {
     ghost is_default = { λ s. s ≡ free None };
 
     /// A free slot without a link.

@@ -5,11 +5,13 @@ ghost use Rattle.triple_arena_stack.specs.Room.{capacity, IsBeyond};
 ghost use Rattle.triple_arena.specs.ArenaRoom.{room_of, room_with};
 
 use crate::arena::max_index;
-use triple_arena_ptr::{Ptr, ReallocationError};
+use triple_arena_ptr::{PtrCore, ReallocationError};
 use triple_arena_stack::NonZeroInxGenericStack;
 
 // How many entries fit with no growth.
-pub(crate) fn capacity_over<P: Ptr, X: Drop, S: NonZeroInxGenericStack<X>>(slots: &S) -> usize
+pub(crate) fn capacity_over<P: PtrCore, X: Drop, S: NonZeroInxGenericStack<Item = X>>(
+    slots: &S,
+) -> usize
     ensures value { result ≡ capacity (room_of P.Inx.greatest (S.room slots.now)) }
     ensures can_double { (room_of P.Inx.greatest (S.room slots.now)).limit ≡ None
         → result < 2 ^ 63 }
@@ -19,7 +21,9 @@ pub(crate) fn capacity_over<P: Ptr, X: Drop, S: NonZeroInxGenericStack<X>>(slots
 }
 
 // The greatest capacity, if there is one.
-pub(crate) fn limit_over<P: Ptr, X: Drop, S: NonZeroInxGenericStack<X>>(slots: &S) -> Option<usize>
+pub(crate) fn limit_over<P: PtrCore, X: Drop, S: NonZeroInxGenericStack<Item = X>>(
+    slots: &S,
+) -> Option<usize>
     ensures { result ≡ (room_of P.Inx.greatest (S.room slots.now)).limit }
 {
     let max = max_index::<P>();
@@ -31,7 +35,7 @@ pub(crate) fn limit_over<P: Ptr, X: Drop, S: NonZeroInxGenericStack<X>>(slots: &
 }
 
 // Makes room for `min` entries, by a growth to exactly that where there is less.
-pub(crate) fn reallocate_over<P: Ptr, X: Drop, S: NonZeroInxGenericStack<X>>(
+pub(crate) fn reallocate_over<P: PtrCore, X: Drop, S: NonZeroInxGenericStack<Item = X>>(
     slots: &mut S,
     min: usize,
 ) -> Result<(), ReallocationError>

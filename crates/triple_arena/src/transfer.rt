@@ -16,22 +16,23 @@ use crate::ArenaTrait;
 use crate::arena::{pointer_at, take_entry};
 use crate::slot::EntrySlot;
 use std::num::NonZeroUsize;
-use triple_arena_ptr::{InvalidationOption, Ptr, PtrGen, ReallocationError};
+use triple_arena_ptr::{InvalidationOption, PtrCore, PtrGenCore, ReallocationError};
 use triple_arena_stack::NonZeroInxGenericStack;
 
 /// An arena whose entries `transfer_reallocating` of another arena takes.
-pub trait ArenaTransferSource<Q: Ptr, U: Drop>: ArenaTrait<Q, U> {
+pub trait ArenaTransferSource<Q: PtrCore, U: Drop>: ArenaTrait<Q, U> {
     // The arena without an entry and a slot, its counter, where it has one, stepped once for each entry.
     ghost given_up: { Self → Self };
 
     /// Appends what `map` makes of each entry to `slots`, which have room for all, in the order of the indexes, and
     /// leaves no entry and no slot.
-    fn give_up<P: Ptr, T: Drop, L: EntrySlot<P, T> + Drop, S: NonZeroInxGenericStack<L>, F>(
-        &mut self,
-        slots: &mut S,
-        generation: P::Gen,
-        map: F,
-    )
+    fn give_up<
+        P: PtrCore,
+        T: Drop,
+        L: EntrySlot<P, T> + Drop,
+        S: NonZeroInxGenericStack<Item = L>,
+        F,
+    >(&mut self, slots: &mut S, generation: P::Gen, map: F)
     where
         F: FnMut(Q, InvalidationOption<U>, P) -> T,
         requires callable { F.IsAlwaysCallable map }
@@ -49,7 +50,7 @@ pub trait ArenaTransferSource<Q: Ptr, U: Drop>: ArenaTrait<Q, U> {
 }
 
 /// The arenas that take over the entries of another arena.
-pub trait ArenaTransferTrait<P: Ptr, T: Drop>: ArenaTrait<P, T> {
+pub trait ArenaTransferTrait<P: PtrCore, T: Drop>: ArenaTrait<P, T> {
     // The arena with these values alone, so many, at the indexes from 1 on, with this generation, in a room for them.
     ghost filled: { Self → ℕ → ℕ → List T → Self };
 
@@ -65,7 +66,7 @@ pub trait ArenaTransferTrait<P: Ptr, T: Drop>: ArenaTrait<P, T> {
     /// Memory is taken only where `source` has more entries than fit: then the arena first grows to exactly so many. It
     /// answers `BeyondMaxCapacity` where they are more than the greatest capacity, and `AllocError` where the memory
     /// was refused. An error leaves both arenas as they were.
-    fn transfer_reallocating<Q: Ptr, U: Drop, Source: ArenaTransferSource<Q, U>, F>(
+    fn transfer_reallocating<Q: PtrCore, U: Drop, Source: ArenaTransferSource<Q, U>, F>(
         &mut self,
         new_generation: P::Gen,
         source: &mut Source,
@@ -100,7 +101,7 @@ pub trait ArenaTransferTrait<P: Ptr, T: Drop>: ArenaTrait<P, T> {
 }
 
 // A value as its removal answers it, and the counter after that, where there is one.
-fn removal<G: PtrGen, U>(counter: Option<G>, value: U) -> (Option<G>, InvalidationOption<U>)
+fn removal<G: PtrGenCore, U>(counter: Option<G>, value: U) -> (Option<G>, InvalidationOption<U>)
     ensures value { value_of result.1 ≡ value }
     ensures wraps { overflowed result.1 ≡ counter_wraps G.last (option_map G.number counter) }
     ensures counter { option_map G.number result.0
@@ -120,20 +121,18 @@ fn removal<G: PtrGen, U>(counter: Option<G>, value: U) -> (Option<G>, Invalidati
 }
 
 // Appends an entry to slots that have room for it.
-fn append_entry<P: Ptr, T: Drop, L: EntrySlot<P, T> + Drop, S: NonZeroInxGenericStack<L>>(
-    slots: &mut S,
-    generation: P::Gen,
-    value: T,
-)
-    requires { length (S.items slots.old) < capacity_of (S.room slots.old) }
-    ensures slots { list_map L.entry (S.items slots.new)
+fn append_entry<
+    P: PtrCore,
+    T: Drop,
+    L: EntrySlot<P, T> + Drop,
+    S: NonZeroInxGenericStack<Item = L>,
+>(slots: &mut S, generation: P::Gen, value: T)
+    ensures slots { length (S.items slots.old) < capacity_of (S.room slots.old)
+        → list_map L.entry (S.items slots.new)
         ≡ list_map L.entry (S.items slots.old) ++ Some (P.Gen.number generation, value) ∷ [] }
     ensures room { S.room slots.new ≡ S.room slots.old }
 {
-    match slots.push_within_capacity(L::holding(generation, value)) {
-        Ok(_) => {}
-        Err(_) => unreachable!(),
-    }
+    let _ = slots.push_within_capacity(L::holding(generation, value));
 }
 
 // Takes each entry out of `from` in turn, steps the counter, where there is one, and appends to `to`, which is empty
@@ -146,14 +145,14 @@ pub(crate) fn move_entries<Q, U, K, R, P, T, L, S, F>(
     mut map: F,
 ) -> Option<Q::Gen>
 where
-    Q: Ptr,
+    Q: PtrCore,
     U: Drop,
     K: EntrySlot<Q, U> + Drop,
-    R: NonZeroInxGenericStack<K>,
-    P: Ptr,
+    R: NonZeroInxGenericStack<Item = K>,
+    P: PtrCore,
     T: Drop,
     L: EntrySlot<P, T> + Drop,
-    S: NonZeroInxGenericStack<L>,
+    S: NonZeroInxGenericStack<Item = L>,
     F: FnMut(Q, InvalidationOption<U>, P) -> T,
     requires from_indexes { length (R.items from.old) ≤ Q.Inx.greatest }
     requires callable { F.IsAlwaysCallable map }
@@ -174,15 +173,16 @@ where
 {
     for at in 0..from.len() {
         let old = NonZeroUsize::MIN.saturating_add(at);
-        if let Some(entry) = take_entry(from, old) {
-            let new = NonZeroUsize::MIN.saturating_add(to.len());
-            let (stepped, item) = removal(counter, entry.1);
-            let before = pointer_at(old, entry.0);
-            let after = pointer_at(new, generation);
-            let value = map(before, item, after);
-            append_entry(to, generation, value);
-            counter = stepped;
-        }
+        let Some(entry) = take_entry(from, old) else {
+            continue;
+        };
+        let new = NonZeroUsize::MIN.saturating_add(to.len());
+        let (stepped, item) = removal(counter, entry.1);
+        let before = pointer_at(old, entry.0);
+        let after = pointer_at(new, generation);
+        let value = map(before, item, after);
+        append_entry(to, generation, value);
+        counter = stepped;
     }
     from.clear();
     counter

@@ -33,18 +33,17 @@ mod requirement;
 mod text;
 pub(crate) mod walk;
 
-use crate::LinkNoGen;
+use crate::{ChainSlots, LinkNoGen};
 use std::marker::Model;
-use triple_arena::{Arena, ArenaSlot, ArenaTrait, NonZeroInxGenericStack, Ptr};
+use triple_arena::{Arena, ArenaTrait, PtrCore};
 
 /// Links in chains, which are lists and rings: each link is in one chain, once.
 #[derive(Drop)]
-pub struct ChainArena<P: Ptr, T: Drop, S: NonZeroInxGenericStack<ArenaSlot<P, LinkNoGen<P, T>>>> {
+pub struct ChainArena<P: PtrCore, T: Drop, S: ChainSlots<P, T>> {
     arena: Arena<P, LinkNoGen<P, T>, S>,
 }
 
-impl<P: Ptr, T: Drop, S: NonZeroInxGenericStack<ArenaSlot<P, LinkNoGen<P, T>>>> Model
-    for ChainArena<P, T, S> {
+impl<P: PtrCore, T: Drop, S: ChainSlots<P, T>> Model for ChainArena<P, T, S> {
     ghost use Rattle.triple_arena.specs.Content.{Content};
     ghost use Rattle.triple_arena_chain.specs.declared.link.IndexLink.{IndexLink};
     ghost use Rattle.triple_arena_chain.specs.Links.{IsChained};
@@ -56,11 +55,7 @@ impl<P: Ptr, T: Drop, S: NonZeroInxGenericStack<ArenaSlot<P, LinkNoGen<P, T>>>> 
     ghost invariant = { λ a. IsChained P.Inx.number a.arena };
 }
 
-impl<P: Ptr, T: Drop, S: NonZeroInxGenericStack<ArenaSlot<P, LinkNoGen<P, T>>> + Drop> ChainArena<
-    P,
-    T,
-    S,
-> {
+impl<P: PtrCore, T: Drop, S: ChainSlots<P, T>> ChainArena<P, T, S> {
     // Whether there is room for one link more. The interlinks agree.
     pub(crate) fn has_room(&self) -> bool
         ensures value { IsTrue result ↔ (live_count self.now < arena_capacity self.now) }

@@ -18,14 +18,14 @@ ghost use Rattle.triple_arena_chain.specs.Values.{IsLivePtr};
 ghost use Rattle.triple_arena_chain.specs.Walks.{ChainWalk, walk_from, IsWalkAlong, ChainSteps};
 
 use crate::{Link, LinkInsertKind, LinkNoGen};
-use triple_arena::{Advancer, ArenaTrait, InvalidationResult, Ptr};
+use triple_arena::{Advancer, ArenaTrait, InvalidationResult, PtrCore};
 use triple_arena_ptr::ChainInsertionError;
 
 /// The arenas whose entries are links in chains: each link is in one list or ring, once. What is said of a call is said of the
 /// links, and of the lists that they stand in.
 ///
 /// `ArenaTrait` has the calls on the values of the links.
-pub trait ChainArenaTrait<P: Ptr, T: Drop>: ArenaTrait<P, T> {
+pub trait ChainArenaTrait<P: PtrCore, T: Drop>: ArenaTrait<P, T> {
     /// What goes along the links of a chain.
     type ChainAdvancer: Advancer<Self, Item = P> + Drop;
 

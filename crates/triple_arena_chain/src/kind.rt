@@ -1,5 +1,5 @@
 //! Where an insertion puts its link.
-use triple_arena_ptr::Ptr;
+use triple_arena_ptr::PtrCore;
 
 /// Where an insertion puts its link, by pointers of the type `P` or by indexes of the type `I`, whose generation is not
 /// looked at.
@@ -37,4 +37,4 @@ pub enum InsertKind<P, I> {
 }
 
 /// Where an insertion puts its link.
-pub type LinkInsertKind<P> = InsertKind<P, <P as Ptr>::Inx>;
+pub type LinkInsertKind<P> = InsertKind<P, <P as PtrCore>::Inx>;

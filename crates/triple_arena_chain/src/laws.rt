@@ -9,16 +9,16 @@ ghost use Rattle.triple_arena_chain.specs.Walks.{IsWalkFrom};
 ghost use Rattle.triple_arena_chain.specs.Links.{ends_in, place_among, IsChained, IsRelinked};
 ghost use Rattle.triple_arena_chain.specs.UniquenessLaws.{IsInOneChain};
 
-use triple_arena::Ptr;
+use triple_arena::PtrCore;
 
 /// Each live index stands in exactly one chain, once.
-pub fn links_stand_in_one_chain<P: Ptr, T>()
+pub fn links_stand_in_one_chain<P: PtrCore, T>()
     ensures { (c : Content (IndexLink P.Inx T)) (i : ℕ) → IsChained P.Inx.number c
         → IsSome (ends_in P.Inx.number c i) → IsInOneChain (ends_in P.Inx.number c) i }
 {}
 
 /// The links stand in chains, of which each live index is in one, once. A ring is written from its least index.
-pub fn links_make_chains<P: Ptr, T>()
+pub fn links_make_chains<P: PtrCore, T>()
     ensures { (c : Content (IndexLink P.Inx T)) → IsChained P.Inx.number c
         → (chains : List Chain) × AreChains (ends_in P.Inx.number c) chains }
 {}
@@ -38,7 +38,7 @@ pub fn rings_turn()
 {}
 
 /// A live link begins one walk.
-pub fn links_begin_one_walk<P: Ptr, T>()
+pub fn links_begin_one_walk<P: PtrCore, T>()
     ensures { (c : Content (IndexLink P.Inx T)) (i : ℕ) → IsChained P.Inx.number c
         → IsSome (ends_in P.Inx.number c i) → (walk : List ℕ)
         × IsWalkFrom (ends_in P.Inx.number c) i walk
@@ -53,7 +53,7 @@ pub fn walks_of_a_ring_are_rotations()
 
 /// A `connect` that answers `Some`, and then `break_next` of its first, restores all interlinks, and leaves all else as it
 /// was.
-pub fn break_next_takes_connect_back<P: Ptr, T>()
+pub fn break_next_takes_connect_back<P: PtrCore, T>()
     ensures { (before between after : Content (IndexLink P.Inx T)) (p q : P)
         → IsSome (place_among P.index P.generation P.Inx.number before (Bridge p q))
         → IsRelinked P.Inx.number (linked (ends_in P.Inx.number before) (P.index p) (P.index q))
@@ -66,7 +66,7 @@ pub fn break_next_takes_connect_back<P: Ptr, T>()
 
 /// A `break_next` that answers `Some`, and then `connect` of the two links, restores all interlinks, and leaves all else as
 /// it was.
-pub fn connect_takes_break_next_back<P: Ptr, T>()
+pub fn connect_takes_break_next_back<P: PtrCore, T>()
     ensures { (before between after : Content (IndexLink P.Inx T)) (p q : ℕ)
         → IsChained P.Inx.number before → next_at (ends_in P.Inx.number before) p ≡ Some q
         → IsRelinked P.Inx.number (unlinked (ends_in P.Inx.number before) p q) before between
@@ -76,7 +76,7 @@ pub fn connect_takes_break_next_back<P: Ptr, T>()
 
 /// `exchange_next` twice with the same pointers, where the first answers `Some`, restores all interlinks, and leaves all
 /// else as it was.
-pub fn exchange_next_takes_itself_back<P: Ptr, T>()
+pub fn exchange_next_takes_itself_back<P: PtrCore, T>()
     ensures { (before between after : Content (IndexLink P.Inx T)) (p q s t : ℕ)
         → IsChained P.Inx.number before → next_at (ends_in P.Inx.number before) p ≡ Some s
         → next_at (ends_in P.Inx.number before) q ≡ Some t

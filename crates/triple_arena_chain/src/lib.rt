@@ -12,6 +12,7 @@ mod link;
 mod link_text;
 mod place;
 mod ptr_link;
+mod slots;
 
 /// The advancers, the iterators and the drains of `ChainArena`.
 pub mod chain_iterators {
@@ -40,4 +41,5 @@ pub use chain_arena_trait::ChainArenaTrait;
 pub use kind::{InsertKind, LinkInsertKind};
 pub use link::{IndexLink, LinkNoGen};
 pub use ptr_link::Link;
+pub use slots::ChainSlots;
 pub use triple_arena_ptr::ChainInsertionError;

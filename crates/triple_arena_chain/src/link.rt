@@ -1,11 +1,11 @@
 //! A link of a chain.
 ghost use Rattle.std.specs.Prelude.{◌≡◌};
 
-use triple_arena_ptr::{Ptr, PtrInx};
+use triple_arena_ptr::{PtrCore, PtrInxCore};
 
 /// A value with the indexes, of the type `I`, of the links before and after it.
 #[derive(Clone, Copy, Debug, PartialEq, Eq, PartialOrd, Ord, Hash)]
-pub struct IndexLink<I: PtrInx, T> {
+pub struct IndexLink<I: PtrInxCore, T> {
     pub(crate) prev: Option<I>,
     pub(crate) next: Option<I>,
     /// The value.
@@ -13,9 +13,9 @@ pub struct IndexLink<I: PtrInx, T> {
 }
 
 /// A value with the indexes of the links before and after it.
-pub type LinkNoGen<P, T> = IndexLink<<P as Ptr>::Inx, T>;
+pub type LinkNoGen<P, T> = IndexLink<<P as PtrCore>::Inx, T>;
 
-impl<I: PtrInx, T> IndexLink<I, T> {
+impl<I: PtrInxCore, T> IndexLink<I, T> {
     /// A link between the links at these two indexes, where there are any.
     pub fn new(prev_next: (Option<I>, Option<I>), t: T) -> Self
         ensures prev { result.prev ≡ prev_next.0 }

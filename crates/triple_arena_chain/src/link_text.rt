@@ -5,13 +5,13 @@ ghost use Rattle.triple_arena_chain.specs.LinkText.{neighbor_text, index_link_te
 
 use crate::{IndexLink, Link};
 use std::fmt;
-use triple_arena_ptr::{Ptr, PtrInx};
+use triple_arena_ptr::{Ptr, PtrInxCore};
 
 // An index as its digits, or `-`.
 #[derive(Drop)]
 struct InxText<I>(Option<I>);
 
-impl<I: PtrInx> fmt::Display for InxText<I> {
+impl<I: PtrInxCore> fmt::Display for InxText<I> {
     ghost output = { λ x. neighbor_text (λ i. Some (hexadecimal (I.number i))) x.0 };
 
     fn fmt<W: fmt::Write>(&self, f: &mut fmt::Formatter<W>) -> fmt::Result {
@@ -38,7 +38,7 @@ impl<P: Ptr> fmt::Display for PtrText<P> {
 }
 
 /// The indexes of the neighbors in lower-case hexadecimal digits, and the value: `(-, 2) hello`.
-impl<I: PtrInx, T: fmt::Display> fmt::Display for IndexLink<I, T> {
+impl<I: PtrInxCore, T: fmt::Display> fmt::Display for IndexLink<I, T> {
     ghost output = { index_link_text (λ i. Some (hexadecimal (I.number i))) T.output };
 
     fn fmt<W: fmt::Write>(&self, f: &mut fmt::Formatter<W>) -> fmt::Result {

@@ -3,7 +3,7 @@ ghost use Rattle.std.specs.Prelude.{◌≡◌, Some};
 ghost use Rattle.std.specs.Option.{option_map};
 ghost use Rattle.triple_arena_chain.specs.Kinds.{at_end, at_start, at_interlink, at_bridge, ends_by, place_by};
 
-use triple_arena::PtrInx;
+use triple_arena::PtrInxCore;
 
 /// A place for one link more.
 #[derive(Clone, Copy)]
@@ -15,7 +15,7 @@ pub enum Place<I> {
 }
 
 // After a link with these ends, if it has no next.
-pub(crate) fn after_end<I: PtrInx>(i: I, ends: (Option<I>, Option<I>)) -> Option<Place<I>>
+pub(crate) fn after_end<I: PtrInxCore>(i: I, ends: (Option<I>, Option<I>)) -> Option<Place<I>>
     ensures { option_map (place_by I.number) result
         ≡ at_end (I.number i) (Some (ends_by I.number ends)) }
 {
@@ -26,7 +26,7 @@ pub(crate) fn after_end<I: PtrInx>(i: I, ends: (Option<I>, Option<I>)) -> Option
 }
 
 // Before a link with these ends, if it has no previous one.
-pub(crate) fn before_start<I: PtrInx>(i: I, ends: (Option<I>, Option<I>)) -> Option<Place<I>>
+pub(crate) fn before_start<I: PtrInxCore>(i: I, ends: (Option<I>, Option<I>)) -> Option<Place<I>>
     ensures { option_map (place_by I.number) result
         ≡ at_start (I.number i) (Some (ends_by I.number ends)) }
 {
@@ -37,7 +37,7 @@ pub(crate) fn before_start<I: PtrInx>(i: I, ends: (Option<I>, Option<I>)) -> Opt
 }
 
 // Between two links with these ends, if the second is the next of the first.
-pub(crate) fn inside<I: PtrInx>(
+pub(crate) fn inside<I: PtrInxCore>(
     i: I,
     j: I,
     first: (Option<I>, Option<I>),
@@ -60,7 +60,7 @@ pub(crate) fn inside<I: PtrInx>(
 }
 
 // Between two links with these ends, if the first has no next and the second no previous one.
-pub(crate) fn bridging<I: PtrInx>(
+pub(crate) fn bridging<I: PtrInxCore>(
     i: I,
     j: I,
     first: (Option<I>, Option<I>),

@@ -3,11 +3,11 @@ ghost use Rattle.std.specs.Prelude.{◌≡◌};
 ghost use Rattle.std.specs.Option.{option_map};
 
 use crate::{IndexLink, LinkNoGen};
-use triple_arena_ptr::Ptr;
+use triple_arena_ptr::PtrCore;
 
 /// A value with the pointers to the links before and after it.
 #[derive(Clone, Copy, Debug, PartialEq, Eq, PartialOrd, Ord, Hash)]
-pub struct Link<P: Ptr, T> {
+pub struct Link<P: PtrCore, T> {
     prev: Option<P>,
     next: Option<P>,
     /// The value.
@@ -15,7 +15,7 @@ pub struct Link<P: Ptr, T> {
 }
 
 // The index of a pointer.
-fn inx_of<P: Ptr>(p: Option<P>) -> Option<P::Inx>
+fn inx_of<P: PtrCore>(p: Option<P>) -> Option<P::Inx>
     ensures { option_map P.Inx.number result ≡ option_map P.index p }
 {
     match p {
@@ -24,7 +24,7 @@ fn inx_of<P: Ptr>(p: Option<P>) -> Option<P::Inx>
     }
 }
 
-impl<P: Ptr, T> Link<P, T> {
+impl<P: PtrCore, T> Link<P, T> {
     /// A link between the links that these two point to, where there are any.
     pub fn new(prev_next: (Option<P>, Option<P>), t: T) -> Self
         ensures prev { result.prev ≡ prev_next.0 }

@@ -9,14 +9,14 @@ ghost use Rattle.triple_arena_ord.specs.Ascending.{AscendsAlong};
 
 use crate::{IndexNode, SimpleOrdItem};
 use std::cmp::Ordering;
-use triple_arena::{Ptr, PtrInx};
+use triple_arena::{PtrCore, PtrInxCore};
 use triple_arena_chain::{ChainArenaTrait, IndexLink};
 use unreached::unreached;
 
 // The link at an index that is live.
 fn link_at<P, T, A>(arena: &A, i: P::Inx) -> &IndexLink<P::Inx, IndexNode<P::Inx, T>>
 where
-    P: Ptr,
+    P: PtrCore,
     T: Drop,
     A: ChainArenaTrait<P, IndexNode<P::Inx, T>>,
     requires { IsSome (entry_at (A.links arena.now) (P.Inx.number i)) }
@@ -31,7 +31,7 @@ where
 /// Whether no key is greater than the next one, along a list with this first index and at most `most` indexes.
 pub(crate) fn ascends<P, T, A>(arena: &A, first: P::Inx, most: usize) -> bool
 where
-    P: Ptr,
+    P: PtrCore,
     T: SimpleOrdItem + Drop,
     A: ChainArenaTrait<P, IndexNode<P::Inx, T>>,
     requires { (w : List ℕ) × IsLinear (ends_in P.Inx.number (A.links arena.now)) w

@@ -8,7 +8,7 @@ ghost use Rattle.triple_arena_ord.specs.Node.{knots_among, items_among};
 
 use crate::IndexNode;
 use std::cmp::Ordering;
-use triple_arena::{ArenaTrait, Ptr};
+use triple_arena::{ArenaTrait, PtrCore};
 use triple_arena_ptr::Probes;
 use unreached::unreached;
 
@@ -20,7 +20,7 @@ pub(crate) fn ask_down<P, T, A, F>(
     probes: &mut Probes,
 ) -> Option<(P, Ordering)>
 where
-    P: Ptr,
+    P: PtrCore,
     T: Drop,
     A: ArenaTrait<P, IndexNode<P::Inx, T>>,
     F: FnMut(P, &T) -> Ordering,

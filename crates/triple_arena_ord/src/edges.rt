@@ -6,18 +6,14 @@ ghost use Rattle.rank_tree.specs.Shape.{plug};
 ghost use Rattle.rank_tree.specs.Repair.{Gap, filled, Grown, Loose, Pending};
 ghost use Rattle.triple_arena_ord.specs.Node.{knots_in, rest};
 
-use crate::SimpleOrdArenaNode;
 use crate::knots::{read, relink, reparent, write};
+use crate::{OrdSlots, SimpleOrdArenaNode};
 use rank_tree::{Side, TreeLinks};
-use triple_arena::{ArenaSlot, NonZeroInxGenericStack, Ptr, PtrInx};
-use triple_arena_chain::{ChainArena, LinkNoGen};
+use triple_arena::{PtrCore, PtrInxCore};
+use triple_arena_chain::ChainArena;
 
 /// A new leaf below a node.
-pub(crate) fn attach<
-    P: Ptr,
-    T: Drop,
-    S: NonZeroInxGenericStack<ArenaSlot<P, LinkNoGen<P, SimpleOrdArenaNode<P, T>>>> + Drop,
->(
+pub(crate) fn attach<P: PtrCore, T: Drop, S: OrdSlots<P, T>>(
     chains: &mut ChainArena<P, SimpleOrdArenaNode<P, T>, S>,
     root: Option<P::Inx>,
     holder: P::Inx,
@@ -45,11 +41,7 @@ pub(crate) fn attach<
 }
 
 /// A node with at most one child leaves the tree; the answer is where the rules may be broken.
-pub(crate) fn detach<
-    P: Ptr,
-    T: Drop,
-    S: NonZeroInxGenericStack<ArenaSlot<P, LinkNoGen<P, SimpleOrdArenaNode<P, T>>>> + Drop,
->(
+pub(crate) fn detach<P: PtrCore, T: Drop, S: OrdSlots<P, T>>(
     chains: &mut ChainArena<P, SimpleOrdArenaNode<P, T>, S>,
     root: &mut Option<P::Inx>,
     gone: P::Inx,
@@ -66,7 +58,7 @@ pub(crate) fn detach<
     knot.parent
 }
 
-fn first_child<I: PtrInx>(knot: TreeLinks<I>) -> Option<I>
+fn first_child<I: PtrInxCore>(knot: TreeLinks<I>) -> Option<I>
     ensures left { (i : ℕ) → option_map I.number knot.left ≡ Some i → option_map I.number result ≡ Some i }
     ensures right { option_map I.number knot.left ≡ None → option_map I.number result ≡ option_map I.number knot.right }
 {

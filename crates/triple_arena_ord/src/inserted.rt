@@ -5,20 +5,20 @@ ghost use Rattle.rank_tree.specs.Tree.{walk};
 ghost use Rattle.rank_tree.specs.Repair.{Leaning, Grown, Restored, Gap, filled};
 ghost use Rattle.triple_arena_ord.specs.Node.{knots_in, rest};
 
-use crate::SimpleOrdArenaNode;
 use crate::edges::attach;
 use crate::knots::{rank_at, read, write};
 use crate::turn::turn;
+use crate::{OrdSlots, SimpleOrdArenaNode};
 use rank_tree::{Side, TreeLinks, side_of};
-use triple_arena::{ArenaSlot, NonZeroInxGenericStack, Ptr};
-use triple_arena_chain::{ChainArena, LinkNoGen};
+use triple_arena::PtrCore;
+use triple_arena_chain::ChainArena;
 use unreached::unreached;
 
-fn lean<
-    P: Ptr,
-    T: Drop,
-    S: NonZeroInxGenericStack<ArenaSlot<P, LinkNoGen<P, SimpleOrdArenaNode<P, T>>>> + Drop,
->(chains: &mut ChainArena<P, SimpleOrdArenaNode<P, T>, S>, root: &mut Option<P::Inx>, low: P::Inx)
+fn lean<P: PtrCore, T: Drop, S: OrdSlots<P, T>>(
+    chains: &mut ChainArena<P, SimpleOrdArenaNode<P, T>, S>,
+    root: &mut Option<P::Inx>,
+    low: P::Inx,
+)
     requires { (w : List ℕ) × Leaning (knots_in P.Inx.number chains.old) (option_map P.Inx.number root.old) (P.Inx.number low) w }
     ensures does { (w : List ℕ) → Leaning (knots_in P.Inx.number chains.old) (option_map P.Inx.number root.old) (P.Inx.number low) w
         → Restored (knots_in P.Inx.number chains.new) (option_map P.Inx.number root.new) w }
@@ -42,11 +42,11 @@ fn lean<
 }
 
 /// From one subtree that has grown in rank to a tree that keeps the rules.
-pub(crate) fn repair_inserted<
-    P: Ptr,
-    T: Drop,
-    S: NonZeroInxGenericStack<ArenaSlot<P, LinkNoGen<P, SimpleOrdArenaNode<P, T>>>> + Drop,
->(chains: &mut ChainArena<P, SimpleOrdArenaNode<P, T>, S>, root: &mut Option<P::Inx>, start: P::Inx)
+pub(crate) fn repair_inserted<P: PtrCore, T: Drop, S: OrdSlots<P, T>>(
+    chains: &mut ChainArena<P, SimpleOrdArenaNode<P, T>, S>,
+    root: &mut Option<P::Inx>,
+    start: P::Inx,
+)
     requires { (w : List ℕ) × Grown (knots_in P.Inx.number chains.old) (option_map P.Inx.number root.old) (P.Inx.number start) w }
     ensures does { (w : List ℕ) → Grown (knots_in P.Inx.number chains.old) (option_map P.Inx.number root.old) (P.Inx.number start) w
         → Restored (knots_in P.Inx.number chains.new) (option_map P.Inx.number root.new) w }
@@ -79,11 +79,7 @@ pub(crate) fn repair_inserted<
 }
 
 /// A new leaf below a node, after which the rules hold.
-pub(crate) fn bring_in<
-    P: Ptr,
-    T: Drop,
-    S: NonZeroInxGenericStack<ArenaSlot<P, LinkNoGen<P, SimpleOrdArenaNode<P, T>>>> + Drop,
->(
+pub(crate) fn bring_in<P: PtrCore, T: Drop, S: OrdSlots<P, T>>(
     chains: &mut ChainArena<P, SimpleOrdArenaNode<P, T>, S>,
     root: &mut Option<P::Inx>,
     holder: P::Inx,

@@ -3,7 +3,7 @@ ghost use Rattle.std.specs.Prelude.{◌≡◌};
 ghost use Rattle.triple_arena_ord.specs.Kinds.{ptr_of};
 
 use std::cmp::Ordering;
-use triple_arena::Ptr;
+use triple_arena::PtrCore;
 
 /// Where an insertion puts its item: by a key of the type `K`, or by an index of the type `I`, whose generation is not looked
 /// at.
@@ -25,7 +25,7 @@ pub enum InsertKind<I, K> {
 }
 
 /// Where an insertion puts its item.
-pub type OrdInsertKind<P, K> = InsertKind<<P as Ptr>::Inx, K>;
+pub type OrdInsertKind<P, K> = InsertKind<<P as PtrCore>::Inx, K>;
 
 /// What an insertion is about to do: give its item a new entry, or replace that of an entry.
 #[derive(Clone, Copy, Debug, PartialEq, Eq)]
@@ -36,7 +36,7 @@ pub enum OrdEntryKind<P> {
     Replacing(P),
 }
 
-impl<P: Ptr> OrdEntryKind<P> {
+impl<P: PtrCore> OrdEntryKind<P> {
     /// The pointer to the item, in either case.
     pub fn any(self) -> P
         ensures { result ≡ ptr_of self }

@@ -6,16 +6,15 @@ ghost use Rattle.rank_tree.specs.Knot.{Knot as Seen};
 ghost use Rattle.triple_arena_ord.specs.Node.{knots_in, rest};
 ghost use Rattle.rank_tree.specs.Named.{named};
 
-use crate::SimpleOrdArenaNode;
+use crate::{OrdSlots, SimpleOrdArenaNode};
 use rank_tree::{TreeLinks, side_of};
-use triple_arena::{ArenaSlot, ArenaTrait, NonZeroInxGenericStack, Ptr};
-use triple_arena_chain::{ChainArena, LinkNoGen};
+use triple_arena::{ArenaTrait, PtrCore};
+use triple_arena_chain::ChainArena;
 
-pub(crate) fn read<
-    P: Ptr,
-    T: Drop,
-    S: NonZeroInxGenericStack<ArenaSlot<P, LinkNoGen<P, SimpleOrdArenaNode<P, T>>>> + Drop,
->(chains: &ChainArena<P, SimpleOrdArenaNode<P, T>, S>, i: P::Inx) -> TreeLinks<P::Inx>
+pub(crate) fn read<P: PtrCore, T: Drop, S: OrdSlots<P, T>>(
+    chains: &ChainArena<P, SimpleOrdArenaNode<P, T>, S>,
+    i: P::Inx,
+) -> TreeLinks<P::Inx>
     requires { IsSome (knots_in P.Inx.number chains.now (P.Inx.number i)) }
     ensures { knots_in P.Inx.number chains.now (P.Inx.number i) ≡ Some (named P.Inx.number result) }
 {
@@ -28,11 +27,11 @@ pub(crate) fn read<
     }
 }
 
-pub(crate) fn write<
-    P: Ptr,
-    T: Drop,
-    S: NonZeroInxGenericStack<ArenaSlot<P, LinkNoGen<P, SimpleOrdArenaNode<P, T>>>> + Drop,
->(chains: &mut ChainArena<P, SimpleOrdArenaNode<P, T>, S>, i: P::Inx, knot: TreeLinks<P::Inx>)
+pub(crate) fn write<P: PtrCore, T: Drop, S: OrdSlots<P, T>>(
+    chains: &mut ChainArena<P, SimpleOrdArenaNode<P, T>, S>,
+    i: P::Inx,
+    knot: TreeLinks<P::Inx>,
+)
     requires { IsSome (knots_in P.Inx.number chains.old (P.Inx.number i)) }
     ensures written { Written (knots_in P.Inx.number chains.old) (knots_in P.Inx.number chains.new) (P.Inx.number i) (named P.Inx.number knot) }
     ensures keeps { rest chains.new ≡ rest chains.old }
@@ -45,11 +44,7 @@ pub(crate) fn write<
 }
 
 /// The node that `link` names, if it names one, gets this parent.
-pub(crate) fn reparent<
-    P: Ptr,
-    T: Drop,
-    S: NonZeroInxGenericStack<ArenaSlot<P, LinkNoGen<P, SimpleOrdArenaNode<P, T>>>> + Drop,
->(
+pub(crate) fn reparent<P: PtrCore, T: Drop, S: OrdSlots<P, T>>(
     chains: &mut ChainArena<P, SimpleOrdArenaNode<P, T>, S>,
     link: Option<P::Inx>,
     parent: Option<P::Inx>,
@@ -66,11 +61,7 @@ pub(crate) fn reparent<
 }
 
 /// What led to `from` leads to `to`: a child link of the holder, or the root.
-pub(crate) fn relink<
-    P: Ptr,
-    T: Drop,
-    S: NonZeroInxGenericStack<ArenaSlot<P, LinkNoGen<P, SimpleOrdArenaNode<P, T>>>> + Drop,
->(
+pub(crate) fn relink<P: PtrCore, T: Drop, S: OrdSlots<P, T>>(
     chains: &mut ChainArena<P, SimpleOrdArenaNode<P, T>, S>,
     root: &mut Option<P::Inx>,
     holder: Option<P::Inx>,
@@ -93,11 +84,10 @@ pub(crate) fn relink<
 }
 
 /// The rank of the node that `link` names, 0 where there is none.
-pub(crate) fn rank_at<
-    P: Ptr,
-    T: Drop,
-    S: NonZeroInxGenericStack<ArenaSlot<P, LinkNoGen<P, SimpleOrdArenaNode<P, T>>>> + Drop,
->(chains: &ChainArena<P, SimpleOrdArenaNode<P, T>, S>, link: Option<P::Inx>) -> u8
+pub(crate) fn rank_at<P: PtrCore, T: Drop, S: OrdSlots<P, T>>(
+    chains: &ChainArena<P, SimpleOrdArenaNode<P, T>, S>,
+    link: Option<P::Inx>,
+) -> u8
     requires { IfSome link (λ i. IsSome (knots_in P.Inx.number chains.now (P.Inx.number i))) }
     ensures some { (i : ℕ) → option_map P.Inx.number link ≡ Some i → IfSome (knots_in P.Inx.number chains.now i) (λ v. result ≡ v.rank) }
     ensures none { option_map P.Inx.number link ≡ None → result ≡ 0 }
@@ -109,11 +99,11 @@ pub(crate) fn rank_at<
 }
 
 /// A node gets another rank.
-pub(crate) fn set_rank<
-    P: Ptr,
-    T: Drop,
-    S: NonZeroInxGenericStack<ArenaSlot<P, LinkNoGen<P, SimpleOrdArenaNode<P, T>>>> + Drop,
->(chains: &mut ChainArena<P, SimpleOrdArenaNode<P, T>, S>, i: P::Inx, rank: u8)
+pub(crate) fn set_rank<P: PtrCore, T: Drop, S: OrdSlots<P, T>>(
+    chains: &mut ChainArena<P, SimpleOrdArenaNode<P, T>, S>,
+    i: P::Inx,
+    rank: u8,
+)
     requires { IsSome (knots_in P.Inx.number chains.old (P.Inx.number i)) }
     ensures does { (v : Seen) → knots_in P.Inx.number chains.old (P.Inx.number i) ≡ Some v
         → Written (knots_in P.Inx.number chains.old) (knots_in P.Inx.number chains.new) (P.Inx.number i) (with_rank rank v) }

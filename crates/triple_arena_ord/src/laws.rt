@@ -16,16 +16,16 @@ ghost use Rattle.triple_arena_ord.specs.States.{with_item};
 ghost use Rattle.rank_tree.specs.Tree.{height, rank_of};
 
 use crate::SimpleOrdItem;
-use triple_arena::Ptr;
+use triple_arena::PtrCore;
 
 /// Each live index stands in the list.
-pub fn entries_stand_in_the_list<P: Ptr, T>()
+pub fn entries_stand_in_the_list<P: PtrCore, T>()
     ensures { (o : Ordered P.Inx T) (i : ℕ) → IsOrdered P.Inx.number o → IsSome (entry_in o i)
         → On (order_in P.Inx.number o) i }
 {}
 
 /// No path in the tree has more nodes than the rank r of the root, and among n entries, where there is one, `2^(r+1) <= (n+1)^2`.
-pub fn paths_are_short<P: Ptr, T>()
+pub fn paths_are_short<P: PtrCore, T>()
     ensures high { (o : Ordered P.Inx T) → IsOrdered P.Inx.number o
         → height (tree_in P.Inx.number o) ≤ rank_of (tree_in P.Inx.number o) }
     ensures low { (o : Ordered P.Inx T) → IsOrdered P.Inx.number o → 0 < size_in o
@@ -33,7 +33,7 @@ pub fn paths_are_short<P: Ptr, T>()
 {}
 
 /// Where the keys ascend, none before an entry is greater than its key, and none after it less.
-pub fn keys_ascend_along_the_list<P: Ptr, T: SimpleOrdItem>()
+pub fn keys_ascend_along_the_list<P: PtrCore, T: SimpleOrdItem>()
     ensures before { (o : Ordered P.Inx T) (front back : List ℕ) (i : ℕ) (entry : ℕ × T) → IsOrdered P.Inx.number o
         → IsAscending P.Inx.number T.Key.cmp T.key_of o → order_in P.Inx.number o ≡ front ++ i ∷ back
         → entry_in o i ≡ Some entry
@@ -45,7 +45,7 @@ pub fn keys_ascend_along_the_list<P: Ptr, T: SimpleOrdItem>()
 {}
 
 /// A list whose keys ascend still does where the list and the keys stay, and where an item is replaced by one with an equal key.
-pub fn keys_that_stay_ascend<P: Ptr, T: SimpleOrdItem>()
+pub fn keys_that_stay_ascend<P: PtrCore, T: SimpleOrdItem>()
     ensures same { (old new : Ordered P.Inx T) → order_in P.Inx.number new ≡ order_in P.Inx.number old
         → ((i : ℕ) → option_map (λ e. T.key_of e.1) (entry_in new i) ≡ option_map (λ e. T.key_of e.1) (entry_in old i))
         → IsAscending P.Inx.number T.Key.cmp T.key_of old → IsAscending P.Inx.number T.Key.cmp T.key_of new }
@@ -55,13 +55,13 @@ pub fn keys_that_stay_ascend<P: Ptr, T: SimpleOrdItem>()
 {}
 
 /// A list whose keys ascend still does after a removal.
-pub fn removals_keep_keys_ascending<P: Ptr, T: SimpleOrdItem>()
+pub fn removals_keep_keys_ascending<P: PtrCore, T: SimpleOrdItem>()
     ensures { (last : Option ℕ) (i : ℕ) (old new : Ordered P.Inx T) → IsRemoved P.Inx.number last i old new
         → IsAscending P.Inx.number T.Key.cmp T.key_of old → IsAscending P.Inx.number T.Key.cmp T.key_of new }
 {}
 
 /// Whatever is written in place of an item, the list, the tree and all else stay.
-pub fn writes_keep_the_list<P: Ptr, T>()
+pub fn writes_keep_the_list<P: PtrCore, T>()
     ensures replaced { (o : Ordered P.Inx T) (i g : ℕ) (t u : T) → IsOrdered P.Inx.number o → entry_in o i ≡ Some (g, u)
         → IsReplaced P.Inx.number i g t u o (with_item o i t) }
     ensures ordered { (o : Ordered P.Inx T) (i : ℕ) (t : T) → IsOrdered P.Inx.number o → IsSome (entry_in o i)
@@ -70,7 +70,7 @@ pub fn writes_keep_the_list<P: Ptr, T>()
 
 /// A list whose keys ascend still does after an insertion at the place that was found for the item's key, and after one that goes
 /// directly before an entry with an equal key there.
-pub fn insertions_keep_keys_ascending<P: Ptr, T: SimpleOrdItem>()
+pub fn insertions_keep_keys_ascending<P: PtrCore, T: SimpleOrdItem>()
     ensures by_key { (place : Option (ℕ × Way)) (t : T) (result : Result (P × Option T) Refused) (old new : Ordered P.Inx T)
         → (growth : Option Bool) → IsOrdered P.Inx.number old → IsOrdered P.Inx.number new
         → IsPlaceByKey P.Inx.number T.Key.cmp T.key_of (T.key_of t) old place

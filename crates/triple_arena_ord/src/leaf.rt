@@ -8,19 +8,15 @@ ghost use Rattle.triple_arena_ord.specs.Inserted.{IsAdded};
 ghost use Rattle.triple_arena_ord.specs.Ordered.{IsOrdered, StandsBeside, order_in, moved, replaced};
 
 use crate::inserted::bring_in;
-use crate::{IndexNode, SimpleOrdArenaNode};
+use crate::{IndexNode, OrdSlots, SimpleOrdArenaNode};
 use rank_tree::Side;
-use triple_arena::{ArenaSlot, ArenaTrait, NonZeroInxGenericStack, Ptr, PtrInx};
-use triple_arena_chain::{ChainArena, ChainArenaTrait, LinkNoGen};
+use triple_arena::{ArenaTrait, PtrCore, PtrInxCore};
+use triple_arena_chain::{ChainArena, ChainArenaTrait};
 use unreached::unreached;
 
 // A new entry directly before or after that of `holder`, which has no child on this side.
 #[inline(always)]
-pub(crate) fn insert_leaf<
-    P: Ptr,
-    T: Drop,
-    S: NonZeroInxGenericStack<ArenaSlot<P, LinkNoGen<P, SimpleOrdArenaNode<P, T>>>> + Drop,
->(
+pub(crate) fn insert_leaf<P: PtrCore, T: Drop, S: OrdSlots<P, T>>(
     chains: &mut ChainArena<P, SimpleOrdArenaNode<P, T>, S>,
     root: &mut Option<P::Inx>,
     holder: P::Inx,
@@ -59,11 +55,7 @@ pub(crate) fn insert_leaf<
 }
 
 // The neighbors of one more link directly before or after that of `holder`.
-pub(crate) fn neighbors_beside<
-    P: Ptr,
-    T: Drop,
-    S: NonZeroInxGenericStack<ArenaSlot<P, LinkNoGen<P, SimpleOrdArenaNode<P, T>>>> + Drop,
->(
+pub(crate) fn neighbors_beside<P: PtrCore, T: Drop, S: OrdSlots<P, T>>(
     chains: &ChainArena<P, SimpleOrdArenaNode<P, T>, S>,
     holder: P::Inx,
     side: Side,
@@ -84,7 +76,13 @@ pub(crate) fn neighbors_beside<
 }
 
 // What an end of the list is after one more index stands beside another.
-pub(crate) fn moved<I: PtrInx>(side: Side, end: Side, link: Option<I>, from: I, to: I) -> Option<I>
+pub(crate) fn moved<I: PtrInxCore>(
+    side: Side,
+    end: Side,
+    link: Option<I>,
+    from: I,
+    to: I,
+) -> Option<I>
     ensures { option_map I.number result ≡ moved side end (option_map I.number link) (I.number from) (I.number to) }
 {
     match side {
@@ -99,7 +97,7 @@ pub(crate) fn moved<I: PtrInx>(side: Side, end: Side, link: Option<I>, from: I, 
     }
 }
 
-fn replaced<I: PtrInx>(link: Option<I>, from: I, to: I) -> Option<I>
+fn replaced<I: PtrInxCore>(link: Option<I>, from: I, to: I) -> Option<I>
     ensures { option_map I.number result ≡ replaced (option_map I.number link) (I.number from) (I.number to) }
 {
     match link {

@@ -4,11 +4,11 @@ ghost use Rattle.std.specs.Option.{option_map};
 ghost use Rattle.triple_arena_ord.specs.Node.{knots_in};
 ghost use Rattle.rank_tree.specs.Repair.{Spot, IsAround};
 
-use crate::SimpleOrdArenaNode;
 use crate::knots::{rank_at, read};
+use crate::{OrdSlots, SimpleOrdArenaNode};
 use rank_tree::side_of;
-use triple_arena::{ArenaSlot, NonZeroInxGenericStack, Ptr, PtrInx};
-use triple_arena_chain::{ChainArena, LinkNoGen};
+use triple_arena::{PtrCore, PtrInxCore};
+use triple_arena_chain::ChainArena;
 use unreached::unreached;
 
 #[derive(Clone, Copy, Drop)]
@@ -23,11 +23,10 @@ pub(crate) struct Around<I> {
 }
 
 /// A node that has a parent: `outer` and `inner` are its children, `far` is its sibling.
-pub(crate) fn look_around<
-    P: Ptr,
-    T: Drop,
-    S: NonZeroInxGenericStack<ArenaSlot<P, LinkNoGen<P, SimpleOrdArenaNode<P, T>>>> + Drop,
->(chains: &ChainArena<P, SimpleOrdArenaNode<P, T>, S>, low: P::Inx) -> Around<P::Inx>
+pub(crate) fn look_around<P: PtrCore, T: Drop, S: OrdSlots<P, T>>(
+    chains: &ChainArena<P, SimpleOrdArenaNode<P, T>, S>,
+    low: P::Inx,
+) -> Around<P::Inx>
     requires { (root : Option ℕ) × Spot (knots_in P.Inx.number chains.now) root (P.Inx.number low) }
     ensures { (root : Option ℕ) → (spot : Spot (knots_in P.Inx.number chains.now) root (P.Inx.number low))
         → IsAround (knots_in P.Inx.number chains.now) root (P.Inx.number low) spot (P.Inx.number result.high) (option_map P.Inx.number result.inner)

@@ -1,11 +1,11 @@
 //! A node of the tree, which holds its item.
 
-use triple_arena::{Ptr, PtrInx};
+use triple_arena::{PtrCore, PtrInxCore};
 
 /// An item with its place in the tree: the indexes, of the type `I`, of the parent, of the left and of the right child, and
 /// the rank.
 #[derive(Clone, Drop)]
-pub struct IndexNode<I: PtrInx, T> {
+pub struct IndexNode<I: PtrInxCore, T> {
     /// The item.
     pub t: T,
     /// The index of the parent.
@@ -19,4 +19,4 @@ pub struct IndexNode<I: PtrInx, T> {
 }
 
 /// An item with its place in the tree, by the indexes of a pointer type.
-pub type SimpleOrdArenaNode<P, T> = IndexNode<<P as Ptr>::Inx, T>;
+pub type SimpleOrdArenaNode<P, T> = IndexNode<<P as PtrCore>::Inx, T>;

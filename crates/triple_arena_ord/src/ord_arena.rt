@@ -40,31 +40,23 @@ mod text;
 pub(crate) mod walk;
 
 use crate::leaf::{insert_leaf, moved};
-use crate::{IndexNode, SimpleOrdArenaNode};
+use crate::{IndexNode, OrdSlots, SimpleOrdArenaNode};
 use rank_tree::Side;
 use std::marker::Model;
-use triple_arena::{ArenaSlot, ArenaTrait, NonZeroInxGenericStack, NotWithinCapacityError, Ptr};
-use triple_arena_chain::{ChainArena, LinkNoGen};
+use triple_arena::{ArenaTrait, NotWithinCapacityError, PtrCore};
+use triple_arena_chain::ChainArena;
 
 /// Items in one list, each with a pointer, and a search tree over them. An insertion that searches puts an item where its key
 /// belongs.
 #[derive(Drop)]
-pub struct SimpleOrdArena<
-    P: Ptr,
-    T: Drop,
-    S: NonZeroInxGenericStack<ArenaSlot<P, LinkNoGen<P, SimpleOrdArenaNode<P, T>>>>,
-> {
+pub struct SimpleOrdArena<P: PtrCore, T: Drop, S: OrdSlots<P, T>> {
     pub(crate) chains: ChainArena<P, SimpleOrdArenaNode<P, T>, S>,
     pub(crate) root: Option<P::Inx>,
     pub(crate) first: Option<P::Inx>,
     pub(crate) last: Option<P::Inx>,
 }
 
-impl<
-    P: Ptr,
-    T: Drop,
-    S: NonZeroInxGenericStack<ArenaSlot<P, LinkNoGen<P, SimpleOrdArenaNode<P, T>>>>,
-> Model for SimpleOrdArena<P, T, S> {
+impl<P: PtrCore, T: Drop, S: OrdSlots<P, T>> Model for SimpleOrdArena<P, T, S> {
     ghost use Rattle.std.specs.Prelude.{◌≡◌, None};
     ghost use Rattle.std.specs.Option.{option_map};
     ghost use Rattle.triple_arena_chain.specs.Chains.{first_or, last_or};
@@ -79,11 +71,7 @@ impl<
         × (option_map P.Inx.number a.last ≡ last_or None (order_in P.Inx.number (record { chains = a.chains; root = option_map P.Inx.number a.root }))) };
 }
 
-impl<
-    P: Ptr,
-    T: Drop,
-    S: NonZeroInxGenericStack<ArenaSlot<P, LinkNoGen<P, SimpleOrdArenaNode<P, T>>>> + Drop,
-> SimpleOrdArena<P, T, S> {
+impl<P: PtrCore, T: Drop, S: OrdSlots<P, T>> SimpleOrdArena<P, T, S> {
     /// An arena without an entry, which takes no memory.
     pub fn new(alloc: S::Alloc) -> Self
         ensures exact { result.chains

@@ -7,22 +7,22 @@ ghost use Rattle.rank_tree.specs.Tree.{walk};
 ghost use Rattle.rank_tree.specs.Shape.{plug};
 ghost use Rattle.rank_tree.specs.Repair.{Short, Broken, Pending, Restored, Loose};
 
-use crate::SimpleOrdArenaNode;
 use crate::edges::detach;
 use crate::knots::{rank_at, read, set_rank};
 use crate::looks::look_around;
 use crate::turn::turn;
+use crate::{OrdSlots, SimpleOrdArenaNode};
 use rank_tree::Side;
-use triple_arena::{ArenaSlot, NonZeroInxGenericStack, Ptr, PtrInx};
-use triple_arena_chain::{ChainArena, LinkNoGen};
+use triple_arena::{PtrCore, PtrInxCore};
+use triple_arena_chain::ChainArena;
 use unreached::unreached;
 
 /// The higher child `low` turns up, or its inner child does, twice.
-fn shorten<
-    P: Ptr,
-    T: Drop,
-    S: NonZeroInxGenericStack<ArenaSlot<P, LinkNoGen<P, SimpleOrdArenaNode<P, T>>>> + Drop,
->(chains: &mut ChainArena<P, SimpleOrdArenaNode<P, T>, S>, root: &mut Option<P::Inx>, low: P::Inx)
+fn shorten<P: PtrCore, T: Drop, S: OrdSlots<P, T>>(
+    chains: &mut ChainArena<P, SimpleOrdArenaNode<P, T>, S>,
+    root: &mut Option<P::Inx>,
+    low: P::Inx,
+)
     requires { (w : List ℕ) × Short (knots_in P.Inx.number chains.old) (option_map P.Inx.number root.old) (P.Inx.number low) w }
     ensures does { (w : List ℕ) → Short (knots_in P.Inx.number chains.old) (option_map P.Inx.number root.old) (P.Inx.number low) w
         → Restored (knots_in P.Inx.number chains.new) (option_map P.Inx.number root.new) w }
@@ -62,11 +62,7 @@ fn is_fit(left: u8, rank: u8, right: u8) -> bool
 }
 
 /// One step: the rules are restored, or are broken at most at the parent.
-fn mend<
-    P: Ptr,
-    T: Drop,
-    S: NonZeroInxGenericStack<ArenaSlot<P, LinkNoGen<P, SimpleOrdArenaNode<P, T>>>> + Drop,
->(
+fn mend<P: PtrCore, T: Drop, S: OrdSlots<P, T>>(
     chains: &mut ChainArena<P, SimpleOrdArenaNode<P, T>, S>,
     root: &mut Option<P::Inx>,
     high: P::Inx,
@@ -103,11 +99,7 @@ fn mend<
 }
 
 /// From a tree with one child too low to a tree that keeps the rules.
-pub(crate) fn repair_removed<
-    P: Ptr,
-    T: Drop,
-    S: NonZeroInxGenericStack<ArenaSlot<P, LinkNoGen<P, SimpleOrdArenaNode<P, T>>>> + Drop,
->(
+pub(crate) fn repair_removed<P: PtrCore, T: Drop, S: OrdSlots<P, T>>(
     chains: &mut ChainArena<P, SimpleOrdArenaNode<P, T>, S>,
     root: &mut Option<P::Inx>,
     start: Option<P::Inx>,
@@ -124,11 +116,11 @@ pub(crate) fn repair_removed<
 }
 
 /// A node with at most one child leaves the tree, after which the rules hold.
-pub(crate) fn bring_out<
-    P: Ptr,
-    T: Drop,
-    S: NonZeroInxGenericStack<ArenaSlot<P, LinkNoGen<P, SimpleOrdArenaNode<P, T>>>> + Drop,
->(chains: &mut ChainArena<P, SimpleOrdArenaNode<P, T>, S>, root: &mut Option<P::Inx>, gone: P::Inx)
+pub(crate) fn bring_out<P: PtrCore, T: Drop, S: OrdSlots<P, T>>(
+    chains: &mut ChainArena<P, SimpleOrdArenaNode<P, T>, S>,
+    root: &mut Option<P::Inx>,
+    gone: P::Inx,
+)
     requires { Loose (knots_in P.Inx.number chains.old) (option_map P.Inx.number root.old) (P.Inx.number gone) }
     ensures does { (loose : Loose (knots_in P.Inx.number chains.old) (option_map P.Inx.number root.old) (P.Inx.number gone))
         → Restored (knots_in P.Inx.number chains.new) (option_map P.Inx.number root.new) (walk (plug loose.context loose.sub)) }

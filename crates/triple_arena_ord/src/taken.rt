@@ -15,19 +15,15 @@ ghost use Rattle.rank_tree.specs.Repair.{Exchange};
 ghost use Rattle.triple_arena_ord.specs.Ordered.{IsOrdered, order_in};
 ghost use Rattle.triple_arena_ord.specs.Removal.{Loses, IsUprooted};
 
-use crate::SimpleOrdArenaNode;
 use crate::knots::{read, relink, reparent, write};
 use crate::removed::bring_out;
-use triple_arena::{ArenaSlot, ArenaTrait, InvalidationResult, NonZeroInxGenericStack, Ptr};
+use crate::{OrdSlots, SimpleOrdArenaNode};
+use triple_arena::{ArenaTrait, InvalidationResult, PtrCore};
 use triple_arena_chain::{ChainArena, ChainArenaTrait, LinkNoGen};
 use unreached::unreached;
 
 // `new`, which is not in the tree, takes the place and the rank of `old`.
-fn exchange<
-    P: Ptr,
-    T: Drop,
-    S: NonZeroInxGenericStack<ArenaSlot<P, LinkNoGen<P, SimpleOrdArenaNode<P, T>>>> + Drop,
->(
+fn exchange<P: PtrCore, T: Drop, S: OrdSlots<P, T>>(
     chains: &mut ChainArena<P, SimpleOrdArenaNode<P, T>, S>,
     root: &mut Option<P::Inx>,
     old: P::Inx,
@@ -49,11 +45,7 @@ fn exchange<
 
 // A node leaves the tree, and its link stays: one with a right child when the next one, which has no left child, takes its
 // place.
-fn uproot<
-    P: Ptr,
-    T: Drop,
-    S: NonZeroInxGenericStack<ArenaSlot<P, LinkNoGen<P, SimpleOrdArenaNode<P, T>>>> + Drop,
->(
+fn uproot<P: PtrCore, T: Drop, S: OrdSlots<P, T>>(
     chains: &mut ChainArena<P, SimpleOrdArenaNode<P, T>, S>,
     root: &mut Option<P::Inx>,
     gone: P::Inx,
@@ -81,11 +73,7 @@ fn uproot<
 // The entry at an index, which has this one after it, leaves the tree and the list. Its link is given back: inlined, it is not
 // copied on the way.
 #[inline(always)]
-pub(crate) fn take_entry<
-    P: Ptr,
-    T: Drop,
-    S: NonZeroInxGenericStack<ArenaSlot<P, LinkNoGen<P, SimpleOrdArenaNode<P, T>>>> + Drop,
->(
+pub(crate) fn take_entry<P: PtrCore, T: Drop, S: OrdSlots<P, T>>(
     chains: &mut ChainArena<P, SimpleOrdArenaNode<P, T>, S>,
     root: &mut Option<P::Inx>,
     gone: P::Inx,

@@ -5,19 +5,15 @@ ghost use Rattle.rank_tree.specs.Shape.{Stands};
 ghost use Rattle.rank_tree.specs.Repair.{Spot, turned};
 ghost use Rattle.triple_arena_ord.specs.Node.{knots_in, rest};
 
-use crate::SimpleOrdArenaNode;
 use crate::knots::{read, relink, reparent, write};
+use crate::{OrdSlots, SimpleOrdArenaNode};
 use rank_tree::{TreeLinks, side_of};
-use triple_arena::{ArenaSlot, NonZeroInxGenericStack, Ptr};
-use triple_arena_chain::{ChainArena, LinkNoGen};
+use triple_arena::PtrCore;
+use triple_arena_chain::ChainArena;
 use unreached::unreached;
 
 /// `low` takes the place of its parent, which becomes its child; both get new ranks.
-pub(crate) fn turn<
-    P: Ptr,
-    T: Drop,
-    S: NonZeroInxGenericStack<ArenaSlot<P, LinkNoGen<P, SimpleOrdArenaNode<P, T>>>> + Drop,
->(
+pub(crate) fn turn<P: PtrCore, T: Drop, S: OrdSlots<P, T>>(
     chains: &mut ChainArena<P, SimpleOrdArenaNode<P, T>, S>,
     root: &mut Option<P::Inx>,
     low: P::Inx,

@@ -9,13 +9,13 @@ ghost use Rattle.triple_arena_ord.specs.Near.{IsAtHand, IsStop, IsWalked, path_f
 
 use crate::{IndexNode, SimpleOrdItem};
 use std::cmp::Ordering;
-use triple_arena::{Ptr, PtrInx};
+use triple_arena::{PtrCore, PtrInxCore};
 use triple_arena_chain::{ChainArenaTrait, IndexLink};
 use triple_arena_ptr::Probes;
 use unreached::unreached;
 
 // Where a search along the list goes from a link that answered so, after it went `way`: nowhere, where it ends.
-fn onward<I: PtrInx, N>(link: &IndexLink<I, N>, way: Ordering, answer: Ordering) -> Option<I>
+fn onward<I: PtrInxCore, N>(link: &IndexLink<I, N>, way: Ordering, answer: Ordering) -> Option<I>
     ensures { option_map I.number result ≡ onward_of way answer (link_ends I.number link.now) }
 {
     match answer {
@@ -41,7 +41,7 @@ pub(crate) fn walk_from<P, T, A>(
     probes: &mut Probes,
 ) -> Option<(P::Inx, Ordering)>
 where
-    P: Ptr,
+    P: PtrCore,
     T: SimpleOrdItem + Drop,
     A: ChainArenaTrait<P, IndexNode<P::Inx, T>>,
     requires { (w : List ℕ) × IsLinear (ends_in P.Inx.number (A.links arena.now)) w × On w (P.Inx.number start) }

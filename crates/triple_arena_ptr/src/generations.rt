@@ -6,11 +6,11 @@ ghost use Rattle.std.proofs.Common.{rules};
 ghost use Rattle.triple_arena_ptr.specs.NonZeros.{u8_determined, u16_determined, u32_determined, u64_determined, u128_determined, usize_determined};
 
 use crate::hexadecimal;
-use crate::ptr::PtrGen;
+use crate::ptr::{PtrGen, PtrGenCore};
 use std::fmt;
 use std::num::{NonZeroU8, NonZeroU16, NonZeroU32, NonZeroU64, NonZeroU128, NonZeroUsize};
 
-impl PtrGen for () {
+impl PtrGenCore for () {
     ghost number = { λ _. 1 };
 
     ghost last = { None };
@@ -20,8 +20,6 @@ impl PtrGen for () {
     ghost positive = { λ a. Prim.search rules };
 
     ghost determined = { λ a b h. Prim.search rules };
-
-    ghost ordered = { λ a b. refl };
 
     ghost equal = { λ a b. refl };
 
@@ -42,7 +40,11 @@ impl PtrGen for () {
     }
 }
 
-impl PtrGen for NonZeroU8 {
+impl PtrGen for () {
+    ghost ordered = { λ a b. refl };
+}
+
+impl PtrGenCore for NonZeroU8 {
     ghost number = { non_zero_u8_get };
 
     ghost last = { Some 255 };
@@ -52,8 +54,6 @@ impl PtrGen for NonZeroU8 {
     ghost positive = { λ a. a.ok };
 
     ghost determined = { u8_determined };
-
-    ghost ordered = { λ a b. Prim.search (comparing, rules) };
 
     ghost equal = { λ a b. Prim.search (comparing, rules) };
 
@@ -82,7 +82,11 @@ impl PtrGen for NonZeroU8 {
     }
 }
 
-impl PtrGen for NonZeroU16 {
+impl PtrGen for NonZeroU8 {
+    ghost ordered = { λ a b. Prim.search (comparing, rules) };
+}
+
+impl PtrGenCore for NonZeroU16 {
     ghost number = { non_zero_u16_get };
 
     ghost last = { Some (2 ^ 16 - 1) };
@@ -92,8 +96,6 @@ impl PtrGen for NonZeroU16 {
     ghost positive = { λ a. a.ok };
 
     ghost determined = { u16_determined };
-
-    ghost ordered = { λ a b. Prim.search (comparing, rules) };
 
     ghost equal = { λ a b. Prim.search (comparing, rules) };
 
@@ -122,7 +124,11 @@ impl PtrGen for NonZeroU16 {
     }
 }
 
-impl PtrGen for NonZeroU32 {
+impl PtrGen for NonZeroU16 {
+    ghost ordered = { λ a b. Prim.search (comparing, rules) };
+}
+
+impl PtrGenCore for NonZeroU32 {
     ghost number = { non_zero_u32_get };
 
     ghost last = { Some (2 ^ 32 - 1) };
@@ -132,8 +138,6 @@ impl PtrGen for NonZeroU32 {
     ghost positive = { λ a. a.ok };
 
     ghost determined = { u32_determined };
-
-    ghost ordered = { λ a b. Prim.search (comparing, rules) };
 
     ghost equal = { λ a b. Prim.search (comparing, rules) };
 
@@ -162,7 +166,11 @@ impl PtrGen for NonZeroU32 {
     }
 }
 
-impl PtrGen for NonZeroU64 {
+impl PtrGen for NonZeroU32 {
+    ghost ordered = { λ a b. Prim.search (comparing, rules) };
+}
+
+impl PtrGenCore for NonZeroU64 {
     ghost number = { non_zero_u64_get };
 
     ghost last = { Some (2 ^ 64 - 1) };
@@ -172,8 +180,6 @@ impl PtrGen for NonZeroU64 {
     ghost positive = { λ a. a.ok };
 
     ghost determined = { u64_determined };
-
-    ghost ordered = { λ a b. Prim.search (comparing, rules) };
 
     ghost equal = { λ a b. Prim.search (comparing, rules) };
 
@@ -202,7 +208,11 @@ impl PtrGen for NonZeroU64 {
     }
 }
 
-impl PtrGen for NonZeroU128 {
+impl PtrGen for NonZeroU64 {
+    ghost ordered = { λ a b. Prim.search (comparing, rules) };
+}
+
+impl PtrGenCore for NonZeroU128 {
     ghost number = { non_zero_u128_get };
 
     ghost last = { Some (2 ^ 128 - 1) };
@@ -212,8 +222,6 @@ impl PtrGen for NonZeroU128 {
     ghost positive = { λ a. a.ok };
 
     ghost determined = { u128_determined };
-
-    ghost ordered = { λ a b. Prim.search (comparing, rules) };
 
     ghost equal = { λ a b. Prim.search (comparing, rules) };
 
@@ -241,7 +249,11 @@ impl PtrGen for NonZeroU128 {
     }
 }
 
-impl PtrGen for NonZeroUsize {
+impl PtrGen for NonZeroU128 {
+    ghost ordered = { λ a b. Prim.search (comparing, rules) };
+}
+
+impl PtrGenCore for NonZeroUsize {
     ghost number = { non_zero_usize_get };
 
     ghost last = { Some (2 ^ 64 - 1) };
@@ -251,8 +263,6 @@ impl PtrGen for NonZeroUsize {
     ghost positive = { λ a. a.ok };
 
     ghost determined = { usize_determined };
-
-    ghost ordered = { λ a b. Prim.search (comparing, rules) };
 
     ghost equal = { λ a b. Prim.search (comparing, rules) };
 
@@ -279,4 +289,8 @@ impl PtrGen for NonZeroUsize {
         let number = self.get();
         write!(f, "{number:x}")
     }
+}
+
+impl PtrGen for NonZeroUsize {
+    ghost ordered = { λ a b. Prim.search (comparing, rules) };
 }

@@ -6,11 +6,11 @@ ghost use Rattle.std.proofs.Common.{rules};
 ghost use Rattle.triple_arena_ptr.specs.NonZeros.{u8_determined, u16_determined, u32_determined, u64_determined, u128_determined, usize_determined};
 
 use crate::hexadecimal;
-use crate::ptr::PtrInx;
+use crate::ptr::{PtrInx, PtrInxCore};
 use std::fmt;
 use std::num::{NonZeroU8, NonZeroU16, NonZeroU32, NonZeroU64, NonZeroU128, NonZeroUsize};
 
-impl PtrInx for NonZeroU8 {
+impl PtrInxCore for NonZeroU8 {
     ghost number = { non_zero_u8_get };
 
     ghost greatest = { 255 };
@@ -18,8 +18,6 @@ impl PtrInx for NonZeroU8 {
     ghost positive = { λ a. a.ok };
 
     ghost determined = { u8_determined };
-
-    ghost ordered = { λ a b. Prim.search (comparing, rules) };
 
     ghost equal = { λ a b. Prim.search (comparing, rules) };
 
@@ -52,7 +50,11 @@ impl PtrInx for NonZeroU8 {
     }
 }
 
-impl PtrInx for NonZeroU16 {
+impl PtrInx for NonZeroU8 {
+    ghost ordered = { λ a b. Prim.search (comparing, rules) };
+}
+
+impl PtrInxCore for NonZeroU16 {
     ghost number = { non_zero_u16_get };
 
     ghost greatest = { 2 ^ 16 - 1 };
@@ -60,8 +62,6 @@ impl PtrInx for NonZeroU16 {
     ghost positive = { λ a. a.ok };
 
     ghost determined = { u16_determined };
-
-    ghost ordered = { λ a b. Prim.search (comparing, rules) };
 
     ghost equal = { λ a b. Prim.search (comparing, rules) };
 
@@ -94,7 +94,11 @@ impl PtrInx for NonZeroU16 {
     }
 }
 
-impl PtrInx for NonZeroU32 {
+impl PtrInx for NonZeroU16 {
+    ghost ordered = { λ a b. Prim.search (comparing, rules) };
+}
+
+impl PtrInxCore for NonZeroU32 {
     ghost number = { non_zero_u32_get };
 
     ghost greatest = { 2 ^ 32 - 1 };
@@ -102,8 +106,6 @@ impl PtrInx for NonZeroU32 {
     ghost positive = { λ a. a.ok };
 
     ghost determined = { u32_determined };
-
-    ghost ordered = { λ a b. Prim.search (comparing, rules) };
 
     ghost equal = { λ a b. Prim.search (comparing, rules) };
 
@@ -136,7 +138,11 @@ impl PtrInx for NonZeroU32 {
     }
 }
 
-impl PtrInx for NonZeroU64 {
+impl PtrInx for NonZeroU32 {
+    ghost ordered = { λ a b. Prim.search (comparing, rules) };
+}
+
+impl PtrInxCore for NonZeroU64 {
     ghost number = { non_zero_u64_get };
 
     ghost greatest = { 2 ^ 64 - 1 };
@@ -144,8 +150,6 @@ impl PtrInx for NonZeroU64 {
     ghost positive = { λ a. a.ok };
 
     ghost determined = { u64_determined };
-
-    ghost ordered = { λ a b. Prim.search (comparing, rules) };
 
     ghost equal = { λ a b. Prim.search (comparing, rules) };
 
@@ -175,7 +179,11 @@ impl PtrInx for NonZeroU64 {
     }
 }
 
-impl PtrInx for NonZeroU128 {
+impl PtrInx for NonZeroU64 {
+    ghost ordered = { λ a b. Prim.search (comparing, rules) };
+}
+
+impl PtrInxCore for NonZeroU128 {
     ghost number = { non_zero_u128_get };
 
     ghost greatest = { 2 ^ 128 - 1 };
@@ -183,8 +191,6 @@ impl PtrInx for NonZeroU128 {
     ghost positive = { λ a. a.ok };
 
     ghost determined = { u128_determined };
-
-    ghost ordered = { λ a b. Prim.search (comparing, rules) };
 
     ghost equal = { λ a b. Prim.search (comparing, rules) };
 
@@ -217,7 +223,11 @@ impl PtrInx for NonZeroU128 {
     }
 }
 
-impl PtrInx for NonZeroUsize {
+impl PtrInx for NonZeroU128 {
+    ghost ordered = { λ a b. Prim.search (comparing, rules) };
+}
+
+impl PtrInxCore for NonZeroUsize {
     ghost number = { non_zero_usize_get };
 
     ghost greatest = { 2 ^ 64 - 1 };
@@ -225,8 +235,6 @@ impl PtrInx for NonZeroUsize {
     ghost positive = { λ a. a.ok };
 
     ghost determined = { usize_determined };
-
-    ghost ordered = { λ a b. Prim.search (comparing, rules) };
 
     ghost equal = { λ a b. Prim.search (comparing, rules) };
 
@@ -254,4 +262,8 @@ impl PtrInx for NonZeroUsize {
         let number = self.get();
         write!(f, "{number:x}")
     }
+}
+
+impl PtrInx for NonZeroUsize {
+    ghost ordered = { λ a b. Prim.search (comparing, rules) };
 }

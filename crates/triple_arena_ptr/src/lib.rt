@@ -4,9 +4,11 @@
 //! put there. An arena gives each element the generation of its counter and steps the counter at each removal, so
 //! that a pointer finds its own element or nothing, until the generations start again.
 //!
-//! - [`Ptr`], [`PtrInx`] and [`PtrGen`] say what a pointer, an index and a generation are. Their laws are all that code
-//!   over any pointer type needs: the index is not 0, index and generation determine the pointer, and the order goes
-//!   by index and then by generation, with `==` and `Hash` in agreement.
+//! - [`Ptr`], [`PtrInx`] and [`PtrGen`] say what a pointer, an index and a generation are. The order of pointers goes by index and
+//!   then by generation, with `==` and `Hash` in agreement.
+//! - [`PtrCore`], [`PtrInxCore`] and [`PtrGenCore`] stand below them, with the calls, and all that arenas ask of a pointer: the
+//!   index is not 0, and index and generation determine the pointer. Code over `P: Ptr` calls what asks `P: PtrCore`; a call at
+//!   one pointer type, as `P0::invalid()`, wants the trait `PtrCore` in scope.
 //! - [`Pointer`] is the one pointer type, for every index, generation and kind. [`P0`] to [`P5`], [`Q2`] and [`PtrNoGen`]
 //!   are it, each with a kind of its own. Choose by how many elements and removals there are.
 //! - [`Advancer`] goes over a collection that may change on the way; [`nzusize_iter`] goes over indexes.
@@ -42,7 +44,7 @@
 //! }
 //! ```
 //!
-//! A generation of one's own is an integer that is not 0 with an invariant, and an impl of [`PtrGen`]: the crate
+//! A generation of one's own is an integer that is not 0 with an invariant, and impls of [`PtrGenCore`] and [`PtrGen`]: the crate
 //! `narrow_ptr` has one that counts to 3, for tests.
 #![tactic(auto)]
 
@@ -71,7 +73,7 @@ pub use nzusize::{IntoNonZeroUsizeIterator, NonZeroUsizeIterator, nzusize_iter};
 pub use pointer::{Pointer, PtrKind};
 pub use pointer_text::fmt_pointer;
 pub use probes::Probes;
-pub use ptr::{Ptr, PtrGen, PtrInx};
+pub use ptr::{Ptr, PtrCore, PtrGen, PtrGenCore, PtrInx, PtrInxCore};
 pub use ptr_no_gen::PtrNoGen;
 pub use ptr_types::{P0, P1, P2, P3, P4, P5, Q2};
 pub use recast::{Recast, Recaster};

@@ -8,7 +8,7 @@ ghost use Rattle.triple_arena_ptr.specs.Recast.{renamed_item};
 ghost use Rattle.triple_arena_ptr.specs.RecastLaws.{renamed-one};
 
 use crate::pointer_text::fmt_pointer;
-use crate::ptr::{Ptr, PtrGen, PtrInx};
+use crate::ptr::{Ptr, PtrCore, PtrGen, PtrGenCore, PtrInx, PtrInxCore};
 use crate::recast::{Recast, Recaster};
 use std::fmt;
 use std::hash::Hash;
@@ -16,7 +16,7 @@ use std::marker::PhantomData;
 
 /// What tells pointer types apart that have the same index and the same generation: an empty type, with the name that
 /// stands before the index in a pointer's text. Its values are never made.
-pub trait PtrKind: Hash + Copy + Ord {
+pub trait PtrKind: Copy + Drop {
     ghost name: { List ℕ };
 
     /// The name of the pointer type.
@@ -26,13 +26,13 @@ pub trait PtrKind: Hash + Copy + Ord {
 
 /// A pointer with an index `I` and a generation `G`. What asks for a pointer of one kind takes none of another.
 #[derive(Clone, Copy, PartialEq, Eq, PartialOrd, Ord, Hash)]
-pub struct Pointer<I: PtrInx, G: PtrGen, K: PtrKind> {
+pub struct Pointer<I: PtrInxCore, G: PtrGenCore, K: PtrKind> {
     inx: I,
     generation: G,
     kind: PhantomData<K>,
 }
 
-impl<I: PtrInx, G: PtrGen, K: PtrKind> Ptr for Pointer<I, G, K> {
+impl<I: PtrInxCore, G: PtrGenCore, K: PtrKind> PtrCore for Pointer<I, G, K> {
     type Inx = I;
 
     type Gen = G;
@@ -53,10 +53,6 @@ impl<I: PtrInx, G: PtrGen, K: PtrKind> Ptr for Pointer<I, G, K> {
       kind = p.kind;
     } };
 
-    ghost ordered = { λ p q. Prim.search (comparing, rules) };
-
-    ghost equal = { λ p q. Prim.search (comparing, rules) };
-
     ghost cloned = { λ p q c i. record {
       inx = I.cloned p.inx q.inx c.0 i;
       generation = G.cloned p.generation q.generation c.1.0 i;
@@ -65,14 +61,12 @@ impl<I: PtrInx, G: PtrGen, K: PtrKind> Ptr for Pointer<I, G, K> {
 
     ghost always_clones = { λ p. (I.always_clones p.inx, (G.always_clones p.generation, tt)) };
 
-    ghost shown = { λ p. refl };
-
     fn name() -> &'static str {
         K::name()
     }
 
     fn invalid() -> Self {
-        Self::_from_raw(PtrInx::best_effort_invalid(), PtrGen::one())
+        Self::_from_raw(PtrInxCore::best_effort_invalid(), PtrGenCore::one())
     }
 
     fn inx(self) -> I {
@@ -92,7 +86,15 @@ impl<I: PtrInx, G: PtrGen, K: PtrKind> Ptr for Pointer<I, G, K> {
     }
 }
 
-impl<I: PtrInx, G: PtrGen, K: PtrKind> Default for Pointer<I, G, K> {
+impl<I: PtrInx, G: PtrGen, K: PtrKind + Hash + Ord> Ptr for Pointer<I, G, K> {
+    ghost ordered = { λ p q. Prim.search (comparing, rules) };
+
+    ghost equal = { λ p q. Prim.search (comparing, rules) };
+
+    ghost shown = { λ p. refl };
+}
+
+impl<I: PtrInxCore, G: PtrGenCore, K: PtrKind> Default for Pointer<I, G, K> {
     ghost is_default = { λ p. (I.number p.inx ≡ max_index_of I.greatest) × (G.number p.generation ≡ 1) };
 
     fn default() -> Self {
@@ -100,7 +102,7 @@ impl<I: PtrInx, G: PtrGen, K: PtrKind> Default for Pointer<I, G, K> {
     }
 }
 
-impl<I: PtrInx, G: PtrGen, K: PtrKind> fmt::Debug for Pointer<I, G, K> {
+impl<I: PtrInxCore, G: PtrGenCore, K: PtrKind> fmt::Debug for Pointer<I, G, K> {
     ghost debug_output = { λ p. Some (pointer_text K.name G.last (I.number p.inx) (G.number p.generation)) };
 
     fn fmt<W: fmt::Write>(&self, f: &mut fmt::Formatter<W>) -> fmt::Result {
@@ -108,7 +110,7 @@ impl<I: PtrInx, G: PtrGen, K: PtrKind> fmt::Debug for Pointer<I, G, K> {
     }
 }
 
-impl<I: PtrInx, G: PtrGen, K: PtrKind> fmt::Display for Pointer<I, G, K> {
+impl<I: PtrInxCore, G: PtrGenCore, K: PtrKind> fmt::Display for Pointer<I, G, K> {
     ghost output = { ⟦<Pointer<I, G, K> as fmt::Debug>⟧.debug_output };
 
     fn fmt<W: fmt::Write>(&self, f: &mut fmt::Formatter<W>) -> fmt::Result {
@@ -116,7 +118,7 @@ impl<I: PtrInx, G: PtrGen, K: PtrKind> fmt::Display for Pointer<I, G, K> {
     }
 }
 
-impl<I: PtrInx, G: PtrGen, K: PtrKind> Recast<Pointer<I, G, K>> for Pointer<I, G, K> {
+impl<I: PtrInxCore, G: PtrGenCore, K: PtrKind> Recast<Pointer<I, G, K>> for Pointer<I, G, K> {
     ghost items = { λ p. p ∷ [] };
 
     ghost recasted = { λ f p. renamed_item (f p) p };

@@ -4,14 +4,14 @@ ghost use Rattle.std.specs.Fmt.{WritesOnOk};
 ghost use Rattle.triple_arena_ptr.specs.Hexadecimal.{hexadecimal};
 ghost use Rattle.triple_arena_ptr.specs.Pointer.{generation_digits, pointer_text};
 
-use crate::ptr::{PtrGen, PtrInx};
+use crate::ptr::{PtrGenCore, PtrInxCore};
 use std::fmt;
 
 // An index as its digits.
 #[derive(Drop)]
 struct InxDigits<I>(I);
 
-impl<I: PtrInx> fmt::Display for InxDigits<I> {
+impl<I: PtrInxCore> fmt::Display for InxDigits<I> {
     ghost output = { λ it. Some (hexadecimal (I.number it.0)) };
 
     fn fmt<W: fmt::Write>(&self, f: &mut fmt::Formatter<W>) -> fmt::Result {
@@ -23,7 +23,7 @@ impl<I: PtrInx> fmt::Display for InxDigits<I> {
 #[derive(Drop)]
 struct GenDigits<G>(G);
 
-impl<G: PtrGen> fmt::Display for GenDigits<G> {
+impl<G: PtrGenCore> fmt::Display for GenDigits<G> {
     ghost output = { λ it. Some (generation_digits G.last (G.number it.0)) };
 
     fn fmt<W: fmt::Write>(&self, f: &mut fmt::Formatter<W>) -> fmt::Result {
@@ -33,7 +33,7 @@ impl<G: PtrGen> fmt::Display for GenDigits<G> {
 
 /// Writes the text of a pointer, as `P0[1](2)`, or `P5[1]` where generations are not counted.
 /// `Debug` and `Display` of a pointer type are this call.
-pub fn fmt_pointer<I: PtrInx, G: PtrGen, W: fmt::Write>(
+pub fn fmt_pointer<I: PtrInxCore, G: PtrGenCore, W: fmt::Write>(
     name: &str,
     inx: I,
     generation: G,

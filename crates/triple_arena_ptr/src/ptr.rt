@@ -14,7 +14,8 @@ use std::hash::Hash;
 use std::num::NonZeroUsize;
 
 /// A generation: one of the numbers from 1 to a greatest one, or the one value of `()`, whose number is 1.
-pub trait PtrGen: Debug + Hash + Copy + Ord {
+/// [`PtrGen`] stands above it, and asks that it is ordered, hashed and shown too.
+pub trait PtrGenCore: Copy + PartialEq + Drop {
     ghost number: { Self → ℕ };
 
     // The greatest generation, or `None` where generations are not counted.
@@ -46,8 +47,6 @@ pub trait PtrGen: Debug + Hash + Copy + Ord {
     // The number determines the generation.
     ghost determined: { (a b : Self) → number a ≡ number b → a ≡ b };
 
-    ghost ordered: { (a b : Self) → Self.cmp a b ≡ nat_cmp (number a) (number b) };
-
     ghost equal: { (a b : Self) → Self.eq a b ≡ (number a == number b) };
 
     // A clone is the generation itself, and is always made.
@@ -56,8 +55,8 @@ pub trait PtrGen: Debug + Hash + Copy + Ord {
     ghost always_clones: { (a : Self) → Self.is_infallible a };
 }
 
-/// An index, from 1 to a greatest one.
-pub trait PtrInx: Debug + Hash + Copy + Ord {
+/// An index, from 1 to a greatest one. [`PtrInx`] stands above it, and asks that it is ordered, hashed and shown too.
+pub trait PtrInxCore: Copy + PartialEq + Drop {
     ghost number: { Self → ℕ };
 
     // The greatest index of the type.
@@ -91,8 +90,6 @@ pub trait PtrInx: Debug + Hash + Copy + Ord {
     // The number determines the index.
     ghost determined: { (a b : Self) → number a ≡ number b → a ≡ b };
 
-    ghost ordered: { (a b : Self) → Self.cmp a b ≡ nat_cmp (number a) (number b) };
-
     ghost equal: { (a b : Self) → Self.eq a b ≡ (number a == number b) };
 
     // A clone is the index itself, and is always made.
@@ -101,13 +98,14 @@ pub trait PtrInx: Debug + Hash + Copy + Ord {
     ghost always_clones: { (a : Self) → Self.is_infallible a };
 }
 
-/// A pointer into an arena: an index and a generation.
-pub trait Ptr: Debug + Hash + Copy + Ord {
+/// What an arena asks of a pointer: an index and a generation. [`Ptr`] stands above it, and asks that it is ordered, hashed and
+/// shown too. The arenas ask no more than this, since each bound is a cost to the proof of each generic function.
+pub trait PtrCore: Copy + Drop {
     /// The type of the index.
-    type Inx: PtrInx;
+    type Inx: PtrInxCore;
 
     /// The type of the generation.
-    type Gen: PtrGen;
+    type Gen: PtrGenCore;
 
     ghost index: { Self → ℕ };
 
@@ -145,16 +143,29 @@ pub trait Ptr: Debug + Hash + Copy + Ord {
     // The index and the generation determine the pointer.
     ghost determined: { (p q : Self) → index p ≡ index q → generation p ≡ generation q → p ≡ q };
 
-    // By index, and then by generation.
-    ghost ordered: { (p q : Self) → Self.cmp p q ≡ then_cmp (on index nat_cmp) (on generation nat_cmp) p q };
-
-    ghost equal: { (p q : Self) → Self.eq p q ≡ ((index p == index q) && (generation p == generation q)) };
-
     // A clone is the pointer itself, and is always made.
     ghost cloned: { (p q : Self) → Self.is_clone p q → q ≡ p };
 
     ghost always_clones: { (p : Self) → Self.is_infallible p };
+}
+
+/// A generation that is ordered, hashed and shown as its number.
+pub trait PtrGen: PtrGenCore + Debug + Hash + Ord {
+    ghost ordered: { (a b : Self) → Self.cmp a b ≡ nat_cmp (Self.number a) (Self.number b) };
+}
+
+/// An index that is ordered, hashed and shown as its number.
+pub trait PtrInx: PtrInxCore + Debug + Hash + Ord {
+    ghost ordered: { (a b : Self) → Self.cmp a b ≡ nat_cmp (Self.number a) (Self.number b) };
+}
+
+/// A pointer into an arena: an index and a generation. It is ordered, hashed and shown by these.
+pub trait Ptr: PtrCore<Inx: PtrInx, Gen: PtrGen> + Debug + Hash + Ord {
+    // By index, and then by generation.
+    ghost ordered: { (p q : Self) → Self.cmp p q ≡ then_cmp (on Self.index nat_cmp) (on Self.generation nat_cmp) p q };
+
+    ghost equal: { (p q : Self) → Self.eq p q ≡ ((Self.index p == Self.index q) && (Self.generation p == Self.generation q)) };
 
     // What `{:?}` writes.
-    ghost shown: { (p : Self) → Self.debug_output p ≡ Some (pointer_text name Self.Gen.last (index p) (generation p)) };
+    ghost shown: { (p : Self) → Self.debug_output p ≡ Some (pointer_text Self.name Self.Gen.last (Self.index p) (Self.generation p)) };
 }

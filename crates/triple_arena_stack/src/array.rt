@@ -15,8 +15,9 @@ pub struct NonZeroInxArray<T, const LIMIT: usize> {
     array: ArrayVec<T, LIMIT>,
 }
 
-impl<T: Default + Drop, const LIMIT: usize> NonZeroInxGenericStack<T>
-    for NonZeroInxArray<T, LIMIT> {
+impl<T: Default + Drop, const LIMIT: usize> NonZeroInxGenericStack for NonZeroInxArray<T, LIMIT> {
+    type Item = T;
+
     type Alloc = ();
 
     ghost items = { λ s. s.array.items };
@@ -102,7 +103,7 @@ impl<T: Default + Drop, const LIMIT: usize> NonZeroInxGenericStack<T>
     }
 }
 
-impl<T: Default + Drop, const LIMIT: usize> NonZeroInxGenericStackEntries<T>
+impl<T: Default + Drop, const LIMIT: usize> NonZeroInxGenericStackEntries
     for NonZeroInxArray<T, LIMIT> {
     fn entry_push_within_capacity(
         &mut self,

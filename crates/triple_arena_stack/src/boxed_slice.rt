@@ -17,7 +17,9 @@ pub struct NonZeroInxBoxedSlice<T, A: Allocator = Global> {
     heap: Heap<T, A>,
 }
 
-impl<T: Drop, A: Allocator> NonZeroInxGenericStack<T> for NonZeroInxBoxedSlice<T, A> {
+impl<T: Drop, A: Allocator> NonZeroInxGenericStack for NonZeroInxBoxedSlice<T, A> {
+    type Item = T;
+
     type Alloc = A;
 
     ghost items = { λ s. s.heap.items };
@@ -93,7 +95,7 @@ impl<T: Drop, A: Allocator> NonZeroInxGenericStack<T> for NonZeroInxBoxedSlice<T
     }
 }
 
-impl<T: Drop, A: Allocator> NonZeroInxGenericStackEntries<T> for NonZeroInxBoxedSlice<T, A> {
+impl<T: Drop, A: Allocator> NonZeroInxGenericStackEntries for NonZeroInxBoxedSlice<T, A> {
     fn entry_push_within_capacity(
         &mut self,
     ) -> Result<NonZeroInxGenericStackPushEntry<'_, T, Self>, NotWithinCapacityError> {

@@ -13,11 +13,11 @@ use std::num::NonZeroUsize;
 use triple_arena_ptr::{NotWithinCapacityError, ReallocationError};
 
 /// The calls of a stack that answer an entry. Each stack has them.
-pub trait NonZeroInxGenericStackEntries<T: Drop>: NonZeroInxGenericStack<T> {
+pub trait NonZeroInxGenericStackEntries: NonZeroInxGenericStack {
     /// A place for one item more. Where all slots are taken the stack stays as it is.
     fn entry_push_within_capacity(
         &mut self,
-    ) -> Result<NonZeroInxGenericStackPushEntry<'_, T, Self>, NotWithinCapacityError>
+    ) -> Result<NonZeroInxGenericStackPushEntry<'_, Self::Item, Self>, NotWithinCapacityError>
         ensures variant { IsOk result
             ↔ (length (Self.items self.old) < capacity_of (Self.room self.old)) }
         ensures same_reference { IfOk result (λ e. entry_lender e ≡ self.entry.ghost_name) }
@@ -29,7 +29,7 @@ pub trait NonZeroInxGenericStackEntries<T: Drop>: NonZeroInxGenericStack<T> {
     /// as `push_reallocating` does. An error leaves the stack as it was.
     fn entry_push_reallocating(
         &mut self,
-    ) -> Result<NonZeroInxGenericStackPushEntry<'_, T, Self>, ReallocationError>
+    ) -> Result<NonZeroInxGenericStackPushEntry<'_, Self::Item, Self>, ReallocationError>
         ensures same_reference { IfOk result (λ e. entry_lender e ≡ self.entry.ghost_name) }
         ensures free { IfOk result (λ e. HasFreeSlot Self.items Self.room self.old (entry_stack e)) }
         ensures refusal { IsRefusal Self.takes_memory (length (Self.items self.old))
@@ -40,7 +40,7 @@ pub trait NonZeroInxGenericStackEntries<T: Drop>: NonZeroInxGenericStack<T> {
     /// The same as `entry_push_reallocating`.
     fn entry_push(
         &mut self,
-    ) -> Result<NonZeroInxGenericStackPushEntry<'_, T, Self>, ReallocationError>
+    ) -> Result<NonZeroInxGenericStackPushEntry<'_, Self::Item, Self>, ReallocationError>
         ensures same_reference { IfOk result (λ e. entry_lender e ≡ self.entry.ghost_name) }
         ensures free { IfOk result (λ e. HasFreeSlot Self.items Self.room self.old (entry_stack e)) }
         ensures refusal { IsRefusal Self.takes_memory (length (Self.items self.old))
@@ -88,7 +88,7 @@ impl<'a, T, S> NonZeroInxGenericStackPushEntry<'a, T, S> {
     }
 }
 
-impl<'a, T: Drop, S: NonZeroInxGenericStack<T>> NonZeroInxGenericStackPushEntryTrait<T>
+impl<'a, T: Drop, S: NonZeroInxGenericStack<Item = T>> NonZeroInxGenericStackPushEntryTrait<T>
     for NonZeroInxGenericStackPushEntry<'a, T, S> {
     ghost index = { λ e. length (S.items (entry_stack e)) + 1 };
 

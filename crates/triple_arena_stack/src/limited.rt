@@ -33,7 +33,9 @@ impl<T, A: Allocator> Model for NonZeroInxLimitedVec<T, A> {
     ghost invariant = { λ s. IfSome s.limit (λ l. length s.heap.items ≤ l) };
 }
 
-impl<T: Drop, A: Allocator> NonZeroInxGenericStack<T> for NonZeroInxLimitedVec<T, A> {
+impl<T: Drop, A: Allocator> NonZeroInxGenericStack for NonZeroInxLimitedVec<T, A> {
+    type Item = T;
+
     type Alloc = A;
 
     ghost items = { λ s. s.items };
@@ -116,7 +118,7 @@ impl<T: Drop, A: Allocator> NonZeroInxGenericStack<T> for NonZeroInxLimitedVec<T
     }
 }
 
-impl<T: Drop, A: Allocator> NonZeroInxGenericStackEntries<T> for NonZeroInxLimitedVec<T, A> {
+impl<T: Drop, A: Allocator> NonZeroInxGenericStackEntries for NonZeroInxLimitedVec<T, A> {
     fn entry_push_within_capacity(
         &mut self,
     ) -> Result<NonZeroInxGenericStackPushEntry<'_, T, Self>, NotWithinCapacityError> {
@@ -154,7 +156,7 @@ impl<T: Drop, A: Allocator> SetMaxCapacity for NonZeroInxLimitedVec<T, A> {
     }
 }
 
-impl<T: Drop, A: Allocator> NonZeroInxLimitedStack<T> for NonZeroInxLimitedVec<T, A> {
+impl<T: Drop, A: Allocator> NonZeroInxLimitedStack for NonZeroInxLimitedVec<T, A> {
     ghost least_limit_is_len = { λ s. refl };
 
     ghost items_with_limit = { λ s n. refl };

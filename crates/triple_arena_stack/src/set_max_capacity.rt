@@ -21,7 +21,7 @@ pub trait SetMaxCapacity {
 }
 
 /// A stack whose limit can be set. It accepts each limit that is not below its length.
-pub trait NonZeroInxLimitedStack<T: Drop>: NonZeroInxGenericStack<T> + SetMaxCapacity {
+pub trait NonZeroInxLimitedStack: NonZeroInxGenericStack + SetMaxCapacity {
     ghost least_limit_is_len: { (s : Self) → Self.least_limit s ≡ length (Self.items s) };
 
     ghost items_with_limit: { (s : Self) (n : ℕ)

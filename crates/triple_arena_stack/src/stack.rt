@@ -12,12 +12,15 @@ use std::num::NonZeroUsize;
 use triple_arena_ptr::{GetDisjointMutError, NotWithinCapacityError, ReallocationError};
 
 /// A stack whose items have the indexes from 1 on.
-pub trait NonZeroInxGenericStack<T: Drop> {
+pub trait NonZeroInxGenericStack {
+    /// What the stack holds.
+    type Item: Drop;
+
     /// What the stack takes its memory from.
     type Alloc;
 
     // The item of index 1 comes first.
-    ghost items: { Self → List T };
+    ghost items: { Self → List Self.Item };
 
     // The reserved slots and the limit.
     ghost room: { Self → Room };
@@ -29,7 +32,7 @@ pub trait NonZeroInxGenericStack<T: Drop> {
     ghost takes_memory: { Bool };
 
     // The stack with other items in the same room.
-    ghost with_items: { Self → List T → Self };
+    ghost with_items: { Self → List Self.Item → Self };
 
     /// An empty stack, which takes no memory.
     fn new(alloc: Self::Alloc) -> Self
@@ -82,7 +85,10 @@ pub trait NonZeroInxGenericStack<T: Drop> {
 
     /// Appends `value`, and answers its index. Where all slots are taken the stack stays as it is,
     /// and `value` is dropped.
-    fn push_within_capacity(&mut self, value: T) -> Result<NonZeroUsize, NotWithinCapacityError>
+    fn push_within_capacity(
+        &mut self,
+        value: Self::Item,
+    ) -> Result<NonZeroUsize, NotWithinCapacityError>
         ensures variant { IsOk result ↔ (length (items self.old) < capacity_of (room self.old)) }
         ensures index { IfOk result (λ i. non_zero_usize_get i ≡ length (items self.old) + 1) }
         ensures items { OnOk result (items self.new ≡ items self.old ++ value ∷ []) }
@@ -90,14 +96,14 @@ pub trait NonZeroInxGenericStack<T: Drop> {
         ensures err { OnErr result (self.new ≡ self.old) };
 
     /// The item at `i`, for writing. There must be one.
-    fn item_mut(&mut self, i: NonZeroUsize) -> &mut T
+    fn item_mut(&mut self, i: NonZeroUsize) -> &mut Self::Item
         requires { non_zero_usize_get i ≤ length (items self.old) }
-        ensures* writes_back { sem 𝓛 (Lends Self.row T.row self.entry result
+        ensures* writes_back { sem 𝓛 (Lends Self.row Self.Item.row self.entry result
             (λ x. with_items self.old (with_item (items self.old) (non_zero_usize_get i) x))) }
         ensures value { Some result.now ≡ item_at (items self.old) (non_zero_usize_get i) };
 
     /// Removes and returns the last item, if there is one.
-    fn pop(&mut self) -> Option<T>
+    fn pop(&mut self) -> Option<Self::Item>
         ensures items { items self.old ≡ items self.new ++ option_to_list result }
         ensures variant { IsSome result ↔ (0 < length (items self.old)) }
         ensures room { room self.new ≡ room self.old };
@@ -108,19 +114,19 @@ pub trait NonZeroInxGenericStack<T: Drop> {
         ensures room { room self.new ≡ room self.old };
 
     /// The items from index 1 on.
-    fn as_slice(&self) -> &[T]
+    fn as_slice(&self) -> &[Self::Item]
         ensures { result.now ≡ items self.now };
 
     /// The items from index 1 on, for writing.
-    fn as_mut_slice(&mut self) -> &mut [T]
-        ensures* writes_back { sem 𝓛 (Lends Self.row (Array T.row 0) self.entry result
+    fn as_mut_slice(&mut self) -> &mut [Self::Item]
+        ensures* writes_back { sem 𝓛 (Lends Self.row (Array Self.Item.row 0) self.entry result
             (λ xs. with_items self.old (refill (length (items self.old)) (items self.old) xs))) }
         ensures value { result.now ≡ items self.old };
 
     // Other items change nothing else.
-    ghost items_with_items: { (s : Self) (xs : List T) → items (with_items s xs) ≡ xs };
+    ghost items_with_items: { (s : Self) (xs : List Self.Item) → items (with_items s xs) ≡ xs };
 
-    ghost room_with_items: { (s : Self) (xs : List T) → room (with_items s xs) ≡ room s };
+    ghost room_with_items: { (s : Self) (xs : List Self.Item) → room (with_items s xs) ≡ room s };
 
     /// Whether there is no item.
     final fn is_empty(&self) -> bool
@@ -134,7 +140,10 @@ pub trait NonZeroInxGenericStack<T: Drop> {
     ///
     /// It answers `BeyondMaxCapacity` where the length is the greatest capacity, and `AllocError`
     /// where the memory was refused. The stack is then as it was, and `value` is dropped.
-    final fn push_reallocating(&mut self, value: T) -> Result<NonZeroUsize, ReallocationError>
+    final fn push_reallocating(
+        &mut self,
+        value: Self::Item,
+    ) -> Result<NonZeroUsize, ReallocationError>
         ensures { IsGrowingPush items room takes_memory value self.old result self.new }
     {
         make_room(self)?;
@@ -142,14 +151,14 @@ pub trait NonZeroInxGenericStack<T: Drop> {
     }
 
     /// The same as `push_reallocating`.
-    final fn push(&mut self, value: T) -> Result<NonZeroUsize, ReallocationError>
+    final fn push(&mut self, value: Self::Item) -> Result<NonZeroUsize, ReallocationError>
         ensures { IsGrowingPush items room takes_memory value self.old result self.new }
     {
         self.push_reallocating(value)
     }
 
     /// The item at `i`, if there is one.
-    final fn get(&self, i: NonZeroUsize) -> Option<&T>
+    final fn get(&self, i: NonZeroUsize) -> Option<&Self::Item>
         ensures { option_copied result ≡ item_at (items self.now) (non_zero_usize_get i) }
     {
         // The index is compared as it is: the step to a place is then part of the address.
@@ -162,8 +171,8 @@ pub trait NonZeroInxGenericStack<T: Drop> {
     }
 
     /// The item at `i` for writing, if there is one.
-    final fn get_mut(&mut self, i: NonZeroUsize) -> Option<&mut T>
-        ensures* writes_back { sem 𝓛 (LendsIf Self.row T.row self.entry result
+    final fn get_mut(&mut self, i: NonZeroUsize) -> Option<&mut Self::Item>
+        ensures* writes_back { sem 𝓛 (LendsIf Self.row Self.Item.row self.entry result
             (λ x. with_items self.old
             (with_item (items self.old) (non_zero_usize_get i) x)) self.old) }
         ensures variant { IsSome result ↔ (non_zero_usize_get i ≤ length (items self.old)) }
@@ -222,7 +231,7 @@ fn doubled(capacity: usize) -> usize
 }
 
 // Makes room for one item more than there are.
-pub(crate) fn make_room<T: Drop, S: NonZeroInxGenericStack<T>>(
+pub(crate) fn make_room<T: Drop, S: NonZeroInxGenericStack<Item = T>>(
     stack: &mut S,
 ) -> Result<(), ReallocationError>
     ensures free { OnOk result (HasFreeSlot S.items S.room stack.old stack.new) }
@@ -243,7 +252,7 @@ pub(crate) fn make_room<T: Drop, S: NonZeroInxGenericStack<T>>(
 }
 
 // Appends `value` to a stack that has room.
-pub(crate) fn push_in_room<T: Drop, S: NonZeroInxGenericStack<T>>(
+pub(crate) fn push_in_room<T: Drop, S: NonZeroInxGenericStack<Item = T>>(
     stack: &mut S,
     value: T,
 ) -> NonZeroUsize

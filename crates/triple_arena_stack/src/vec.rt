@@ -17,7 +17,9 @@ pub struct NonZeroInxVec<T, A: Allocator = Global> {
     heap: Heap<T, A>,
 }
 
-impl<T: Drop, A: Allocator> NonZeroInxGenericStack<T> for NonZeroInxVec<T, A> {
+impl<T: Drop, A: Allocator> NonZeroInxGenericStack for NonZeroInxVec<T, A> {
+    type Item = T;
+
     type Alloc = A;
 
     ghost items = { λ s. s.heap.items };
@@ -90,7 +92,7 @@ impl<T: Drop, A: Allocator> NonZeroInxGenericStack<T> for NonZeroInxVec<T, A> {
     }
 }
 
-impl<T: Drop, A: Allocator> NonZeroInxGenericStackEntries<T> for NonZeroInxVec<T, A> {
+impl<T: Drop, A: Allocator> NonZeroInxGenericStackEntries for NonZeroInxVec<T, A> {
     fn entry_push_within_capacity(
         &mut self,
     ) -> Result<NonZeroInxGenericStackPushEntry<'_, T, Self>, NotWithinCapacityError> {

@@ -8,8 +8,7 @@ ghost use Rattle.triple_arena.specs.Recasting.{content_items};
 ghost use Rattle.triple_arena_user.specs.Documents.{AllNamed, IsRenamedDocument};
 
 use triple_arena::{
-    Arena, ArenaSlot, DirectSlot, NonZeroInxGenericStack, Ptr, ReallocationError, Recast,
-    compress_recaster,
+    Arena, ArenaSlots, DirectSlots, PtrCore, ReallocationError, Recast, compress_recaster,
 };
 
 /// Moves the nodes to the first indexes, in their order, and has each name follow the node that it names.
@@ -22,10 +21,10 @@ pub fn tidy<P, T, S, R>(
     alloc: R::Alloc,
 ) -> Result<(), ReallocationError>
 where
-    P: Ptr,
+    P: PtrCore,
     T: Recast<P> + Drop,
-    S: NonZeroInxGenericStack<ArenaSlot<P, T>> + Drop,
-    R: NonZeroInxGenericStack<DirectSlot<P, P>> + Drop,
+    S: ArenaSlots<P, T>,
+    R: DirectSlots<P, P>,
     requires { AllNamed P.index P.generation T.items nodes.old (content_items T.items nodes.old) }
     ensures renamed { OnOk result ((new_name : ℕ → ℕ → Option P)
         × IsRenamedDocument P.index P.generation T.items

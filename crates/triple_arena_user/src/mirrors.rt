@@ -8,16 +8,14 @@ ghost use Rattle.triple_arena.specs.Entries.{generation_at};
 ghost use Rattle.triple_arena.specs.LiveEntries.{live_entries};
 ghost use Rattle.triple_arena.specs.Recaster.{IsRecaster};
 
-use triple_arena::{
-    Arena, ArenaCloneFromWith, ArenaSlot, DirectArena, DirectSlot, NonZeroInxGenericStack, Ptr,
-};
+use triple_arena::{Arena, ArenaCloneFromWith, ArenaSlots, DirectArena, DirectSlots, PtrCore};
 
 /// Makes `mirror`, which has room for the last live index of `arena`, hold exactly its pointers, each under itself. What
 /// it held is dropped, and its capacity stays. It cannot fail.
-pub fn reflect<P: Ptr, T: Drop, S, R>(arena: &Arena<P, T, S>, mirror: &mut DirectArena<P, P, R>)
+pub fn reflect<P: PtrCore, T: Drop, S, R>(arena: &Arena<P, T, S>, mirror: &mut DirectArena<P, P, R>)
 where
-    S: NonZeroInxGenericStack<ArenaSlot<P, T>> + Drop,
-    R: NonZeroInxGenericStack<DirectSlot<P, P>> + Drop,
+    S: ArenaSlots<P, T>,
+    R: DirectSlots<P, P>,
     requires { last_listed (live_entries arena.now) ≤ arena_capacity mirror.old }
     ensures pointers { (j : ℕ) → generation_at (mirrored_at mirror.new) j
         ≡ generation_at (entry_at arena.now) j }

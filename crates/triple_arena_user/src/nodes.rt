@@ -5,18 +5,17 @@ ghost use Rattle.triple_arena.specs.Entries.{with_entry, without};
 ghost use Rattle.triple_arena_user.specs.Nodes.{value_at};
 
 use std::marker::Model;
-use triple_arena::{Arena, ArenaInsertTrait, ArenaSlot, ArenaTrait};
-use triple_arena_ptr::{NotWithinCapacityError, Ptr};
-use triple_arena_stack::NonZeroInxGenericStack;
+use triple_arena::{Arena, ArenaInsertTrait, ArenaSlots, ArenaTrait};
+use triple_arena_ptr::{NotWithinCapacityError, PtrCore};
 
 /// A value with the pointer of the node below.
 #[derive(Drop)]
-pub struct Node<P: Ptr, T> {
+pub struct Node<P: PtrCore, T> {
     below: Option<P>,
     value: T,
 }
 
-impl<P: Ptr, T> Model for Node<P, T> {
+impl<P: PtrCore, T> Model for Node<P, T> {
     ghost use Rattle.triple_arena_user.specs.Node.{NodeView};
     ghost use Rattle.std.specs.Option.{option_map};
 
@@ -31,13 +30,12 @@ impl<P: Ptr, T> Model for Node<P, T> {
 
 /// Nodes, and the top one.
 #[derive(Drop)]
-pub struct Nodes<P: Ptr, T: Drop, S: NonZeroInxGenericStack<ArenaSlot<P, Node<P, T>>>> {
+pub struct Nodes<P: PtrCore, T: Drop, S: ArenaSlots<P, Node<P, T>>> {
     arena: Arena<P, Node<P, T>, S>,
     top: Option<P>,
 }
 
-impl<P: Ptr, T: Drop, S: NonZeroInxGenericStack<ArenaSlot<P, Node<P, T>>>> Model
-    for Nodes<P, T, S> {
+impl<P: PtrCore, T: Drop, S: ArenaSlots<P, Node<P, T>>> Model for Nodes<P, T, S> {
     ghost use Rattle.triple_arena_user.specs.Nodes.{Nodes as View};
     ghost use Rattle.triple_arena.specs.Content.{IsWellFormed};
     ghost use Rattle.std.specs.Option.{option_map};
@@ -53,7 +51,7 @@ impl<P: Ptr, T: Drop, S: NonZeroInxGenericStack<ArenaSlot<P, Node<P, T>>>> Model
     ghost invariant = { λ n. IsWellFormed n.arena };
 }
 
-impl<P: Ptr, T: Drop, S: NonZeroInxGenericStack<ArenaSlot<P, Node<P, T>>> + Drop> Nodes<P, T, S> {
+impl<P: PtrCore, T: Drop, S: ArenaSlots<P, Node<P, T>>> Nodes<P, T, S> {
     /// No nodes.
     pub fn new(alloc: S::Alloc) -> Self
         ensures none { live_count result.arena ≡ 0 }

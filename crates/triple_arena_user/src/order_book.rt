@@ -7,7 +7,7 @@ ghost use Rattle.triple_arena_ptr.specs.Generation.{next_generation};
 ghost use Rattle.triple_arena_ord.specs.Growth.{IsRoomRefusal};
 ghost use Rattle.triple_arena_user.specs.OrderBooks.{orders_in, price_in, IsFreePrice, IsNewOrder, IsBook, IsNextPrice, IsLastPrice, as_order};
 
-use triple_arena::{Advancer, ArenaSlot, NonZeroInxGenericStack, Ptr, ReallocationError};
+use triple_arena::{Advancer, ArenaSlot, NonZeroInxGenericStack, PtrCore, ReallocationError};
 use triple_arena_chain::LinkNoGen;
 use triple_arena_ord::laws::{
     entries_stand_in_the_list, keys_ascend_along_the_list, removals_keep_keys_ascending,
@@ -21,7 +21,7 @@ pub type OrderBook<P, V, S> = SimpleOrdArena<P, OrdPair<u64, V>, S>;
 pub type OrderSlot<P, V> = ArenaSlot<P, LinkNoGen<P, SimpleOrdArenaNode<P, OrdPair<u64, V>>>>;
 
 // What an insertion answers, with the order that it replaces alone.
-fn as_order<P: Ptr, V: Drop>(
+fn as_order<P: PtrCore, V: Drop>(
     inserted: Result<(P, Option<OrdPair<u64, V>>), OrdInsertionError>,
 ) -> Result<(P, Option<V>), OrdInsertionError>
     ensures { result ≡ as_order inserted }
@@ -35,7 +35,7 @@ fn as_order<P: Ptr, V: Drop>(
 
 /// A book without an order, with room for so many. It answers `BeyondMaxCapacity` where no book of this type has so much room,
 /// and `AllocError` where the memory was refused.
-pub fn open_book<P: Ptr, V: Drop, S: NonZeroInxGenericStack<OrderSlot<P, V>> + Drop>(
+pub fn open_book<P: PtrCore, V: Drop, S: NonZeroInxGenericStack<Item = OrderSlot<P, V>> + Drop>(
     alloc: S::Alloc,
     orders: usize,
 ) -> Result<OrderBook<P, V, S>, ReallocationError>
@@ -50,7 +50,7 @@ pub fn open_book<P: Ptr, V: Drop, S: NonZeroInxGenericStack<OrderSlot<P, V>> + D
 
 /// Puts an order in at a price, and answers its pointer, with the order that it replaces, if one stands at the price. It
 /// answers `NotWithinCapacity` where none does and there is no room; the book stays as it is then.
-pub fn add_order<P: Ptr, V: Drop, S: NonZeroInxGenericStack<OrderSlot<P, V>> + Drop>(
+pub fn add_order<P: PtrCore, V: Drop, S: NonZeroInxGenericStack<Item = OrderSlot<P, V>> + Drop>(
     book: &mut OrderBook<P, V, S>,
     price: u64,
     order: V,
@@ -78,7 +78,7 @@ pub fn add_order<P: Ptr, V: Drop, S: NonZeroInxGenericStack<OrderSlot<P, V>> + D
 
 /// Takes the order that `p` points to out, with its price. All other pointers find their orders. It answers `None`, and changes
 /// nothing, where `p` points to none.
-pub fn cancel_order<P: Ptr, V: Drop, S: NonZeroInxGenericStack<OrderSlot<P, V>> + Drop>(
+pub fn cancel_order<P: PtrCore, V: Drop, S: NonZeroInxGenericStack<Item = OrderSlot<P, V>> + Drop>(
     book: &mut OrderBook<P, V, S>,
     p: P,
 ) -> Option<(u64, V)>
@@ -96,7 +96,7 @@ pub fn cancel_order<P: Ptr, V: Drop, S: NonZeroInxGenericStack<OrderSlot<P, V>> 
 }
 
 /// The pointer to the order with the least price, or `None` where there is no order.
-pub fn best_order<P: Ptr, V: Drop, S: NonZeroInxGenericStack<OrderSlot<P, V>> + Drop>(
+pub fn best_order<P: PtrCore, V: Drop, S: NonZeroInxGenericStack<Item = OrderSlot<P, V>> + Drop>(
     book: &OrderBook<P, V, S>,
 ) -> Option<P>
     requires { IsBook P.Inx.number book.now }
@@ -114,7 +114,7 @@ pub fn best_order<P: Ptr, V: Drop, S: NonZeroInxGenericStack<OrderSlot<P, V>> + 
 
 /// The pointer to the order with the next greater price after that of the order that `p` points to. It answers `None` where
 /// `p` points to none, or no order has a greater price.
-pub fn next_order<P: Ptr, V: Drop, S: NonZeroInxGenericStack<OrderSlot<P, V>> + Drop>(
+pub fn next_order<P: PtrCore, V: Drop, S: NonZeroInxGenericStack<Item = OrderSlot<P, V>> + Drop>(
     book: &OrderBook<P, V, S>,
     p: P,
 ) -> Option<P>

@@ -11,14 +11,14 @@ ghost use Rattle.triple_arena_chain.specs.Lists.{Chain, members, IsChainOf};
 ghost use Rattle.triple_arena_chain.specs.Walks.{IsWalkFrom};
 ghost use Rattle.triple_arena_user.specs.Playlists.{length_at, IsMoved};
 
-use triple_arena::{Advancer, ArenaSlot, ArenaTrait, NonZeroInxGenericStack, Ptr};
+use triple_arena::{Advancer, ArenaTrait, Ptr, PtrCore};
 use triple_arena_chain::{
-    ChainArena, ChainArenaTrait, ChainInsertionError, LinkInsertKind, LinkNoGen,
+    ChainArena, ChainArenaTrait, ChainInsertionError, ChainSlots, LinkInsertKind,
 };
 
 /// Adds a song directly after the one at `p`, if there is room. It answers `FailedLinkRequirement` where `p` is invalid,
 /// and else `NotWithinCapacity` where there is no room; all songs stay as they are then, and this one is dropped.
-pub fn add_after<P: Ptr, T: Drop, S: NonZeroInxGenericStack<ArenaSlot<P, LinkNoGen<P, T>>> + Drop>(
+pub fn add_after<P: PtrCore, T: Drop, S: ChainSlots<P, T>>(
     songs: &mut ChainArena<P, T, S>,
     p: P,
     song: T,
@@ -51,7 +51,7 @@ pub fn add_after<P: Ptr, T: Drop, S: NonZeroInxGenericStack<ArenaSlot<P, LinkNoG
 
 /// Moves the song at `p` to directly after the one at `q`, in whatever lists or rings they stand, and answers its new
 /// pointer. It answers `None`, and changes nothing, where one of them is invalid or they are the same song.
-pub fn move_after<P: Ptr, T: Drop, S: NonZeroInxGenericStack<ArenaSlot<P, LinkNoGen<P, T>>> + Drop>(
+pub fn move_after<P: Ptr, T: Drop, S: ChainSlots<P, T>>(
     songs: &mut ChainArena<P, T, S>,
     p: P,
     q: P,
@@ -82,11 +82,11 @@ pub fn move_after<P: Ptr, T: Drop, S: NonZeroInxGenericStack<ArenaSlot<P, LinkNo
 /// Turns the song at `p`, which is the next of `before`, and its own next round: `before, p, q` is `before, q, p` then,
 /// also where `q` is the end of the list. A ring of one or of two stays as it is. It answers `None`, and changes nothing,
 /// where `p` is not the next of `before`, one of them is invalid, or `p` has no next.
-pub fn reverse_pair<
-    P: Ptr,
-    T: Drop,
-    S: NonZeroInxGenericStack<ArenaSlot<P, LinkNoGen<P, T>>> + Drop,
->(songs: &mut ChainArena<P, T, S>, before: P, p: P) -> Option<()>
+pub fn reverse_pair<P: PtrCore, T: Drop, S: ChainSlots<P, T>>(
+    songs: &mut ChainArena<P, T, S>,
+    before: P,
+    p: P,
+) -> Option<()>
     ensures variant { IsSome result
         ↔ ((next_in (ends_found P.Inx.number songs.old (P.index before) (P.generation before)) ≡ Some (P.index p))
         × IsSome (next_in (ends_found P.Inx.number songs.old (P.index p) (P.generation p)))) }
@@ -122,7 +122,7 @@ pub fn reverse_pair<
 
 /// How long it plays from the song at `p` on, in any arena of chains: to the end of its chain and then backwards from the
 /// song before it, or once round a ring. Past the greatest number it goes on from 0.
-pub fn play_from<P: Ptr, A: ChainArenaTrait<P, u64>>(songs: &A, p: P) -> Option<u64>
+pub fn play_from<P: PtrCore, A: ChainArenaTrait<P, u64>>(songs: &A, p: P) -> Option<u64>
     ensures variant { IsSome result ↔ IsSome (get (A.links songs.now) (P.index p) (P.generation p)) }
     ensures total { IfSome result (λ total. (walk : List ℕ)
         × IsWalkFrom (ends_in P.Inx.number (A.links songs.now)) (P.index p) walk

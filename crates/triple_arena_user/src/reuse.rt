@@ -5,7 +5,7 @@ ghost use Rattle.triple_arena.specs.Steps.{Step, Finds, Happens, all_given, reac
 ghost use Rattle.triple_arena_user.specs.Histories.{IsReached};
 
 use triple_arena::laws::{ended_pointers_find_nothing, pointers_are_given_once};
-use triple_arena::{ArenaInsertTrait, InvalidationResult, Ptr};
+use triple_arena::{ArenaInsertTrait, InvalidationResult, PtrCore};
 
 /// Removes what `p` points to, and stores `t` where there is room now. It answers the pointer of `t`, or `None`, and
 /// changes nothing, where `p` points to no entry.
@@ -13,7 +13,11 @@ use triple_arena::{ArenaInsertTrait, InvalidationResult, Ptr};
 /// Where generations are counted, whatever was done with the arena since it was new, and as long as no step started the
 /// generations again: that pointer is none of those that the arena gave before, and `p`, if the arena gave it, finds
 /// nothing ever after.
-pub fn replace<P: Ptr, T: Drop, A: ArenaInsertTrait<P, T>>(arena: &mut A, p: P, t: T) -> Option<P>
+pub fn replace<P: PtrCore, T: Drop, A: ArenaInsertTrait<P, T>>(
+    arena: &mut A,
+    p: P,
+    t: T,
+) -> Option<P>
     ensures variant { IsSome result
         ↔ IsSome (value_if (P.generation p) (A.entry_at arena.old (P.index p))) }
     ensures found { IfSome result (λ q. value_if (P.generation q) (A.entry_at arena.new (P.index q))

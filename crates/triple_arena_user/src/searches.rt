@@ -6,10 +6,10 @@ ghost use Rattle.triple_arena.specs.Content.{entry_at};
 ghost use Rattle.triple_arena.specs.DirectContent.{entry_at as direct_entry_at};
 ghost use Rattle.triple_arena.specs.Iterators.{SearchFinds};
 
-use triple_arena::{Arena, ArenaSlot, DirectArena, DirectSlot, NonZeroInxGenericStack, Ptr};
+use triple_arena::{Arena, ArenaSlots, DirectArena, DirectSlots, PtrCore};
 
 /// The pointer to the first value, in the order of the indexes, that passes the test, or `None` where each fails it.
-pub fn find_first<P: Ptr, T: Drop, S: NonZeroInxGenericStack<ArenaSlot<P, T>>, F: Fn(&T) -> bool>(
+pub fn find_first<P: PtrCore, T: Drop, S: ArenaSlots<P, T>, F: Fn(&T) -> bool>(
     arena: &Arena<P, T, S>,
     test: F,
 ) -> Option<P>
@@ -27,7 +27,7 @@ pub fn find_first<P: Ptr, T: Drop, S: NonZeroInxGenericStack<ArenaSlot<P, T>>, F
 
 /// The pointer to the first value of a direct arena that is equal to this one, in the order of the indexes, or `None`
 /// where there is none.
-pub fn find_equal<P: Ptr, T: PartialEq + Drop, S: NonZeroInxGenericStack<DirectSlot<P, T>>>(
+pub fn find_equal<P: PtrCore, T: PartialEq + Drop, S: DirectSlots<P, T>>(
     arena: &DirectArena<P, T, S>,
     wanted: &T,
 ) -> Option<P>

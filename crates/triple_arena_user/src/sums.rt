@@ -5,10 +5,10 @@ ghost use Rattle.triple_arena.specs.Compression.{value_of};
 ghost use Rattle.triple_arena.specs.DirectContent.{live_entries as direct_entries};
 ghost use Rattle.triple_arena.specs.LiveEntries.{live_entries};
 
-use triple_arena::{Arena, ArenaSlot, DirectArena, DirectSlot, NonZeroInxGenericStack, Ptr};
+use triple_arena::{Arena, ArenaSlots, DirectArena, DirectSlots, PtrCore};
 
 /// The sum of the values. Past the greatest number it goes on from 0.
-pub fn sum_of<P: Ptr, S: NonZeroInxGenericStack<ArenaSlot<P, u64>>>(arena: &Arena<P, u64, S>) -> u64
+pub fn sum_of<P: PtrCore, S: ArenaSlots<P, u64>>(arena: &Arena<P, u64, S>) -> u64
     ensures { result ≡ sum (list_map value_of (live_entries arena.now)) % 2 ^ 64 }
 {
     let mut total = 0u64;
@@ -19,9 +19,7 @@ pub fn sum_of<P: Ptr, S: NonZeroInxGenericStack<ArenaSlot<P, u64>>>(arena: &Aren
 }
 
 /// The sum of the values of a direct arena. Past the greatest number it goes on from 0.
-pub fn direct_sum_of<P: Ptr, S: NonZeroInxGenericStack<DirectSlot<P, u64>>>(
-    arena: &DirectArena<P, u64, S>,
-) -> u64
+pub fn direct_sum_of<P: PtrCore, S: DirectSlots<P, u64>>(arena: &DirectArena<P, u64, S>) -> u64
     ensures { result ≡ sum (list_map value_of (direct_entries arena.now)) % 2 ^ 64 }
 {
     let mut total = 0u64;
@@ -32,9 +30,7 @@ pub fn direct_sum_of<P: Ptr, S: NonZeroInxGenericStack<DirectSlot<P, u64>>>(
 }
 
 /// The sum of the values, each beside its pointer. Past the greatest number it goes on from 0.
-pub fn sum_of_entries<P: Ptr, S: NonZeroInxGenericStack<ArenaSlot<P, u64>>>(
-    arena: &Arena<P, u64, S>,
-) -> u64
+pub fn sum_of_entries<P: PtrCore, S: ArenaSlots<P, u64>>(arena: &Arena<P, u64, S>) -> u64
     ensures { result ≡ sum (list_map value_of (live_entries arena.now)) % 2 ^ 64 }
 {
     let mut total = 0u64;

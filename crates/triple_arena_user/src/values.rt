@@ -5,10 +5,10 @@ ghost use Rattle.triple_arena_ptr.specs.InvalidationOption.{overflowed};
 ghost use Rattle.triple_arena.specs.Changes.{IsCompressed};
 ghost use Rattle.triple_arena.specs.Compression.{value_of, generation_of, compression_wraps, given_in_turn};
 
-use triple_arena::{ArenaTrait, InvalidationOption, Ptr};
+use triple_arena::{ArenaTrait, InvalidationOption, PtrCore};
 
 /// Adds `by` to each value, and moves the entries to the first indexes. A sum past the greatest number goes on from 0.
-pub fn raise<P: Ptr, A: ArenaTrait<P, u64>>(arena: &mut A, by: u64) -> InvalidationOption<()>
+pub fn raise<P: PtrCore, A: ArenaTrait<P, u64>>(arena: &mut A, by: u64) -> InvalidationOption<()>
     ensures values { list_map value_of (A.live_entries arena.new)
         ≡ list_map (λ v. (v + by) % 2 ^ 64) (list_map value_of (A.live_entries arena.old)) }
     ensures overflow { overflowed result ≡ compression_wraps P.Gen.last false (A.counter arena.old)
@@ -20,7 +20,7 @@ pub fn raise<P: Ptr, A: ArenaTrait<P, u64>>(arena: &mut A, by: u64) -> Invalidat
 }
 
 /// Gives each entry what `f` makes of its value, and moves the entries to the first indexes.
-pub fn map_values<P: Ptr, T: Drop, A: ArenaTrait<P, T>, F: Fn(T) -> T>(
+pub fn map_values<P: PtrCore, T: Drop, A: ArenaTrait<P, T>, F: Fn(T) -> T>(
     arena: &mut A,
     f: F,
 ) -> InvalidationOption<()>
@@ -36,7 +36,7 @@ pub fn map_values<P: Ptr, T: Drop, A: ArenaTrait<P, T>, F: Fn(T) -> T>(
 }
 
 /// Replaces each value by the sum of the values up to it, in the order of the indexes.
-pub fn sum_up<P: Ptr, A: ArenaTrait<P, u64>>(arena: &mut A) -> InvalidationOption<()>
+pub fn sum_up<P: PtrCore, A: ArenaTrait<P, u64>>(arena: &mut A) -> InvalidationOption<()>
     ensures values { list_map value_of (A.live_entries arena.new)
         ≡ given_in_turn (λ sum v. (sum + v) % 2 ^ 64) (λ sum v. (sum + v) % 2 ^ 64) 0
         (list_map value_of (A.live_entries arena.old)) }

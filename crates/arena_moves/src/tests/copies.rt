@@ -11,10 +11,10 @@ use triple_arena::{
     Arena, ArenaCloneFromWith, ArenaCloneSource, ArenaInsertTrait, ArenaSlot, ArenaTrait,
     ArrayArena, ArrayDirectArena, BoxedArena, BoxedDirectArena, DirectArena, DirectSlot, HeapArena,
     HeapDirectArena, LimitedArena, LimitedDirectArena, NonZeroInxGenericStack, P0, P1, P5, Ptr,
-    PtrGen, PtrInx, ReallocationError, SetMaxCapacity,
+    PtrCore, PtrGenCore, PtrInxCore, ReallocationError, SetMaxCapacity,
 };
 
-pub(super) fn insert<P: Ptr, S: NonZeroInxGenericStack<ArenaSlot<P, u64>> + Drop>(
+pub(super) fn insert<P: Ptr, S: NonZeroInxGenericStack<Item = ArenaSlot<P, u64>> + Drop>(
     rt: &impl Abort,
     arena: &mut Arena<P, u64, S>,
     value: u64,
@@ -26,7 +26,7 @@ pub(super) fn insert<P: Ptr, S: NonZeroInxGenericStack<ArenaSlot<P, u64>> + Drop
 }
 
 // Stores 10 to 40 at the indexes 1 to 4, and removes those at 1 and then at 3: 3 is the next index to be taken.
-pub(super) fn fills<P: Ptr, S: NonZeroInxGenericStack<ArenaSlot<P, u64>> + Drop>(
+pub(super) fn fills<P: Ptr, S: NonZeroInxGenericStack<Item = ArenaSlot<P, u64>> + Drop>(
     rt: &impl Abort,
     arena: &mut Arena<P, u64, S>,
 ) {
@@ -41,7 +41,7 @@ pub(super) fn fills<P: Ptr, S: NonZeroInxGenericStack<ArenaSlot<P, u64>> + Drop>
 // The pointer with this index and the first generation that is given.
 pub(super) fn at<P: Ptr>(index: NonZeroUsize) -> P {
     match P::Inx::try_from_usize(index) {
-        Some(inx) => P::_from_raw(inx, PtrGen::two()),
+        Some(inx) => P::_from_raw(inx, PtrGenCore::two()),
         None => P::invalid(),
     }
 }
@@ -90,7 +90,7 @@ fn is_past_the_limit<P: Ptr, S: ArenaCloneSource<P, u64>, A: ArenaCloneFromWith<
 }
 
 // The two free indexes are taken, the smaller one first, with this generation.
-fn takes_the_free<P: Ptr, S: NonZeroInxGenericStack<ArenaSlot<P, u64>> + Drop>(
+fn takes_the_free<P: Ptr, S: NonZeroInxGenericStack<Item = ArenaSlot<P, u64>> + Drop>(
     rt: &impl Abort,
     arena: &mut Arena<P, u64, S>,
     generation: P::Gen,
@@ -104,7 +104,7 @@ fn takes_the_free<P: Ptr, S: NonZeroInxGenericStack<ArenaSlot<P, u64>> + Drop>(
 }
 
 // Copies of an arena, whose counter they take over.
-fn copies<P: Ptr, S: NonZeroInxGenericStack<ArenaSlot<P, u64>> + Drop>(
+fn copies<P: Ptr, S: NonZeroInxGenericStack<Item = ArenaSlot<P, u64>> + Drop>(
     rt: &impl Abort,
     alloc: Global,
     source: &Arena<P, u64, S>,
@@ -127,14 +127,14 @@ fn copies_of_a_mirror<P: Ptr, S: ArenaCloneSource<P, u64>>(
 ) {
     let mut back = HeapArena::<P, u64, Global>::new(alloc);
     doubles(rt, mirror, &mut back, 80, 160);
-    assert!(rt; back.generation() == PtrGen::two());
+    assert!(rt; back.generation() == PtrGenCore::two());
     let mut other = HeapDirectArena::<P, u64, Global>::new(alloc);
     doubles(rt, mirror, &mut other, 80, 160);
     assert!(rt; other.capacity() == 4);
 }
 
 // Clones of an arena and of a mirror of it, also onto an arena that holds something else.
-fn clones<P: Ptr, S: NonZeroInxGenericStack<ArenaSlot<P, u64>> + Drop>(
+fn clones<P: Ptr, S: NonZeroInxGenericStack<Item = ArenaSlot<P, u64>> + Drop>(
     rt: &impl Abort,
     alloc: Global,
     source: &Arena<P, u64, S>,
@@ -151,7 +151,7 @@ fn clones<P: Ptr, S: NonZeroInxGenericStack<ArenaSlot<P, u64>> + Drop>(
     clones_directly(rt, alloc, source)
 }
 
-fn clones_directly<P: Ptr, S: NonZeroInxGenericStack<ArenaSlot<P, u64>> + Drop>(
+fn clones_directly<P: Ptr, S: NonZeroInxGenericStack<Item = ArenaSlot<P, u64>> + Drop>(
     rt: &impl Abort,
     alloc: Global,
     source: &Arena<P, u64, S>,
@@ -195,7 +195,7 @@ fn copies_within_a_limit<P: Ptr, S: ArenaCloneSource<P, u64>>(
 }
 
 // Copies over boxed slots, which take room once.
-fn copies_into_boxes<P: Ptr, S: NonZeroInxGenericStack<ArenaSlot<P, u64>> + Drop>(
+fn copies_into_boxes<P: Ptr, S: NonZeroInxGenericStack<Item = ArenaSlot<P, u64>> + Drop>(
     rt: &impl Abort,
     alloc: Global,
     source: &Arena<P, u64, S>,
@@ -211,7 +211,7 @@ fn copies_into_boxes<P: Ptr, S: NonZeroInxGenericStack<ArenaSlot<P, u64>> + Drop
 }
 
 // Everything that becomes a copy of this arena, which is filled first.
-fn all_copies<P: Ptr, S: NonZeroInxGenericStack<ArenaSlot<P, u64>> + Drop>(
+fn all_copies<P: Ptr, S: NonZeroInxGenericStack<Item = ArenaSlot<P, u64>> + Drop>(
     rt: &impl Abort,
     alloc: Global,
     source: &mut Arena<P, u64, S>,
@@ -235,10 +235,10 @@ fn copies_have_the_pointers(rt: HostRuntime) -> Result<(), Fail> {
 // Into an arena and a direct arena with room, and not into an arena without.
 fn copies_into<
     P: Ptr,
-    S: NonZeroInxGenericStack<ArenaSlot<P, u64>> + Drop,
-    A: NonZeroInxGenericStack<ArenaSlot<P, u64>> + Drop,
-    D: NonZeroInxGenericStack<DirectSlot<P, u64>> + Drop,
-    B: NonZeroInxGenericStack<ArenaSlot<P, u64>> + Drop,
+    S: NonZeroInxGenericStack<Item = ArenaSlot<P, u64>> + Drop,
+    A: NonZeroInxGenericStack<Item = ArenaSlot<P, u64>> + Drop,
+    D: NonZeroInxGenericStack<Item = DirectSlot<P, u64>> + Drop,
+    B: NonZeroInxGenericStack<Item = ArenaSlot<P, u64>> + Drop,
 >(
     rt: &impl Abort,
     source: &Arena<P, u64, S>,
@@ -308,10 +308,10 @@ fn has_room_for_two<S: ArenaCloneSource<P0, u64>, A: ArenaCloneFromWith<P0, u64>
 
 // An arena and a direct arena have room for what either has.
 fn have_room_for_two<
-    S: NonZeroInxGenericStack<ArenaSlot<P0, u64>> + Drop,
-    M: NonZeroInxGenericStack<DirectSlot<P0, u64>> + Drop,
-    A: NonZeroInxGenericStack<ArenaSlot<P0, u64>> + Drop,
-    D: NonZeroInxGenericStack<DirectSlot<P0, u64>> + Drop,
+    S: NonZeroInxGenericStack<Item = ArenaSlot<P0, u64>> + Drop,
+    M: NonZeroInxGenericStack<Item = DirectSlot<P0, u64>> + Drop,
+    A: NonZeroInxGenericStack<Item = ArenaSlot<P0, u64>> + Drop,
+    D: NonZeroInxGenericStack<Item = DirectSlot<P0, u64>> + Drop,
 >(
     rt: &(impl Abort + Alloc),
     source: &Arena<P0, u64, S>,

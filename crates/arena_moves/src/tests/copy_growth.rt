@@ -68,7 +68,7 @@ fn is_cloned<A: ArenaTrait<P0, u64>>(
 }
 
 // A clone is refused exactly where the heap refused it the memory, and so is one onto an arena without room.
-fn clones<H: Allocator, S: NonZeroInxGenericStack<Slot, Alloc = H> + Drop>(
+fn clones<H: Allocator, S: NonZeroInxGenericStack<Item = Slot, Alloc = H> + Drop>(
     rt: &impl Abort,
     heap: &Heap,
     source: &Arena<P0, u64, S>,
@@ -100,7 +100,7 @@ fn clones<H: Allocator, S: NonZeroInxGenericStack<Slot, Alloc = H> + Drop>(
 }
 
 // The same of a direct arena.
-fn clones_directly<H: Allocator, S: NonZeroInxGenericStack<Direct, Alloc = H> + Drop>(
+fn clones_directly<H: Allocator, S: NonZeroInxGenericStack<Item = Direct, Alloc = H> + Drop>(
     rt: &impl Abort,
     heap: &Heap,
     source: &DirectArena<P0, u64, S>,
@@ -135,7 +135,7 @@ fn clones_directly<H: Allocator, S: NonZeroInxGenericStack<Direct, Alloc = H> + 
 // which `alloc` is as an arena takes it.
 fn runs<
     H: Allocator + Copy,
-    S: NonZeroInxGenericStack<Slot, Alloc = H> + Drop,
+    S: NonZeroInxGenericStack<Item = Slot, Alloc = H> + Drop,
     M: ArenaCloneSource<P0, u64>,
 >(rt: &impl Abort, heap: &Heap, alloc: H, slots: usize, source: &M) {
     if let Ok(mut copy) = Arena::<P0, u64, S>::with_min_capacity(alloc, slots) {
@@ -150,7 +150,7 @@ fn runs<
 // The same of a direct arena.
 fn runs_directly<
     H: Allocator + Copy,
-    S: NonZeroInxGenericStack<Direct, Alloc = H> + Drop,
+    S: NonZeroInxGenericStack<Item = Direct, Alloc = H> + Drop,
     M: ArenaCloneSource<P0, u64>,
 >(rt: &impl Abort, heap: &Heap, alloc: H, slots: usize, source: &M) {
     if let Ok(mut copy) = DirectArena::<P0, u64, S>::with_min_capacity(alloc, slots) {
@@ -197,7 +197,7 @@ fn directly_in_turn<M: ArenaCloneSource<P0, u64>>(rt: &impl Abort, alloc: Global
 }
 
 // Into both kinds of arena, from an arena.
-fn from_an_arena<S: NonZeroInxGenericStack<Slot> + Drop>(
+fn from_an_arena<S: NonZeroInxGenericStack<Item = Slot> + Drop>(
     rt: &impl Abort,
     alloc: Global,
     source: &mut Arena<P0, u64, S>,
@@ -208,7 +208,7 @@ fn from_an_arena<S: NonZeroInxGenericStack<Slot> + Drop>(
 }
 
 // The same from a direct arena.
-fn from_a_mirror<S: NonZeroInxGenericStack<Direct> + Drop>(
+fn from_a_mirror<S: NonZeroInxGenericStack<Item = Direct> + Drop>(
     rt: &impl Abort,
     alloc: Global,
     mirror: &mut DirectArena<P0, u64, S>,

@@ -7,7 +7,7 @@ use std::cell::Cell;
 use std::process::Abort;
 use triple_arena::{
     ArenaCloneFromWith, ArenaCloneSource, ArenaInsertTrait, ArenaTrait, HeapArena, HeapDirectArena,
-    P0, P1, P5, Ptr, PtrGen, PtrInx, ReallocationError,
+    P0, P1, P5, Ptr, PtrCore, PtrGenCore, PtrInxCore, ReallocationError,
 };
 
 // The map refuses its call after the first `calls`. Nothing is left then but the room.

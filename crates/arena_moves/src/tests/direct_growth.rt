@@ -14,7 +14,7 @@ type Slot = DirectSlot<P0, u64>;
 type Heap = RefusingAllocator<Global>;
 
 // An arena is made and grows, each by one request, and is as it was where the growth is refused.
-fn grows<H: Allocator, S: NonZeroInxGenericStack<Slot, Alloc = H> + Drop>(
+fn grows<H: Allocator, S: NonZeroInxGenericStack<Item = Slot, Alloc = H> + Drop>(
     rt: &impl Abort,
     heap: &Heap,
     alloc: H,

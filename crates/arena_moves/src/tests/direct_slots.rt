@@ -10,7 +10,7 @@ use triple_arena::{
 };
 
 // The arena has this text and so many slots, within a capacity of 6.
-fn has_slots<S: NonZeroInxGenericStack<DirectSlot<P0, u64>> + Drop>(
+fn has_slots<S: NonZeroInxGenericStack<Item = DirectSlot<P0, u64>> + Drop>(
     rt: &(impl Abort + Alloc),
     arena: &DirectArena<P0, u64, S>,
     slots: usize,
@@ -22,7 +22,7 @@ fn has_slots<S: NonZeroInxGenericStack<DirectSlot<P0, u64>> + Drop>(
 }
 
 // Two entries among five slots, one of which goes. A place that is not used, also one past the slots, leaves them all.
-fn pops_free_slots<S: NonZeroInxGenericStack<DirectSlot<P0, u64>> + Drop>(
+fn pops_free_slots<S: NonZeroInxGenericStack<Item = DirectSlot<P0, u64>> + Drop>(
     rt: &(impl Abort + Alloc),
     arena: &mut DirectArena<P0, u64, S>,
 ) {

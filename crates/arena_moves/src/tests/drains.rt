@@ -6,12 +6,12 @@ use std::process::Abort;
 use std::test::Fail;
 use triple_arena::{
     Arena, ArenaInsertTrait, ArenaSlot, ArenaTrait, ArrayArena, DirectInsertionError, HeapArena,
-    HeapDirectArena, InvalidationOption, NonZeroInxGenericStack, P0, P1, P5, Ptr, PtrGen, PtrInx,
-    ReallocationError,
+    HeapDirectArena, InvalidationOption, NonZeroInxGenericStack, P0, P1, P5, Ptr, PtrCore,
+    PtrGenCore, PtrInxCore, ReallocationError,
 };
 
 // Four entries, with a free slot between them: 10, 30, 40 and 50 under these pointers.
-fn fill<P: Ptr, S: NonZeroInxGenericStack<ArenaSlot<P, u64>> + Drop>(
+fn fill<P: Ptr, S: NonZeroInxGenericStack<Item = ArenaSlot<P, u64>> + Drop>(
     rt: &impl Abort,
     arena: &mut Arena<P, u64, S>,
 ) -> Result<(P, P, P, P), ReallocationError> {
@@ -35,7 +35,7 @@ fn item_at<P: Ptr>(pointers: (P, P, P, P), place: usize) -> (P, u64) {
 }
 
 // Takes so many of the items, and answers the counter after them.
-fn take<P: Ptr, S: NonZeroInxGenericStack<ArenaSlot<P, u64>>>(
+fn take<P: Ptr, S: NonZeroInxGenericStack<Item = ArenaSlot<P, u64>> + Drop>(
     rt: &impl Abort,
     arena: &mut Arena<P, u64, S>,
     pointers: (P, P, P, P),
@@ -58,7 +58,7 @@ fn take<P: Ptr, S: NonZeroInxGenericStack<ArenaSlot<P, u64>>>(
 }
 
 // A drain that is dropped after so many items takes the others too, each by a step of the counter.
-fn drains<P: Ptr, S: NonZeroInxGenericStack<ArenaSlot<P, u64>> + Drop>(
+fn drains<P: Ptr, S: NonZeroInxGenericStack<Item = ArenaSlot<P, u64>> + Drop>(
     rt: &impl Abort,
     arena: &mut Arena<P, u64, S>,
     count: usize,

@@ -3,7 +3,7 @@
 use std::num::{NonZeroU64, NonZeroUsize};
 use triple_arena::{
     ArenaDirectInsertEntryTrait, ArenaDirectInsertTrait, DirectArena, DirectInsertionError,
-    DirectSlot, NonZeroInxGenericStack, P0, Ptr,
+    DirectSlot, NonZeroInxGenericStack, P0, Ptr, PtrCore,
 };
 
 // The pointer of this index and generation.
@@ -15,7 +15,7 @@ pub(super) fn at(index: usize, generation: u64) -> P0 {
 }
 
 // Stores `value` under `p`.
-pub(super) fn put<P: Ptr, T: Drop, S: NonZeroInxGenericStack<DirectSlot<P, T>> + Drop>(
+pub(super) fn put<P: Ptr, T: Drop, S: NonZeroInxGenericStack<Item = DirectSlot<P, T>> + Drop>(
     arena: &mut DirectArena<P, T, S>,
     p: P,
     value: T,
@@ -30,7 +30,7 @@ pub(super) fn put<P: Ptr, T: Drop, S: NonZeroInxGenericStack<DirectSlot<P, T>> +
 }
 
 // Asks for a place that it does not use, and says whether there was one.
-pub(super) fn only_asks<P: Ptr, T: Drop, S: NonZeroInxGenericStack<DirectSlot<P, T>> + Drop>(
+pub(super) fn only_asks<P: Ptr, T: Drop, S: NonZeroInxGenericStack<Item = DirectSlot<P, T>> + Drop>(
     arena: &mut DirectArena<P, T, S>,
     p: P,
 ) -> bool {

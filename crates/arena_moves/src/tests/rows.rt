@@ -11,8 +11,8 @@ use triple_arena::{
     Arena, ArenaDirectInsertEntryTrait, ArenaDirectInsertTrait, ArenaInsertTrait, ArenaSlot,
     ArenaTrait, ArrayArena, ArrayDirectArena, DirectArena, DirectInsertionError, DirectSlot,
     HeapArena, HeapDirectArena, InvalidationOption, InvalidationResult, NonZeroInxArray,
-    NonZeroInxGenericStack, NonZeroInxVec, P0, P1, P5, Ptr, PtrGen, PtrInx, ReallocationError,
-    Recast, compress_recaster,
+    NonZeroInxGenericStack, NonZeroInxVec, P0, P1, P5, Ptr, PtrCore, PtrGenCore, PtrInxCore,
+    ReallocationError, Recast, compress_recaster,
 };
 
 // The pointer whose index has so many before it, with the generation that is so many after the second.
@@ -33,7 +33,7 @@ fn pointer<P: Ptr>(rt: &impl Abort, before: usize, steps: usize) -> P {
 fn takes_whole_pointers<
     P: Ptr,
     T: Copy + Debug + Drop,
-    S: NonZeroInxGenericStack<DirectSlot<P, T>> + Drop,
+    S: NonZeroInxGenericStack<Item = DirectSlot<P, T>> + Drop,
 >(rt: &(impl Abort + Alloc), arena: &mut DirectArena<P, T, S>, value: T, text: &str) {
     let p = pointer(rt, 2, 5);
     assert!(rt; put(arena, p, value) == Ok(()));
@@ -93,7 +93,7 @@ fn takes_whole_pointers_in_an_array(rt: HostRuntime) {
 fn shows_two<
     P: Ptr,
     T: Copy + Debug + PartialEq + Drop,
-    S: NonZeroInxGenericStack<ArenaSlot<P, T>> + Drop,
+    S: NonZeroInxGenericStack<Item = ArenaSlot<P, T>> + Drop,
 >(
     rt: &(impl Abort + Alloc),
     arena: &mut Arena<P, T, S>,
@@ -138,7 +138,7 @@ fn shows_two_of_each_pointer(rt: HostRuntime) -> Result<(), Fail> {
 
 // Of five entries four go. The free slot after the last entry goes as well; then the two that are left are taken, the
 // one that was left last at first, and then a new slot.
-fn drops_the_free_end<P: Ptr, S: NonZeroInxGenericStack<ArenaSlot<P, u64>> + Drop>(
+fn drops_the_free_end<P: Ptr, S: NonZeroInxGenericStack<Item = ArenaSlot<P, u64>> + Drop>(
     rt: &(impl Abort + Alloc),
     arena: &mut Arena<P, u64, S>,
     texts: &[&str; 3],
@@ -184,7 +184,7 @@ fn drops_the_free_end_of_each_stack(rt: HostRuntime) {
 type Named<P> = (u64, Option<P>);
 
 // Four entries, of which the fourth names the second. These two stay.
-fn names<P: Ptr, S: NonZeroInxGenericStack<ArenaSlot<P, Named<P>>> + Drop>(
+fn names<P: Ptr, S: NonZeroInxGenericStack<Item = ArenaSlot<P, Named<P>>> + Drop>(
     rt: &impl Abort,
     arena: &mut Arena<P, Named<P>, S>,
 ) -> Result<(), ReallocationError> {
@@ -200,8 +200,8 @@ fn names<P: Ptr, S: NonZeroInxGenericStack<ArenaSlot<P, Named<P>>> + Drop>(
 // The map of a compression has this text, and the arena the other one once it is recast by the map.
 fn recasts<
     P: Ptr + Recast<P>,
-    S: NonZeroInxGenericStack<ArenaSlot<P, Named<P>>> + Drop,
-    R: NonZeroInxGenericStack<DirectSlot<P, P>> + Drop,
+    S: NonZeroInxGenericStack<Item = ArenaSlot<P, Named<P>>> + Drop,
+    R: NonZeroInxGenericStack<Item = DirectSlot<P, P>> + Drop,
 >(
     rt: &(impl Abort + Alloc),
     arena: &mut Arena<P, Named<P>, S>,
@@ -232,8 +232,8 @@ const UNCOUNTED: [&str; 2] = [
 // By a map in the stack `R`, which takes its room from `alloc`.
 fn recasts_by<
     P: Ptr + Recast<P>,
-    S: NonZeroInxGenericStack<ArenaSlot<P, Named<P>>> + Drop,
-    R: NonZeroInxGenericStack<DirectSlot<P, P>> + Drop,
+    S: NonZeroInxGenericStack<Item = ArenaSlot<P, Named<P>>> + Drop,
+    R: NonZeroInxGenericStack<Item = DirectSlot<P, P>> + Drop,
 >(
     rt: &(impl Abort + Alloc),
     arena: &mut Arena<P, Named<P>, S>,

@@ -5,7 +5,7 @@ use std::num::NonZeroUsize;
 use std::process::Abort;
 use std::test::Fail;
 use triple_arena::{
-    ArenaInsertTrait, ArenaTrait, ArrayArena, LimitedArena, P0, P5, Ptr, Recast, Recaster,
+    ArenaInsertTrait, ArenaTrait, ArrayArena, LimitedArena, P0, P5, PtrCore, Recast, Recaster,
     SetMaxCapacity,
 };
 

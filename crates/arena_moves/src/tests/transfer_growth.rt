@@ -58,7 +58,7 @@ fn takes<
 // which `alloc` is as an arena takes it.
 fn runs<
     H: Allocator,
-    S: NonZeroInxGenericStack<Slot, Alloc = H> + Drop,
+    S: NonZeroInxGenericStack<Item = Slot, Alloc = H> + Drop,
     E: ArenaCloneSource<P1, u64>,
     M: ArenaTransferSource<P1, u64> + ArenaCloneFromWith<P1, u64>,
 >(rt: &impl Abort, heap: &Heap, alloc: H, slots: usize, entries: &E, source: &mut M) {
@@ -74,7 +74,7 @@ fn runs<
 // The same into a direct arena.
 fn runs_directly<
     H: Allocator,
-    S: NonZeroInxGenericStack<Direct, Alloc = H> + Drop,
+    S: NonZeroInxGenericStack<Item = Direct, Alloc = H> + Drop,
     E: ArenaCloneSource<P1, u64>,
     M: ArenaTransferSource<P1, u64> + ArenaCloneFromWith<P1, u64>,
 >(rt: &impl Abort, heap: &Heap, alloc: H, slots: usize, entries: &E, source: &mut M) {

@@ -7,7 +7,7 @@ use std::process::Abort;
 use std::test::Fail;
 use triple_arena::{
     ArenaInsertTrait, ArenaTrait, ArenaTransferTrait, ArrayArena, ArrayDirectArena, P0, P1, P5,
-    Ptr, ReallocationError,
+    PtrCore, ReallocationError,
 };
 
 pub(super) fn seventh() -> NonZeroU64 {

@@ -7,7 +7,8 @@ use std::process::Abort;
 use std::test::Fail;
 use triple_arena::arena_iterators::PtrAdvancer;
 use triple_arena::{
-    Advancer, Arena, ArenaSlot, ArenaTrait, InvalidationResult, NonZeroInxGenericStack, P0, P1, Ptr,
+    Advancer, Arena, ArenaSlot, ArenaTrait, InvalidationResult, NonZeroInxGenericStack, P0, P1,
+    Ptr, PtrCore,
 };
 
 // Removes the entries one by one: an advancer comes to each of them, over an arena that changes.
@@ -52,7 +53,7 @@ fn gives<P: Ptr, A: ArenaTrait<P, u64>>(
 }
 
 // Five entries, of which the second and the last are removed.
-fn goes_over<P: Ptr, S: NonZeroInxGenericStack<ArenaSlot<P, u64>> + Drop>(
+fn goes_over<P: Ptr, S: NonZeroInxGenericStack<Item = ArenaSlot<P, u64>> + Drop>(
     rt: &(impl Abort + Alloc),
     arena: &mut Arena<P, u64, S>,
     texts: &[&str; 4],

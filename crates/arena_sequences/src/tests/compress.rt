@@ -6,10 +6,10 @@ use std::process::Abort;
 use std::test::Fail;
 use triple_arena::{
     Arena, ArenaInsertTrait, ArenaSlot, ArenaTrait, InvalidationOption, NonZeroInxGenericStack, P0,
-    P1, P5, Ptr, PtrInx,
+    P1, P5, Ptr, PtrCore, PtrInxCore,
 };
 
-fn remove<P: Ptr, S: NonZeroInxGenericStack<ArenaSlot<P, u64>> + Drop>(
+fn remove<P: Ptr, S: NonZeroInxGenericStack<Item = ArenaSlot<P, u64>> + Drop>(
     rt: &impl Abort,
     arena: &mut Arena<P, u64, S>,
     p: P,
@@ -19,7 +19,7 @@ fn remove<P: Ptr, S: NonZeroInxGenericStack<ArenaSlot<P, u64>> + Drop>(
 
 // Six entries with the values from 10 on, of which the second and the fourth stay: there are free slots in front,
 // between the two and behind them.
-fn with_holes<P: Ptr, S: NonZeroInxGenericStack<ArenaSlot<P, u64>> + Drop>(
+fn with_holes<P: Ptr, S: NonZeroInxGenericStack<Item = ArenaSlot<P, u64>> + Drop>(
     rt: &impl Abort,
     arena: &mut Arena<P, u64, S>,
 ) {
@@ -36,7 +36,7 @@ fn with_holes<P: Ptr, S: NonZeroInxGenericStack<ArenaSlot<P, u64>> + Drop>(
 }
 
 // The map gets the two entries in order, each with its old and its new pointer, and changes the value.
-fn maps_in_order<P: Ptr, S: NonZeroInxGenericStack<ArenaSlot<P, u64>> + Drop>(
+fn maps_in_order<P: Ptr, S: NonZeroInxGenericStack<Item = ArenaSlot<P, u64>> + Drop>(
     rt: &(impl Abort + Alloc),
     arena: &mut Arena<P, u64, S>,
     reset: bool,
@@ -101,7 +101,7 @@ fn moves_without_generations(rt: HostRuntime) {
 }
 
 // The value at an index, by its number.
-fn value_at<P: Ptr, S: NonZeroInxGenericStack<ArenaSlot<P, u64>> + Drop>(
+fn value_at<P: Ptr, S: NonZeroInxGenericStack<Item = ArenaSlot<P, u64>> + Drop>(
     arena: &Arena<P, u64, S>,
     index: usize,
 ) -> Option<u64> {
@@ -113,7 +113,7 @@ fn value_at<P: Ptr, S: NonZeroInxGenericStack<ArenaSlot<P, u64>> + Drop>(
 }
 
 // Two compressions leave the values, whatever the second one answers. Then one with a reset counts from the start.
-fn keeps_the_values<P: Ptr, S: NonZeroInxGenericStack<ArenaSlot<P, u64>> + Drop>(
+fn keeps_the_values<P: Ptr, S: NonZeroInxGenericStack<Item = ArenaSlot<P, u64>> + Drop>(
     rt: &(impl Abort + Alloc),
     arena: &mut Arena<P, u64, S>,
     second: InvalidationOption<()>,

@@ -11,12 +11,12 @@ use triple_arena::{
     DisjointableArenaTrait,
 };
 use triple_arena_ptr::{
-    GetDisjointMutError, NotWithinCapacityError, P0, P2, P5, Ptr, ReallocationError,
+    GetDisjointMutError, NotWithinCapacityError, P0, P2, P5, Ptr, PtrCore, ReallocationError,
 };
 use triple_arena_stack::{NonZeroInxArray, NonZeroInxGenericStack, NonZeroInxVec};
 
 // Stores `t` by an entry, and answers the pointer that the entry told before.
-fn insert_by_entry<P: Ptr, S: NonZeroInxGenericStack<ArenaSlot<P, u64>>>(
+fn insert_by_entry<P: Ptr, S: NonZeroInxGenericStack<Item = ArenaSlot<P, u64>> + Drop>(
     arena: &mut Arena<P, u64, S>,
     t: u64,
 ) -> Option<P>
@@ -39,7 +39,7 @@ fn insert_by_entry<P: Ptr, S: NonZeroInxGenericStack<ArenaSlot<P, u64>>>(
 }
 
 // Makes an entry that it does not use, and says whether there was one.
-fn only_asks<P: Ptr, S: NonZeroInxGenericStack<ArenaSlot<P, u64>>>(
+fn only_asks<P: Ptr, S: NonZeroInxGenericStack<Item = ArenaSlot<P, u64>> + Drop>(
     arena: &mut Arena<P, u64, S>,
 ) -> bool
     ensures kept { live_count arena.old < arena_capacity arena.old → arena.new ≡ arena.old }
@@ -54,7 +54,7 @@ fn only_asks<P: Ptr, S: NonZeroInxGenericStack<ArenaSlot<P, u64>>>(
 }
 
 // Stores `t` by an entry, whose pointer is the one that it told.
-fn told<P: Ptr, S: NonZeroInxGenericStack<ArenaSlot<P, u64>>>(
+fn told<P: Ptr, S: NonZeroInxGenericStack<Item = ArenaSlot<P, u64>> + Drop>(
     rt: &impl Abort,
     arena: &mut Arena<P, u64, S>,
     t: u64,

@@ -4,10 +4,10 @@ ghost use Rattle.triple_arena.specs.Content.{get, with_value};
 
 use super::sequences::{InVec, insert};
 use std::test::Fail;
-use triple_arena::{Arena, ArenaSlot, ArenaTrait, NonZeroInxGenericStack, P0, Ptr};
+use triple_arena::{Arena, ArenaSlot, ArenaTrait, NonZeroInxGenericStack, P0, Ptr, PtrCore};
 
 // The value that a pointer points to, if there is one.
-fn read<P: Ptr, S: NonZeroInxGenericStack<ArenaSlot<P, u64>> + Drop>(
+fn read<P: Ptr, S: NonZeroInxGenericStack<Item = ArenaSlot<P, u64>> + Drop>(
     arena: &Arena<P, u64, S>,
     p: P,
 ) -> Option<u64>
@@ -21,7 +21,7 @@ fn read<P: Ptr, S: NonZeroInxGenericStack<ArenaSlot<P, u64>> + Drop>(
 }
 
 // Changes the value that a pointer points to, and says whether there was one.
-fn write<P: Ptr, S: NonZeroInxGenericStack<ArenaSlot<P, u64>> + Drop>(
+fn write<P: Ptr, S: NonZeroInxGenericStack<Item = ArenaSlot<P, u64>> + Drop>(
     arena: &mut Arena<P, u64, S>,
     p: P,
     value: u64,

@@ -7,7 +7,7 @@ use std::test::Fail;
 use triple_arena::{
     Arena, ArenaInsertEntries, ArenaInsertEntryTrait, ArenaInsertTrait, ArenaSlot, ArenaTrait,
 };
-use triple_arena_ptr::{P0, Ptr, PtrGen, ReallocationError};
+use triple_arena_ptr::{P0, PtrCore, PtrGenCore, ReallocationError};
 use triple_arena_stack::{
     NonZeroInxBoxedSlice, NonZeroInxGenericStack, NonZeroInxLimitedVec, NonZeroInxVec,
 };
@@ -21,7 +21,7 @@ fn holds<A: ArenaInsertTrait<P0, u64>>(rt: &impl Abort, arena: &A, len: usize, c
     assert!(rt; arena.len() == len);
     assert!(rt; arena.capacity() == capacity);
     for place in 0..len {
-        let p = P0::_from_raw(NonZeroUsize::MIN.saturating_add(place), PtrGen::two());
+        let p = P0::_from_raw(NonZeroUsize::MIN.saturating_add(place), PtrGenCore::two());
         assert!(rt; arena.get(p) == Some(&(place as u64)));
     }
 }
@@ -65,14 +65,14 @@ fn fills<A: ArenaInsertTrait<P0, u64>>(rt: &impl Abort, arena: &mut A) {
 }
 
 // Stores `t` by an entry.
-fn insert_by_entry<S: NonZeroInxGenericStack<Slot>>(
+fn insert_by_entry<S: NonZeroInxGenericStack<Item = Slot> + Drop>(
     arena: &mut Arena<P0, u64, S>,
     t: u64,
 ) -> Result<P0, ReallocationError> {
     Ok(arena.entry_insert()?.insert(t))
 }
 
-fn insert_by_reallocating_entry<S: NonZeroInxGenericStack<Slot>>(
+fn insert_by_reallocating_entry<S: NonZeroInxGenericStack<Item = Slot> + Drop>(
     arena: &mut Arena<P0, u64, S>,
     t: u64,
 ) -> Result<P0, ReallocationError> {
@@ -80,7 +80,7 @@ fn insert_by_reallocating_entry<S: NonZeroInxGenericStack<Slot>>(
 }
 
 // Each call that can take memory, at an arena that is full.
-fn grows<S: NonZeroInxGenericStack<Slot> + Drop>(
+fn grows<S: NonZeroInxGenericStack<Item = Slot> + Drop>(
     rt: &impl Abort,
     heap: &Heap,
     arena: &mut Arena<P0, u64, S>,
@@ -133,7 +133,7 @@ fn makes<H: Allocator, A: ArenaInsertTrait<P0, u64, Alloc = H> + Drop>(
 }
 
 // `alloc` and `other` are the heap, as an arena takes it.
-fn runs<H: Allocator, S: NonZeroInxGenericStack<Slot, Alloc = H> + Drop>(
+fn runs<H: Allocator, S: NonZeroInxGenericStack<Item = Slot, Alloc = H> + Drop>(
     rt: &impl Abort,
     heap: &Heap,
     alloc: H,

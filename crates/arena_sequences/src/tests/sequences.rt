@@ -6,7 +6,7 @@ use std::test::Fail;
 use triple_arena::{
     Arena, ArenaInsertTrait, ArenaSlot, ArenaTrait, ArrayArena, BoxedArena, HeapArena,
     InvalidationResult, LimitedArena, NonZeroInxGenericStack, NotWithinCapacityError, P0, P1, P5,
-    Ptr, ReallocationError,
+    Ptr, PtrCore, ReallocationError,
 };
 
 pub(super) type InVec<P> = HeapArena<P, u64, Global>;
@@ -24,7 +24,7 @@ pub(super) fn shows<P: Ptr>(rt: &(impl Abort + Alloc), p: P, text: &str) {
     }
 }
 
-pub(super) fn insert<P: Ptr, S: NonZeroInxGenericStack<ArenaSlot<P, u64>> + Drop>(
+pub(super) fn insert<P: Ptr, S: NonZeroInxGenericStack<Item = ArenaSlot<P, u64>> + Drop>(
     rt: &impl Abort,
     arena: &mut Arena<P, u64, S>,
     value: u64,
@@ -36,7 +36,7 @@ pub(super) fn insert<P: Ptr, S: NonZeroInxGenericStack<ArenaSlot<P, u64>> + Drop
 }
 
 // Inserts as many values as there are texts, and finds each by a pointer that shows its text.
-fn inserts<P: Ptr, S: NonZeroInxGenericStack<ArenaSlot<P, u64>> + Drop>(
+fn inserts<P: Ptr, S: NonZeroInxGenericStack<Item = ArenaSlot<P, u64>> + Drop>(
     rt: &(impl Abort + Alloc),
     arena: &mut Arena<P, u64, S>,
     texts: &[&str],
@@ -48,7 +48,7 @@ fn inserts<P: Ptr, S: NonZeroInxGenericStack<ArenaSlot<P, u64>> + Drop>(
     }
 }
 
-fn removes<P: Ptr, S: NonZeroInxGenericStack<ArenaSlot<P, u64>> + Drop>(
+fn removes<P: Ptr, S: NonZeroInxGenericStack<Item = ArenaSlot<P, u64>> + Drop>(
     rt: &impl Abort,
     arena: &mut Arena<P, u64, S>,
     p: P,
@@ -61,7 +61,7 @@ fn removes<P: Ptr, S: NonZeroInxGenericStack<ArenaSlot<P, u64>> + Drop>(
 }
 
 // Two free slots are taken before a new one, the one that was left last at first.
-fn takes_the_last_freed_first<P: Ptr, S: NonZeroInxGenericStack<ArenaSlot<P, u64>> + Drop>(
+fn takes_the_last_freed_first<P: Ptr, S: NonZeroInxGenericStack<Item = ArenaSlot<P, u64>> + Drop>(
     rt: &(impl Abort + Alloc),
     arena: &mut Arena<P, u64, S>,
     texts: &[&str; 3],
@@ -77,7 +77,7 @@ fn takes_the_last_freed_first<P: Ptr, S: NonZeroInxGenericStack<ArenaSlot<P, u64
 }
 
 // A removal of the last slot leaves no free one there.
-fn pops_the_last_slot<P: Ptr, S: NonZeroInxGenericStack<ArenaSlot<P, u64>> + Drop>(
+fn pops_the_last_slot<P: Ptr, S: NonZeroInxGenericStack<Item = ArenaSlot<P, u64>> + Drop>(
     rt: &(impl Abort + Alloc),
     arena: &mut Arena<P, u64, S>,
     texts: &[&str; 2],
@@ -91,7 +91,7 @@ fn pops_the_last_slot<P: Ptr, S: NonZeroInxGenericStack<ArenaSlot<P, u64>> + Dro
 }
 
 // The arena is full, and nothing makes it greater.
-fn is_at_limit<P: Ptr, S: NonZeroInxGenericStack<ArenaSlot<P, u64>> + Drop>(
+fn is_at_limit<P: Ptr, S: NonZeroInxGenericStack<Item = ArenaSlot<P, u64>> + Drop>(
     rt: &impl Abort,
     arena: &mut Arena<P, u64, S>,
 ) {
@@ -105,7 +105,7 @@ fn is_at_limit<P: Ptr, S: NonZeroInxGenericStack<ArenaSlot<P, u64>> + Drop>(
 }
 
 // Without generations, a pointer outlives its invalidation.
-fn keeps_its_pointer<P: Ptr, S: NonZeroInxGenericStack<ArenaSlot<P, u64>> + Drop>(
+fn keeps_its_pointer<P: Ptr, S: NonZeroInxGenericStack<Item = ArenaSlot<P, u64>> + Drop>(
     rt: &impl Abort,
     arena: &mut Arena<P, u64, S>,
 ) {
@@ -115,7 +115,7 @@ fn keeps_its_pointer<P: Ptr, S: NonZeroInxGenericStack<ArenaSlot<P, u64>> + Drop
 }
 
 // With generations, it ends, and another pointer takes its place.
-fn ends_its_pointer<P: Ptr, S: NonZeroInxGenericStack<ArenaSlot<P, u64>> + Drop>(
+fn ends_its_pointer<P: Ptr, S: NonZeroInxGenericStack<Item = ArenaSlot<P, u64>> + Drop>(
     rt: &(impl Abort + Alloc),
     arena: &mut Arena<P, u64, S>,
     text: &str,
@@ -213,7 +213,7 @@ fn an_invalidation_keeps_a_pointer_without_generations(rt: HostRuntime) {
 }
 
 // The generations 2, 3, and 2 again.
-fn starts_again<P: Ptr, S: NonZeroInxGenericStack<ArenaSlot<P, u64>> + Drop>(
+fn starts_again<P: Ptr, S: NonZeroInxGenericStack<Item = ArenaSlot<P, u64>> + Drop>(
     rt: &(impl Abort + Alloc),
     arena: &mut Arena<P, u64, S>,
 ) {

@@ -8,7 +8,7 @@ use std::process::Abort;
 use std::test::Fail;
 use triple_arena::{
     ArenaInsertTrait, ArenaTrait, ArrayArena, BoxedArena, HeapArena, LimitedArena, P0, P1, P5, Ptr,
-    ReallocationError,
+    PtrCore, ReallocationError,
 };
 
 // Changes the value at an index, and says whether there was one.

@@ -5,13 +5,14 @@ use std::process::Abort;
 use std::test::Fail;
 use triple_arena::{
     ArenaInsertTrait, ArenaSlot, ArenaTrait, ArrayArena, DirectSlot, NonZeroInxArray,
-    NonZeroInxGenericStack, P0, P1, P5, Ptr, PtrGen, PtrInx, Recast, compress_recaster,
+    NonZeroInxGenericStack, P0, P1, P5, Ptr, PtrCore, PtrGenCore, PtrInxCore, Recast,
+    compress_recaster,
 };
 use triple_arena_chain::{ChainArena, ChainArenaTrait, LinkInsertKind, LinkNoGen};
 use triple_arena_ptr::ChainInsertionError;
 
 // The indexes in their order, and the values in that order, each as the digits of a number.
-fn digits<P: Ptr, S: NonZeroInxGenericStack<Slot<P>> + Drop>(
+fn digits<P: Ptr, S: NonZeroInxGenericStack<Item = Slot<P>> + Drop>(
     chains: &ChainArena<P, u64, S>,
 ) -> (usize, u64) {
     let mut indexes: usize = 0;
@@ -28,7 +29,7 @@ fn digits<P: Ptr, S: NonZeroInxGenericStack<Slot<P>> + Drop>(
 }
 
 // The walks from the first index, the second and the last.
-fn walks<P: Ptr, S: NonZeroInxGenericStack<Slot<P>> + Drop>(
+fn walks<P: Ptr, S: NonZeroInxGenericStack<Item = Slot<P>> + Drop>(
     chains: &ChainArena<P, u64, S>,
 ) -> (u64, u64, u64) {
     let mut walks = (0, 0, 0);
@@ -46,7 +47,7 @@ fn walks<P: Ptr, S: NonZeroInxGenericStack<Slot<P>> + Drop>(
 }
 
 // The links go to the first indexes in the order of theirs, and stay in their list and their ring, forwards and backwards.
-fn compresses<P: Ptr, S: NonZeroInxGenericStack<Slot<P>> + Drop>(
+fn compresses<P: Ptr, S: NonZeroInxGenericStack<Item = Slot<P>> + Drop>(
     rt: &impl Abort,
     chains: &mut ChainArena<P, u64, S>,
 ) -> Result<(), ChainInsertionError> {

@@ -8,7 +8,7 @@ use std::process::Abort;
 use std::test::Fail;
 use triple_arena::{
     ArenaSlot, ArenaTrait, NonZeroInxArray, NonZeroInxGenericStack, NonZeroInxVec, P0, P5, Ptr,
-    PtrInx, ReallocationError,
+    PtrCore, PtrInxCore, ReallocationError,
 };
 use triple_arena_chain::{ChainArena, ChainArenaTrait, LinkInsertKind, LinkNoGen};
 use triple_arena_ptr::ChainInsertionError;
@@ -21,7 +21,7 @@ pub(crate) type InArray<P> = NonZeroInxArray<Slot<P>, 6>;
 
 // The links 1, 3 and 2 in this order, and a ring of 4 and 5, with a free slot between them. It answers links 1 and 4,
 // and the one that is gone.
-pub(crate) fn fill<P: Ptr, S: NonZeroInxGenericStack<Slot<P>> + Drop>(
+pub(crate) fn fill<P: Ptr, S: NonZeroInxGenericStack<Item = Slot<P>> + Drop>(
     chains: &mut ChainArena<P, u64, S>,
 ) -> Result<(P, P, P), ChainInsertionError> {
     let a = chains.insert_reallocating(LinkInsertKind::Disconnected, 1)?;
@@ -35,7 +35,7 @@ pub(crate) fn fill<P: Ptr, S: NonZeroInxGenericStack<Slot<P>> + Drop>(
 }
 
 // These links stand there, and no other.
-fn holds<P: Ptr, S: NonZeroInxGenericStack<Slot<P>> + Drop>(
+fn holds<P: Ptr, S: NonZeroInxGenericStack<Item = Slot<P>> + Drop>(
     rt: &impl Abort,
     chains: &ChainArena<P, u64, S>,
     links: (P, P, P),
@@ -47,7 +47,7 @@ fn holds<P: Ptr, S: NonZeroInxGenericStack<Slot<P>> + Drop>(
 }
 
 // A clone, which then goes its own way, and what is made a clone of it: an arena that has other links, and a new one.
-fn copies<P: Ptr, H: Copy, S: NonZeroInxGenericStack<Slot<P>, Alloc = H> + Drop>(
+fn copies<P: Ptr, H: Copy, S: NonZeroInxGenericStack<Item = Slot<P>, Alloc = H> + Drop>(
     rt: &impl Abort,
     alloc: H,
 ) -> Result<(), ChainInsertionError> {

@@ -4,7 +4,7 @@ use std::process::Abort;
 use std::test::Fail;
 use triple_arena::{
     ArenaInsertEntryTrait, ArenaSlot, ArenaTrait, InvalidationOption, NonZeroInxArray,
-    NonZeroInxGenericStack, NonZeroInxLimitedVec, NonZeroInxVec, P0, P5, Ptr, PtrGen,
+    NonZeroInxGenericStack, NonZeroInxLimitedVec, NonZeroInxVec, P0, P5, Ptr, PtrCore, PtrGenCore,
     SetMaxCapacity,
 };
 use triple_arena_chain::{ChainArena, ChainArenaTrait, LinkInsertKind, LinkNoGen};
@@ -19,7 +19,7 @@ type InArray<P> = ChainArena<P, u64, NonZeroInxArray<Slot<P>, 4>>;
 type Limited = ChainArena<P0, u64, NonZeroInxLimitedVec<Slot<P0>, Global>>;
 
 // A ring of 1, 3 and 2, where 3 came last.
-fn ring<P: Ptr, S: NonZeroInxGenericStack<Slot<P>> + Drop>(
+fn ring<P: Ptr, S: NonZeroInxGenericStack<Item = Slot<P>> + Drop>(
     chains: &mut ChainArena<P, u64, S>,
 ) -> Result<(P, P, P), ChainInsertionError> {
     let a = chains.insert_reallocating(LinkInsertKind::SingleLinkCyclic, 1)?;
@@ -29,7 +29,7 @@ fn ring<P: Ptr, S: NonZeroInxGenericStack<Slot<P>> + Drop>(
 }
 
 // An entry tells its pointer, whose generation is the counter that was set.
-fn counts<P: Ptr, S: NonZeroInxGenericStack<Slot<P>> + Drop>(
+fn counts<P: Ptr, S: NonZeroInxGenericStack<Item = Slot<P>> + Drop>(
     rt: &impl Abort,
     chains: &mut ChainArena<P, u64, S>,
 ) -> Result<(), ChainInsertionError> {
@@ -53,7 +53,7 @@ fn counts_generations(rt: HostRuntime) -> Result<(), Fail> {
 }
 
 // A drain that is dropped after two items of three leaves no link.
-fn drains<P: Ptr, S: NonZeroInxGenericStack<Slot<P>> + Drop>(
+fn drains<P: Ptr, S: NonZeroInxGenericStack<Item = Slot<P>> + Drop>(
     rt: &impl Abort,
     chains: &mut ChainArena<P, u64, S>,
 ) -> Result<(), ChainInsertionError> {

@@ -4,7 +4,7 @@ use std::process::Abort;
 use std::test::Fail;
 use triple_arena::{
     Advancer, ArenaSlot, ArenaTrait, NonZeroInxArray, NonZeroInxGenericStack, NonZeroInxVec, P0,
-    P1, P5, Ptr,
+    P1, P5, Ptr, PtrCore,
 };
 use triple_arena_chain::{ChainArena, ChainArenaTrait, LinkInsertKind, LinkNoGen};
 use triple_arena_ptr::ChainInsertionError;
@@ -73,7 +73,7 @@ struct Named<P: Ptr> {
 
 // The links 1, 2 and 3 in this order, a ring of 4, a ring of 5 and 6, the link 7 alone, and 8, which is gone. Each is
 // named by its value.
-fn links<P: Ptr, S: NonZeroInxGenericStack<Slot<P>> + Drop>(
+fn links<P: Ptr, S: NonZeroInxGenericStack<Item = Slot<P>> + Drop>(
     chains: &mut ChainArena<P, u64, S>,
 ) -> Result<Named<P>, ChainInsertionError> {
     let a = chains.insert_reallocating(LinkInsertKind::Disconnected, 1)?;
@@ -111,7 +111,7 @@ fn link_named<P: Ptr>(links: &Named<P>, name: usize) -> P {
 }
 
 // The value of a neighbor, or 0 where there is none.
-fn neighbor<P: Ptr, S: NonZeroInxGenericStack<Slot<P>> + Drop>(
+fn neighbor<P: Ptr, S: NonZeroInxGenericStack<Item = Slot<P>> + Drop>(
     chains: &ChainArena<P, u64, S>,
     i: Option<P::Inx>,
 ) -> u64 {
@@ -125,7 +125,7 @@ fn neighbor<P: Ptr, S: NonZeroInxGenericStack<Slot<P>> + Drop>(
 }
 
 // The previous value of a link, and its next one.
-fn neighbors<P: Ptr, S: NonZeroInxGenericStack<Slot<P>> + Drop>(
+fn neighbors<P: Ptr, S: NonZeroInxGenericStack<Item = Slot<P>> + Drop>(
     chains: &ChainArena<P, u64, S>,
     p: P,
 ) -> (u64, u64) {
@@ -136,7 +136,7 @@ fn neighbors<P: Ptr, S: NonZeroInxGenericStack<Slot<P>> + Drop>(
 }
 
 // The digits of the values of a walk from `p`.
-pub(crate) fn walk<P: Ptr, S: NonZeroInxGenericStack<Slot<P>> + Drop>(
+pub(crate) fn walk<P: Ptr, S: NonZeroInxGenericStack<Item = Slot<P>> + Drop>(
     chains: &ChainArena<P, u64, S>,
     p: P,
 ) -> u64 {
@@ -158,7 +158,7 @@ pub(crate) fn walk<P: Ptr, S: NonZeroInxGenericStack<Slot<P>> + Drop>(
 type Case = (usize, usize, (u64, u64), u64);
 
 // The link 9 comes where it is wanted, or nowhere.
-fn is_put<P: Ptr, S: NonZeroInxGenericStack<Slot<P>> + Drop>(
+fn is_put<P: Ptr, S: NonZeroInxGenericStack<Item = Slot<P>> + Drop>(
     rt: &impl Abort,
     chains: &mut ChainArena<P, u64, S>,
     kind: LinkInsertKind<P>,
@@ -181,7 +181,7 @@ fn is_put<P: Ptr, S: NonZeroInxGenericStack<Slot<P>> + Drop>(
 }
 
 // A kind at two links of a new arena, by their pointers or by their indexes.
-fn puts<P: Ptr, H, S: NonZeroInxGenericStack<Slot<P>, Alloc = H> + Drop>(
+fn puts<P: Ptr, H, S: NonZeroInxGenericStack<Item = Slot<P>, Alloc = H> + Drop>(
     rt: &impl Abort,
     alloc: H,
     kind: Kind,
@@ -202,7 +202,7 @@ fn puts<P: Ptr, H, S: NonZeroInxGenericStack<Slot<P>, Alloc = H> + Drop>(
 }
 
 // A kind at each of these pairs of links.
-fn puts_each<P: Ptr, H: Copy, S: NonZeroInxGenericStack<Slot<P>, Alloc = H> + Drop>(
+fn puts_each<P: Ptr, H: Copy, S: NonZeroInxGenericStack<Item = Slot<P>, Alloc = H> + Drop>(
     rt: &impl Abort,
     alloc: H,
     kind: Kind,
@@ -218,7 +218,7 @@ fn puts_each<P: Ptr, H: Copy, S: NonZeroInxGenericStack<Slot<P>, Alloc = H> + Dr
 const NONE: (u64, u64) = (0, 0);
 
 // The kinds that name one link or none: at an end, a start, the middle, a ring of one, one of two, and at what is gone.
-fn by_one_link<P: Ptr, H: Copy, S: NonZeroInxGenericStack<Slot<P>, Alloc = H> + Drop>(
+fn by_one_link<P: Ptr, H: Copy, S: NonZeroInxGenericStack<Item = Slot<P>, Alloc = H> + Drop>(
     rt: &impl Abort,
     alloc: H,
 ) -> Result<(), ChainInsertionError> {
@@ -263,7 +263,7 @@ fn by_one_link<P: Ptr, H: Copy, S: NonZeroInxGenericStack<Slot<P>, Alloc = H> + 
 }
 
 // The kinds that name two links.
-fn by_two_links<P: Ptr, H: Copy, S: NonZeroInxGenericStack<Slot<P>, Alloc = H> + Drop>(
+fn by_two_links<P: Ptr, H: Copy, S: NonZeroInxGenericStack<Item = Slot<P>, Alloc = H> + Drop>(
     rt: &impl Abort,
     alloc: H,
 ) -> Result<(), ChainInsertionError> {
@@ -297,7 +297,7 @@ fn by_two_links<P: Ptr, H: Copy, S: NonZeroInxGenericStack<Slot<P>, Alloc = H> +
     puts_each::<P, H, S>(rt, alloc, Kind::Bridge, &bridges)
 }
 
-fn by_each_kind<P: Ptr, H: Copy, S: NonZeroInxGenericStack<Slot<P>, Alloc = H> + Drop>(
+fn by_each_kind<P: Ptr, H: Copy, S: NonZeroInxGenericStack<Item = Slot<P>, Alloc = H> + Drop>(
     rt: &impl Abort,
     alloc: H,
 ) -> Result<(), ChainInsertionError> {

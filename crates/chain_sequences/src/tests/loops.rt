@@ -5,7 +5,7 @@ use std::process::Abort;
 use std::test::Fail;
 use triple_arena::{
     Arena, ArenaInsertTrait, ArenaSlot, ArenaTrait, NonZeroInxArray, NonZeroInxGenericStack,
-    NonZeroInxVec, P0, P1, P5, Ptr,
+    NonZeroInxVec, P0, P1, P5, Ptr, PtrCore,
 };
 use triple_arena_chain::{ChainArena, ChainArenaTrait, IndexLink, LinkInsertKind, LinkNoGen};
 use triple_arena_ptr::{ChainInsertionError, ReallocationError};
@@ -17,7 +17,7 @@ type InVec<P> = ChainArena<P, u64, NonZeroInxVec<Slot<P>, Global>>;
 type InArray<P> = ChainArena<P, u64, NonZeroInxArray<Slot<P>, 4>>;
 
 // The values that an iterator gives over the chain of `p`, as digits.
-fn along<P: Ptr, S: NonZeroInxGenericStack<Slot<P>> + Drop>(
+fn along<P: Ptr, S: NonZeroInxGenericStack<Item = Slot<P>> + Drop>(
     chains: &ChainArena<P, u64, S>,
     p: P,
 ) -> u64 {
@@ -33,7 +33,7 @@ fn along<P: Ptr, S: NonZeroInxGenericStack<Slot<P>> + Drop>(
 }
 
 // The values of all links in the order of their indexes, as digits.
-fn by_index<P: Ptr, S: NonZeroInxGenericStack<Slot<P>> + Drop>(
+fn by_index<P: Ptr, S: NonZeroInxGenericStack<Item = Slot<P>> + Drop>(
     chains: &ChainArena<P, u64, S>,
 ) -> u64 {
     let mut digits: u64 = 0;
@@ -44,7 +44,7 @@ fn by_index<P: Ptr, S: NonZeroInxGenericStack<Slot<P>> + Drop>(
 }
 
 // A chain of 1, 2 and 3, where 3 has the second index. The nexts of its first two links are exchanged, and again.
-fn goes_along<P: Ptr, S: NonZeroInxGenericStack<Slot<P>> + Drop>(
+fn goes_along<P: Ptr, S: NonZeroInxGenericStack<Item = Slot<P>> + Drop>(
     rt: &impl Abort,
     chains: &mut ChainArena<P, u64, S>,
 ) -> Result<(), ChainInsertionError> {

@@ -6,7 +6,7 @@ use std::process::Abort;
 use std::test::Fail;
 use triple_arena::{
     ArenaCloneFromWith, ArenaInsertTrait, ArenaTrait, ArrayArena, HeapArena,
-    NonZeroInxGenericStack, P0, P5, Ptr, ReallocationError,
+    NonZeroInxGenericStack, P0, P5, Ptr, PtrCore, ReallocationError,
 };
 use triple_arena_chain::ChainArena;
 use triple_arena_ptr::ChainInsertionError;
@@ -14,8 +14,8 @@ use triple_arena_ptr::ChainInsertionError;
 // The function refuses its call after the first `calls`, and no link is left then; else each value is one more.
 fn maps<
     P: Ptr,
-    S: NonZeroInxGenericStack<Slot<P>> + Drop,
-    R: NonZeroInxGenericStack<Slot<P>> + Drop,
+    S: NonZeroInxGenericStack<Item = Slot<P>> + Drop,
+    R: NonZeroInxGenericStack<Item = Slot<P>> + Drop,
 >(
     rt: &impl Abort,
     source: &mut ChainArena<P, u64, S>,
@@ -48,7 +48,7 @@ fn maps<
 }
 
 // The same into an arena of values.
-fn maps_to<P: Ptr, S: NonZeroInxGenericStack<Slot<P>> + Drop, A: ArenaCloneFromWith<P, u64>>(
+fn maps_to<P: Ptr, S: NonZeroInxGenericStack<Item = Slot<P>> + Drop, A: ArenaCloneFromWith<P, u64>>(
     rt: &impl Abort,
     source: &mut ChainArena<P, u64, S>,
     copy: &mut A,

@@ -5,7 +5,7 @@ use std::process::Abort;
 use std::test::Fail;
 use triple_arena::{
     Advancer, ArenaInsertEntryTrait, ArenaSlot, ArenaTrait, HeapArena, NonZeroInxGenericStack,
-    NonZeroInxLimitedVec, NonZeroInxVec, P0, Ptr, ReallocationError,
+    NonZeroInxLimitedVec, NonZeroInxVec, P0, Ptr, PtrCore, ReallocationError,
 };
 use triple_arena_chain::{ChainArena, ChainArenaTrait, LinkInsertKind, LinkNoGen};
 use triple_arena_ptr::ChainInsertionError;
@@ -24,7 +24,7 @@ struct Before {
 }
 
 // A number that tells the order of the links of the chain that starts at the first index.
-fn order<S: NonZeroInxGenericStack<Slot> + Drop>(chains: &ChainArena<P0, u64, S>) -> u64 {
+fn order<S: NonZeroInxGenericStack<Item = Slot> + Drop>(chains: &ChainArena<P0, u64, S>) -> u64 {
     let mut sum: u64 = 0;
     let Some(first) = chains.find_first_inx_ptr() else {
         return sum;
@@ -41,7 +41,7 @@ fn order<S: NonZeroInxGenericStack<Slot> + Drop>(chains: &ChainArena<P0, u64, S>
     sum
 }
 
-fn seen<S: NonZeroInxGenericStack<Slot> + Drop>(
+fn seen<S: NonZeroInxGenericStack<Item = Slot> + Drop>(
     heap: &Heap,
     chains: &ChainArena<P0, u64, S>,
 ) -> Before {
@@ -54,7 +54,7 @@ fn seen<S: NonZeroInxGenericStack<Slot> + Drop>(
 }
 
 // The call was refused exactly where the heap refused it the memory, and left the links as they were.
-fn is_refused_with_the_heap<S: NonZeroInxGenericStack<Slot> + Drop>(
+fn is_refused_with_the_heap<S: NonZeroInxGenericStack<Item = Slot> + Drop>(
     rt: &impl Abort,
     heap: &Heap,
     chains: &ChainArena<P0, u64, S>,
@@ -72,7 +72,7 @@ fn is_refused_with_the_heap<S: NonZeroInxGenericStack<Slot> + Drop>(
 }
 
 // Takes all the room that there is, each link directly after the first one.
-fn fills<S: NonZeroInxGenericStack<Slot> + Drop>(
+fn fills<S: NonZeroInxGenericStack<Item = Slot> + Drop>(
     rt: &impl Abort,
     chains: &mut ChainArena<P0, u64, S>,
     first: P0,
@@ -87,7 +87,7 @@ fn fills<S: NonZeroInxGenericStack<Slot> + Drop>(
 fn insert_by_entry<
     P: Ptr,
     T: Drop,
-    S: NonZeroInxGenericStack<ArenaSlot<P, LinkNoGen<P, T>>> + Drop,
+    S: NonZeroInxGenericStack<Item = ArenaSlot<P, LinkNoGen<P, T>>> + Drop,
 >(
     chains: &mut ChainArena<P, T, S>,
     kind: LinkInsertKind<P>,
@@ -105,7 +105,7 @@ fn of_kind(error: ReallocationError) -> ChainInsertionError {
 }
 
 // Each call that can take memory, at an arena that is full.
-fn grows<S: NonZeroInxGenericStack<Slot> + Drop>(
+fn grows<S: NonZeroInxGenericStack<Item = Slot> + Drop>(
     rt: &impl Abort,
     heap: &Heap,
     chains: &mut ChainArena<P0, u64, S>,
@@ -139,7 +139,7 @@ fn grows<S: NonZeroInxGenericStack<Slot> + Drop>(
 }
 
 // A copy of the values of all links takes memory once, and is empty where that is refused.
-fn copies<H: Allocator, S: NonZeroInxGenericStack<Slot> + Drop>(
+fn copies<H: Allocator, S: NonZeroInxGenericStack<Item = Slot> + Drop>(
     rt: &impl Abort,
     heap: &Heap,
     alloc: H,
@@ -159,7 +159,7 @@ fn copies<H: Allocator, S: NonZeroInxGenericStack<Slot> + Drop>(
 }
 
 // A clone takes memory once, and so does an arena of one link that becomes a clone; where that is refused it stays.
-fn clones<H: Allocator + Copy, S: NonZeroInxGenericStack<Slot, Alloc = H> + Drop>(
+fn clones<H: Allocator + Copy, S: NonZeroInxGenericStack<Item = Slot, Alloc = H> + Drop>(
     rt: &impl Abort,
     heap: &Heap,
     alloc: H,
@@ -189,7 +189,7 @@ fn clones<H: Allocator + Copy, S: NonZeroInxGenericStack<Slot, Alloc = H> + Drop
 }
 
 // So does one that becomes a copy by a function.
-fn maps<H: Allocator + Copy, S: NonZeroInxGenericStack<Slot, Alloc = H> + Drop>(
+fn maps<H: Allocator + Copy, S: NonZeroInxGenericStack<Item = Slot, Alloc = H> + Drop>(
     rt: &impl Abort,
     heap: &Heap,
     alloc: H,
@@ -207,7 +207,7 @@ fn maps<H: Allocator + Copy, S: NonZeroInxGenericStack<Slot, Alloc = H> + Drop>(
 }
 
 // All of them over one heap, which `alloc` is as an arena takes it.
-fn runs<H: Allocator + Copy, S: NonZeroInxGenericStack<Slot, Alloc = H> + Drop>(
+fn runs<H: Allocator + Copy, S: NonZeroInxGenericStack<Item = Slot, Alloc = H> + Drop>(
     rt: &impl Abort,
     heap: &Heap,
     alloc: H,

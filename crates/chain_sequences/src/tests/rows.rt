@@ -4,7 +4,7 @@ use std::process::Abort;
 use std::test::Fail;
 use triple_arena::{
     Advancer, ArenaSlot, ArenaTrait, InvalidationOption, NonZeroInxArray, NonZeroInxGenericStack,
-    NonZeroInxVec, P0, P1, P5, Ptr,
+    NonZeroInxVec, P0, P1, P5, Ptr, PtrCore,
 };
 use triple_arena_chain::{ChainArena, ChainArenaTrait, LinkInsertKind, LinkNoGen};
 use triple_arena_ptr::ChainInsertionError;
@@ -15,7 +15,7 @@ type InVec<P> = ChainArena<P, u64, NonZeroInxVec<Slot<P>, Global>>;
 
 type InArray<P> = ChainArena<P, u64, NonZeroInxArray<Slot<P>, 4>>;
 
-fn insert<P: Ptr, S: NonZeroInxGenericStack<Slot<P>> + Drop>(
+fn insert<P: Ptr, S: NonZeroInxGenericStack<Item = Slot<P>> + Drop>(
     rt: &impl Abort,
     chains: &mut ChainArena<P, u64, S>,
     kind: LinkInsertKind<P>,
@@ -28,7 +28,7 @@ fn insert<P: Ptr, S: NonZeroInxGenericStack<Slot<P>> + Drop>(
 }
 
 // The links 1, 2 and 3, in this order.
-fn three<P: Ptr, S: NonZeroInxGenericStack<Slot<P>> + Drop>(
+fn three<P: Ptr, S: NonZeroInxGenericStack<Item = Slot<P>> + Drop>(
     rt: &impl Abort,
     chains: &mut ChainArena<P, u64, S>,
 ) -> (P, P, P) {
@@ -39,7 +39,7 @@ fn three<P: Ptr, S: NonZeroInxGenericStack<Slot<P>> + Drop>(
 }
 
 // A walk from `p` gives these values, as digits, and no fourth one.
-fn walks<P: Ptr, S: NonZeroInxGenericStack<Slot<P>> + Drop>(
+fn walks<P: Ptr, S: NonZeroInxGenericStack<Item = Slot<P>> + Drop>(
     rt: &impl Abort,
     chains: &ChainArena<P, u64, S>,
     p: P,
@@ -59,7 +59,7 @@ fn walks<P: Ptr, S: NonZeroInxGenericStack<Slot<P>> + Drop>(
 }
 
 // The nexts of neighbors are exchanged: the second becomes a ring of one. The same call again takes that back.
-fn exchanges<P: Ptr, S: NonZeroInxGenericStack<Slot<P>> + Drop>(
+fn exchanges<P: Ptr, S: NonZeroInxGenericStack<Item = Slot<P>> + Drop>(
     rt: &impl Abort,
     chains: &mut ChainArena<P, u64, S>,
 ) {
@@ -76,7 +76,7 @@ fn exchanges<P: Ptr, S: NonZeroInxGenericStack<Slot<P>> + Drop>(
 }
 
 // A drain from the middle that is dropped after one item leaves none of the chain, and all others.
-fn drains<P: Ptr, S: NonZeroInxGenericStack<Slot<P>> + Drop>(
+fn drains<P: Ptr, S: NonZeroInxGenericStack<Item = Slot<P>> + Drop>(
     rt: &impl Abort,
     chains: &mut ChainArena<P, u64, S>,
     b: P,
@@ -102,7 +102,7 @@ fn exchanges_and_drains(rt: HostRuntime) {
 }
 
 // What has a next is no end, also where there is room.
-fn refuses<P: Ptr, S: NonZeroInxGenericStack<Slot<P>> + Drop>(
+fn refuses<P: Ptr, S: NonZeroInxGenericStack<Item = Slot<P>> + Drop>(
     rt: &impl Abort,
     chains: &mut ChainArena<P, u64, S>,
 ) {

@@ -4,13 +4,13 @@ use crate::tests::kinds::walk;
 use std::process::Abort;
 use std::test::Fail;
 use triple_arena::{
-    Advancer, ArenaInsertEntryTrait, ArenaTrait, NonZeroInxGenericStack, P0, P5, Ptr,
+    Advancer, ArenaInsertEntryTrait, ArenaTrait, NonZeroInxGenericStack, P0, P5, Ptr, PtrCore,
 };
 use triple_arena_chain::{ChainArena, ChainArenaTrait, Link, LinkInsertKind, LinkNoGen};
 use triple_arena_ptr::ChainInsertionError;
 
 // A list of 1, 2 and 3, where 2 has the last index, in an arena that has room for three at least.
-fn list<P: Ptr, S: NonZeroInxGenericStack<Slot<P>> + Drop>(
+fn list<P: Ptr, S: NonZeroInxGenericStack<Item = Slot<P>> + Drop>(
     chains: &mut ChainArena<P, u64, S>,
 ) -> Result<(P, P, P), ChainInsertionError> {
     let a = chains
@@ -22,7 +22,7 @@ fn list<P: Ptr, S: NonZeroInxGenericStack<Slot<P>> + Drop>(
 }
 
 // What is told of the links by their indexes.
-fn reads<P: Ptr, S: NonZeroInxGenericStack<Slot<P>> + Drop>(
+fn reads<P: Ptr, S: NonZeroInxGenericStack<Item = Slot<P>> + Drop>(
     rt: &impl Abort,
     chains: &ChainArena<P, u64, S>,
     links: (P, P, P),
@@ -50,7 +50,7 @@ fn reads<P: Ptr, S: NonZeroInxGenericStack<Slot<P>> + Drop>(
 }
 
 // What becomes of them.
-fn changes<P: Ptr, S: NonZeroInxGenericStack<Slot<P>> + Drop>(
+fn changes<P: Ptr, S: NonZeroInxGenericStack<Item = Slot<P>> + Drop>(
     rt: &impl Abort,
     chains: &mut ChainArena<P, u64, S>,
     links: (P, P, P),
@@ -73,7 +73,7 @@ fn changes<P: Ptr, S: NonZeroInxGenericStack<Slot<P>> + Drop>(
     assert!(rt; chains.backing().len() == 0);
 }
 
-fn one_by_one<P: Ptr, S: NonZeroInxGenericStack<Slot<P>> + Drop>(
+fn one_by_one<P: Ptr, S: NonZeroInxGenericStack<Item = Slot<P>> + Drop>(
     rt: &impl Abort,
     chains: &mut ChainArena<P, u64, S>,
 ) -> Result<(), ChainInsertionError> {

@@ -8,11 +8,13 @@ use std::alloc::Global;
 use std::cell::Cell;
 use std::process::Abort;
 use std::test::Fail;
-use triple_arena::{NonZeroInxArray, NonZeroInxGenericStack, NonZeroInxVec, P0, P1, P5, Ptr};
+use triple_arena::{
+    NonZeroInxArray, NonZeroInxGenericStack, NonZeroInxVec, P0, P1, P5, Ptr, PtrCore,
+};
 use triple_arena_ord::{InsertKind, OrdEntryKind, OrdInsertKind};
 
 // Rising keys are put in, and every other one leaves. Each search is made for each key.
-fn halves<'a, P: Ptr, S: NonZeroInxGenericStack<Slot<'a, P>> + Drop>(
+fn halves<'a, P: Ptr, S: NonZeroInxGenericStack<Item = Slot<'a, P>> + Drop>(
     rt: &impl Abort,
     calls: &'a Cell<u64>,
     alloc: S::Alloc,
@@ -37,7 +39,7 @@ fn comparisons_are_ticks(rt: HostRuntime) {
 }
 
 // Whether an entry of this kind, which is let go, would be a new one. It compares at most seven times.
-fn is_new_entry<'a, P: Ptr, S: NonZeroInxGenericStack<Slot<'a, P>> + Drop>(
+fn is_new_entry<'a, P: Ptr, S: NonZeroInxGenericStack<Item = Slot<'a, P>> + Drop>(
     rt: &impl Abort,
     arena: &mut Counted<'a, P, S>,
     calls: &Cell<u64>,
@@ -54,7 +56,7 @@ fn is_new_entry<'a, P: Ptr, S: NonZeroInxGenericStack<Slot<'a, P>> + Drop>(
 }
 
 // An insertion that begins six entries before the place of its key compares with seven entries at most.
-fn enters_along<'a, P: Ptr, S: NonZeroInxGenericStack<Slot<'a, P>> + Drop>(
+fn enters_along<'a, P: Ptr, S: NonZeroInxGenericStack<Item = Slot<'a, P>> + Drop>(
     rt: &impl Abort,
     arena: &mut Counted<'a, P, S>,
     start: P,

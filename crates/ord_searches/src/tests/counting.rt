@@ -8,7 +8,7 @@ ghost use Rattle.std.specs.Ordering.{nat_cmp, on, as_partial_cmp};
 use std::cell::Cell;
 use std::cmp::Ordering;
 use std::process::Abort;
-use triple_arena::{ArenaSlot, NonZeroInxGenericStack, Ptr};
+use triple_arena::{ArenaSlot, NonZeroInxGenericStack, Ptr, PtrCore};
 use triple_arena_chain::LinkNoGen;
 use triple_arena_ord::{OrdPair, SimpleOrdArena, SimpleOrdArenaNode};
 use triple_arena_ptr::Probes;
@@ -88,7 +88,7 @@ pub(crate) const NARROW: Keys = Keys {
 };
 
 // The pointer to the entry of a key that is there.
-pub(crate) fn pointer_to<'a, P: Ptr, S: NonZeroInxGenericStack<Slot<'a, P>> + Drop>(
+pub(crate) fn pointer_to<'a, P: Ptr, S: NonZeroInxGenericStack<Item = Slot<'a, P>> + Drop>(
     rt: &impl Abort,
     arena: &Counted<'a, P, S>,
     key: Counting<'a>,
@@ -100,7 +100,7 @@ pub(crate) fn pointer_to<'a, P: Ptr, S: NonZeroInxGenericStack<Slot<'a, P>> + Dr
 }
 
 // The keys are put in, in the order of their products with `factor`, modulo the prime 1009, and the odd ones are removed.
-pub(crate) fn even_keys<'a, P: Ptr, S: NonZeroInxGenericStack<Slot<'a, P>> + Drop>(
+pub(crate) fn even_keys<'a, P: Ptr, S: NonZeroInxGenericStack<Item = Slot<'a, P>> + Drop>(
     rt: &impl Abort,
     calls: &'a Cell<u64>,
     alloc: S::Alloc,
@@ -125,11 +125,11 @@ pub(crate) fn even_keys<'a, P: Ptr, S: NonZeroInxGenericStack<Slot<'a, P>> + Dro
 }
 
 // Along the list the even keys stand, from 2 to `last`.
-pub(crate) fn even_keys_are_listed<'a, P: Ptr, S: NonZeroInxGenericStack<Slot<'a, P>> + Drop>(
-    rt: &impl Abort,
-    arena: &Counted<'a, P, S>,
-    last: u64,
-) {
+pub(crate) fn even_keys_are_listed<
+    'a,
+    P: Ptr,
+    S: NonZeroInxGenericStack<Item = Slot<'a, P>> + Drop,
+>(rt: &impl Abort, arena: &Counted<'a, P, S>, last: u64) {
     let mut entries = arena.iter_ordered();
     for n in 1..last {
         if n % 2 == 1 {

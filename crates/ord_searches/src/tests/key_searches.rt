@@ -4,11 +4,11 @@ use crate::tests::counting::{Counted, Counting, Keys, Slot, just_ticks, pointer_
 use std::cell::Cell;
 use std::cmp::Ordering;
 use std::process::Abort;
-use triple_arena::{NonZeroInxGenericStack, Ptr};
+use triple_arena::{NonZeroInxGenericStack, Ptr, PtrCore};
 use triple_arena_ptr::Probes;
 
 // An even key up to the last one is found, and no other.
-fn is_the_entry<'a, P: Ptr, S: NonZeroInxGenericStack<Slot<'a, P>> + Drop>(
+fn is_the_entry<'a, P: Ptr, S: NonZeroInxGenericStack<Item = Slot<'a, P>> + Drop>(
     rt: &impl Abort,
     arena: &Counted<'a, P, S>,
     found: Option<P>,
@@ -26,7 +26,7 @@ fn is_the_entry<'a, P: Ptr, S: NonZeroInxGenericStack<Slot<'a, P>> + Drop>(
 }
 
 // What is found has the key, or is an entry beside its place, and the answer is what the key compares as with its key.
-fn is_similar<'a, P: Ptr, S: NonZeroInxGenericStack<Slot<'a, P>> + Drop>(
+fn is_similar<'a, P: Ptr, S: NonZeroInxGenericStack<Item = Slot<'a, P>> + Drop>(
     rt: &impl Abort,
     arena: &Counted<'a, P, S>,
     similar: Option<(P, Ordering)>,
@@ -46,7 +46,7 @@ fn is_similar<'a, P: Ptr, S: NonZeroInxGenericStack<Slot<'a, P>> + Drop>(
     }
 }
 
-fn by_key<'a, P: Ptr, S: NonZeroInxGenericStack<Slot<'a, P>> + Drop>(
+fn by_key<'a, P: Ptr, S: NonZeroInxGenericStack<Item = Slot<'a, P>> + Drop>(
     rt: &impl Abort,
     arena: &Counted<'a, P, S>,
     k: &Counting<'a>,
@@ -63,7 +63,7 @@ fn by_key<'a, P: Ptr, S: NonZeroInxGenericStack<Slot<'a, P>> + Drop>(
     just_ticks(rt, k.calls, before, &probes, keys.most)
 }
 
-fn by_similar_key<'a, P: Ptr, S: NonZeroInxGenericStack<Slot<'a, P>> + Drop>(
+fn by_similar_key<'a, P: Ptr, S: NonZeroInxGenericStack<Item = Slot<'a, P>> + Drop>(
     rt: &impl Abort,
     arena: &Counted<'a, P, S>,
     k: &Counting<'a>,
@@ -79,7 +79,7 @@ fn by_similar_key<'a, P: Ptr, S: NonZeroInxGenericStack<Slot<'a, P>> + Drop>(
     just_ticks(rt, k.calls, before, &probes, keys.most)
 }
 
-fn along<'a, P: Ptr, S: NonZeroInxGenericStack<Slot<'a, P>> + Drop>(
+fn along<'a, P: Ptr, S: NonZeroInxGenericStack<Item = Slot<'a, P>> + Drop>(
     rt: &impl Abort,
     arena: &Counted<'a, P, S>,
     start: P,
@@ -96,7 +96,7 @@ fn along<'a, P: Ptr, S: NonZeroInxGenericStack<Slot<'a, P>> + Drop>(
     just_ticks(rt, k.calls, before, &probes, keys.most)
 }
 
-fn similar_along<'a, P: Ptr, S: NonZeroInxGenericStack<Slot<'a, P>> + Drop>(
+fn similar_along<'a, P: Ptr, S: NonZeroInxGenericStack<Item = Slot<'a, P>> + Drop>(
     rt: &impl Abort,
     arena: &Counted<'a, P, S>,
     start: P,
@@ -114,7 +114,7 @@ fn similar_along<'a, P: Ptr, S: NonZeroInxGenericStack<Slot<'a, P>> + Drop>(
 }
 
 // The most comparisons of the two searches from the root.
-fn from_the_root<'a, P: Ptr, S: NonZeroInxGenericStack<Slot<'a, P>> + Drop>(
+fn from_the_root<'a, P: Ptr, S: NonZeroInxGenericStack<Item = Slot<'a, P>> + Drop>(
     rt: &impl Abort,
     arena: &Counted<'a, P, S>,
     k: &Counting<'a>,
@@ -125,7 +125,7 @@ fn from_the_root<'a, P: Ptr, S: NonZeroInxGenericStack<Slot<'a, P>> + Drop>(
 
 // The most comparisons of the two searches that go along the list from `start`, by seven comparisons at most, and then from
 // the root. They begin at the root where `start` finds no entry.
-fn from_start<'a, P: Ptr, S: NonZeroInxGenericStack<Slot<'a, P>> + Drop>(
+fn from_start<'a, P: Ptr, S: NonZeroInxGenericStack<Item = Slot<'a, P>> + Drop>(
     rt: &impl Abort,
     arena: &Counted<'a, P, S>,
     start: P,
@@ -144,7 +144,7 @@ fn from_start<'a, P: Ptr, S: NonZeroInxGenericStack<Slot<'a, P>> + Drop>(
 
 // Where the key, or both entries beside its place, stand six places at most from `start`, seven comparisons are enough, but
 // for a search by a key that is not there, which goes on from the root.
-fn from_near<'a, P: Ptr, S: NonZeroInxGenericStack<Slot<'a, P>> + Drop>(
+fn from_near<'a, P: Ptr, S: NonZeroInxGenericStack<Item = Slot<'a, P>> + Drop>(
     rt: &impl Abort,
     arena: &Counted<'a, P, S>,
     start: u64,
@@ -164,7 +164,7 @@ fn from_near<'a, P: Ptr, S: NonZeroInxGenericStack<Slot<'a, P>> + Drop>(
 
 // The four searches for each key, and for one before the first and one after the last. It answers the most comparisons of a
 // search from the root, and those of one along the list.
-pub(crate) fn searches<'a, P: Ptr, S: NonZeroInxGenericStack<Slot<'a, P>> + Drop>(
+pub(crate) fn searches<'a, P: Ptr, S: NonZeroInxGenericStack<Item = Slot<'a, P>> + Drop>(
     rt: &impl Abort,
     arena: &Counted<'a, P, S>,
     calls: &'a Cell<u64>,

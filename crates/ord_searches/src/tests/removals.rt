@@ -7,7 +7,7 @@ use std::process::Abort;
 use std::test::Fail;
 use triple_arena::{NonZeroInxArray, P0};
 use triple_arena_ord::OrdPair;
-use triple_arena_ptr::Ptr;
+use triple_arena_ptr::PtrCore;
 
 // Each odd key leaves by its pointer, which then finds nothing.
 pub(crate) fn odd_keys_leave(rt: &impl Abort, pairs: &mut Pairs) {

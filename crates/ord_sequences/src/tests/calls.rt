@@ -2,10 +2,10 @@
 use std::num::NonZeroU8;
 use std::process::Abort;
 use std::test::Fail;
-use triple_arena::{ArenaSlot, NonZeroInxArray, P1, P5, Ptr};
+use triple_arena::{ArenaSlot, NonZeroInxArray, P1, P5, PtrCore};
 use triple_arena_chain::LinkNoGen;
 use triple_arena_ord::{OrdPair, SimpleOrdArena, SimpleOrdArenaNode};
-use triple_arena_ptr::{Advancer, InvalidationOption, InvalidationResult, PtrGen};
+use triple_arena_ptr::{Advancer, InvalidationOption, InvalidationResult, PtrGenCore};
 
 type Item = OrdPair<u8, u8>;
 
@@ -88,12 +88,12 @@ fn single_entries(rt: HostRuntime) -> Result<(), Fail> {
 fn counters(rt: HostRuntime) -> Result<(), Fail> {
     let mut few: Few<P1> = SimpleOrdArena::default();
     put(&rt, &mut few, 20);
-    assert!(rt; few.generation() == PtrGen::two());
+    assert!(rt; few.generation() == PtrGenCore::two());
     assert!(rt; few.inc_generation() == InvalidationOption::Success(()));
-    few.set_generation(PtrGen::one());
-    assert!(rt; few.singular_generation() == Some(PtrGen::one()));
+    few.set_generation(PtrGenCore::one());
+    assert!(rt; few.singular_generation() == Some(PtrGenCore::one()));
     assert!(rt; few.clear() == InvalidationOption::Success(()));
-    assert!(rt; few.generation() == PtrGen::two());
+    assert!(rt; few.generation() == PtrGenCore::two());
     assert!(rt; few.len() == 0);
     assert!(rt; few.find_first_inx_ptr().is_none());
     assert!(rt; few.find_key(&20).is_none());
@@ -113,17 +113,17 @@ fn removals_start_the_generations_again(rt: HostRuntime) {
     let item = OrdPair::new(20, 0);
     let p = put_last(&rt, &mut few);
     assert!(rt; few.remove(p) == InvalidationResult::GenerationOverflow(item));
-    assert!(rt; few.generation() == PtrGen::two());
+    assert!(rt; few.generation() == PtrGenCore::two());
     let p = put_last(&rt, &mut few);
     let entry = (p.generation(), item);
     assert!(rt; few.remove_inx(p.inx()) == InvalidationResult::GenerationOverflow(entry));
-    assert!(rt; few.generation() == PtrGen::two());
+    assert!(rt; few.generation() == PtrGenCore::two());
     let p = put_last(&rt, &mut few);
     {
         let mut drain = few.drain();
         assert!(rt; drain.next() == Some(InvalidationOption::GenerationOverflow((p, item))));
     }
-    assert!(rt; few.generation() == PtrGen::two());
+    assert!(rt; few.generation() == PtrGenCore::two());
     let p = put_last(&rt, &mut few);
     {
         let mut drain = few.drain_ordered();
@@ -138,16 +138,16 @@ fn other_calls_start_the_generations_again(rt: HostRuntime) {
     let p = put_last(&rt, &mut few);
     match few.invalidate(p) {
         InvalidationResult::GenerationOverflow(q) => {
-            assert!(rt; q.inx() == p.inx() && q.generation() == PtrGen::two());
+            assert!(rt; q.inx() == p.inx() && q.generation() == PtrGenCore::two());
         }
         _ => panic!(rt; "the generations do not start again"),
     }
     few.set_generation(NonZeroU8::MAX);
     assert!(rt; few.clear() == InvalidationOption::GenerationOverflow(()));
-    assert!(rt; few.generation() == PtrGen::two());
+    assert!(rt; few.generation() == PtrGenCore::two());
     few.set_generation(NonZeroU8::MAX);
     assert!(rt; few.inc_generation() == InvalidationOption::GenerationOverflow(()));
-    assert!(rt; few.generation() == PtrGen::two());
+    assert!(rt; few.generation() == PtrGenCore::two());
 }
 
 #[test]

@@ -2,7 +2,7 @@
 use std::cmp::Ordering;
 use std::process::Abort;
 use std::test::Fail;
-use triple_arena::{ArenaSlot, NonZeroInxArray, P0, P1, Ptr};
+use triple_arena::{ArenaSlot, NonZeroInxArray, P0, P1, PtrCore};
 use triple_arena_chain::LinkNoGen;
 use triple_arena_ord::{OrdPair, SimpleOrdArena, SimpleOrdArenaNode};
 

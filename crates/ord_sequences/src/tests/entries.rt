@@ -3,7 +3,9 @@ use std::alloc::Global;
 use std::cmp::Ordering;
 use std::process::Abort;
 use std::test::Fail;
-use triple_arena::{ArenaSlot, NonZeroInxArray, NonZeroInxGenericStack, NonZeroInxVec, P0, Ptr};
+use triple_arena::{
+    ArenaSlot, NonZeroInxArray, NonZeroInxGenericStack, NonZeroInxVec, P0, Ptr, PtrCore,
+};
 use triple_arena_chain::LinkNoGen;
 use triple_arena_ord::{
     InsertKind, OrdEntryKind, OrdInsertKind, OrdPair, SimpleOrdArena, SimpleOrdArenaNode,
@@ -23,13 +25,15 @@ type InArray = NonZeroInxArray<Slot, 4>;
 
 type Kind<'a> = OrdInsertKind<P0, &'a u64>;
 
-type Inx = <P0 as Ptr>::Inx;
+type Inx = <P0 as PtrCore>::Inx;
 
 // The values along the list, as digits.
 pub(crate) fn digits<
     P: Ptr,
     K: Drop,
-    S: NonZeroInxGenericStack<ArenaSlot<P, LinkNoGen<P, SimpleOrdArenaNode<P, OrdPair<K, u64>>>>>
+    S: NonZeroInxGenericStack<
+        Item = ArenaSlot<P, LinkNoGen<P, SimpleOrdArenaNode<P, OrdPair<K, u64>>>>,
+    >
         + Drop,
 >(pairs: &SimpleOrdArena<P, OrdPair<K, u64>, S>) -> u64 {
     let mut digits: u64 = 0;
@@ -43,7 +47,7 @@ pub(crate) fn digits<
 fn tells<
     P: Ptr,
     T: SimpleOrdItem + Drop,
-    S: NonZeroInxGenericStack<ArenaSlot<P, LinkNoGen<P, SimpleOrdArenaNode<P, T>>>> + Drop,
+    S: NonZeroInxGenericStack<Item = ArenaSlot<P, LinkNoGen<P, SimpleOrdArenaNode<P, T>>>> + Drop,
 >(
     arena: &mut SimpleOrdArena<P, T, S>,
     kind: OrdInsertKind<P, &T::Key>,
@@ -52,7 +56,7 @@ fn tells<
 }
 
 // The same of an entry for which the arena may grow, by either call.
-fn tells_grown<P: Ptr, S: NonZeroInxGenericStack<SlotOf<P>> + Drop>(
+fn tells_grown<P: Ptr, S: NonZeroInxGenericStack<Item = SlotOf<P>> + Drop>(
     pairs: &mut SimpleOrdArena<P, Item, S>,
     kind: OrdInsertKind<P, &u64>,
     is_by_the_short_name: bool,
@@ -64,7 +68,7 @@ fn tells_grown<P: Ptr, S: NonZeroInxGenericStack<SlotOf<P>> + Drop>(
 }
 
 // What an entry tells, and what it then replaces.
-fn replaces<P: Ptr, S: NonZeroInxGenericStack<SlotOf<P>> + Drop>(
+fn replaces<P: Ptr, S: NonZeroInxGenericStack<Item = SlotOf<P>> + Drop>(
     pairs: &mut SimpleOrdArena<P, Item, S>,
     kind: OrdInsertKind<P, &u64>,
     item: Item,
@@ -76,7 +80,7 @@ fn replaces<P: Ptr, S: NonZeroInxGenericStack<SlotOf<P>> + Drop>(
 
 // Puts an item in by an entry, which tells the pointer that the item then has, and whether it replaces another one. One that
 // is dropped before tells the same, and leaves the list.
-fn put<S: NonZeroInxGenericStack<Slot> + Drop>(
+fn put<S: NonZeroInxGenericStack<Item = Slot> + Drop>(
     rt: &impl Abort,
     pairs: &mut SimpleOrdArena<P0, Item, S>,
     kind: Kind<'_>,
@@ -96,7 +100,7 @@ fn put<S: NonZeroInxGenericStack<Slot> + Drop>(
 }
 
 // The keys 10, 20 and 30, with the values 1, 2 and 3, and room for one entry more. It answers the pointer to that of 20, too.
-fn three<H, S: NonZeroInxGenericStack<Slot, Alloc = H> + Drop>(
+fn three<H, S: NonZeroInxGenericStack<Item = Slot, Alloc = H> + Drop>(
     rt: &impl Abort,
     alloc: H,
 ) -> Result<(SimpleOrdArena<P0, Item, S>, P0), OrdInsertionError> {
@@ -138,7 +142,7 @@ fn cases(i: Inx, gone: Inx) -> [Case<'static>; 13] {
 }
 
 // Each kind in an arena of the three keys.
-fn puts_each<H: Copy, S: NonZeroInxGenericStack<Slot, Alloc = H> + Drop>(
+fn puts_each<H: Copy, S: NonZeroInxGenericStack<Item = Slot, Alloc = H> + Drop>(
     rt: &impl Abort,
     alloc: H,
 ) -> Result<(), OrdInsertionError> {
@@ -155,7 +159,7 @@ fn puts_each<H: Copy, S: NonZeroInxGenericStack<Slot, Alloc = H> + Drop>(
 }
 
 // An arena without an entry takes each kind but that at an entry.
-fn puts_the_first<H: Copy, S: NonZeroInxGenericStack<Slot, Alloc = H> + Drop>(
+fn puts_the_first<H: Copy, S: NonZeroInxGenericStack<Item = Slot, Alloc = H> + Drop>(
     rt: &impl Abort,
     alloc: H,
 ) -> Result<(), OrdInsertionError> {
@@ -175,7 +179,7 @@ fn puts_the_first<H: Copy, S: NonZeroInxGenericStack<Slot, Alloc = H> + Drop>(
 }
 
 // There is no entry by a kind: with the room that there is, and with all that there can be.
-fn refuses<S: NonZeroInxGenericStack<Slot> + Drop>(
+fn refuses<S: NonZeroInxGenericStack<Item = Slot> + Drop>(
     rt: &impl Abort,
     pairs: &mut SimpleOrdArena<P0, Item, S>,
     kind: Kind<'_>,
@@ -188,7 +192,7 @@ fn refuses<S: NonZeroInxGenericStack<Slot> + Drop>(
 
 // Where four entries are all that can be, an item takes the place of another one, or there is no entry for it. The kind's
 // requirement is looked at first.
-fn fills<S: NonZeroInxGenericStack<Slot, Alloc = ()> + Drop>(
+fn fills<S: NonZeroInxGenericStack<Item = Slot, Alloc = ()> + Drop>(
     rt: &impl Abort,
 ) -> Result<(), OrdInsertionError> {
     let (mut pairs, p) = three::<(), S>(rt, ())?;

@@ -12,7 +12,7 @@ use std::cmp::Ordering;
 use std::process::Abort;
 use std::test::Fail;
 use triple_arena::{
-    ArenaSlot, NonZeroInxArray, NonZeroInxGenericStack, NonZeroInxVec, P0, P1, P5, Ptr,
+    ArenaSlot, NonZeroInxArray, NonZeroInxGenericStack, NonZeroInxVec, P0, P1, P5, Ptr, PtrCore,
 };
 use triple_arena_chain::LinkNoGen;
 use triple_arena_ord::{OrdPair, SimpleOrdArena, SimpleOrdArenaNode};
@@ -57,7 +57,7 @@ type InVec<P> = NonZeroInxVec<Slot<P>, Global>;
 type InArray<P> = NonZeroInxArray<Slot<P>, 7>;
 
 // The keys from 1 to `n`, which is 7 at most, put in shuffled.
-fn falls<P: Ptr, S: NonZeroInxGenericStack<Slot<P>> + Drop>(
+fn falls<P: Ptr, S: NonZeroInxGenericStack<Item = Slot<P>> + Drop>(
     rt: &impl Abort,
     alloc: S::Alloc,
     n: u64,
@@ -74,7 +74,7 @@ fn falls<P: Ptr, S: NonZeroInxGenericStack<Slot<P>> + Drop>(
 }
 
 // Whether the key is found; with as many comparisons at most as `most`, and with none where there is no entry.
-fn finds<P: Ptr, S: NonZeroInxGenericStack<Slot<P>> + Drop>(
+fn finds<P: Ptr, S: NonZeroInxGenericStack<Item = Slot<P>> + Drop>(
     rt: &impl Abort,
     arena: &SimpleOrdArena<P, Item, S>,
     key: u64,
@@ -88,7 +88,7 @@ fn finds<P: Ptr, S: NonZeroInxGenericStack<Slot<P>> + Drop>(
 
 // Of the keys up to `n` the entry has the one that is nearest to `key`, and the answer is what `key` compares as with it: the
 // greater one of the two in this order is the lesser number.
-fn is_nearest<P: Ptr, S: NonZeroInxGenericStack<Slot<P>> + Drop>(
+fn is_nearest<P: Ptr, S: NonZeroInxGenericStack<Item = Slot<P>> + Drop>(
     rt: &impl Abort,
     arena: &SimpleOrdArena<P, Item, S>,
     similar: Option<(P, Ordering)>,
@@ -108,7 +108,7 @@ fn is_nearest<P: Ptr, S: NonZeroInxGenericStack<Slot<P>> + Drop>(
 }
 
 // A search by a closure for a key asks as often as it ticks, and at most `most` times.
-fn asks<P: Ptr, S: NonZeroInxGenericStack<Slot<P>> + Drop>(
+fn asks<P: Ptr, S: NonZeroInxGenericStack<Item = Slot<P>> + Drop>(
     rt: &impl Abort,
     arena: &SimpleOrdArena<P, Item, S>,
     key: u64,
@@ -129,7 +129,7 @@ fn asks<P: Ptr, S: NonZeroInxGenericStack<Slot<P>> + Drop>(
 }
 
 // So does one for a similar key, which it answers.
-fn asks_for_similar<P: Ptr, S: NonZeroInxGenericStack<Slot<P>> + Drop>(
+fn asks_for_similar<P: Ptr, S: NonZeroInxGenericStack<Item = Slot<P>> + Drop>(
     rt: &impl Abort,
     arena: &SimpleOrdArena<P, Item, S>,
     key: u64,
@@ -159,7 +159,7 @@ const CASES: [(u64, u64, u64); 6] = [
     (7, 7654321, 5),
 ];
 
-fn searches<P: Ptr, H: Copy, S: NonZeroInxGenericStack<Slot<P>, Alloc = H> + Drop>(
+fn searches<P: Ptr, H: Copy, S: NonZeroInxGenericStack<Item = Slot<P>, Alloc = H> + Drop>(
     rt: &impl Abort,
     alloc: H,
 ) {

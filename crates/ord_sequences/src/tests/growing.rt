@@ -3,7 +3,7 @@ use std::alloc::Global;
 use std::cmp::Ordering;
 use std::process::Abort;
 use std::test::Fail;
-use triple_arena::{ArenaSlot, NonZeroInxArray, NonZeroInxVec, P0, Ptr};
+use triple_arena::{ArenaSlot, NonZeroInxArray, NonZeroInxVec, P0, PtrCore};
 use triple_arena_chain::LinkNoGen;
 use triple_arena_ord::{OrdPair, SimpleOrdArena, SimpleOrdArenaNode};
 use triple_arena_ptr::OrdInsertionError;

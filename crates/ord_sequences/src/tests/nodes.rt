@@ -1,7 +1,7 @@
 //! Items read and written by `arena[p]` and by an index that is live, and the nodes of the tree.
 use std::process::Abort;
 use std::test::Fail;
-use triple_arena::{ArenaSlot, NonZeroInxArray, NonZeroInxGenericStack, P1, Ptr};
+use triple_arena::{ArenaSlot, NonZeroInxArray, NonZeroInxGenericStack, P1, Ptr, PtrCore};
 use triple_arena_chain::LinkNoGen;
 use triple_arena_ord::{OrdPair, SimpleOrdArena, SimpleOrdArenaNode};
 
@@ -11,7 +11,7 @@ type Slot<P> = ArenaSlot<P, LinkNoGen<P, SimpleOrdArenaNode<P, Item>>>;
 
 type Three = SimpleOrdArena<P1, Item, NonZeroInxArray<Slot<P1>, 3>>;
 
-fn read<P: Ptr, S: NonZeroInxGenericStack<Slot<P>> + Drop>(
+fn read<P: Ptr, S: NonZeroInxGenericStack<Item = Slot<P>> + Drop>(
     pairs: &SimpleOrdArena<P, Item, S>,
     p: P,
 ) -> Option<Item> {
@@ -22,7 +22,7 @@ fn read<P: Ptr, S: NonZeroInxGenericStack<Slot<P>> + Drop>(
     }
 }
 
-fn write<P: Ptr, S: NonZeroInxGenericStack<Slot<P>> + Drop>(
+fn write<P: Ptr, S: NonZeroInxGenericStack<Item = Slot<P>> + Drop>(
     pairs: &mut SimpleOrdArena<P, Item, S>,
     p: P,
     item: Item,
@@ -35,7 +35,7 @@ fn write<P: Ptr, S: NonZeroInxGenericStack<Slot<P>> + Drop>(
 }
 
 // The item at an index, with another value from then on.
-fn exchange_value<P: Ptr, S: NonZeroInxGenericStack<Slot<P>> + Drop>(
+fn exchange_value<P: Ptr, S: NonZeroInxGenericStack<Item = Slot<P>> + Drop>(
     pairs: &mut SimpleOrdArena<P, Item, S>,
     i: P::Inx,
     v: u64,

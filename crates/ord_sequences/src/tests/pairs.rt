@@ -1,6 +1,6 @@
 //! Pairs: their texts, and their values written and recast.
 use std::test::Fail;
-use triple_arena::{ArenaInsertTrait, ArenaTrait, ArrayArena, P0, Ptr, Recast};
+use triple_arena::{ArenaInsertTrait, ArenaTrait, ArrayArena, P0, PtrCore, Recast};
 use triple_arena_ord::OrdPair;
 
 #[test]

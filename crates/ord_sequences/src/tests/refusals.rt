@@ -5,7 +5,7 @@ use std::process::Abort;
 use std::test::Fail;
 use triple_arena::{
     ArenaSlot, NonZeroInxBoxedSlice, NonZeroInxGenericStack, NonZeroInxLimitedVec, NonZeroInxVec,
-    P0, Ptr, ReallocationError,
+    P0, Ptr, PtrCore, ReallocationError,
 };
 use triple_arena_chain::LinkNoGen;
 use triple_arena_ord::{InsertKind, OrdPair, SimpleOrdArena, SimpleOrdArenaNode};
@@ -30,7 +30,7 @@ enum Call {
 }
 
 // Puts an item in at the entry that is found by its key.
-fn insert_manual<S: NonZeroInxGenericStack<Slot> + Drop>(
+fn insert_manual<S: NonZeroInxGenericStack<Item = Slot> + Drop>(
     pairs: &mut SimpleOrdArena<P0, Item, S>,
     item: Item,
 ) -> Result<Option<Item>, OrdInsertionError> {
@@ -43,7 +43,7 @@ fn insert_manual<S: NonZeroInxGenericStack<Slot> + Drop>(
 }
 
 // Puts an item in by an entry, of either call.
-fn insert_by_entry<P: Ptr, S: NonZeroInxGenericStack<SlotOf<P>> + Drop>(
+fn insert_by_entry<P: Ptr, S: NonZeroInxGenericStack<Item = SlotOf<P>> + Drop>(
     pairs: &mut SimpleOrdArena<P, Item, S>,
     item: Item,
     is_by_the_short_name: bool,
@@ -56,7 +56,7 @@ fn insert_by_entry<P: Ptr, S: NonZeroInxGenericStack<SlotOf<P>> + Drop>(
 }
 
 // Puts an item in where its key belongs, and answers the one that it replaces.
-fn insert_by<S: NonZeroInxGenericStack<Slot> + Drop>(
+fn insert_by<S: NonZeroInxGenericStack<Item = Slot> + Drop>(
     pairs: &mut SimpleOrdArena<P0, Item, S>,
     call: Call,
     item: Item,
@@ -78,7 +78,7 @@ struct Before {
     capacity: usize,
 }
 
-fn seen<S: NonZeroInxGenericStack<Slot> + Drop>(
+fn seen<S: NonZeroInxGenericStack<Item = Slot> + Drop>(
     rt: &(impl Abort + Alloc<A = Global>),
     heap: &Heap,
     pairs: &SimpleOrdArena<P0, Item, S>,
@@ -94,7 +94,7 @@ fn seen<S: NonZeroInxGenericStack<Slot> + Drop>(
 }
 
 // The call was refused exactly where the heap refused it the memory, and left the arena as it was.
-fn is_refused_with_the_heap<S: NonZeroInxGenericStack<Slot> + Drop>(
+fn is_refused_with_the_heap<S: NonZeroInxGenericStack<Item = Slot> + Drop>(
     rt: &(impl Abort + Alloc<A = Global>),
     heap: &Heap,
     pairs: &SimpleOrdArena<P0, Item, S>,
@@ -113,7 +113,7 @@ fn is_refused_with_the_heap<S: NonZeroInxGenericStack<Slot> + Drop>(
 }
 
 // Takes all the room that there is, by keys that rise. It answers the next key.
-fn fills<S: NonZeroInxGenericStack<Slot> + Drop>(
+fn fills<S: NonZeroInxGenericStack<Item = Slot> + Drop>(
     rt: &impl Abort,
     pairs: &mut SimpleOrdArena<P0, Item, S>,
 ) -> u64 {
@@ -125,7 +125,7 @@ fn fills<S: NonZeroInxGenericStack<Slot> + Drop>(
 }
 
 // Each call at an arena that is full: an equal key needs no memory, and a new one needs a growth.
-fn grows<S: NonZeroInxGenericStack<Slot> + Drop>(
+fn grows<S: NonZeroInxGenericStack<Item = Slot> + Drop>(
     rt: &(impl Abort + Alloc<A = Global>),
     heap: &Heap,
     pairs: &mut SimpleOrdArena<P0, Item, S>,
@@ -157,7 +157,7 @@ fn grows<S: NonZeroInxGenericStack<Slot> + Drop>(
 
 // The first entry of an arena that was made without room, by a call: four entries have room then, or none, where the heap
 // refuses the memory.
-fn begins<H: Allocator + Copy, S: NonZeroInxGenericStack<Slot, Alloc = H> + Drop>(
+fn begins<H: Allocator + Copy, S: NonZeroInxGenericStack<Item = Slot, Alloc = H> + Drop>(
     rt: &(impl Abort + Alloc<A = Global>),
     heap: &Heap,
     alloc: H,
@@ -174,7 +174,7 @@ fn begins<H: Allocator + Copy, S: NonZeroInxGenericStack<Slot, Alloc = H> + Drop
 }
 
 // All of them over one heap, which `alloc` is as an arena takes it.
-fn runs<H: Allocator + Copy, S: NonZeroInxGenericStack<Slot, Alloc = H> + Drop>(
+fn runs<H: Allocator + Copy, S: NonZeroInxGenericStack<Item = Slot, Alloc = H> + Drop>(
     rt: &(impl Abort + Alloc<A = Global>),
     heap: &Heap,
     alloc: H,
@@ -215,7 +215,7 @@ fn each_request_in_turn(rt: HostRuntime) {
 }
 
 // An arena in a boxed slice takes its memory when it is made, and one that is full asks for no more.
-fn is_boxed<H: Allocator + Copy, S: NonZeroInxGenericStack<Slot, Alloc = H> + Drop>(
+fn is_boxed<H: Allocator + Copy, S: NonZeroInxGenericStack<Item = Slot, Alloc = H> + Drop>(
     rt: &(impl Abort + Alloc<A = Global>),
     heap: &Heap,
     alloc: H,

@@ -5,7 +5,8 @@ use std::num::NonZeroUsize;
 use std::process::Abort;
 use std::test::Fail;
 use triple_arena::{
-    ArenaSlot, NonZeroInxArray, NonZeroInxGenericStack, NonZeroInxVec, P0, P1, P5, Ptr, PtrInx,
+    ArenaSlot, NonZeroInxArray, NonZeroInxGenericStack, NonZeroInxVec, P0, P1, P5, Ptr, PtrCore,
+    PtrInxCore,
 };
 use triple_arena_chain::LinkNoGen;
 use triple_arena_ord::{InsertKind, OrdInsertKind, OrdPair, SimpleOrdArena, SimpleOrdArenaNode};
@@ -19,7 +20,7 @@ type InVec<P> = NonZeroInxVec<Slot<P>, Global>;
 
 type InArray<P> = NonZeroInxArray<Slot<P>, 5>;
 
-fn insert<P: Ptr, S: NonZeroInxGenericStack<Slot<P>> + Drop>(
+fn insert<P: Ptr, S: NonZeroInxGenericStack<Item = Slot<P>> + Drop>(
     rt: &impl Abort,
     pairs: &mut SimpleOrdArena<P, Item, S>,
     key: u8,
@@ -32,7 +33,7 @@ fn insert<P: Ptr, S: NonZeroInxGenericStack<Slot<P>> + Drop>(
 }
 
 // These are the entries along the list: their indexes, keys and values.
-fn lists<P: Ptr, S: NonZeroInxGenericStack<Slot<P>> + Drop>(
+fn lists<P: Ptr, S: NonZeroInxGenericStack<Item = Slot<P>> + Drop>(
     rt: &impl Abort,
     pairs: &SimpleOrdArena<P, Item, S>,
     wanted: &[(usize, u8, u8)],
@@ -51,7 +52,7 @@ fn lists<P: Ptr, S: NonZeroInxGenericStack<Slot<P>> + Drop>(
 }
 
 // The free index is taken again, with the counter that the removal stepped. The pointers and the items are shown as `text`.
-fn letters<P: Ptr, S: NonZeroInxGenericStack<Slot<P>> + Drop>(
+fn letters<P: Ptr, S: NonZeroInxGenericStack<Item = Slot<P>> + Drop>(
     rt: &(impl Abort + Alloc),
     pairs: &mut SimpleOrdArena<P, Item, S>,
     text: &str,
@@ -74,7 +75,7 @@ fn letters<P: Ptr, S: NonZeroInxGenericStack<Slot<P>> + Drop>(
 }
 
 // The ends of the list, the neighbors of an entry, and the list without one in the middle.
-fn numbers<P: Ptr, S: NonZeroInxGenericStack<Slot<P>> + Drop>(
+fn numbers<P: Ptr, S: NonZeroInxGenericStack<Item = Slot<P>> + Drop>(
     rt: &impl Abort,
     pairs: &mut SimpleOrdArena<P, Item, S>,
 ) {
@@ -98,7 +99,7 @@ fn numbers<P: Ptr, S: NonZeroInxGenericStack<Slot<P>> + Drop>(
     lists(rt, pairs, &[(5, 10, 0), (2, 30, 0), (4, 60, 0), (3, 70, 0)]);
 }
 
-fn enter<P: Ptr, S: NonZeroInxGenericStack<Slot<P>> + Drop>(
+fn enter<P: Ptr, S: NonZeroInxGenericStack<Item = Slot<P>> + Drop>(
     rt: &impl Abort,
     pairs: &mut SimpleOrdArena<P, Item, S>,
     kind: OrdInsertKind<P, &u8>,
@@ -111,7 +112,7 @@ fn enter<P: Ptr, S: NonZeroInxGenericStack<Slot<P>> + Drop>(
 }
 
 // Of equal keys the second stands before the first, and the keys ascend. An item that is put at an entry may have any key.
-fn equal_keys<P: Ptr, S: NonZeroInxGenericStack<Slot<P>> + Drop>(
+fn equal_keys<P: Ptr, S: NonZeroInxGenericStack<Item = Slot<P>> + Drop>(
     rt: &impl Abort,
     pairs: &mut SimpleOrdArena<P, Item, S>,
 ) {
@@ -135,7 +136,7 @@ fn equal_keys<P: Ptr, S: NonZeroInxGenericStack<Slot<P>> + Drop>(
     assert!(rt; checked == Err("incorrect ordering"));
 }
 
-fn all<P: Ptr, H: Copy, S: NonZeroInxGenericStack<Slot<P>, Alloc = H> + Drop>(
+fn all<P: Ptr, H: Copy, S: NonZeroInxGenericStack<Item = Slot<P>, Alloc = H> + Drop>(
     rt: &(impl Abort + Alloc),
     alloc: H,
     shown_letters: &str,

@@ -1,7 +1,7 @@
 //! Five keys, the walks and the drains along their list, and those by their indexes.
 use std::process::Abort;
 use std::test::Fail;
-use triple_arena::{Advancer, ArenaSlot, InvalidationOption, NonZeroInxArray, P0, Ptr};
+use triple_arena::{Advancer, ArenaSlot, InvalidationOption, NonZeroInxArray, P0, PtrCore};
 use triple_arena_chain::LinkNoGen;
 use triple_arena_ord::{OrdPair, SimpleOrdArena, SimpleOrdArenaNode};
 

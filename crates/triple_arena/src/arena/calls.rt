@@ -13,15 +13,14 @@ use crate::arena::reading::ValueAtMut;
 use crate::arena::removal::equal_uncounted;
 use crate::arena::{Arena, max_index};
 use crate::slot::ValueIfMut;
-use crate::{ArenaSlot, ArenaTrait, CompactArenaTrait};
+use crate::{ArenaSlot, ArenaSlots, ArenaTrait, CompactArenaTrait};
 use triple_arena_ptr::{
-    InvalidationOption, InvalidationResult, Ptr, PtrGen, PtrInx, ReallocationError,
+    InvalidationOption, InvalidationResult, PtrCore, PtrGenCore, PtrInxCore, ReallocationError,
 };
-use triple_arena_stack::{NonZeroInxArray, NonZeroInxGenericStack};
+use triple_arena_stack::NonZeroInxArray;
 use unreached::unreached;
 
-impl<P: Ptr, T: Drop, S: NonZeroInxGenericStack<ArenaSlot<P, T>> + Drop> ArenaTrait<P, T>
-    for Arena<P, T, S> {
+impl<P: PtrCore, T: Drop, S: ArenaSlots<P, T>> ArenaTrait<P, T> for Arena<P, T, S> {
     type Alloc = S::Alloc;
 
     type PtrAdvancer = PtrAdvancer<P>;
@@ -261,10 +260,9 @@ impl<P: Ptr, T: Drop, S: NonZeroInxGenericStack<ArenaSlot<P, T>> + Drop> ArenaTr
     }
 }
 
-impl<P: Ptr, T: Drop, S: NonZeroInxGenericStack<ArenaSlot<P, T>> + Drop> CompactArenaTrait<P, T>
-    for Arena<P, T, S> {}
+impl<P: PtrCore, T: Drop, S: ArenaSlots<P, T>> CompactArenaTrait<P, T> for Arena<P, T, S> {}
 
-impl<P: Ptr, T: Drop, const LIMIT: usize> Default
+impl<P: PtrCore, T: Drop, const LIMIT: usize> Default
     for Arena<P, T, NonZeroInxArray<ArenaSlot<P, T>, LIMIT>> {
     ghost is_default = { λ c. (c.slots ≡ []) × (c.free ≡ [])
         × (c.counter ≡ second_generation P.Gen.last)

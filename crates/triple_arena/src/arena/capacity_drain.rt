@@ -5,25 +5,24 @@ ghost use Rattle.triple_arena_ptr.specs.Index.{max_index_of};
 ghost use Rattle.triple_arena.specs.LiveEntries.{listed_from};
 ghost use Rattle.triple_arena.specs.Slot.{entry_of};
 
-use crate::ArenaSlot;
 use crate::arena::{pointer_at, take_entry};
+use crate::{ArenaSlot, ArenaSlots};
 use std::iter::FusedIterator;
 use std::marker::{Model, PhantomData};
 use std::num::NonZeroUsize;
-use triple_arena_ptr::Ptr;
-use triple_arena_stack::NonZeroInxGenericStack;
+use triple_arena_ptr::PtrCore;
 
 /// The pointers and the values of an arena, by value, in the order of the indexes, seen as the list of the entries that
 /// are left. Dropped, it drops those.
 #[derive(Drop)]
-pub struct CapacityDrain<P: Ptr, T: Drop, S: NonZeroInxGenericStack<ArenaSlot<P, T>>> {
+pub struct CapacityDrain<P: PtrCore, T: Drop, S: ArenaSlots<P, T>> {
     slots: S,
     // The first slots, which have no entry.
     passed: usize,
     entries: PhantomData<(P, T)>,
 }
 
-impl<P: Ptr, T: Drop, S: NonZeroInxGenericStack<ArenaSlot<P, T>>> Model for CapacityDrain<P, T, S> {
+impl<P: PtrCore, T: Drop, S: ArenaSlots<P, T>> Model for CapacityDrain<P, T, S> {
     ghost use Rattle.std.specs.Prelude.{ℕ, ◌≤◌, List, length, map};
     ghost use Rattle.triple_arena_ptr.specs.Index.{max_index_of};
     ghost use Rattle.triple_arena.specs.Iterators.{AreVacant};
@@ -38,7 +37,7 @@ impl<P: Ptr, T: Drop, S: NonZeroInxGenericStack<ArenaSlot<P, T>>> Model for Capa
         × (length (S.items it.slots) ≤ max_index_of P.Inx.greatest) };
 }
 
-impl<P: Ptr, T: Drop, S: NonZeroInxGenericStack<ArenaSlot<P, T>>> CapacityDrain<P, T, S> {
+impl<P: PtrCore, T: Drop, S: ArenaSlots<P, T>> CapacityDrain<P, T, S> {
     // Over the slots from index 1 on.
     pub(crate) fn over(slots: S) -> Self
         requires { length (S.items slots) ≤ max_index_of P.Inx.greatest }
@@ -52,8 +51,7 @@ impl<P: Ptr, T: Drop, S: NonZeroInxGenericStack<ArenaSlot<P, T>>> CapacityDrain<
     }
 }
 
-impl<P: Ptr, T: Drop, S: NonZeroInxGenericStack<ArenaSlot<P, T>> + Drop> Iterator
-    for CapacityDrain<P, T, S> {
+impl<P: PtrCore, T: Drop, S: ArenaSlots<P, T>> Iterator for CapacityDrain<P, T, S> {
     type Item = (P, T);
 
     ghost next_gives = { YieldsFirstBy (λ e. (P.index e.0, (P.generation e.0, e.1))) (λ left. left) };
@@ -77,5 +75,4 @@ impl<P: Ptr, T: Drop, S: NonZeroInxGenericStack<ArenaSlot<P, T>> + Drop> Iterato
     }
 }
 
-impl<P: Ptr, T: Drop, S: NonZeroInxGenericStack<ArenaSlot<P, T>> + Drop> FusedIterator
-    for CapacityDrain<P, T, S> {}
+impl<P: PtrCore, T: Drop, S: ArenaSlots<P, T>> FusedIterator for CapacityDrain<P, T, S> {}

@@ -11,11 +11,11 @@ use crate::arena::pointer_at;
 use crate::slot::EntrySlot;
 use std::mem;
 use std::num::NonZeroUsize;
-use triple_arena_ptr::{Ptr, PtrGen};
+use triple_arena_ptr::{PtrCore, PtrGenCore};
 use triple_arena_stack::NonZeroInxGenericStack;
 
 // The generation after `generation`, and whether the step to it started the generations again.
-pub(crate) fn renewal<G: PtrGen>(generation: G, reset: bool) -> (G, bool)
+pub(crate) fn renewal<G: PtrGenCore>(generation: G, reset: bool) -> (G, bool)
     ensures next { G.number result.0 ≡ renewed G.last reset (G.number generation) }
     ensures wraps { result.1 ≡ renewal_wraps G.last reset (G.number generation) }
 {
@@ -28,7 +28,7 @@ pub(crate) fn renewal<G: PtrGen>(generation: G, reset: bool) -> (G, bool)
 
 // The generation that an entry gets, the given one or else its own one renewed, and whether the step to it started the
 // generations again.
-fn renewal_of_entry<G: PtrGen>(given: Option<G>, reset: bool, own: G) -> (G, bool)
+fn renewal_of_entry<G: PtrGenCore>(given: Option<G>, reset: bool, own: G) -> (G, bool)
     ensures next { G.number result.0
         ≡ generation_after G.last reset (option_map G.number given) (G.number own) }
     ensures wraps { result.1 ≡ own_wraps G.last reset (option_map G.number given) (G.number own) }
@@ -40,10 +40,12 @@ fn renewal_of_entry<G: PtrGen>(given: Option<G>, reset: bool, own: G) -> (G, boo
 }
 
 // Takes what stands at `i`, if it is live, and leaves a free slot.
-pub(crate) fn take_entry<P: Ptr, T: Drop, L: EntrySlot<P, T> + Drop, S: NonZeroInxGenericStack<L>>(
-    slots: &mut S,
-    i: NonZeroUsize,
-) -> Option<(P::Gen, T)>
+pub(crate) fn take_entry<
+    P: PtrCore,
+    T: Drop,
+    L: EntrySlot<P, T> + Drop,
+    S: NonZeroInxGenericStack<Item = L>,
+>(slots: &mut S, i: NonZeroUsize) -> Option<(P::Gen, T)>
     requires { non_zero_usize_get i ≤ length (S.items slots.old) }
     ensures entry { Some (option_map (λ e. (P.Gen.number e.0, e.1)) result)
         ≡ slice_get (list_map L.entry (S.items slots.old)) (non_zero_usize_get i - 1) }
@@ -55,12 +57,12 @@ pub(crate) fn take_entry<P: Ptr, T: Drop, L: EntrySlot<P, T> + Drop, S: NonZeroI
 }
 
 // Stores an entry at `i`.
-pub(crate) fn put_entry<P: Ptr, T: Drop, L: EntrySlot<P, T> + Drop, S: NonZeroInxGenericStack<L>>(
-    slots: &mut S,
-    i: NonZeroUsize,
-    generation: P::Gen,
-    value: T,
-)
+pub(crate) fn put_entry<
+    P: PtrCore,
+    T: Drop,
+    L: EntrySlot<P, T> + Drop,
+    S: NonZeroInxGenericStack<Item = L>,
+>(slots: &mut S, i: NonZeroUsize, generation: P::Gen, value: T)
     requires { non_zero_usize_get i ≤ length (S.items slots.old) }
     ensures slots { list_map L.entry (S.items slots.new)
         ≡ slice_set (list_map L.entry (S.items slots.old)) (non_zero_usize_get i - 1)
@@ -71,7 +73,7 @@ pub(crate) fn put_entry<P: Ptr, T: Drop, L: EntrySlot<P, T> + Drop, S: NonZeroIn
 }
 
 // Drops the slots past the first `len` ones.
-pub(crate) fn keep_first<L: Drop, S: NonZeroInxGenericStack<L>>(slots: &mut S, len: usize)
+pub(crate) fn keep_first<L: Drop, S: NonZeroInxGenericStack<Item = L>>(slots: &mut S, len: usize)
     requires { len ≤ length (S.items slots.old) }
     ensures slots { S.items slots.new ≡ take len (S.items slots.old) }
     ensures room { S.room slots.new ≡ S.room slots.old }
@@ -84,14 +86,15 @@ pub(crate) fn keep_first<L: Drop, S: NonZeroInxGenericStack<L>>(slots: &mut S, l
 // Moves the live entries to the first indexes, each with what `map` makes of its value and with the given generation,
 // or else its own one renewed, and drops the other slots. It says whether the step of one's own generation started
 // the generations again.
-pub(crate) fn compact<P, T: Drop, L: EntrySlot<P, T> + Drop, S: NonZeroInxGenericStack<L>, F>(
-    slots: &mut S,
-    given: Option<P::Gen>,
-    reset: bool,
-    mut map: F,
-) -> bool
+pub(crate) fn compact<
+    P,
+    T: Drop,
+    L: EntrySlot<P, T> + Drop,
+    S: NonZeroInxGenericStack<Item = L>,
+    F,
+>(slots: &mut S, given: Option<P::Gen>, reset: bool, mut map: F) -> bool
 where
-    P: Ptr,
+    P: PtrCore,
     F: FnMut(P, T, P) -> T,
     requires fits { length (S.items slots.old) ≤ P.Inx.greatest }
     requires callable { F.IsAlwaysCallable map }

@@ -15,13 +15,11 @@ use crate::arena::Arena;
 use crate::arena::free_slots::link_rising;
 use crate::copy::{append_copies, up_to_last};
 use crate::iterators::LentEntry;
-use crate::{ArenaCloneFromWith, ArenaCloneSource, ArenaSlot, ArenaTrait};
+use crate::{ArenaCloneFromWith, ArenaCloneSource, ArenaSlot, ArenaSlots, ArenaTrait};
 use std::num::NonZeroUsize;
-use triple_arena_ptr::{AllocError, Ptr, ReallocationError};
-use triple_arena_stack::NonZeroInxGenericStack;
+use triple_arena_ptr::{AllocError, PtrCore, ReallocationError};
 
-impl<P: Ptr, T: Drop, S: NonZeroInxGenericStack<ArenaSlot<P, T>> + Drop> ArenaCloneSource<P, T>
-    for Arena<P, T, S> {
+impl<P: PtrCore, T: Drop, S: ArenaSlots<P, T>> ArenaCloneSource<P, T> for Arena<P, T, S> {
     type Slot = ArenaSlot<P, T>;
 
     fn lent_slots(&self) -> &[ArenaSlot<P, T>] {
@@ -31,8 +29,7 @@ impl<P: Ptr, T: Drop, S: NonZeroInxGenericStack<ArenaSlot<P, T>> + Drop> ArenaCl
     }
 }
 
-impl<P: Ptr, T: Drop, S: NonZeroInxGenericStack<ArenaSlot<P, T>> + Drop> ArenaCloneFromWith<P, T>
-    for Arena<P, T, S> {
+impl<P: PtrCore, T: Drop, S: ArenaSlots<P, T>> ArenaCloneFromWith<P, T> for Arena<P, T, S> {
     ghost copied = { copied_of };
 
     fn clone_from_with<U, A, F>(&mut self, source: &A, map: F) -> Result<(), ReallocationError>
@@ -53,7 +50,7 @@ impl<P: Ptr, T: Drop, S: NonZeroInxGenericStack<ArenaSlot<P, T>> + Drop> ArenaCl
     }
 }
 
-impl<P: Ptr, T: Clone, S: NonZeroInxGenericStack<ArenaSlot<P, T>> + Drop> Arena<P, T, S> {
+impl<P: PtrCore, T: Clone, S: ArenaSlots<P, T>> Arena<P, T, S> {
     /// A new arena with the same pointers, clones of their values and the same counter, where the smallest free index
     /// is the next one to be taken. It has room for the last live index. A clone of a value must equal it.
     ///
@@ -109,7 +106,7 @@ impl<P: Ptr, T: Clone, S: NonZeroInxGenericStack<ArenaSlot<P, T>> + Drop> Arena<
     }
 }
 
-impl<P: Ptr, T: Drop, S: NonZeroInxGenericStack<ArenaSlot<P, T>>> Arena<P, T, S> {
+impl<P: PtrCore, T: Drop, S: ArenaSlots<P, T>> Arena<P, T, S> {
     // Becomes a copy of these slots, of which the last one is allocated, with this counter if there is one.
     fn become_copy<U, E, F>(
         &mut self,
@@ -158,7 +155,7 @@ impl<P: Ptr, T: Drop, S: NonZeroInxGenericStack<ArenaSlot<P, T>>> Arena<P, T, S>
 }
 
 // Links the free slots by rising index, and answers the first one. Of the slots, `live` are allocated.
-fn link_free<P: Ptr, T: Drop, S: NonZeroInxGenericStack<ArenaSlot<P, T>>>(
+fn link_free<P: PtrCore, T: Drop, S: ArenaSlots<P, T>>(
     slots: &mut S,
     live: usize,
 ) -> Option<NonZeroUsize>

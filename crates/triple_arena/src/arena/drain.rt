@@ -8,24 +8,23 @@ ghost use Rattle.triple_arena.specs.Changes.{IsRemoved};
 ghost use Rattle.triple_arena.specs.Content.{entry_at, live_count, some_counter, IsWellFormed};
 ghost use Rattle.triple_arena.specs.Drains.{drained, drain_arena, drain_lender, drain_rest, drain_leaves, DrainCanStep, DrainSteps, DrainKeepsAlong};
 
-use crate::ArenaSlot;
+use crate::ArenaSlots;
 use crate::arena::Arena;
 use std::iter::FusedIterator;
 use std::num::NonZeroUsize;
-use triple_arena_ptr::{InvalidationOption, Ptr};
-use triple_arena_stack::NonZeroInxGenericStack;
+use triple_arena_ptr::{InvalidationOption, PtrCore};
 
 /// Takes the entries out of an arena, in the order of the indexes.
 ///
 /// Each item is one removal: the counter steps, and the item is `GenerationOverflow` where that step started the
 /// generations again. Dropped, at whatever item, it takes those that are left in the same way, and leaves no slot.
-pub struct Drain<'a, P: Ptr, T: Drop, S: NonZeroInxGenericStack<ArenaSlot<P, T>>> {
+pub struct Drain<'a, P: PtrCore, T: Drop, S: ArenaSlots<P, T>> {
     arena: &'a mut Arena<P, T, S>,
     // No index up to this one is live.
     passed: usize,
 }
 
-impl<P: Ptr, T: Drop, S: NonZeroInxGenericStack<ArenaSlot<P, T>>> Arena<P, T, S> {
+impl<P: PtrCore, T: Drop, S: ArenaSlots<P, T>> Arena<P, T, S> {
     /// Takes each entry out, in the order of the indexes. Once the iterator is dropped, the arena has no entry and no
     /// slot, its counter has stepped once for each entry that it had, and its room is as it was.
     pub fn drain(&mut self) -> Drain<'_, P, T, S>
@@ -78,7 +77,7 @@ impl<P: Ptr, T: Drop, S: NonZeroInxGenericStack<ArenaSlot<P, T>>> Arena<P, T, S>
     }
 }
 
-impl<'a, P: Ptr, T: Drop, S: NonZeroInxGenericStack<ArenaSlot<P, T>>> Drop for Drain<'a, P, T, S> {
+impl<'a, P: PtrCore, T: Drop, S: ArenaSlots<P, T>> Drop for Drain<'a, P, T, S> {
     fn drop(self)
         ensures value { self.exit.0.now ≡ drain_leaves P.Gen.last self.entry }
         ensures formed { IsWellFormed self.exit.0.now }
@@ -88,8 +87,7 @@ impl<'a, P: Ptr, T: Drop, S: NonZeroInxGenericStack<ArenaSlot<P, T>>> Drop for D
     }
 }
 
-impl<'a, P: Ptr, T: Drop, S: NonZeroInxGenericStack<ArenaSlot<P, T>>> Iterator
-    for Drain<'a, P, T, S> {
+impl<'a, P: PtrCore, T: Drop, S: ArenaSlots<P, T>> Iterator for Drain<'a, P, T, S> {
     type Item = InvalidationOption<(P, T)>;
 
     ghost can_next = { DrainCanStep };
@@ -115,12 +113,10 @@ impl<'a, P: Ptr, T: Drop, S: NonZeroInxGenericStack<ArenaSlot<P, T>>> Iterator
     }
 }
 
-impl<'a, P: Ptr, T: Drop, S: NonZeroInxGenericStack<ArenaSlot<P, T>>> ExactSizeIterator
-    for Drain<'a, P, T, S> {
+impl<'a, P: PtrCore, T: Drop, S: ArenaSlots<P, T>> ExactSizeIterator for Drain<'a, P, T, S> {
     fn len(&self) -> usize {
         self.arena.live()
     }
 }
 
-impl<'a, P: Ptr, T: Drop, S: NonZeroInxGenericStack<ArenaSlot<P, T>>> FusedIterator
-    for Drain<'a, P, T, S> {}
+impl<'a, P: PtrCore, T: Drop, S: ArenaSlots<P, T>> FusedIterator for Drain<'a, P, T, S> {}

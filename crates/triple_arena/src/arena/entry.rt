@@ -6,12 +6,11 @@ ghost use Rattle.triple_arena.specs.Changes.{IsInserted};
 ghost use Rattle.triple_arena.specs.InsertEntry.{entry_arena, entry_lender};
 ghost use Rattle.triple_arena.specs.Content.{Content, entry_at, some_counter, live_count, arena_capacity, next_index, inserted, grown_if_full, IsWellFormed};
 
-use crate::{Arena, ArenaSlot};
-use triple_arena_ptr::{NotWithinCapacityError, Ptr, ReallocationError};
-use triple_arena_stack::NonZeroInxGenericStack;
+use crate::{Arena, ArenaSlots};
+use triple_arena_ptr::{NotWithinCapacityError, PtrCore, ReallocationError};
 
 /// What a place for one entry more does.
-pub trait ArenaInsertEntryTrait<P: Ptr, T> {
+pub trait ArenaInsertEntryTrait<P: PtrCore, T> {
     // The index that the entry gets, and its generation.
     ghost index: { Self → ℕ };
 
@@ -35,11 +34,11 @@ pub trait ArenaInsertEntryTrait<P: Ptr, T> {
 
 /// A place for one entry more in an `Arena`. Dropped unused, it leaves the arena as it is.
 #[derive(Drop)]
-pub struct ArenaInsertEntry<'a, P: Ptr, T: Drop, S: NonZeroInxGenericStack<ArenaSlot<P, T>>> {
+pub struct ArenaInsertEntry<'a, P: PtrCore, T: Drop, S: ArenaSlots<P, T>> {
     arena: &'a mut Arena<P, T, S>,
 }
 
-impl<'a, P: Ptr, T: Drop, S: NonZeroInxGenericStack<ArenaSlot<P, T>>> ArenaInsertEntryTrait<P, T>
+impl<'a, P: PtrCore, T: Drop, S: ArenaSlots<P, T>> ArenaInsertEntryTrait<P, T>
     for ArenaInsertEntry<'a, P, T, S> {
     ghost index = { λ e. next_index (entry_arena e) };
 
@@ -68,9 +67,9 @@ impl<'a, P: Ptr, T: Drop, S: NonZeroInxGenericStack<ArenaSlot<P, T>>> ArenaInser
 }
 
 /// The calls of an `Arena` that answer an entry.
-pub trait ArenaInsertEntries<P: Ptr, T: Drop> {
+pub trait ArenaInsertEntries<P: PtrCore, T: Drop> {
     /// The stack that the arena keeps its slots in.
-    type Stack: NonZeroInxGenericStack<ArenaSlot<P, T>>;
+    type Stack: ArenaSlots<P, T>;
 
     // The arena as its entries see it.
     ghost content: { Self → Content T };
@@ -111,8 +110,7 @@ pub trait ArenaInsertEntries<P: Ptr, T: Drop> {
             (λ a. a ≡ self.old)) };
 }
 
-impl<P: Ptr, T: Drop, S: NonZeroInxGenericStack<ArenaSlot<P, T>>> ArenaInsertEntries<P, T>
-    for Arena<P, T, S> {
+impl<P: PtrCore, T: Drop, S: ArenaSlots<P, T>> ArenaInsertEntries<P, T> for Arena<P, T, S> {
     type Stack = S;
 
     ghost content = { λ c. c };

@@ -6,16 +6,12 @@ ghost use Rattle.triple_arena.specs.Content.{entry_at, some_counter, live_count,
 
 use crate::arena::Arena;
 use crate::slot::exchange_values;
-use crate::{ArenaSlot, DisjointableArenaTrait};
+use crate::{ArenaSlots, DisjointableArenaTrait};
 use std::num::NonZeroUsize;
-use triple_arena_ptr::{GetDisjointMutError, Ptr};
-use triple_arena_stack::NonZeroInxGenericStack;
+use triple_arena_ptr::{GetDisjointMutError, PtrCore};
 use unreached::unreached;
 
-impl<P: Ptr, T: Drop, S: NonZeroInxGenericStack<ArenaSlot<P, T>> + Drop> DisjointableArenaTrait<
-    P,
-    T,
-> for Arena<P, T, S> {
+impl<P: PtrCore, T: Drop, S: ArenaSlots<P, T>> DisjointableArenaTrait<P, T> for Arena<P, T, S> {
     ghost exchanged = { with_exchange };
 
     fn swap_inx(&mut self, i: P::Inx, j: P::Inx) {
@@ -45,7 +41,7 @@ impl<P: Ptr, T: Drop, S: NonZeroInxGenericStack<ArenaSlot<P, T>> + Drop> Disjoin
     }
 }
 
-impl<P: Ptr, T: Drop, S: NonZeroInxGenericStack<ArenaSlot<P, T>>> Arena<P, T, S> {
+impl<P: PtrCore, T: Drop, S: ArenaSlots<P, T>> Arena<P, T, S> {
     // Exchanges the values at `i` and `j`, which are two and both live.
     pub(crate) fn exchange_at(&mut self, i: NonZeroUsize, j: NonZeroUsize)
         requires i_is_live { IsSome (entry_at self.old (non_zero_usize_get i)) }

@@ -6,15 +6,14 @@ ghost use Rattle.triple_arena.specs.Slot.{entry_of};
 ghost use Rattle.triple_arena.specs.Layout.{links, IsChain};
 ghost use Rattle.triple_arena.specs.Content.{without_free_end, vacant_from, canonicalized, IsWellFormed};
 
-use crate::ArenaSlot;
+use crate::ArenaSlots;
 use crate::advancer::LivePointers;
 use crate::arena::Arena;
 use crate::arena::compression::keep_first;
 use std::num::NonZeroUsize;
-use triple_arena_ptr::{Ptr, PtrInx};
-use triple_arena_stack::NonZeroInxGenericStack;
+use triple_arena_ptr::{PtrCore, PtrInxCore};
 
-impl<P: Ptr, T: Drop, S: NonZeroInxGenericStack<ArenaSlot<P, T>>> Arena<P, T, S> {
+impl<P: PtrCore, T: Drop, S: ArenaSlots<P, T>> Arena<P, T, S> {
     /// The first of the free indexes, which the next insertion takes, or `None` where no slot is free.
     pub fn freelist_root(&self) -> Option<P::Inx>
         ensures { option_map P.Inx.number result ≡ slice_get self.now.free 0 }
@@ -59,7 +58,7 @@ impl<P: Ptr, T: Drop, S: NonZeroInxGenericStack<ArenaSlot<P, T>>> Arena<P, T, S>
 }
 
 // Links the free slots by rising index, and answers the first one.
-pub(crate) fn link_rising<P: Ptr, T: Drop, S: NonZeroInxGenericStack<ArenaSlot<P, T>>>(
+pub(crate) fn link_rising<P: PtrCore, T: Drop, S: ArenaSlots<P, T>>(
     slots: &mut S,
 ) -> Option<NonZeroUsize>
     ensures entries { list_map entry_of (S.items slots.new)
@@ -80,7 +79,7 @@ pub(crate) fn link_rising<P: Ptr, T: Drop, S: NonZeroInxGenericStack<ArenaSlot<P
 }
 
 // Links the free slots from `head` on in the other order, without those past `last`, and answers the first one.
-fn turn_over<P: Ptr, T: Drop, S: NonZeroInxGenericStack<ArenaSlot<P, T>>>(
+fn turn_over<P: PtrCore, T: Drop, S: ArenaSlots<P, T>>(
     slots: &mut S,
     head: Option<NonZeroUsize>,
     last: usize,

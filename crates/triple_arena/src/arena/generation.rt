@@ -5,12 +5,11 @@ ghost use Rattle.triple_arena_ptr.specs.InvalidationOption.{overflowed};
 ghost use Rattle.triple_arena.specs.Changes.{IsStepped};
 ghost use Rattle.triple_arena.specs.Content.{entry_at, live_count, some_counter, with_counter, stepped, IsWellFormed};
 
-use crate::ArenaSlot;
+use crate::ArenaSlots;
 use crate::arena::Arena;
-use triple_arena_ptr::{InvalidationOption, Ptr, PtrGen};
-use triple_arena_stack::NonZeroInxGenericStack;
+use triple_arena_ptr::{InvalidationOption, PtrCore, PtrGenCore};
 
-impl<P: Ptr, T: Drop, S: NonZeroInxGenericStack<ArenaSlot<P, T>>> Arena<P, T, S> {
+impl<P: PtrCore, T: Drop, S: ArenaSlots<P, T>> Arena<P, T, S> {
     /// The counter, which is the generation of the next entry.
     pub fn generation(&self) -> P::Gen
         ensures { P.Gen.number result ≡ self.now.counter }

@@ -3,14 +3,12 @@ ghost use Rattle.std.specs.Prelude.{◌≡◌, Some, IsSome};
 ghost use Rattle.std.specs.Borrow.{sem, Lends};
 ghost use Rattle.triple_arena.specs.Content.{get, with_value as with_value_of};
 
-use crate::{Arena, ArenaSlot, ArenaTrait};
+use crate::{Arena, ArenaSlots, ArenaTrait};
 use std::ops::{Index, IndexMut};
-use triple_arena_ptr::Ptr;
-use triple_arena_stack::NonZeroInxGenericStack;
+use triple_arena_ptr::PtrCore;
 use unreached::unreached;
 
-impl<P: Ptr, T: Drop, S: NonZeroInxGenericStack<ArenaSlot<P, T>> + Drop> Index<P>
-    for Arena<P, T, S> {
+impl<P: PtrCore, T: Drop, S: ArenaSlots<P, T>> Index<P> for Arena<P, T, S> {
     type Output = T;
 
     ghost can_index = { λ c p. IsSome (get c (P.index p) (P.generation p)) };
@@ -25,8 +23,7 @@ impl<P: Ptr, T: Drop, S: NonZeroInxGenericStack<ArenaSlot<P, T>> + Drop> Index<P
     }
 }
 
-impl<P: Ptr, T: Drop, S: NonZeroInxGenericStack<ArenaSlot<P, T>> + Drop> IndexMut<P>
-    for Arena<P, T, S> {
+impl<P: PtrCore, T: Drop, S: ArenaSlots<P, T>> IndexMut<P> for Arena<P, T, S> {
     ghost use Rattle.std.specs.Prelude.{◌≡◌, Some, IsSome};
     ghost use Rattle.std.specs.Borrow.{sem, Lends};
     ghost use Rattle.triple_arena.specs.Content.{get, with_value as with_value_of};
@@ -35,10 +32,7 @@ impl<P: Ptr, T: Drop, S: NonZeroInxGenericStack<ArenaSlot<P, T>> + Drop> IndexMu
     fn index_mut(&mut self, p: P) -> &mut T
         requires { IsSome (get self.old (P.index p) (P.generation p)) }
         ensures* writes_back { sem 𝓛 (Lends
-            (the_row P.row T.row S.row P.Inx.row P.Gen.row S.Alloc.row P.Ptr.own P.Debug P.Hash.own
-            P.PartialEq P.Ord.own P.PartialOrd.own P.Inx.PtrInx.own P.Inx.Debug P.Inx.Hash.own
-            P.Inx.PartialEq P.Inx.Ord.own P.Inx.PartialOrd.own P.Gen.PtrGen.own P.Gen.Debug
-            P.Gen.Hash.own P.Gen.PartialEq P.Gen.Ord.own P.Gen.PartialOrd.own
+            (the_row P.row T.row S.row P.Inx.row P.Gen.row S.Alloc.row P.PtrCore P.Inx.PtrInxCore.own P.Inx.PartialEq P.Gen.PtrGenCore.own P.Gen.PartialEq
             S.NonZeroInxGenericStack) T.row self.entry result (with_value_of self.old (P.index p))) }
         ensures value { get self.old (P.index p) (P.generation p) ≡ Some result.now }
     {

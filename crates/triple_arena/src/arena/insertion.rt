@@ -5,15 +5,13 @@ ghost use Rattle.triple_arena.specs.Content.{entry_at, some_counter, live_count,
 ghost use Rattle.triple_arena.specs.ContentLaws.{next-with_value};
 
 use crate::arena::{Arena, pointer_at};
-use crate::{ArenaInsertTrait, ArenaSlot};
+use crate::{ArenaInsertTrait, ArenaSlot, ArenaSlots};
 use std::mem;
 use std::num::NonZeroUsize;
-use triple_arena_ptr::{NotWithinCapacityError, Ptr, ReallocationError};
-use triple_arena_stack::NonZeroInxGenericStack;
+use triple_arena_ptr::{NotWithinCapacityError, PtrCore, ReallocationError};
 use unreached::unreached;
 
-impl<P: Ptr, T: Drop, S: NonZeroInxGenericStack<ArenaSlot<P, T>> + Drop> ArenaInsertTrait<P, T>
-    for Arena<P, T, S> {
+impl<P: PtrCore, T: Drop, S: ArenaSlots<P, T>> ArenaInsertTrait<P, T> for Arena<P, T, S> {
     ghost next_index = { next_of };
 
     ghost inserted = { inserted_of };
@@ -41,7 +39,7 @@ impl<P: Ptr, T: Drop, S: NonZeroInxGenericStack<ArenaSlot<P, T>> + Drop> ArenaIn
     }
 }
 
-impl<P: Ptr, T: Drop, S: NonZeroInxGenericStack<ArenaSlot<P, T>>> Arena<P, T, S> {
+impl<P: PtrCore, T: Drop, S: ArenaSlots<P, T>> Arena<P, T, S> {
     // The pointer of the next entry.
     pub(crate) fn next_ptr(&self) -> P
         requires { live_count self.now < arena_capacity self.now }

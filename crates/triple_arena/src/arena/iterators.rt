@@ -6,11 +6,10 @@ ghost use Rattle.triple_arena.specs.LiveEntries.{live_entries};
 
 use crate::arena::CapacityDrain;
 use crate::arena_iterators::{Iter, Ptrs, Vals};
-use crate::{Arena, ArenaSlot, iterators};
-use triple_arena_ptr::Ptr;
-use triple_arena_stack::NonZeroInxGenericStack;
+use crate::{Arena, ArenaSlots, iterators};
+use triple_arena_ptr::PtrCore;
 
-impl<P: Ptr, T: Drop, S: NonZeroInxGenericStack<ArenaSlot<P, T>>> Arena<P, T, S> {
+impl<P: PtrCore, T: Drop, S: ArenaSlots<P, T>> Arena<P, T, S> {
     /// The pointers to the entries, in the order of the indexes.
     pub fn ptrs(&self) -> Ptrs<'_, P, T>
         ensures { result ≡ map pointer_of (live_entries self.now) }
@@ -35,8 +34,7 @@ impl<P: Ptr, T: Drop, S: NonZeroInxGenericStack<ArenaSlot<P, T>>> Arena<P, T, S>
     }
 }
 
-impl<'a, P: Ptr, T: Drop, S: NonZeroInxGenericStack<ArenaSlot<P, T>>> IntoIterator
-    for &'a Arena<P, T, S> {
+impl<'a, P: PtrCore, T: Drop, S: ArenaSlots<P, T>> IntoIterator for &'a Arena<P, T, S> {
     type Item = (P, &'a T);
 
     type IntoIter = Iter<'a, P, T>;
@@ -48,8 +46,7 @@ impl<'a, P: Ptr, T: Drop, S: NonZeroInxGenericStack<ArenaSlot<P, T>>> IntoIterat
     }
 }
 
-impl<P: Ptr, T: Drop, S: NonZeroInxGenericStack<ArenaSlot<P, T>> + Drop> IntoIterator
-    for Arena<P, T, S> {
+impl<P: PtrCore, T: Drop, S: ArenaSlots<P, T>> IntoIterator for Arena<P, T, S> {
     type Item = (P, T);
 
     type IntoIter = CapacityDrain<P, T, S>;

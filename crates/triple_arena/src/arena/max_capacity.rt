@@ -7,10 +7,10 @@ ghost use Rattle.triple_arena.specs.Content.{last_index as last_index_of, in_roo
 use crate::ArenaSlot;
 use crate::advancer::LivePointers;
 use crate::arena::Arena;
-use triple_arena_ptr::{MaxCapacityReductionError, Ptr};
+use triple_arena_ptr::{MaxCapacityReductionError, PtrCore};
 use triple_arena_stack::{NonZeroInxLimitedStack, SetMaxCapacity};
 
-impl<P: Ptr, T: Drop, S: NonZeroInxLimitedStack<ArenaSlot<P, T>>> SetMaxCapacity
+impl<P: PtrCore, T: Drop, S: NonZeroInxLimitedStack<Item = ArenaSlot<P, T>> + Drop> SetMaxCapacity
     for Arena<P, T, S> {
     ghost least_limit = { last_index_of };
 
@@ -30,7 +30,7 @@ impl<P: Ptr, T: Drop, S: NonZeroInxLimitedStack<ArenaSlot<P, T>>> SetMaxCapacity
     }
 }
 
-impl<P: Ptr, T: Drop, S: NonZeroInxLimitedStack<ArenaSlot<P, T>>> Arena<P, T, S> {
+impl<P: PtrCore, T: Drop, S: NonZeroInxLimitedStack<Item = ArenaSlot<P, T>> + Drop> Arena<P, T, S> {
     // Sets the limit, which no slot is past.
     fn limit_to(&mut self, max: usize)
         requires { length self.old.slots ≤ max }

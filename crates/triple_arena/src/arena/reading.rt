@@ -6,14 +6,13 @@ ghost use Rattle.std.specs.Option.{option_map};
 ghost use Rattle.triple_arena.specs.Entries.{pointer_at as pointer_of_entry};
 ghost use Rattle.triple_arena.specs.Content.{get, entry_at, with_value};
 
-use crate::ArenaSlot;
+use crate::ArenaSlots;
 use crate::arena::{Arena, pointer_at};
 use crate::slot::ValueMut;
 use std::num::NonZeroUsize;
-use triple_arena_ptr::{Ptr, PtrInx};
-use triple_arena_stack::NonZeroInxGenericStack;
+use triple_arena_ptr::{PtrCore, PtrInxCore};
 
-impl<P: Ptr, T: Drop, S: NonZeroInxGenericStack<ArenaSlot<P, T>>> Arena<P, T, S> {
+impl<P: PtrCore, T: Drop, S: ArenaSlots<P, T>> Arena<P, T, S> {
     // The index of the entry that `p` points to, if it is live.
     pub(crate) fn live_index(&self, p: P) -> Option<NonZeroUsize>
         ensures live { IsSome result ↔ IsSome (get self.now (P.index p) (P.generation p)) }
@@ -89,7 +88,7 @@ pub(crate) trait ValueAtMut<T> {
         ensures value { value_at self.old (non_zero_usize_get i) ≡ Some result.now };
 }
 
-impl<P: Ptr, T: Drop, S: NonZeroInxGenericStack<ArenaSlot<P, T>>> ValueAtMut<T> for Arena<P, T, S> {
+impl<P: PtrCore, T: Drop, S: ArenaSlots<P, T>> ValueAtMut<T> for Arena<P, T, S> {
     ghost has_value = { λ c i. IsSome (entry_at c i) };
 
     ghost value_at = { λ c i. option_map (λ e. e.1) (entry_at c i) };

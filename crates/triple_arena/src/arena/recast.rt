@@ -9,10 +9,9 @@ ghost use Rattle.triple_arena.specs.RecastingLaws.{items-recasted};
 
 use crate::arena::Arena;
 use crate::arena::reading::ValueAtMut;
-use crate::{ArenaSlot, ArenaTrait};
+use crate::{ArenaSlots, ArenaTrait};
 use std::num::NonZeroUsize;
-use triple_arena_ptr::{Ptr, Recast, Recaster};
-use triple_arena_stack::NonZeroInxGenericStack;
+use triple_arena_ptr::{PtrCore, Recast, Recaster};
 
 // An arena whose values are recast one index after another.
 pub(crate) trait RecastByIndex<T>: ValueAtMut<T> {
@@ -56,8 +55,7 @@ pub(crate) fn recast_values<I, T: Recast<I> + Drop, A: RecastByIndex<T>, R: Reca
 }
 
 /// The items are those of the values, in the order of the indexes.
-impl<I, P: Ptr, T: Recast<I> + Drop, S: NonZeroInxGenericStack<ArenaSlot<P, T>>> Recast<I>
-    for Arena<P, T, S> {
+impl<I, P: PtrCore, T: Recast<I> + Drop, S: ArenaSlots<P, T>> Recast<I> for Arena<P, T, S> {
     ghost items = { content_items T.items };
 
     ghost recasted = { λ f c. content_recasted T.items f (T.recasted f) c };
@@ -69,8 +67,7 @@ impl<I, P: Ptr, T: Recast<I> + Drop, S: NonZeroInxGenericStack<ArenaSlot<P, T>>>
     }
 }
 
-impl<P: Ptr, T: Drop, S: NonZeroInxGenericStack<ArenaSlot<P, T>>> RecastByIndex<T>
-    for Arena<P, T, S> {
+impl<P: PtrCore, T: Drop, S: ArenaSlots<P, T>> RecastByIndex<T> for Arena<P, T, S> {
     ghost content = { λ c. c };
 
     ghost has_its_value = { λ c i some. some };
@@ -89,7 +86,7 @@ impl<P: Ptr, T: Drop, S: NonZeroInxGenericStack<ArenaSlot<P, T>>> RecastByIndex<
 }
 
 /// An arena of pointers renames each pointer that is valid in it to the pointer that it finds.
-impl<P: Ptr, S: NonZeroInxGenericStack<ArenaSlot<P, P>> + Drop> Recaster for Arena<P, P, S> {
+impl<P: PtrCore, S: ArenaSlots<P, P>> Recaster for Arena<P, P, S> {
     type Item = P;
 
     ghost image = { λ c p. get_of c (P.index p) (P.generation p) };

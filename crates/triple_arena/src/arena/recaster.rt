@@ -15,10 +15,9 @@ ghost use Rattle.triple_arena.specs.SlotRecaster.{CompactsNoting};
 use crate::advancer::LivePointers;
 use crate::arena::compression::{keep_first, put_entry, renewal, take_entry};
 use crate::arena::{Arena, pointer_at};
-use crate::{ArenaSlot, ArenaTrait, DirectArena, DirectSlot};
+use crate::{ArenaSlots, ArenaTrait, DirectArena, DirectSlots};
 use std::num::NonZeroUsize;
-use triple_arena_ptr::{Ptr, ReallocationError};
-use triple_arena_stack::NonZeroInxGenericStack;
+use triple_arena_ptr::{PtrCore, ReallocationError};
 
 /// Moves the live entries to the first indexes, as `compress` does, and answers the map from each old pointer to the
 /// new one, by which the values and other arenas can be recast. The map has an entry under each pointer that was valid,
@@ -29,12 +28,7 @@ use triple_arena_stack::NonZeroInxGenericStack;
 /// leaves the arena as it was.
 ///
 /// Whether the step of the counter started the generations again is not answered: the counter before the call tells it.
-pub fn compress_recaster<
-    P: Ptr,
-    T: Drop,
-    S: NonZeroInxGenericStack<ArenaSlot<P, T>> + Drop,
-    R: NonZeroInxGenericStack<DirectSlot<P, P>> + Drop,
->(
+pub fn compress_recaster<P: PtrCore, T: Drop, S: ArenaSlots<P, T>, R: DirectSlots<P, P>>(
     arena: &mut Arena<P, T, S>,
     reset: bool,
     alloc: R::Alloc,
@@ -65,13 +59,9 @@ pub fn compress_recaster<
     Ok(map)
 }
 
-impl<P: Ptr, T: Drop, S: NonZeroInxGenericStack<ArenaSlot<P, T>>> Arena<P, T, S> {
+impl<P: PtrCore, T: Drop, S: ArenaSlots<P, T>> Arena<P, T, S> {
     // Compresses the arena, and stores each new pointer under the old one in `map`, which is empty and has the room.
-    fn compress_noting<R: NonZeroInxGenericStack<DirectSlot<P, P>>>(
-        &mut self,
-        reset: bool,
-        map: &mut DirectArena<P, P, R>,
-    )
+    fn compress_noting<R: DirectSlots<P, P>>(&mut self, reset: bool, map: &mut DirectArena<P, P, R>)
         requires empty { map.old.slots ≡ [] }
         requires fits { last_index self.old ≤ arena_capacity map.old }
         ensures recaster { IsRecaster P.index P.generation (live_entries self.old)
@@ -98,14 +88,14 @@ impl<P: Ptr, T: Drop, S: NonZeroInxGenericStack<ArenaSlot<P, T>>> Arena<P, T, S>
 
 // Moves the live entries to the first indexes, each with the given generation, drops the other slots, and stores each
 // new pointer under the old one in `map`, which is empty and reaches as far as the live slots.
-fn compact_noting<P: Ptr, T: Drop, S, R>(
+fn compact_noting<P: PtrCore, T: Drop, S, R>(
     slots: &mut S,
     generation: P::Gen,
     map: &mut DirectArena<P, P, R>,
 )
 where
-    S: NonZeroInxGenericStack<ArenaSlot<P, T>>,
-    R: NonZeroInxGenericStack<DirectSlot<P, P>>,
+    S: ArenaSlots<P, T>,
+    R: DirectSlots<P, P>,
     requires fits { length (S.items slots.old) ≤ P.Inx.greatest }
     requires empty { map.old.slots ≡ [] }
     requires reaches { (k : ℕ) (entry : ℕ × (ℕ × T))

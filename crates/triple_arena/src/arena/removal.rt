@@ -6,15 +6,14 @@ ghost use Rattle.triple_arena_ptr.specs.InvalidationOption.{value_of, overflowed
 ghost use Rattle.triple_arena.specs.Changes.{IsRemoved};
 ghost use Rattle.triple_arena.specs.Content.{entry_at, some_counter, live_count, with_generation, vacated, removed, emptied, IsWellFormed};
 
-use crate::ArenaSlot;
 use crate::arena::{Arena, pointer_at};
+use crate::{ArenaSlot, ArenaSlots};
 use std::mem;
 use std::num::NonZeroUsize;
-use triple_arena_ptr::{InvalidationOption, Ptr, PtrGen};
-use triple_arena_stack::NonZeroInxGenericStack;
+use triple_arena_ptr::{InvalidationOption, PtrCore, PtrGenCore};
 use unreached::unreached;
 
-impl<P: Ptr, T: Drop, S: NonZeroInxGenericStack<ArenaSlot<P, T>>> Arena<P, T, S> {
+impl<P: PtrCore, T: Drop, S: ArenaSlots<P, T>> Arena<P, T, S> {
     // Removes the entry at `i`, which is live, and steps the counter.
     #[inline]
     pub(crate) fn remove_at(&mut self, i: NonZeroUsize) -> InvalidationOption<(P::Gen, T)>
@@ -87,7 +86,7 @@ impl<P: Ptr, T: Drop, S: NonZeroInxGenericStack<ArenaSlot<P, T>>> Arena<P, T, S>
 }
 
 // Where generations are not counted, all are 1, and pointers with one index are equal.
-pub(crate) fn equal_uncounted<P: Ptr>(p: P, q: P)
+pub(crate) fn equal_uncounted<P: PtrCore>(p: P, q: P)
     ensures { P.Gen.last ≡ None → P.index p ≡ P.index q → p ≡ q }
 {
     // Each is one of the generations.

@@ -5,13 +5,12 @@ ghost use Rattle.triple_arena_stack.specs.Push.{IsRefusal};
 ghost use Rattle.triple_arena_stack.specs.Room.{grown, IsBeyond};
 ghost use Rattle.triple_arena.specs.Content.{live_count, arena_capacity, reallocated, grown_if_full, in_room, IsWellFormed};
 
-use crate::ArenaSlot;
 use crate::arena::Arena;
 use crate::stack_room::{capacity_over, limit_over, reallocate_over};
-use triple_arena_ptr::{Ptr, ReallocationError};
-use triple_arena_stack::NonZeroInxGenericStack;
+use crate::{ArenaSlot, ArenaSlots};
+use triple_arena_ptr::{PtrCore, ReallocationError};
 
-impl<P: Ptr, T: Drop, S: NonZeroInxGenericStack<ArenaSlot<P, T>>> Arena<P, T, S> {
+impl<P: PtrCore, T: Drop, S: ArenaSlots<P, T>> Arena<P, T, S> {
     // How many entries fit with no growth.
     pub(crate) fn own_capacity(&self) -> usize
         ensures value { result ≡ arena_capacity self.now }

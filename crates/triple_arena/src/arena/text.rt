@@ -1,10 +1,9 @@
 //! The debug text of an arena.
-use crate::ArenaSlot;
+use crate::ArenaSlots;
 use crate::arena::Arena;
 use crate::iterators::{Iter, LentEntry};
 use std::fmt;
 use triple_arena_ptr::Ptr;
-use triple_arena_stack::NonZeroInxGenericStack;
 
 // Writes the entries as a map from the pointers to the values.
 pub(crate) fn write_entries<P: Ptr, T: fmt::Debug, E: LentEntry<P, T>, W: fmt::Write>(
@@ -19,8 +18,7 @@ pub(crate) fn write_entries<P: Ptr, T: fmt::Debug, E: LentEntry<P, T>, W: fmt::W
 }
 
 /// A map from the pointers to the values, in the order of the indexes: `{P0[1](2): "test", P0[2](2): "hello"}`.
-impl<P: Ptr, T: fmt::Debug + Drop, S: NonZeroInxGenericStack<ArenaSlot<P, T>>> fmt::Debug
-    for Arena<P, T, S> {
+impl<P: Ptr, T: fmt::Debug + Drop, S: ArenaSlots<P, T>> fmt::Debug for Arena<P, T, S> {
     fn fmt<W: fmt::Write>(&self, f: &mut fmt::Formatter<W>) -> fmt::Result {
         write_entries(self.iter(), f)
     }

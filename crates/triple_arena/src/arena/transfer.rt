@@ -9,20 +9,20 @@ ghost use Rattle.triple_arena.specs.Transfer.{filled as filled_of, IsTransferred
 use crate::arena::Arena;
 use crate::slot::EntrySlot;
 use crate::transfer::{ArenaTransferSource, ArenaTransferTrait, move_entries};
-use crate::{ArenaSlot, ArenaTrait};
-use triple_arena_ptr::{InvalidationOption, Ptr, ReallocationError};
+use crate::{ArenaSlots, ArenaTrait};
+use triple_arena_ptr::{InvalidationOption, PtrCore, ReallocationError};
 use triple_arena_stack::NonZeroInxGenericStack;
 
-impl<Q: Ptr, U: Drop, R: NonZeroInxGenericStack<ArenaSlot<Q, U>> + Drop> ArenaTransferSource<Q, U>
-    for Arena<Q, U, R> {
+impl<Q: PtrCore, U: Drop, R: ArenaSlots<Q, U>> ArenaTransferSource<Q, U> for Arena<Q, U, R> {
     ghost given_up = { drained Q.Gen.last };
 
-    fn give_up<P: Ptr, T: Drop, L: EntrySlot<P, T> + Drop, S: NonZeroInxGenericStack<L>, F>(
-        &mut self,
-        slots: &mut S,
-        generation: P::Gen,
-        map: F,
-    )
+    fn give_up<
+        P: PtrCore,
+        T: Drop,
+        L: EntrySlot<P, T> + Drop,
+        S: NonZeroInxGenericStack<Item = L>,
+        F,
+    >(&mut self, slots: &mut S, generation: P::Gen, map: F)
     where
         F: FnMut(Q, InvalidationOption<U>, P) -> T,
     {
@@ -40,11 +40,10 @@ impl<Q: Ptr, U: Drop, R: NonZeroInxGenericStack<ArenaSlot<Q, U>> + Drop> ArenaTr
     }
 }
 
-impl<P: Ptr, T: Drop, S: NonZeroInxGenericStack<ArenaSlot<P, T>> + Drop> ArenaTransferTrait<P, T>
-    for Arena<P, T, S> {
+impl<P: PtrCore, T: Drop, S: ArenaSlots<P, T>> ArenaTransferTrait<P, T> for Arena<P, T, S> {
     ghost filled = { filled_of };
 
-    fn transfer_reallocating<Q: Ptr, U: Drop, Source: ArenaTransferSource<Q, U>, F>(
+    fn transfer_reallocating<Q: PtrCore, U: Drop, Source: ArenaTransferSource<Q, U>, F>(
         &mut self,
         new_generation: P::Gen,
         source: &mut Source,
@@ -60,9 +59,9 @@ impl<P: Ptr, T: Drop, S: NonZeroInxGenericStack<ArenaSlot<P, T>> + Drop> ArenaTr
     }
 }
 
-impl<P: Ptr, T: Drop, S: NonZeroInxGenericStack<ArenaSlot<P, T>>> Arena<P, T, S> {
+impl<P: PtrCore, T: Drop, S: ArenaSlots<P, T>> Arena<P, T, S> {
     // Drops what the arena holds, and moves the entries of `source` here, so many, which fit.
-    fn take_over<Q: Ptr, U: Drop, Source: ArenaTransferSource<Q, U>, F>(
+    fn take_over<Q: PtrCore, U: Drop, Source: ArenaTransferSource<Q, U>, F>(
         &mut self,
         generation: P::Gen,
         source: &mut Source,

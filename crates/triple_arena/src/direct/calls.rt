@@ -9,15 +9,14 @@ use crate::advancer::{LivePointers, PtrAdvancer};
 use crate::arena::{ValueAtMut, compact, equal_uncounted, max_index};
 use crate::direct::DirectArena;
 use crate::slot::ValueIfMut;
-use crate::{ArenaTrait, CompactArenaTrait, DirectSlot};
+use crate::{ArenaTrait, CompactArenaTrait, DirectSlot, DirectSlots};
 use triple_arena_ptr::{
-    InvalidationOption, InvalidationResult, Ptr, PtrGen, PtrInx, ReallocationError,
+    InvalidationOption, InvalidationResult, PtrCore, PtrGenCore, PtrInxCore, ReallocationError,
 };
-use triple_arena_stack::{NonZeroInxArray, NonZeroInxGenericStack};
+use triple_arena_stack::NonZeroInxArray;
 use unreached::unreached;
 
-impl<P: Ptr, T: Drop, S: NonZeroInxGenericStack<DirectSlot<P, T>> + Drop> ArenaTrait<P, T>
-    for DirectArena<P, T, S> {
+impl<P: PtrCore, T: Drop, S: DirectSlots<P, T>> ArenaTrait<P, T> for DirectArena<P, T, S> {
     type Alloc = S::Alloc;
 
     type PtrAdvancer = PtrAdvancer<P>;
@@ -238,10 +237,9 @@ impl<P: Ptr, T: Drop, S: NonZeroInxGenericStack<DirectSlot<P, T>> + Drop> ArenaT
     }
 }
 
-impl<P: Ptr, T: Drop, S: NonZeroInxGenericStack<DirectSlot<P, T>> + Drop> CompactArenaTrait<P, T>
-    for DirectArena<P, T, S> {}
+impl<P: PtrCore, T: Drop, S: DirectSlots<P, T>> CompactArenaTrait<P, T> for DirectArena<P, T, S> {}
 
-impl<P: Ptr, T: Drop, const LIMIT: usize> Default
+impl<P: PtrCore, T: Drop, const LIMIT: usize> Default
     for DirectArena<P, T, NonZeroInxArray<DirectSlot<P, T>, LIMIT>> {
     ghost is_default = { λ d. (d.slots ≡ [])
         × (d.room ≡ room_of P.Inx.greatest (record { reserved = LIMIT; limit = Some LIMIT })) };

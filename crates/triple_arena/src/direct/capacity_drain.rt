@@ -4,26 +4,24 @@ ghost use Rattle.std.specs.Iterator.{YieldsFirstBy, item_count};
 ghost use Rattle.triple_arena_ptr.specs.Index.{max_index_of};
 ghost use Rattle.triple_arena.specs.LiveEntries.{listed_from};
 
-use crate::DirectSlot;
 use crate::arena::{pointer_at, take_entry};
+use crate::{DirectSlot, DirectSlots};
 use std::iter::FusedIterator;
 use std::marker::{Model, PhantomData};
 use std::num::NonZeroUsize;
-use triple_arena_ptr::Ptr;
-use triple_arena_stack::NonZeroInxGenericStack;
+use triple_arena_ptr::PtrCore;
 
 /// The pointers and the values of a direct arena, by value, in the order of the indexes, seen as the list of the
 /// entries that are left. Dropped, it drops those.
 #[derive(Drop)]
-pub struct CapacityDrain<P: Ptr, T: Drop, S: NonZeroInxGenericStack<DirectSlot<P, T>>> {
+pub struct CapacityDrain<P: PtrCore, T: Drop, S: DirectSlots<P, T>> {
     slots: S,
     // The first slots, which have no entry.
     passed: usize,
     entries: PhantomData<(P, T)>,
 }
 
-impl<P: Ptr, T: Drop, S: NonZeroInxGenericStack<DirectSlot<P, T>>> Model
-    for CapacityDrain<P, T, S> {
+impl<P: PtrCore, T: Drop, S: DirectSlots<P, T>> Model for CapacityDrain<P, T, S> {
     ghost use Rattle.std.specs.Prelude.{ℕ, ◌≤◌, Option, List, length};
     ghost use Rattle.triple_arena_ptr.specs.Index.{max_index_of};
     ghost use Rattle.triple_arena.specs.Iterators.{AreVacant};
@@ -37,7 +35,7 @@ impl<P: Ptr, T: Drop, S: NonZeroInxGenericStack<DirectSlot<P, T>>> Model
         × (length (S.items it.slots) ≤ max_index_of P.Inx.greatest) };
 }
 
-impl<P: Ptr, T: Drop, S: NonZeroInxGenericStack<DirectSlot<P, T>>> CapacityDrain<P, T, S> {
+impl<P: PtrCore, T: Drop, S: DirectSlots<P, T>> CapacityDrain<P, T, S> {
     // Over the slots from index 1 on.
     pub(crate) fn over(slots: S) -> Self
         requires { length (S.items slots) ≤ max_index_of P.Inx.greatest }
@@ -51,8 +49,7 @@ impl<P: Ptr, T: Drop, S: NonZeroInxGenericStack<DirectSlot<P, T>>> CapacityDrain
     }
 }
 
-impl<P: Ptr, T: Drop, S: NonZeroInxGenericStack<DirectSlot<P, T>> + Drop> Iterator
-    for CapacityDrain<P, T, S> {
+impl<P: PtrCore, T: Drop, S: DirectSlots<P, T>> Iterator for CapacityDrain<P, T, S> {
     type Item = (P, T);
 
     ghost next_gives = { YieldsFirstBy (λ e. (P.index e.0, (P.generation e.0, e.1))) (λ left. left) };
@@ -76,5 +73,4 @@ impl<P: Ptr, T: Drop, S: NonZeroInxGenericStack<DirectSlot<P, T>> + Drop> Iterat
     }
 }
 
-impl<P: Ptr, T: Drop, S: NonZeroInxGenericStack<DirectSlot<P, T>> + Drop> FusedIterator
-    for CapacityDrain<P, T, S> {}
+impl<P: PtrCore, T: Drop, S: DirectSlots<P, T>> FusedIterator for CapacityDrain<P, T, S> {}

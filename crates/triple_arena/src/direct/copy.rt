@@ -9,12 +9,10 @@ ghost use Rattle.triple_arena.specs.LiveEntries.{listed_from};
 use crate::copy::{append_copies, up_to_last};
 use crate::direct::DirectArena;
 use crate::iterators::LentEntry;
-use crate::{ArenaCloneFromWith, ArenaCloneSource, ArenaTrait, DirectSlot};
-use triple_arena_ptr::{AllocError, Ptr, ReallocationError};
-use triple_arena_stack::NonZeroInxGenericStack;
+use crate::{ArenaCloneFromWith, ArenaCloneSource, ArenaTrait, DirectSlot, DirectSlots};
+use triple_arena_ptr::{AllocError, PtrCore, ReallocationError};
 
-impl<P: Ptr, T: Drop, S: NonZeroInxGenericStack<DirectSlot<P, T>> + Drop> ArenaCloneSource<P, T>
-    for DirectArena<P, T, S> {
+impl<P: PtrCore, T: Drop, S: DirectSlots<P, T>> ArenaCloneSource<P, T> for DirectArena<P, T, S> {
     type Slot = DirectSlot<P, T>;
 
     fn lent_slots(&self) -> &[DirectSlot<P, T>] {
@@ -24,8 +22,7 @@ impl<P: Ptr, T: Drop, S: NonZeroInxGenericStack<DirectSlot<P, T>> + Drop> ArenaC
     }
 }
 
-impl<P: Ptr, T: Drop, S: NonZeroInxGenericStack<DirectSlot<P, T>> + Drop> ArenaCloneFromWith<P, T>
-    for DirectArena<P, T, S> {
+impl<P: PtrCore, T: Drop, S: DirectSlots<P, T>> ArenaCloneFromWith<P, T> for DirectArena<P, T, S> {
     ghost copied = { λ d counter entries. directly_copied d entries };
 
     fn clone_from_with<U, A, F>(&mut self, source: &A, map: F) -> Result<(), ReallocationError>
@@ -45,7 +42,7 @@ impl<P: Ptr, T: Drop, S: NonZeroInxGenericStack<DirectSlot<P, T>> + Drop> ArenaC
     }
 }
 
-impl<P: Ptr, T: Clone, S: NonZeroInxGenericStack<DirectSlot<P, T>> + Drop> DirectArena<P, T, S> {
+impl<P: PtrCore, T: Clone, S: DirectSlots<P, T>> DirectArena<P, T, S> {
     /// A new arena with the same pointers, and clones of their values, and with room for the last live index. A
     /// clone of a value must equal it.
     ///
@@ -100,7 +97,7 @@ impl<P: Ptr, T: Clone, S: NonZeroInxGenericStack<DirectSlot<P, T>> + Drop> Direc
     }
 }
 
-impl<P: Ptr, T: Drop, S: NonZeroInxGenericStack<DirectSlot<P, T>>> DirectArena<P, T, S> {
+impl<P: PtrCore, T: Drop, S: DirectSlots<P, T>> DirectArena<P, T, S> {
     // Becomes a copy of these slots, of which the last one is allocated.
     fn become_copy<U, E, F>(&mut self, source: &[E], map: F) -> Result<(), AllocError>
     where

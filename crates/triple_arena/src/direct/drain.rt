@@ -6,24 +6,23 @@ ghost use Rattle.triple_arena.specs.Changes.{IsRemoved};
 ghost use Rattle.triple_arena.specs.DirectContent.{entry_at, live_count, no_counter, IsWellFormed};
 ghost use Rattle.triple_arena.specs.DirectDrains.{drain_arena, drain_lender, drain_rest, drain_leaves, DrainCanStep, DrainSteps, DrainKeepsAlong};
 
-use crate::DirectSlot;
+use crate::DirectSlots;
 use crate::direct::DirectArena;
 use std::iter::FusedIterator;
 use std::num::NonZeroUsize;
-use triple_arena_ptr::{InvalidationOption, Ptr};
-use triple_arena_stack::NonZeroInxGenericStack;
+use triple_arena_ptr::{InvalidationOption, PtrCore};
 
 /// Takes the entries out of a direct arena, in the order of the indexes.
 ///
 /// Each item is one removal, and as no counter steps, each is `Success`. Dropped, at whatever item, it takes those that
 /// are left, and leaves no slot.
-pub struct Drain<'a, P: Ptr, T: Drop, S: NonZeroInxGenericStack<DirectSlot<P, T>>> {
+pub struct Drain<'a, P: PtrCore, T: Drop, S: DirectSlots<P, T>> {
     arena: &'a mut DirectArena<P, T, S>,
     // No index up to this one is live.
     passed: usize,
 }
 
-impl<P: Ptr, T: Drop, S: NonZeroInxGenericStack<DirectSlot<P, T>>> DirectArena<P, T, S> {
+impl<P: PtrCore, T: Drop, S: DirectSlots<P, T>> DirectArena<P, T, S> {
     /// Takes each entry out, in the order of the indexes. Once the iterator is dropped, the arena has no entry and no
     /// slot, and its room is as it was.
     pub fn drain(&mut self) -> Drain<'_, P, T, S>
@@ -55,7 +54,7 @@ impl<P: Ptr, T: Drop, S: NonZeroInxGenericStack<DirectSlot<P, T>>> DirectArena<P
     }
 }
 
-impl<'a, P: Ptr, T: Drop, S: NonZeroInxGenericStack<DirectSlot<P, T>>> Drop for Drain<'a, P, T, S> {
+impl<'a, P: PtrCore, T: Drop, S: DirectSlots<P, T>> Drop for Drain<'a, P, T, S> {
     fn drop(self)
         ensures value { self.exit.0.now ≡ drain_leaves self.entry }
         ensures formed { IsWellFormed self.exit.0.now }
@@ -67,8 +66,7 @@ impl<'a, P: Ptr, T: Drop, S: NonZeroInxGenericStack<DirectSlot<P, T>>> Drop for 
     }
 }
 
-impl<'a, P: Ptr, T: Drop, S: NonZeroInxGenericStack<DirectSlot<P, T>>> Iterator
-    for Drain<'a, P, T, S> {
+impl<'a, P: PtrCore, T: Drop, S: DirectSlots<P, T>> Iterator for Drain<'a, P, T, S> {
     type Item = InvalidationOption<(P, T)>;
 
     ghost can_next = { DrainCanStep };
@@ -94,12 +92,10 @@ impl<'a, P: Ptr, T: Drop, S: NonZeroInxGenericStack<DirectSlot<P, T>>> Iterator
     }
 }
 
-impl<'a, P: Ptr, T: Drop, S: NonZeroInxGenericStack<DirectSlot<P, T>>> ExactSizeIterator
-    for Drain<'a, P, T, S> {
+impl<'a, P: PtrCore, T: Drop, S: DirectSlots<P, T>> ExactSizeIterator for Drain<'a, P, T, S> {
     fn len(&self) -> usize {
         self.arena.live()
     }
 }
 
-impl<'a, P: Ptr, T: Drop, S: NonZeroInxGenericStack<DirectSlot<P, T>>> FusedIterator
-    for Drain<'a, P, T, S> {}
+impl<'a, P: PtrCore, T: Drop, S: DirectSlots<P, T>> FusedIterator for Drain<'a, P, T, S> {}

@@ -5,29 +5,21 @@ ghost use Rattle.triple_arena.specs.DirectEntry.{entry_arena, entry_index, entry
 ghost use Rattle.triple_arena.specs.DirectContent.{entry_at, live_count, no_counter, inserted, IsPlace, IsWellFormed};
 
 use crate::direct::DirectArena;
-use crate::{ArenaDirectInsertEntryTrait, ArenaDirectInsertTrait, DirectSlot};
+use crate::{ArenaDirectInsertEntryTrait, ArenaDirectInsertTrait, DirectSlots};
 use std::num::NonZeroUsize;
-use triple_arena_ptr::{DirectInsertionError, Ptr};
-use triple_arena_stack::NonZeroInxGenericStack;
+use triple_arena_ptr::{DirectInsertionError, PtrCore};
 
 /// A place for an entry at a pointer of the caller's choice in a `DirectArena`. Dropped unused, it leaves the arena as
 /// it is.
 #[derive(Drop)]
-pub struct ArenaDirectInsertEntry<
-    'a,
-    P: Ptr,
-    T: Drop,
-    S: NonZeroInxGenericStack<DirectSlot<P, T>>,
-> {
+pub struct ArenaDirectInsertEntry<'a, P: PtrCore, T: Drop, S: DirectSlots<P, T>> {
     arena: &'a mut DirectArena<P, T, S>,
     index: NonZeroUsize,
     generation: P::Gen,
 }
 
-impl<'a, P: Ptr, T: Drop, S: NonZeroInxGenericStack<DirectSlot<P, T>>> ArenaDirectInsertEntryTrait<
-    P,
-    T,
-> for ArenaDirectInsertEntry<'a, P, T, S> {
+impl<'a, P: PtrCore, T: Drop, S: DirectSlots<P, T>> ArenaDirectInsertEntryTrait<P, T>
+    for ArenaDirectInsertEntry<'a, P, T, S> {
     ghost has_place = { λ e. IsPlace (entry_arena e) (entry_index e) };
 
     fn insert(self, t: T)
@@ -50,10 +42,8 @@ impl<'a, P: Ptr, T: Drop, S: NonZeroInxGenericStack<DirectSlot<P, T>>> ArenaDire
     }
 }
 
-impl<P: Ptr, T: Drop, S: NonZeroInxGenericStack<DirectSlot<P, T>> + Drop> ArenaDirectInsertTrait<
-    P,
-    T,
-> for DirectArena<P, T, S> {
+impl<P: PtrCore, T: Drop, S: DirectSlots<P, T>> ArenaDirectInsertTrait<P, T>
+    for DirectArena<P, T, S> {
     type Stack = S;
 
     ghost content = { λ d. d };

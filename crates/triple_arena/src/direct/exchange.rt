@@ -6,16 +6,13 @@ ghost use Rattle.triple_arena.specs.DirectContent.{entry_at, no_counter, live_co
 
 use crate::direct::DirectArena;
 use crate::slot::exchange_values;
-use crate::{DirectSlot, DisjointableArenaTrait};
+use crate::{DirectSlots, DisjointableArenaTrait};
 use std::num::NonZeroUsize;
-use triple_arena_ptr::{GetDisjointMutError, Ptr};
-use triple_arena_stack::NonZeroInxGenericStack;
+use triple_arena_ptr::{GetDisjointMutError, PtrCore};
 use unreached::unreached;
 
-impl<P: Ptr, T: Drop, S: NonZeroInxGenericStack<DirectSlot<P, T>> + Drop> DisjointableArenaTrait<
-    P,
-    T,
-> for DirectArena<P, T, S> {
+impl<P: PtrCore, T: Drop, S: DirectSlots<P, T>> DisjointableArenaTrait<P, T>
+    for DirectArena<P, T, S> {
     ghost exchanged = { with_exchange };
 
     #[tactic(auto, using(crate::specs::DirectExchangeLaws::one_exchanged))]
@@ -46,7 +43,7 @@ impl<P: Ptr, T: Drop, S: NonZeroInxGenericStack<DirectSlot<P, T>> + Drop> Disjoi
     }
 }
 
-impl<P: Ptr, T: Drop, S: NonZeroInxGenericStack<DirectSlot<P, T>>> DirectArena<P, T, S> {
+impl<P: PtrCore, T: Drop, S: DirectSlots<P, T>> DirectArena<P, T, S> {
     // Exchanges the values at `i` and `j`, which are two and both live.
     pub(crate) fn exchange_at(&mut self, i: NonZeroUsize, j: NonZeroUsize)
         requires i_is_live { IsSome (entry_at self.old (non_zero_usize_get i)) }

@@ -5,15 +5,14 @@ ghost use Rattle.triple_arena.specs.Changes.{IsDirectlyInserted};
 ghost use Rattle.triple_arena.specs.DirectContent.{entry_at, live_count, no_counter, arena_capacity, reaching, inserted, IsPlace, IsWellFormed};
 ghost use Rattle.triple_arena_stack.specs.Room.{capacity};
 
-use crate::DirectSlot;
 use crate::direct::DirectArena;
+use crate::{DirectSlot, DirectSlots};
 use std::num::NonZeroUsize;
-use triple_arena_ptr::{DirectInsertionError, Ptr, PtrInx};
-use triple_arena_stack::NonZeroInxGenericStack;
+use triple_arena_ptr::{DirectInsertionError, PtrCore, PtrInxCore};
 use unreached::unreached;
 
 // Appends free slots, so that there are `n` at least.
-fn reach<P: Ptr, T: Drop, S: NonZeroInxGenericStack<DirectSlot<P, T>>>(slots: &mut S, n: usize)
+fn reach<P: PtrCore, T: Drop, S: DirectSlots<P, T>>(slots: &mut S, n: usize)
     requires { n ≤ capacity (S.room slots.old) }
     ensures slots { S.items slots.new ≡ reaching n (S.items slots.old) }
     ensures room { S.room slots.new ≡ S.room slots.old }
@@ -26,7 +25,7 @@ fn reach<P: Ptr, T: Drop, S: NonZeroInxGenericStack<DirectSlot<P, T>>>(slots: &m
     }
 }
 
-impl<P: Ptr, T: Drop, S: NonZeroInxGenericStack<DirectSlot<P, T>>> DirectArena<P, T, S> {
+impl<P: PtrCore, T: Drop, S: DirectSlots<P, T>> DirectArena<P, T, S> {
     // The index of `p`, where an entry may be stored there.
     pub(crate) fn place(&self, p: P) -> Result<NonZeroUsize, DirectInsertionError>
         ensures index { IfOk result (λ i. non_zero_usize_get i ≡ P.index p) }

@@ -6,11 +6,10 @@ ghost use Rattle.triple_arena.specs.DirectContent.{live_entries};
 
 use crate::direct::CapacityDrain;
 use crate::direct_iterators::{Iter, Ptrs, Vals};
-use crate::{DirectArena, DirectSlot, iterators};
-use triple_arena_ptr::Ptr;
-use triple_arena_stack::NonZeroInxGenericStack;
+use crate::{DirectArena, DirectSlots, iterators};
+use triple_arena_ptr::PtrCore;
 
-impl<P: Ptr, T: Drop, S: NonZeroInxGenericStack<DirectSlot<P, T>>> DirectArena<P, T, S> {
+impl<P: PtrCore, T: Drop, S: DirectSlots<P, T>> DirectArena<P, T, S> {
     /// The pointers to the entries, in the order of the indexes.
     pub fn ptrs(&self) -> Ptrs<'_, P, T>
         ensures { result ≡ map pointer_of (live_entries self.now) }
@@ -35,8 +34,7 @@ impl<P: Ptr, T: Drop, S: NonZeroInxGenericStack<DirectSlot<P, T>>> DirectArena<P
     }
 }
 
-impl<'a, P: Ptr, T: Drop, S: NonZeroInxGenericStack<DirectSlot<P, T>>> IntoIterator
-    for &'a DirectArena<P, T, S> {
+impl<'a, P: PtrCore, T: Drop, S: DirectSlots<P, T>> IntoIterator for &'a DirectArena<P, T, S> {
     type Item = (P, &'a T);
 
     type IntoIter = Iter<'a, P, T>;
@@ -48,8 +46,7 @@ impl<'a, P: Ptr, T: Drop, S: NonZeroInxGenericStack<DirectSlot<P, T>>> IntoItera
     }
 }
 
-impl<P: Ptr, T: Drop, S: NonZeroInxGenericStack<DirectSlot<P, T>> + Drop> IntoIterator
-    for DirectArena<P, T, S> {
+impl<P: PtrCore, T: Drop, S: DirectSlots<P, T>> IntoIterator for DirectArena<P, T, S> {
     type Item = (P, T);
 
     type IntoIter = CapacityDrain<P, T, S>;

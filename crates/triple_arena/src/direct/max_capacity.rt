@@ -4,14 +4,14 @@ ghost use Rattle.triple_arena_ptr.specs.Index.{max_index_of};
 ghost use Rattle.triple_arena_stack.specs.Room.{limited};
 ghost use Rattle.triple_arena.specs.DirectContent.{last_index as last_index_of, without_free_end, in_room, with_limit as with_limit_of, IsWellFormed};
 
-use crate::DirectSlot;
 use crate::advancer::LivePointers;
 use crate::arena::keep_first;
 use crate::direct::DirectArena;
-use triple_arena_ptr::{MaxCapacityReductionError, Ptr};
-use triple_arena_stack::{NonZeroInxGenericStack, NonZeroInxLimitedStack, SetMaxCapacity};
+use crate::{DirectSlot, DirectSlots};
+use triple_arena_ptr::{MaxCapacityReductionError, PtrCore};
+use triple_arena_stack::{NonZeroInxLimitedStack, SetMaxCapacity};
 
-impl<P: Ptr, T: Drop, S: NonZeroInxGenericStack<DirectSlot<P, T>>> DirectArena<P, T, S> {
+impl<P: PtrCore, T: Drop, S: DirectSlots<P, T>> DirectArena<P, T, S> {
     /// Pops the free slots at the end, until the last slot is live or none is left.
     pub fn pop_free_end_slots(&mut self)
         ensures value { self.new ≡ without_free_end self.old }
@@ -24,7 +24,7 @@ impl<P: Ptr, T: Drop, S: NonZeroInxGenericStack<DirectSlot<P, T>>> DirectArena<P
     }
 }
 
-impl<P: Ptr, T: Drop, S: NonZeroInxLimitedStack<DirectSlot<P, T>>> SetMaxCapacity
+impl<P: PtrCore, T: Drop, S: NonZeroInxLimitedStack<Item = DirectSlot<P, T>> + Drop> SetMaxCapacity
     for DirectArena<P, T, S> {
     ghost least_limit = { last_index_of };
 
@@ -44,7 +44,11 @@ impl<P: Ptr, T: Drop, S: NonZeroInxLimitedStack<DirectSlot<P, T>>> SetMaxCapacit
     }
 }
 
-impl<P: Ptr, T: Drop, S: NonZeroInxLimitedStack<DirectSlot<P, T>>> DirectArena<P, T, S> {
+impl<P: PtrCore, T: Drop, S: NonZeroInxLimitedStack<Item = DirectSlot<P, T>> + Drop> DirectArena<
+    P,
+    T,
+    S,
+> {
     // Sets the limit, which no slot is past.
     fn limit_to(&mut self, max: usize)
         requires { length self.old.slots ≤ max }

@@ -5,15 +5,14 @@ ghost use Rattle.std.specs.Option.{option_map};
 ghost use Rattle.triple_arena.specs.Entries.{pointer_at as pointer_of_entry};
 ghost use Rattle.triple_arena.specs.DirectContent.{get, entry_at, with_value};
 
-use crate::DirectSlot;
+use crate::DirectSlots;
 use crate::arena::{ValueAtMut, pointer_at};
 use crate::direct::DirectArena;
 use crate::slot::ValueMut;
 use std::num::NonZeroUsize;
-use triple_arena_ptr::{Ptr, PtrInx};
-use triple_arena_stack::NonZeroInxGenericStack;
+use triple_arena_ptr::{PtrCore, PtrInxCore};
 
-impl<P: Ptr, T: Drop, S: NonZeroInxGenericStack<DirectSlot<P, T>>> DirectArena<P, T, S> {
+impl<P: PtrCore, T: Drop, S: DirectSlots<P, T>> DirectArena<P, T, S> {
     // The index of the entry that `p` points to, if it is live.
     pub(crate) fn live_index(&self, p: P) -> Option<NonZeroUsize>
         ensures live { IsSome result ↔ IsSome (get self.now (P.index p) (P.generation p)) }
@@ -81,8 +80,7 @@ impl<P: Ptr, T: Drop, S: NonZeroInxGenericStack<DirectSlot<P, T>>> DirectArena<P
     }
 }
 
-impl<P: Ptr, T: Drop, S: NonZeroInxGenericStack<DirectSlot<P, T>>> ValueAtMut<T>
-    for DirectArena<P, T, S> {
+impl<P: PtrCore, T: Drop, S: DirectSlots<P, T>> ValueAtMut<T> for DirectArena<P, T, S> {
     ghost has_value = { λ d i. IsSome (entry_at d i) };
 
     ghost value_at = { λ d i. option_map (λ e. e.1) (entry_at d i) };

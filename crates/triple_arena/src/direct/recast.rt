@@ -7,14 +7,12 @@ ghost use Rattle.triple_arena.specs.RecastingLaws.{items-recasted};
 
 use crate::arena::{RecastByIndex, recast_values};
 use crate::direct::DirectArena;
-use crate::{ArenaTrait, DirectSlot};
+use crate::{ArenaTrait, DirectSlots};
 use std::num::NonZeroUsize;
-use triple_arena_ptr::{Ptr, Recast, Recaster};
-use triple_arena_stack::NonZeroInxGenericStack;
+use triple_arena_ptr::{PtrCore, Recast, Recaster};
 
 /// The items are those of the values, in the order of the indexes.
-impl<I, P: Ptr, T: Recast<I> + Drop, S: NonZeroInxGenericStack<DirectSlot<P, T>>> Recast<I>
-    for DirectArena<P, T, S> {
+impl<I, P: PtrCore, T: Recast<I> + Drop, S: DirectSlots<P, T>> Recast<I> for DirectArena<P, T, S> {
     ghost items = { λ d. content_items T.items (as_content d) };
 
     ghost recasted = { λ f d. directly_recasted T.items f (T.recasted f) d };
@@ -27,8 +25,7 @@ impl<I, P: Ptr, T: Recast<I> + Drop, S: NonZeroInxGenericStack<DirectSlot<P, T>>
     }
 }
 
-impl<P: Ptr, T: Drop, S: NonZeroInxGenericStack<DirectSlot<P, T>>> RecastByIndex<T>
-    for DirectArena<P, T, S> {
+impl<P: PtrCore, T: Drop, S: DirectSlots<P, T>> RecastByIndex<T> for DirectArena<P, T, S> {
     ghost content = { as_content };
 
     ghost has_its_value = { λ d i some. some };
@@ -47,7 +44,7 @@ impl<P: Ptr, T: Drop, S: NonZeroInxGenericStack<DirectSlot<P, T>>> RecastByIndex
 }
 
 /// A direct arena of pointers renames each pointer that is valid in it to the pointer that it finds.
-impl<P: Ptr, S: NonZeroInxGenericStack<DirectSlot<P, P>> + Drop> Recaster for DirectArena<P, P, S> {
+impl<P: PtrCore, S: DirectSlots<P, P>> Recaster for DirectArena<P, P, S> {
     type Item = P;
 
     ghost image = { λ d p. get_of d (P.index p) (P.generation p) };

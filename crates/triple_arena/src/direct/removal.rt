@@ -4,15 +4,14 @@ ghost use Rattle.std.specs.Int.NonZero.{non_zero_usize_get};
 ghost use Rattle.triple_arena.specs.Changes.{IsRemoved};
 ghost use Rattle.triple_arena.specs.DirectContent.{entry_at, live_count, no_counter, with_generation, removed, cleared, without_free_end, IsWellFormed};
 
-use crate::DirectSlot;
 use crate::arena::pointer_at;
 use crate::direct::DirectArena;
+use crate::{DirectSlot, DirectSlots};
 use std::mem;
 use std::num::NonZeroUsize;
-use triple_arena_ptr::Ptr;
-use triple_arena_stack::NonZeroInxGenericStack;
+use triple_arena_ptr::PtrCore;
 
-impl<P: Ptr, T: Drop, S: NonZeroInxGenericStack<DirectSlot<P, T>>> DirectArena<P, T, S> {
+impl<P: PtrCore, T: Drop, S: DirectSlots<P, T>> DirectArena<P, T, S> {
     // Removes the entry at `i`, which is live.
     pub(crate) fn remove_at(&mut self, i: NonZeroUsize) -> (P::Gen, T)
         requires { IsSome (entry_at self.old (non_zero_usize_get i)) }

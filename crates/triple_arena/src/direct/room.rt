@@ -4,13 +4,12 @@ ghost use Rattle.triple_arena_ptr.specs.Index.{max_index_of};
 ghost use Rattle.triple_arena_stack.specs.Room.{IsBeyond};
 ghost use Rattle.triple_arena.specs.DirectContent.{arena_capacity, reallocated, IsWellFormed};
 
-use crate::DirectSlot;
 use crate::direct::DirectArena;
 use crate::stack_room::{capacity_over, limit_over, reallocate_over};
-use triple_arena_ptr::{Ptr, ReallocationError};
-use triple_arena_stack::NonZeroInxGenericStack;
+use crate::{DirectSlot, DirectSlots};
+use triple_arena_ptr::{PtrCore, ReallocationError};
 
-impl<P: Ptr, T: Drop, S: NonZeroInxGenericStack<DirectSlot<P, T>>> DirectArena<P, T, S> {
+impl<P: PtrCore, T: Drop, S: DirectSlots<P, T>> DirectArena<P, T, S> {
     // The greatest index that fits with no growth.
     pub(crate) fn own_capacity(&self) -> usize
         ensures value { result ≡ arena_capacity self.now }

@@ -7,20 +7,20 @@ ghost use Rattle.triple_arena.specs.Transfer.{IsTransferred, IsFilled, IsGivenUp
 use crate::direct::DirectArena;
 use crate::slot::EntrySlot;
 use crate::transfer::{ArenaTransferSource, ArenaTransferTrait, move_entries};
-use crate::{ArenaTrait, DirectSlot};
-use triple_arena_ptr::{InvalidationOption, Ptr, ReallocationError};
+use crate::{ArenaTrait, DirectSlots};
+use triple_arena_ptr::{InvalidationOption, PtrCore, ReallocationError};
 use triple_arena_stack::NonZeroInxGenericStack;
 
-impl<Q: Ptr, U: Drop, R: NonZeroInxGenericStack<DirectSlot<Q, U>> + Drop> ArenaTransferSource<Q, U>
-    for DirectArena<Q, U, R> {
+impl<Q: PtrCore, U: Drop, R: DirectSlots<Q, U>> ArenaTransferSource<Q, U> for DirectArena<Q, U, R> {
     ghost given_up = { cleared };
 
-    fn give_up<P: Ptr, T: Drop, L: EntrySlot<P, T> + Drop, S: NonZeroInxGenericStack<L>, F>(
-        &mut self,
-        slots: &mut S,
-        generation: P::Gen,
-        map: F,
-    )
+    fn give_up<
+        P: PtrCore,
+        T: Drop,
+        L: EntrySlot<P, T> + Drop,
+        S: NonZeroInxGenericStack<Item = L>,
+        F,
+    >(&mut self, slots: &mut S, generation: P::Gen, map: F)
     where
         F: FnMut(Q, InvalidationOption<U>, P) -> T,
     {
@@ -33,11 +33,10 @@ impl<Q: Ptr, U: Drop, R: NonZeroInxGenericStack<DirectSlot<Q, U>> + Drop> ArenaT
     }
 }
 
-impl<P: Ptr, T: Drop, S: NonZeroInxGenericStack<DirectSlot<P, T>> + Drop> ArenaTransferTrait<P, T>
-    for DirectArena<P, T, S> {
+impl<P: PtrCore, T: Drop, S: DirectSlots<P, T>> ArenaTransferTrait<P, T> for DirectArena<P, T, S> {
     ghost filled = { filled_of };
 
-    fn transfer_reallocating<Q: Ptr, U: Drop, Source: ArenaTransferSource<Q, U>, F>(
+    fn transfer_reallocating<Q: PtrCore, U: Drop, Source: ArenaTransferSource<Q, U>, F>(
         &mut self,
         new_generation: P::Gen,
         source: &mut Source,
@@ -53,9 +52,9 @@ impl<P: Ptr, T: Drop, S: NonZeroInxGenericStack<DirectSlot<P, T>> + Drop> ArenaT
     }
 }
 
-impl<P: Ptr, T: Drop, S: NonZeroInxGenericStack<DirectSlot<P, T>>> DirectArena<P, T, S> {
+impl<P: PtrCore, T: Drop, S: DirectSlots<P, T>> DirectArena<P, T, S> {
     // Drops what the arena holds, and moves the entries of `source` here, so many, which fit.
-    fn take_over<Q: Ptr, U: Drop, Source: ArenaTransferSource<Q, U>, F>(
+    fn take_over<Q: PtrCore, U: Drop, Source: ArenaTransferSource<Q, U>, F>(
         &mut self,
         generation: P::Gen,
         source: &mut Source,

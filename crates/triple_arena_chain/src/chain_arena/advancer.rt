@@ -3,13 +3,11 @@ ghost use Rattle.std.specs.Option.{option_map};
 ghost use Rattle.triple_arena.specs.Walk.{to_come, Steps};
 ghost use Rattle.triple_arena_chain.specs.Links.{values_in};
 
-use crate::{ChainArena, LinkNoGen};
+use crate::{ChainArena, ChainSlots, LinkNoGen};
 use triple_arena::arena_iterators::PtrAdvancer;
-use triple_arena::{Advancer, Arena, ArenaSlot, NonZeroInxGenericStack, Ptr};
+use triple_arena::{Advancer, Arena, PtrCore};
 
-impl<P: Ptr, T: Drop, S: NonZeroInxGenericStack<ArenaSlot<P, LinkNoGen<P, T>>>> Advancer<
-    ChainArena<P, T, S>,
-> for PtrAdvancer<P> {
+impl<P: PtrCore, T: Drop, S: ChainSlots<P, T>> Advancer<ChainArena<P, T, S>> for PtrAdvancer<P> {
     type Item = P;
 
     ghost remaining = { λ a _. to_come a };

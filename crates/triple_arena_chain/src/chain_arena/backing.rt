@@ -3,14 +3,10 @@ ghost use Rattle.std.specs.Prelude.{◌≡◌, map};
 ghost use Rattle.triple_arena.specs.ArenaRoom.{room_of};
 ghost use Rattle.triple_arena.specs.Slot.{entry_of};
 
-use crate::{ChainArena, LinkNoGen};
-use triple_arena::{ArenaSlot, NonZeroInxGenericStack, Ptr};
+use crate::{ChainArena, ChainSlots};
+use triple_arena::PtrCore;
 
-impl<P: Ptr, T: Drop, S: NonZeroInxGenericStack<ArenaSlot<P, LinkNoGen<P, T>>>> ChainArena<
-    P,
-    T,
-    S,
-> {
+impl<P: PtrCore, T: Drop, S: ChainSlots<P, T>> ChainArena<P, T, S> {
     /// The stack that the slots are kept in.
     pub fn backing(&self) -> &S
         ensures entries { map entry_of (S.items result.now) ≡ self.now.slots }

@@ -11,17 +11,14 @@ ghost use Rattle.triple_arena_chain.specs.ListedLaws.{value-listed, listed_value
 ghost use Rattle.triple_arena_chain.specs.Values.{room_in};
 
 use crate::chain_arena::compression::compress_links;
-use crate::{ChainArena, ChainArenaTrait, LinkNoGen};
+use crate::{ChainArena, ChainArenaTrait, ChainSlots};
 use triple_arena::arena_iterators::PtrAdvancer;
 use triple_arena::{
-    Arena, ArenaSlot, ArenaTrait, CompactArenaTrait, InvalidationOption, InvalidationResult,
-    NonZeroInxGenericStack, Ptr, ReallocationError,
+    Arena, ArenaTrait, CompactArenaTrait, InvalidationOption, InvalidationResult, PtrCore,
+    ReallocationError,
 };
 
-impl<P: Ptr, T: Drop, S: NonZeroInxGenericStack<ArenaSlot<P, LinkNoGen<P, T>>> + Drop> ArenaTrait<
-    P,
-    T,
-> for ChainArena<P, T, S> {
+impl<P: PtrCore, T: Drop, S: ChainSlots<P, T>> ArenaTrait<P, T> for ChainArena<P, T, S> {
     type Alloc = S::Alloc;
 
     type PtrAdvancer = PtrAdvancer<P>;
@@ -194,8 +191,4 @@ impl<P: Ptr, T: Drop, S: NonZeroInxGenericStack<ArenaSlot<P, LinkNoGen<P, T>>> +
     }
 }
 
-impl<
-    P: Ptr,
-    T: Drop,
-    S: NonZeroInxGenericStack<ArenaSlot<P, LinkNoGen<P, T>>> + Drop,
-> CompactArenaTrait<P, T> for ChainArena<P, T, S> {}
+impl<P: PtrCore, T: Drop, S: ChainSlots<P, T>> CompactArenaTrait<P, T> for ChainArena<P, T, S> {}

@@ -3,26 +3,21 @@ ghost use Rattle.std.specs.Prelude.{◌≡◌};
 ghost use Rattle.std.specs.Iterator.{YieldsFirstBy, item_count};
 ghost use Rattle.triple_arena_chain.specs.Listed.{listed_values};
 
-use crate::{ChainArena, LinkNoGen};
+use crate::{ChainArena, ChainSlots};
 use std::iter::FusedIterator;
 use std::marker::Model;
 use triple_arena::arena_iterators::PtrAdvancer;
-use triple_arena::{Advancer, ArenaSlot, ArenaTrait, NonZeroInxGenericStack, Ptr};
+use triple_arena::{Advancer, ArenaTrait, PtrCore};
 
 /// The pointers and the values of the links, by value, in the order of the indexes, seen as the list of those that are
 /// left. Dropped, it drops those.
 #[derive(Drop)]
-pub struct CapacityDrain<
-    P: Ptr,
-    T: Drop,
-    S: NonZeroInxGenericStack<ArenaSlot<P, LinkNoGen<P, T>>> + Drop,
-> {
+pub struct CapacityDrain<P: PtrCore, T: Drop, S: ChainSlots<P, T>> {
     chains: ChainArena<P, T, S>,
     walk: PtrAdvancer<P>,
 }
 
-impl<P: Ptr, T: Drop, S: NonZeroInxGenericStack<ArenaSlot<P, LinkNoGen<P, T>>> + Drop> Model
-    for CapacityDrain<P, T, S> {
+impl<P: PtrCore, T: Drop, S: ChainSlots<P, T>> Model for CapacityDrain<P, T, S> {
     ghost use Rattle.std.specs.Prelude.{ℕ, List};
     ghost use Rattle.triple_arena_chain.specs.IndexDrains.{IsAllAhead};
     ghost use Rattle.triple_arena_chain.specs.Listed.{listed_values};
@@ -34,8 +29,7 @@ impl<P: Ptr, T: Drop, S: NonZeroInxGenericStack<ArenaSlot<P, LinkNoGen<P, T>>> +
     ghost invariant = { λ it. IsAllAhead it.chains it.walk };
 }
 
-impl<P: Ptr, T: Drop, S: NonZeroInxGenericStack<ArenaSlot<P, LinkNoGen<P, T>>> + Drop> Iterator
-    for CapacityDrain<P, T, S> {
+impl<P: PtrCore, T: Drop, S: ChainSlots<P, T>> Iterator for CapacityDrain<P, T, S> {
     type Item = (P, T);
 
     ghost next_gives = { YieldsFirstBy (λ e. (P.index e.0, (P.generation e.0, e.1))) (λ left. left) };
@@ -54,11 +48,9 @@ impl<P: Ptr, T: Drop, S: NonZeroInxGenericStack<ArenaSlot<P, LinkNoGen<P, T>>> +
     }
 }
 
-impl<P: Ptr, T: Drop, S: NonZeroInxGenericStack<ArenaSlot<P, LinkNoGen<P, T>>> + Drop> FusedIterator
-    for CapacityDrain<P, T, S> {}
+impl<P: PtrCore, T: Drop, S: ChainSlots<P, T>> FusedIterator for CapacityDrain<P, T, S> {}
 
-impl<P: Ptr, T: Drop, S: NonZeroInxGenericStack<ArenaSlot<P, LinkNoGen<P, T>>> + Drop> IntoIterator
-    for ChainArena<P, T, S> {
+impl<P: PtrCore, T: Drop, S: ChainSlots<P, T>> IntoIterator for ChainArena<P, T, S> {
     type Item = (P, T);
 
     type IntoIter = CapacityDrain<P, T, S>;

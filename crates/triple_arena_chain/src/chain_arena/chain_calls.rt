@@ -3,17 +3,11 @@ ghost use Rattle.std.specs.Prelude.{refl};
 
 use crate::chain_arena::interlinks::{set_next, set_prev};
 use crate::chain_iterators::ChainPtrAdvancer;
-use crate::{ChainArena, ChainArenaTrait, Link, LinkInsertKind, LinkNoGen};
-use triple_arena::{
-    ArenaSlot, ArenaTrait, InvalidationResult, NonZeroInxGenericStack, Ptr, PtrInx,
-};
+use crate::{ChainArena, ChainArenaTrait, ChainSlots, Link, LinkInsertKind, LinkNoGen};
+use triple_arena::{ArenaTrait, InvalidationResult, PtrCore, PtrInxCore};
 use triple_arena_ptr::ChainInsertionError;
 
-impl<
-    P: Ptr,
-    T: Drop,
-    S: NonZeroInxGenericStack<ArenaSlot<P, LinkNoGen<P, T>>> + Drop,
-> ChainArenaTrait<P, T> for ChainArena<P, T, S> {
+impl<P: PtrCore, T: Drop, S: ChainSlots<P, T>> ChainArenaTrait<P, T> for ChainArena<P, T, S> {
     type ChainAdvancer = ChainPtrAdvancer<P>;
 
     ghost links = { λ a. a };

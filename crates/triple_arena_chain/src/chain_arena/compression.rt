@@ -11,20 +11,18 @@ ghost use Rattle.triple_arena_chain.specs.Listed.{listed_values};
 ghost use Rattle.triple_arena_chain.specs.Renaming.{numbered, prev_of, forwarded, IsCompacted};
 ghost use Rattle.triple_arena_chain.specs.Values.{room_in};
 
-use crate::LinkNoGen;
 use crate::chain_arena::interlinks::{set_next, set_prev};
 use crate::chain_arena::mapping::compact_links;
+use crate::{ChainSlots, LinkNoGen};
 use std::num::NonZeroUsize;
-use triple_arena::{
-    Advancer, Arena, ArenaSlot, ArenaTrait, InvalidationOption, NonZeroInxGenericStack, Ptr, PtrInx,
-};
+use triple_arena::{Advancer, Arena, ArenaTrait, InvalidationOption, PtrCore, PtrInxCore};
 
 // Gives each link, as its previous index, the one that it gets where the links go to the first indexes.
 fn number_links<P, T, S>(arena: &mut Arena<P, LinkNoGen<P, T>, S>)
 where
-    P: Ptr,
+    P: PtrCore,
     T: Drop,
-    S: NonZeroInxGenericStack<ArenaSlot<P, LinkNoGen<P, T>>> + Drop,
+    S: ChainSlots<P, T>,
     ensures numbered { IsRelinked P.Inx.number (numbered (ends_in P.Inx.number arena.old))
         arena.old arena.new }
     ensures formed { IsWellFormed arena.new }
@@ -44,9 +42,9 @@ where
 // The next index of the link at an index, if both are there.
 fn next_there<P, T, S>(arena: &Arena<P, LinkNoGen<P, T>, S>, i: P::Inx) -> Option<P::Inx>
 where
-    P: Ptr,
+    P: PtrCore,
     T: Drop,
-    S: NonZeroInxGenericStack<ArenaSlot<P, LinkNoGen<P, T>>> + Drop,
+    S: ChainSlots<P, T>,
     ensures { option_map P.Inx.number result
         ≡ next_at (ends_in P.Inx.number arena.now) (P.Inx.number i) }
 {
@@ -59,9 +57,9 @@ where
 // The previous index of the link at an index, if both are there.
 fn prev_there<P, T, S>(arena: &Arena<P, LinkNoGen<P, T>, S>, at: Option<P::Inx>) -> Option<P::Inx>
 where
-    P: Ptr,
+    P: PtrCore,
     T: Drop,
-    S: NonZeroInxGenericStack<ArenaSlot<P, LinkNoGen<P, T>>> + Drop,
+    S: ChainSlots<P, T>,
     ensures { option_map P.Inx.number result
         ≡ prev_of (ends_in P.Inx.number arena.now) (option_map P.Inx.number at) }
 {
@@ -77,9 +75,9 @@ where
 // Gives each link, as its next, what the link that it names has as its previous index.
 fn forward_nexts<P, T, S>(arena: &mut Arena<P, LinkNoGen<P, T>, S>)
 where
-    P: Ptr,
+    P: PtrCore,
     T: Drop,
-    S: NonZeroInxGenericStack<ArenaSlot<P, LinkNoGen<P, T>>> + Drop,
+    S: ChainSlots<P, T>,
     ensures forwarded { IsRelinked P.Inx.number (forwarded (ends_in P.Inx.number arena.old))
         arena.old arena.new }
     ensures formed { IsWellFormed arena.new }
@@ -98,9 +96,9 @@ where
 // Gives each link that is a next, as its previous index, that of the link whose next it is. No link has a previous one.
 fn join_nexts<P, T, S>(arena: &mut Arena<P, LinkNoGen<P, T>, S>)
 where
-    P: Ptr,
+    P: PtrCore,
     T: Drop,
-    S: NonZeroInxGenericStack<ArenaSlot<P, LinkNoGen<P, T>>> + Drop,
+    S: ChainSlots<P, T>,
     requires alone { (k : ℕ) → prev_at (ends_in P.Inx.number arena.old) k ≡ None }
     requires live { (p q : ℕ) → next_at (ends_in P.Inx.number arena.old) p ≡ Some q
         → IsSome (ends_in P.Inx.number arena.old q) }
@@ -131,9 +129,9 @@ pub(crate) fn compress_links<P, T, S, F>(
     map: F,
 ) -> InvalidationOption<()>
 where
-    P: Ptr,
+    P: PtrCore,
     T: Drop,
-    S: NonZeroInxGenericStack<ArenaSlot<P, LinkNoGen<P, T>>> + Drop,
+    S: ChainSlots<P, T>,
     F: FnMut(P, T, P) -> T,
     requires callable { F.IsAlwaysCallable map }
     requires chained { IsChained P.Inx.number arena.old }

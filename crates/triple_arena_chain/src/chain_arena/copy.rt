@@ -12,17 +12,10 @@ ghost use Rattle.triple_arena_chain.specs.Lists.{Chain, IsChainOf};
 ghost use Rattle.triple_arena_chain.specs.Values.{room_in};
 
 use crate::chain_arena::copying::copy_links;
-use crate::{ChainArena, LinkNoGen};
-use triple_arena::{
-    AllocError, Arena, ArenaCloneFromWith, ArenaSlot, NonZeroInxGenericStack, Ptr,
-    ReallocationError,
-};
+use crate::{ChainArena, ChainSlots, LinkNoGen};
+use triple_arena::{AllocError, Arena, ArenaCloneFromWith, PtrCore, ReallocationError};
 
-impl<P: Ptr, T: Drop, S: NonZeroInxGenericStack<ArenaSlot<P, LinkNoGen<P, T>>> + Drop> ChainArena<
-    P,
-    T,
-    S,
-> {
+impl<P: PtrCore, T: Drop, S: ChainSlots<P, T>> ChainArena<P, T, S> {
     /// Makes this arena a copy of `source`: with its pointers, its interlinks and its counter, each value what `map` makes
     /// of the link there. `map` is called once for each link, in the order of the indexes, with the pointer and the link.
     /// What the arena held is dropped, and the smallest free index is the next one to be taken.
@@ -40,7 +33,7 @@ impl<P: Ptr, T: Drop, S: NonZeroInxGenericStack<ArenaSlot<P, LinkNoGen<P, T>>> +
     ) -> Result<(), ReallocationError>
     where
         U: Drop,
-        R: NonZeroInxGenericStack<ArenaSlot<P, LinkNoGen<P, U>>> + Drop,
+        R: ChainSlots<P, U>,
         F: FnMut(P, &LinkNoGen<P, U>) -> Result<T, AllocError>,
         requires { F.IsAlwaysCallable map }
         ensures mapped { OnOk result (IsMappedCopy P.index P.generation F.step map
@@ -110,11 +103,7 @@ impl<P: Ptr, T: Drop, S: NonZeroInxGenericStack<ArenaSlot<P, LinkNoGen<P, T>>> +
     }
 }
 
-impl<P: Ptr, T: Clone, S: NonZeroInxGenericStack<ArenaSlot<P, LinkNoGen<P, T>>> + Drop> ChainArena<
-    P,
-    T,
-    S,
-> {
+impl<P: PtrCore, T: Clone, S: ChainSlots<P, T>> ChainArena<P, T, S> {
     /// A new arena with the same pointers and interlinks, clones of the values and the same counter, where the smallest
     /// free index is the next one to be taken. It has room for the last live index. A clone of a value must equal it.
     ///

@@ -14,8 +14,8 @@ ghost use Rattle.triple_arena_chain.specs.Listed.{listed_value};
 
 use crate::IndexLink;
 use triple_arena::{
-    AllocError, Arena, ArenaCloneFromWith, ArenaCloneSource, ArenaSlot, NonZeroInxGenericStack,
-    Ptr, PtrInx, ReallocationError,
+    AllocError, Arena, ArenaCloneFromWith, ArenaCloneSource, ArenaSlots, PtrCore, PtrInxCore,
+    ReallocationError,
 };
 
 // What becomes a copy of a source of the type `A`. It stands between the base's trait and `copy_links`, so that the closure
@@ -63,11 +63,11 @@ pub(crate) trait CopiesFrom<P: Copy, L: Drop, M: Drop, A> {
 
 impl<P, L, M, A, S> CopiesFrom<P, L, M, A> for Arena<P, M, S>
 where
-    P: Ptr,
+    P: PtrCore,
     L: Drop,
     M: Drop,
     A: ArenaCloneSource<P, L>,
-    S: NonZeroInxGenericStack<ArenaSlot<P, M>> + Drop,
+    S: ArenaSlots<P, M>,
 {
     ghost index = { P.index };
 
@@ -111,7 +111,7 @@ pub(crate) fn copy_links<P, I, U, T, A, B, F>(
 ) -> Result<(), ReallocationError>
 where
     P: Copy,
-    I: PtrInx,
+    I: PtrInxCore,
     U: Drop,
     T: Drop,
     B: CopiesFrom<P, IndexLink<I, U>, IndexLink<I, T>, A>,

@@ -5,9 +5,9 @@ ghost use Rattle.triple_arena.specs.ArenaRoom.{room_of};
 ghost use Rattle.triple_arena.specs.Content.{empty};
 
 use crate::{ChainArena, LinkNoGen};
-use triple_arena::{ArenaSlot, ArenaTrait, NonZeroInxArray, Ptr};
+use triple_arena::{ArenaSlot, ArenaTrait, NonZeroInxArray, PtrCore};
 
-impl<P: Ptr, T: Drop, const LIMIT: usize> Default
+impl<P: PtrCore, T: Drop, const LIMIT: usize> Default
     for ChainArena<P, T, NonZeroInxArray<ArenaSlot<P, LinkNoGen<P, T>>, LIMIT>> {
     ghost is_default = { λ c. c ≡ empty (second_generation P.Gen.last)
         (room_of P.Inx.greatest (record { reserved = LIMIT; limit = Some LIMIT })) };

@@ -8,8 +8,8 @@ ghost use Rattle.triple_arena_chain.specs.Kinds.{ends_by};
 ghost use Rattle.triple_arena_chain.specs.Links.{IsChained};
 ghost use Rattle.triple_arena_chain.specs.Drains.{next_or_prev, drain_chains, drain_lender, drain_at, IsRestDrained, IsStep, DrainCanStep, DrainLeaves, DrainSteps, DrainKeepsAlong, DrainGoesAlong};
 
-use crate::{ChainArena, ChainArenaTrait, LinkNoGen};
-use triple_arena::{ArenaSlot, InvalidationOption, NonZeroInxGenericStack, Ptr, PtrInx};
+use crate::{ChainArena, ChainArenaTrait, ChainSlots, LinkNoGen};
+use triple_arena::{InvalidationOption, PtrCore, PtrInxCore};
 
 /// Takes the links of one chain out of an arena: from a link on to the end and then backwards from the link before it, or
 /// once round a ring.
@@ -17,12 +17,7 @@ use triple_arena::{ArenaSlot, InvalidationOption, NonZeroInxGenericStack, Ptr, P
 /// Each item is one removal, which joins the neighbors and steps the counter; it is `GenerationOverflow` where that step
 /// started the generations again. Dropped, at whatever item, it takes those of the chain that are left in the same way.
 /// All other chains stay.
-pub struct ChainDrain<
-    'a,
-    P: Ptr,
-    T: Drop,
-    S: NonZeroInxGenericStack<ArenaSlot<P, LinkNoGen<P, T>>> + Drop,
-> {
+pub struct ChainDrain<'a, P: PtrCore, T: Drop, S: ChainSlots<P, T>> {
     chains: &'a mut ChainArena<P, T, S>,
     // The link that goes next.
     at: Option<P::Inx>,
@@ -30,7 +25,7 @@ pub struct ChainDrain<
 
 // Where a walk goes on from a link with these neighbors, once the link is gone: to its next, or at the end of the chain
 // to its previous one, which is the end then.
-fn onward<I: PtrInx>(i: I, own: (Option<I>, Option<I>)) -> Option<I>
+fn onward<I: PtrInxCore>(i: I, own: (Option<I>, Option<I>)) -> Option<I>
     ensures { option_map I.number result ≡ next_or_prev (I.number i) (ends_by I.number own) }
 {
     let next = match own.1 {
@@ -43,11 +38,7 @@ fn onward<I: PtrInx>(i: I, own: (Option<I>, Option<I>)) -> Option<I>
     }
 }
 
-impl<P: Ptr, T: Drop, S: NonZeroInxGenericStack<ArenaSlot<P, LinkNoGen<P, T>>> + Drop> ChainArena<
-    P,
-    T,
-    S,
-> {
+impl<P: PtrCore, T: Drop, S: ChainSlots<P, T>> ChainArena<P, T, S> {
     ghost use Rattle.triple_arena_chain.specs.contracts.chain_arena.ChainArena.{the_row};
 
     /// Takes the links of the chain of `p` out, in the order of a walk from `p`. It answers `None`, and changes nothing,
@@ -63,10 +54,7 @@ impl<P: Ptr, T: Drop, S: NonZeroInxGenericStack<ArenaSlot<P, LinkNoGen<P, T>>> +
         ensures stays { IfSome result (λ d. DrainKeepsAlong P.Inx.number P.Gen.last P.index P.generation d) }
         ensures in_order { IfSome result (λ d. DrainGoesAlong P.Inx.number P.Gen.last P.index P.generation d) }
         ensures* none { sem 𝓛 (RestsIfNone
-            (the_row P.row T.row S.row P.Inx.row P.Gen.row S.Alloc.row P.Ptr.own P.Debug P.Hash.own
-            P.PartialEq P.Ord.own P.PartialOrd.own P.Inx.PtrInx.own P.Inx.Debug P.Inx.Hash.own
-            P.Inx.PartialEq P.Inx.Ord.own P.Inx.PartialOrd.own P.Gen.PtrGen.own P.Gen.Debug
-            P.Gen.Hash.own P.Gen.PartialEq P.Gen.Ord.own P.Gen.PartialOrd.own
+            (the_row P.row T.row S.row P.Inx.row P.Gen.row S.Alloc.row P.PtrCore P.Inx.PtrInxCore.own P.Inx.PartialEq P.Gen.PtrGenCore.own P.Gen.PartialEq
             S.NonZeroInxGenericStack) self.entry drain_lender result (λ a. a ≡ self.old)) }
     {
         // The interlinks agree.
@@ -117,8 +105,7 @@ impl<P: Ptr, T: Drop, S: NonZeroInxGenericStack<ArenaSlot<P, LinkNoGen<P, T>>> +
     }
 }
 
-impl<'a, P: Ptr, T: Drop, S: NonZeroInxGenericStack<ArenaSlot<P, LinkNoGen<P, T>>> + Drop> Drop
-    for ChainDrain<'a, P, T, S> {
+impl<'a, P: PtrCore, T: Drop, S: ChainSlots<P, T>> Drop for ChainDrain<'a, P, T, S> {
     fn drop(self)
         ensures leaves { DrainLeaves P.Inx.number P.Gen.last self.entry self.exit.0.now }
         ensures formed { IsChained P.Inx.number self.exit.0.now }
@@ -130,8 +117,7 @@ impl<'a, P: Ptr, T: Drop, S: NonZeroInxGenericStack<ArenaSlot<P, LinkNoGen<P, T>
     }
 }
 
-impl<'a, P: Ptr, T: Drop, S: NonZeroInxGenericStack<ArenaSlot<P, LinkNoGen<P, T>>> + Drop> Iterator
-    for ChainDrain<'a, P, T, S> {
+impl<'a, P: PtrCore, T: Drop, S: ChainSlots<P, T>> Iterator for ChainDrain<'a, P, T, S> {
     type Item = InvalidationOption<(P, LinkNoGen<P, T>)>;
 
     ghost can_next = { DrainCanStep P.Inx.number };

@@ -6,31 +6,20 @@ ghost use Rattle.triple_arena_chain.specs.InsertEntry.{entry_chains, entry_lende
 ghost use Rattle.triple_arena_chain.specs.Links.{place_among, IsChained, IsPlaced};
 
 use crate::place::Place;
-use crate::{ChainArena, LinkInsertKind, LinkNoGen};
-use triple_arena::{
-    ArenaInsertEntries, ArenaInsertEntryTrait, ArenaSlot, NonZeroInxGenericStack, Ptr,
-};
+use crate::{ChainArena, ChainSlots, LinkInsertKind};
+use triple_arena::{ArenaInsertEntries, ArenaInsertEntryTrait, PtrCore};
 use triple_arena_ptr::ChainInsertionError;
 
 /// A place for one link more. Dropped unused, it leaves the links as they are.
 #[derive(Drop)]
-pub struct ChainArenaInsertEntry<
-    'a,
-    P: Ptr,
-    T: Drop,
-    S: NonZeroInxGenericStack<ArenaSlot<P, LinkNoGen<P, T>>>,
-> {
+pub struct ChainArenaInsertEntry<'a, P: PtrCore, T: Drop, S: ChainSlots<P, T>> {
     chains: &'a mut ChainArena<P, T, S>,
     place: Place<P::Inx>,
     ptr: P,
 }
 
-impl<
-    'a,
-    P: Ptr,
-    T: Drop,
-    S: NonZeroInxGenericStack<ArenaSlot<P, LinkNoGen<P, T>>> + Drop,
-> ArenaInsertEntryTrait<P, T> for ChainArenaInsertEntry<'a, P, T, S> {
+impl<'a, P: PtrCore, T: Drop, S: ChainSlots<P, T>> ArenaInsertEntryTrait<P, T>
+    for ChainArenaInsertEntry<'a, P, T, S> {
     ghost index = { λ e. next_index (entry_chains e) };
 
     ghost generation = { λ e. (entry_chains e).counter };
@@ -59,11 +48,7 @@ impl<
     }
 }
 
-impl<P: Ptr, T: Drop, S: NonZeroInxGenericStack<ArenaSlot<P, LinkNoGen<P, T>>> + Drop> ChainArena<
-    P,
-    T,
-    S,
-> {
+impl<P: PtrCore, T: Drop, S: ChainSlots<P, T>> ChainArena<P, T, S> {
     ghost use Rattle.triple_arena_chain.specs.contracts.chain_arena.ChainArena.{the_row};
 
     /// The pointer that the next insertion gives, if there is room for one link more.
@@ -93,10 +78,7 @@ impl<P: Ptr, T: Drop, S: NonZeroInxGenericStack<ArenaSlot<P, LinkNoGen<P, T>>> +
         ensures place { IfOk result (λ e. place_among P.index P.generation P.Inx.number self.old kind
             ≡ Some (entry_place P.Inx.number e)) }
         ensures* err { sem 𝓛 (RestsIfErr
-            (the_row P.row T.row S.row P.Inx.row P.Gen.row S.Alloc.row P.Ptr.own P.Debug P.Hash.own
-            P.PartialEq P.Ord.own P.PartialOrd.own P.Inx.PtrInx.own P.Inx.Debug P.Inx.Hash.own
-            P.Inx.PartialEq P.Inx.Ord.own P.Inx.PartialOrd.own P.Gen.PtrGen.own P.Gen.Debug
-            P.Gen.Hash.own P.Gen.PartialEq P.Gen.Ord.own P.Gen.PartialOrd.own
+            (the_row P.row T.row S.row P.Inx.row P.Gen.row S.Alloc.row P.PtrCore P.Inx.PtrInxCore.own P.Inx.PartialEq P.Gen.PtrGenCore.own P.Gen.PartialEq
             S.NonZeroInxGenericStack) self.entry entry_lender result (λ a. a ≡ self.old)) }
     {
         // The interlinks agree.
@@ -128,10 +110,7 @@ impl<P: Ptr, T: Drop, S: NonZeroInxGenericStack<ArenaSlot<P, LinkNoGen<P, T>>> +
         ensures place { IfOk result (λ e. place_among P.index P.generation P.Inx.number self.old kind
             ≡ Some (entry_place P.Inx.number e)) }
         ensures* err { sem 𝓛 (RestsIfErr
-            (the_row P.row T.row S.row P.Inx.row P.Gen.row S.Alloc.row P.Ptr.own P.Debug P.Hash.own
-            P.PartialEq P.Ord.own P.PartialOrd.own P.Inx.PtrInx.own P.Inx.Debug P.Inx.Hash.own
-            P.Inx.PartialEq P.Inx.Ord.own P.Inx.PartialOrd.own P.Gen.PtrGen.own P.Gen.Debug
-            P.Gen.Hash.own P.Gen.PartialEq P.Gen.Ord.own P.Gen.PartialOrd.own
+            (the_row P.row T.row S.row P.Inx.row P.Gen.row S.Alloc.row P.PtrCore P.Inx.PtrInxCore.own P.Inx.PartialEq P.Gen.PtrGenCore.own P.Gen.PartialEq
             S.NonZeroInxGenericStack) self.entry entry_lender result (λ a. a ≡ self.old)) }
     {
         let (place, ptr) = self.place_reallocating(kind)?;

@@ -5,15 +5,11 @@ ghost use Rattle.triple_arena.specs.Content.{live_count, grown_if_full};
 ghost use Rattle.triple_arena_chain.specs.InsertEntry.{entry_chains, entry_lender, entry_place, IsReady, IsLinkRefusal};
 ghost use Rattle.triple_arena_chain.specs.Links.{place_among};
 
-use crate::{ChainArena, ChainArenaInsertEntry, LinkInsertKind, LinkNoGen};
-use triple_arena::{ArenaSlot, NonZeroInxGenericStack, Ptr};
+use crate::{ChainArena, ChainArenaInsertEntry, ChainSlots, LinkInsertKind};
+use triple_arena::PtrCore;
 use triple_arena_ptr::ChainInsertionError;
 
-impl<P: Ptr, T: Drop, S: NonZeroInxGenericStack<ArenaSlot<P, LinkNoGen<P, T>>> + Drop> ChainArena<
-    P,
-    T,
-    S,
-> {
+impl<P: PtrCore, T: Drop, S: ChainSlots<P, T>> ChainArena<P, T, S> {
     ghost use Rattle.triple_arena_chain.specs.contracts.chain_arena.ChainArena.{the_row};
 
     /// The same as `entry_insert_reallocating`, where the links are as the kind requires.
@@ -30,10 +26,7 @@ impl<P: Ptr, T: Drop, S: NonZeroInxGenericStack<ArenaSlot<P, LinkNoGen<P, T>>> +
         ensures place { IfOk result (λ e. place_among P.index P.generation P.Inx.number self.old kind
             ≡ Some (entry_place P.Inx.number e)) }
         ensures* err { sem 𝓛 (RestsIfErr
-            (the_row P.row T.row S.row P.Inx.row P.Gen.row S.Alloc.row P.Ptr.own P.Debug P.Hash.own
-            P.PartialEq P.Ord.own P.PartialOrd.own P.Inx.PtrInx.own P.Inx.Debug P.Inx.Hash.own
-            P.Inx.PartialEq P.Inx.Ord.own P.Inx.PartialOrd.own P.Gen.PtrGen.own P.Gen.Debug
-            P.Gen.Hash.own P.Gen.PartialEq P.Gen.Ord.own P.Gen.PartialOrd.own
+            (the_row P.row T.row S.row P.Inx.row P.Gen.row S.Alloc.row P.PtrCore P.Inx.PtrInxCore.own P.Inx.PartialEq P.Gen.PtrGenCore.own P.Gen.PartialEq
             S.NonZeroInxGenericStack) self.entry entry_lender result (λ a. a ≡ self.old)) }
     {
         self.entry_insert_reallocating(kind)

@@ -4,12 +4,12 @@ ghost use Rattle.std.specs.Option.{option_map};
 ghost use Rattle.triple_arena_chain.specs.Chains.{IsAgreed, next_at, prev_at};
 ghost use Rattle.triple_arena_chain.specs.Links.{ends_in};
 
-use crate::{ChainArena, LinkNoGen};
+use crate::{ChainArena, ChainSlots, LinkNoGen};
 use std::mem;
-use triple_arena::{Advancer, Arena, ArenaSlot, ArenaTrait, NonZeroInxGenericStack, Ptr};
+use triple_arena::{Advancer, Arena, ArenaTrait, PtrCore};
 
 // Whether there is no link at `at`, or one whose previous link is at `i`.
-fn goes_back<P: Ptr, T: Drop, S: NonZeroInxGenericStack<ArenaSlot<P, LinkNoGen<P, T>>> + Drop>(
+fn goes_back<P: PtrCore, T: Drop, S: ChainSlots<P, T>>(
     arena: &Arena<P, LinkNoGen<P, T>, S>,
     at: Option<P::Inx>,
     i: P::Inx,
@@ -30,7 +30,7 @@ fn goes_back<P: Ptr, T: Drop, S: NonZeroInxGenericStack<ArenaSlot<P, LinkNoGen<P
 }
 
 // Whether there is no link at `at`, or one whose next is at `i`.
-fn goes_on<P: Ptr, T: Drop, S: NonZeroInxGenericStack<ArenaSlot<P, LinkNoGen<P, T>>> + Drop>(
+fn goes_on<P: PtrCore, T: Drop, S: ChainSlots<P, T>>(
     arena: &Arena<P, LinkNoGen<P, T>, S>,
     at: Option<P::Inx>,
     i: P::Inx,
@@ -50,11 +50,7 @@ fn goes_on<P: Ptr, T: Drop, S: NonZeroInxGenericStack<ArenaSlot<P, LinkNoGen<P, 
     }
 }
 
-impl<P: Ptr, T: Drop, S: NonZeroInxGenericStack<ArenaSlot<P, LinkNoGen<P, T>>> + Drop> ChainArena<
-    P,
-    T,
-    S,
-> {
+impl<P: PtrCore, T: Drop, S: ChainSlots<P, T>> ChainArena<P, T, S> {
     /// Whether the interlinks of these links agree both ways: what a link names as its next is live and names it as its
     /// previous link, and what it names as its previous link is live and names it as its next.
     pub fn interlinks_agree(arena: &Arena<P, LinkNoGen<P, T>, S>) -> bool

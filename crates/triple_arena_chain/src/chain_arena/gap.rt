@@ -10,15 +10,11 @@ ghost use Rattle.triple_arena_chain.specs.Links.{ends_in, IsChained, IsPlaced};
 ghost use Rattle.triple_arena_chain.specs.declared.place.Place.TheVariants.{Between};
 
 use crate::place::Place;
-use crate::{ChainArena, LinkNoGen};
-use triple_arena::{ArenaSlot, NonZeroInxGenericStack, Ptr, ReallocationError};
+use crate::{ChainArena, ChainSlots};
+use triple_arena::{PtrCore, ReallocationError};
 use triple_arena_ptr::NotWithinCapacityError;
 
-impl<P: Ptr, T: Drop, S: NonZeroInxGenericStack<ArenaSlot<P, LinkNoGen<P, T>>> + Drop> ChainArena<
-    P,
-    T,
-    S,
-> {
+impl<P: PtrCore, T: Drop, S: ChainSlots<P, T>> ChainArena<P, T, S> {
     /// Stores `t` in a link between the links at these two indexes, of which either may be missing, if there is room.
     /// They are neighbors, or each has none on that side. It answers `NotWithinCapacityError`, and changes nothing,
     /// where there is no room; `t` is dropped then.

@@ -5,14 +5,10 @@ ghost use Rattle.triple_arena_ptr.specs.InvalidationOption.{overflowed};
 ghost use Rattle.triple_arena.specs.Content.{with_counter, stepped};
 ghost use Rattle.triple_arena_chain.specs.Links.{IsChained};
 
-use crate::{ChainArena, LinkNoGen};
-use triple_arena::{ArenaSlot, InvalidationOption, NonZeroInxGenericStack, Ptr};
+use crate::{ChainArena, ChainSlots};
+use triple_arena::{InvalidationOption, PtrCore};
 
-impl<P: Ptr, T: Drop, S: NonZeroInxGenericStack<ArenaSlot<P, LinkNoGen<P, T>>> + Drop> ChainArena<
-    P,
-    T,
-    S,
-> {
+impl<P: PtrCore, T: Drop, S: ChainSlots<P, T>> ChainArena<P, T, S> {
     /// The counter, which is the generation of the next link.
     pub fn generation(&self) -> P::Gen
         ensures { P.Gen.number result ≡ self.now.counter }

@@ -8,18 +8,11 @@ ghost use Rattle.triple_arena_chain.specs.Kinds.{place_by};
 ghost use Rattle.triple_arena_chain.specs.Links.{ends_in, place_among, IsChained};
 
 use crate::place::Place;
-use crate::{ChainArena, LinkInsertKind, LinkNoGen};
-use triple_arena::{
-    ArenaInsertEntries, ArenaInsertEntryTrait, ArenaSlot, NonZeroInxGenericStack, Ptr,
-    ReallocationError,
-};
+use crate::{ChainArena, ChainSlots, LinkInsertKind};
+use triple_arena::{ArenaInsertEntries, ArenaInsertEntryTrait, PtrCore, ReallocationError};
 use triple_arena_ptr::ChainInsertionError;
 
-impl<P: Ptr, T: Drop, S: NonZeroInxGenericStack<ArenaSlot<P, LinkNoGen<P, T>>> + Drop> ChainArena<
-    P,
-    T,
-    S,
-> {
+impl<P: PtrCore, T: Drop, S: ChainSlots<P, T>> ChainArena<P, T, S> {
     /// Makes room for one link more, where there is none, and answers the pointer that the next insertion gives. It answers
     /// `BeyondMaxCapacity` where as many links are live as the greatest capacity, and `AllocError` where the memory was
     /// refused; both change nothing.

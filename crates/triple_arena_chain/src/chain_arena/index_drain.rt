@@ -11,34 +11,22 @@ ghost use Rattle.triple_arena_chain.specs.IndexDrains.{drain_links, drain_lender
 ghost use Rattle.triple_arena_chain.specs.Links.{values_in, IsChained};
 ghost use Rattle.triple_arena_chain.specs.Values.{room_in};
 
-use crate::{ChainArena, ChainArenaTrait, LinkNoGen};
+use crate::{ChainArena, ChainArenaTrait, ChainSlots};
 use std::iter::FusedIterator;
 use triple_arena::arena_iterators::PtrAdvancer;
-use triple_arena::{
-    Advancer, ArenaSlot, ArenaTrait, InvalidationOption, InvalidationResult,
-    NonZeroInxGenericStack, Ptr,
-};
+use triple_arena::{Advancer, ArenaTrait, InvalidationOption, InvalidationResult, PtrCore};
 
 /// Takes the links out of a chain arena, in the order of the indexes, and gives their pointers and values.
 ///
 /// Each item is one removal, which joins the neighbors and steps the counter; it is `GenerationOverflow` where that step
 /// started the generations again. Dropped, at whatever item, it takes those that are left in the same way, and leaves no
 /// slot.
-pub struct Drain<
-    'a,
-    P: Ptr,
-    T: Drop,
-    S: NonZeroInxGenericStack<ArenaSlot<P, LinkNoGen<P, T>>> + Drop,
-> {
+pub struct Drain<'a, P: PtrCore, T: Drop, S: ChainSlots<P, T>> {
     chains: &'a mut ChainArena<P, T, S>,
     walk: PtrAdvancer<P>,
 }
 
-impl<P: Ptr, T: Drop, S: NonZeroInxGenericStack<ArenaSlot<P, LinkNoGen<P, T>>> + Drop> ChainArena<
-    P,
-    T,
-    S,
-> {
+impl<P: PtrCore, T: Drop, S: ChainSlots<P, T>> ChainArena<P, T, S> {
     /// Takes each link out, in the order of the indexes. Once the iterator is dropped, the arena has no link and no slot,
     /// its counter has stepped once for each link that it had, and its room is as it was.
     pub fn drain(&mut self) -> Drain<'_, P, T, S>
@@ -87,8 +75,7 @@ impl<P: Ptr, T: Drop, S: NonZeroInxGenericStack<ArenaSlot<P, LinkNoGen<P, T>>> +
     }
 }
 
-impl<'a, P: Ptr, T: Drop, S: NonZeroInxGenericStack<ArenaSlot<P, LinkNoGen<P, T>>> + Drop> Drop
-    for Drain<'a, P, T, S> {
+impl<'a, P: PtrCore, T: Drop, S: ChainSlots<P, T>> Drop for Drain<'a, P, T, S> {
     fn drop(self)
         ensures value { self.exit.0.now ≡ drain_leaves P.Gen.last self.entry }
         ensures formed { IsChained P.Inx.number self.exit.0.now }
@@ -98,8 +85,7 @@ impl<'a, P: Ptr, T: Drop, S: NonZeroInxGenericStack<ArenaSlot<P, LinkNoGen<P, T>
     }
 }
 
-impl<'a, P: Ptr, T: Drop, S: NonZeroInxGenericStack<ArenaSlot<P, LinkNoGen<P, T>>> + Drop> Iterator
-    for Drain<'a, P, T, S> {
+impl<'a, P: PtrCore, T: Drop, S: ChainSlots<P, T>> Iterator for Drain<'a, P, T, S> {
     type Item = InvalidationOption<(P, T)>;
 
     ghost can_next = { DrainCanStep };
@@ -120,20 +106,10 @@ impl<'a, P: Ptr, T: Drop, S: NonZeroInxGenericStack<ArenaSlot<P, LinkNoGen<P, T>
     }
 }
 
-impl<
-    'a,
-    P: Ptr,
-    T: Drop,
-    S: NonZeroInxGenericStack<ArenaSlot<P, LinkNoGen<P, T>>> + Drop,
-> ExactSizeIterator for Drain<'a, P, T, S> {
+impl<'a, P: PtrCore, T: Drop, S: ChainSlots<P, T>> ExactSizeIterator for Drain<'a, P, T, S> {
     fn len(&self) -> usize {
         self.chains.len()
     }
 }
 
-impl<
-    'a,
-    P: Ptr,
-    T: Drop,
-    S: NonZeroInxGenericStack<ArenaSlot<P, LinkNoGen<P, T>>> + Drop,
-> FusedIterator for Drain<'a, P, T, S> {}
+impl<'a, P: PtrCore, T: Drop, S: ChainSlots<P, T>> FusedIterator for Drain<'a, P, T, S> {}

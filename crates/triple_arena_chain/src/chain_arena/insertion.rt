@@ -7,14 +7,12 @@ ghost use Rattle.triple_arena_chain.specs.Links.{ends_in, link_for, IsChained, I
 
 use crate::chain_arena::interlinks::join;
 use crate::place::Place;
-use crate::{ChainArena, IndexLink, LinkNoGen};
-use triple_arena::{
-    ArenaInsertEntries, ArenaInsertEntryTrait, ArenaSlot, NonZeroInxGenericStack, Ptr, PtrInx,
-};
+use crate::{ChainArena, ChainSlots, IndexLink};
+use triple_arena::{ArenaInsertEntries, ArenaInsertEntryTrait, PtrCore, PtrInxCore};
 
 // The link for `t` at a place, where its own index is `i`.
 #[inline(always)]
-fn link_at<I: PtrInx, T>(place: Place<I>, i: I, t: T) -> IndexLink<I, T>
+fn link_at<I: PtrInxCore, T>(place: Place<I>, i: I, t: T) -> IndexLink<I, T>
     ensures { result ≡ link_for I.number place i t }
 {
     match place {
@@ -27,11 +25,7 @@ fn link_at<I: PtrInx, T>(place: Place<I>, i: I, t: T) -> IndexLink<I, T>
     }
 }
 
-impl<P: Ptr, T: Drop, S: NonZeroInxGenericStack<ArenaSlot<P, LinkNoGen<P, T>>> + Drop> ChainArena<
-    P,
-    T,
-    S,
-> {
+impl<P: PtrCore, T: Drop, S: ChainSlots<P, T>> ChainArena<P, T, S> {
     // Stores `t` in a link at a place, where there is room.
     #[inline(always)]
     pub(crate) fn put(&mut self, place: Place<P::Inx>, t: T) -> P

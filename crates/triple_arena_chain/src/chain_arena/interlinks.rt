@@ -3,16 +3,16 @@ ghost use Rattle.std.specs.Prelude.{◌≡◌, IsSome, IfSome};
 ghost use Rattle.triple_arena.specs.Content.{entry_at};
 ghost use Rattle.triple_arena_chain.specs.Links.{with_next_of, with_prev_of, joined_to, AreNeighborsLive};
 
-use crate::LinkNoGen;
 use crate::place::Place;
-use triple_arena::{Arena, ArenaSlot, ArenaTrait, NonZeroInxGenericStack, Ptr};
+use crate::{ChainSlots, LinkNoGen};
+use triple_arena::{Arena, ArenaTrait, PtrCore};
 
 // Gives the link at `at`, which is live if it is an index, another next.
-pub(crate) fn set_next<
-    P: Ptr,
-    T: Drop,
-    S: NonZeroInxGenericStack<ArenaSlot<P, LinkNoGen<P, T>>> + Drop,
->(arena: &mut Arena<P, LinkNoGen<P, T>, S>, at: Option<P::Inx>, next: Option<P::Inx>)
+pub(crate) fn set_next<P: PtrCore, T: Drop, S: ChainSlots<P, T>>(
+    arena: &mut Arena<P, LinkNoGen<P, T>, S>,
+    at: Option<P::Inx>,
+    next: Option<P::Inx>,
+)
     requires { IfSome at (λ i. IsSome (entry_at arena.old (P.Inx.number i))) }
     ensures { arena.new ≡ with_next_of P.Inx.number arena.old at next }
 {
@@ -22,11 +22,11 @@ pub(crate) fn set_next<
 }
 
 // Gives the link at `at`, which is live if it is an index, another previous one.
-pub(crate) fn set_prev<
-    P: Ptr,
-    T: Drop,
-    S: NonZeroInxGenericStack<ArenaSlot<P, LinkNoGen<P, T>>> + Drop,
->(arena: &mut Arena<P, LinkNoGen<P, T>, S>, at: Option<P::Inx>, prev: Option<P::Inx>)
+pub(crate) fn set_prev<P: PtrCore, T: Drop, S: ChainSlots<P, T>>(
+    arena: &mut Arena<P, LinkNoGen<P, T>, S>,
+    at: Option<P::Inx>,
+    prev: Option<P::Inx>,
+)
     requires { IfSome at (λ i. IsSome (entry_at arena.old (P.Inx.number i))) }
     ensures { arena.new ≡ with_prev_of P.Inx.number arena.old at prev }
 {
@@ -37,11 +37,11 @@ pub(crate) fn set_prev<
 
 // The neighbors at a place, which are live, name what is at `i`.
 #[tactic(auto, using(crate::specs::LinkLaws::live_links))]
-pub(crate) fn join<
-    P: Ptr,
-    T: Drop,
-    S: NonZeroInxGenericStack<ArenaSlot<P, LinkNoGen<P, T>>> + Drop,
->(arena: &mut Arena<P, LinkNoGen<P, T>, S>, place: Place<P::Inx>, i: P::Inx)
+pub(crate) fn join<P: PtrCore, T: Drop, S: ChainSlots<P, T>>(
+    arena: &mut Arena<P, LinkNoGen<P, T>, S>,
+    place: Place<P::Inx>,
+    i: P::Inx,
+)
     requires { AreNeighborsLive P.Inx.number arena.old place }
     ensures { arena.new ≡ joined_to P.Inx.number arena.old place i }
 {

@@ -7,19 +7,14 @@ ghost use Rattle.triple_arena_chain.specs.Links.{ends_in};
 ghost use Rattle.triple_arena_chain.specs.Walks.{IsWalkFrom};
 
 use crate::chain_arena::walk::ChainPtrAdvancer;
-use crate::{ChainArena, ChainArenaTrait, LinkNoGen};
+use crate::{ChainArena, ChainArenaTrait, ChainSlots, LinkNoGen};
 use std::marker::Model;
-use triple_arena::{Advancer, ArenaSlot, NonZeroInxGenericStack, Ptr};
+use triple_arena::{Advancer, PtrCore};
 
 /// The pointers and the links of one chain, from a link on to the end and then backwards from the link before it, or
 /// once round a ring: seen as the list of the entries that are left.
 #[derive(Drop)]
-pub struct IterChain<
-    'a,
-    P: Ptr,
-    T: Drop,
-    S: NonZeroInxGenericStack<ArenaSlot<P, LinkNoGen<P, T>>> + Drop,
->
+pub struct IterChain<'a, P: PtrCore, T: Drop, S: ChainSlots<P, T>>
 where
     P::Inx: 'a,
 {
@@ -27,8 +22,7 @@ where
     advancer: ChainPtrAdvancer<P>,
 }
 
-impl<'a, P: Ptr, T: Drop, S: NonZeroInxGenericStack<ArenaSlot<P, LinkNoGen<P, T>>> + Drop> Model
-    for IterChain<'a, P, T, S>
+impl<'a, P: PtrCore, T: Drop, S: ChainSlots<P, T>> Model for IterChain<'a, P, T, S>
 where
     P::Inx: 'a,
 {
@@ -46,8 +40,7 @@ where
     ghost invariant = { λ it. IsEnding P.Inx.number it.chains.now it.advancer };
 }
 
-impl<'a, P: Ptr, T: Drop, S: NonZeroInxGenericStack<ArenaSlot<P, LinkNoGen<P, T>>> + Drop> Iterator
-    for IterChain<'a, P, T, S>
+impl<'a, P: PtrCore, T: Drop, S: ChainSlots<P, T>> Iterator for IterChain<'a, P, T, S>
 where
     P::Inx: 'a,
 {
@@ -64,11 +57,7 @@ where
     }
 }
 
-impl<P: Ptr, T: Drop, S: NonZeroInxGenericStack<ArenaSlot<P, LinkNoGen<P, T>>> + Drop> ChainArena<
-    P,
-    T,
-    S,
-> {
+impl<P: PtrCore, T: Drop, S: ChainSlots<P, T>> ChainArena<P, T, S> {
     /// The links of the chain of `p`, in the order of a walk from `p`, or `None` where `p` is invalid.
     #[tactic(auto, using(crate::specs::WalkLaws::walks))]
     pub fn iter_chain(&self, p: P) -> Option<IterChain<'_, P, T, S>>

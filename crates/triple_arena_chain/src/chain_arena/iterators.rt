@@ -7,18 +7,18 @@ ghost use Rattle.triple_arena.specs.LiveEntries.{live_entries};
 ghost use Rattle.triple_arena_chain.specs.Listed.{listed_value, listed_values};
 
 use crate::chain_iterators::{IterLinkNoGen, Ptrs};
-use crate::{ChainArena, LinkNoGen};
+use crate::{ChainArena, ChainSlots};
 use std::iter::FusedIterator;
 use std::marker::Model;
-use triple_arena::{ArenaSlot, NonZeroInxGenericStack, Ptr};
+use triple_arena::PtrCore;
 
 /// The pointers and the values of the links, in the order of the indexes, seen as the list of those that are left.
 #[derive(Drop)]
-pub struct Iter<'a, P: Ptr, T> {
+pub struct Iter<'a, P: PtrCore, T> {
     links: IterLinkNoGen<'a, P, T>,
 }
 
-impl<'a, P: Ptr, T> Model for Iter<'a, P, T> {
+impl<'a, P: PtrCore, T> Model for Iter<'a, P, T> {
     ghost use Rattle.std.specs.Prelude.{ℕ, List, map};
     ghost use Rattle.triple_arena_chain.specs.Listed.{listed_value};
 
@@ -27,7 +27,7 @@ impl<'a, P: Ptr, T> Model for Iter<'a, P, T> {
     ghost view = { λ it. map listed_value it.links };
 }
 
-impl<'a, P: Ptr, T> Iterator for Iter<'a, P, T> {
+impl<'a, P: PtrCore, T> Iterator for Iter<'a, P, T> {
     type Item = (P, &'a T);
 
     ghost next_gives = { YieldsFirstBy (λ e. (P.index e.0, (P.generation e.0, e.1.now))) (λ left. left) };
@@ -46,15 +46,15 @@ impl<'a, P: Ptr, T> Iterator for Iter<'a, P, T> {
     }
 }
 
-impl<'a, P: Ptr, T> FusedIterator for Iter<'a, P, T> {}
+impl<'a, P: PtrCore, T> FusedIterator for Iter<'a, P, T> {}
 
 /// The values of the links, in the order of the indexes, seen as the list of those that are left.
 #[derive(Drop)]
-pub struct Vals<'a, P: Ptr, T> {
+pub struct Vals<'a, P: PtrCore, T> {
     entries: Iter<'a, P, T>,
 }
 
-impl<'a, P: Ptr, T> Model for Vals<'a, P, T> {
+impl<'a, P: PtrCore, T> Model for Vals<'a, P, T> {
     ghost use Rattle.std.specs.Prelude.{List, map};
     ghost use Rattle.triple_arena.specs.Compression.{value_of};
 
@@ -63,7 +63,7 @@ impl<'a, P: Ptr, T> Model for Vals<'a, P, T> {
     ghost view = { λ it. map value_of it.entries };
 }
 
-impl<'a, P: Ptr, T> Vals<'a, P, T> {
+impl<'a, P: PtrCore, T> Vals<'a, P, T> {
     // Of the entries that are left.
     fn of(entries: Iter<'a, P, T>) -> Self
         ensures { result ≡ list_map value_of entries.entry }
@@ -72,7 +72,7 @@ impl<'a, P: Ptr, T> Vals<'a, P, T> {
     }
 }
 
-impl<'a, P: Ptr, T> Iterator for Vals<'a, P, T> {
+impl<'a, P: PtrCore, T> Iterator for Vals<'a, P, T> {
     type Item = &'a T;
 
     ghost next_gives = { YieldsFirstBy (λ value. value.now) (λ left. left) };
@@ -91,13 +91,9 @@ impl<'a, P: Ptr, T> Iterator for Vals<'a, P, T> {
     }
 }
 
-impl<'a, P: Ptr, T> FusedIterator for Vals<'a, P, T> {}
+impl<'a, P: PtrCore, T> FusedIterator for Vals<'a, P, T> {}
 
-impl<P: Ptr, T: Drop, S: NonZeroInxGenericStack<ArenaSlot<P, LinkNoGen<P, T>>>> ChainArena<
-    P,
-    T,
-    S,
-> {
+impl<P: PtrCore, T: Drop, S: ChainSlots<P, T>> ChainArena<P, T, S> {
     /// The pointers to the links, in the order of the indexes.
     pub fn ptrs(&self) -> Ptrs<'_, P, T>
         ensures { result ≡ list_map pointer_of (live_entries self.now) }
@@ -122,8 +118,7 @@ impl<P: Ptr, T: Drop, S: NonZeroInxGenericStack<ArenaSlot<P, LinkNoGen<P, T>>>> 
     }
 }
 
-impl<'a, P: Ptr, T: Drop, S: NonZeroInxGenericStack<ArenaSlot<P, LinkNoGen<P, T>>>> IntoIterator
-    for &'a ChainArena<P, T, S>
+impl<'a, P: PtrCore, T: Drop, S: ChainSlots<P, T>> IntoIterator for &'a ChainArena<P, T, S>
 where
     P::Inx: 'a,
 {

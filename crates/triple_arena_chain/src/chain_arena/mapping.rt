@@ -8,7 +8,7 @@ ghost use Rattle.triple_arena_chain.specs.Listed.{listed_value};
 ghost use Rattle.triple_arena_chain.specs.Renaming.{IsLeftWithNext};
 
 use crate::IndexLink;
-use triple_arena::{ArenaTrait, InvalidationOption, Ptr, PtrInx};
+use triple_arena::{ArenaTrait, InvalidationOption, PtrCore, PtrInxCore};
 
 // Moves the links to the first indexes, each with what `map` makes of its value, and forgets the previous indexes.
 pub(crate) fn compact_links<P, I, T, A, F>(
@@ -17,8 +17,8 @@ pub(crate) fn compact_links<P, I, T, A, F>(
     mut map: F,
 ) -> InvalidationOption<()>
 where
-    P: Ptr,
-    I: PtrInx,
+    P: PtrCore,
+    I: PtrInxCore,
     T: Drop,
     A: ArenaTrait<P, IndexLink<I, T>>,
     F: FnMut(P, T, P) -> T,

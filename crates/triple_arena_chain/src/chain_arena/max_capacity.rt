@@ -3,13 +3,14 @@ ghost use Rattle.triple_arena.specs.Content.{last_index as last_index_of, with_l
 
 use crate::{ChainArena, LinkNoGen};
 use triple_arena::{
-    ArenaSlot, ArenaTrait, MaxCapacityReductionError, NonZeroInxLimitedStack, Ptr, SetMaxCapacity,
+    ArenaSlot, ArenaTrait, MaxCapacityReductionError, NonZeroInxLimitedStack, PtrCore,
+    SetMaxCapacity,
 };
 
 impl<
-    P: Ptr,
+    P: PtrCore,
     T: Drop,
-    S: NonZeroInxLimitedStack<ArenaSlot<P, LinkNoGen<P, T>>> + Drop,
+    S: NonZeroInxLimitedStack<Item = ArenaSlot<P, LinkNoGen<P, T>>> + Drop,
 > SetMaxCapacity for ChainArena<P, T, S> {
     ghost least_limit = { last_index_of };
 

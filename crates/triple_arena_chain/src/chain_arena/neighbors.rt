@@ -3,14 +3,10 @@ ghost use Rattle.std.specs.Prelude.{◌≡◌, Some};
 ghost use Rattle.std.specs.Option.{option_map};
 ghost use Rattle.triple_arena_chain.specs.Values.{ptr_to};
 
-use crate::{ChainArena, LinkNoGen};
-use triple_arena::{ArenaSlot, ArenaTrait, NonZeroInxGenericStack, Ptr};
+use crate::{ChainArena, ChainSlots};
+use triple_arena::{ArenaTrait, PtrCore};
 
-impl<P: Ptr, T: Drop, S: NonZeroInxGenericStack<ArenaSlot<P, LinkNoGen<P, T>>> + Drop> ChainArena<
-    P,
-    T,
-    S,
-> {
+impl<P: PtrCore, T: Drop, S: ChainSlots<P, T>> ChainArena<P, T, S> {
     // The pointer to the link at an index, if it is live.
     pub(crate) fn ptr_at(&self, at: Option<P::Inx>) -> Option<P>
         ensures { option_map (λ p. (P.index p, P.generation p)) result

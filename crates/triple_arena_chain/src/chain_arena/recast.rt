@@ -3,11 +3,11 @@ ghost use Rattle.triple_arena.specs.Recasting.{content_items, content_recasted};
 ghost use Rattle.triple_arena.specs.RecastingLaws.{items-recasted};
 ghost use Rattle.triple_arena_chain.specs.LinkRecasting.{link_items, link_recasted};
 
-use crate::{ChainArena, IndexLink, LinkNoGen};
-use triple_arena::{ArenaSlot, ArenaTrait, NonZeroInxGenericStack, Ptr, PtrInx, Recast, Recaster};
+use crate::{ChainArena, ChainSlots, IndexLink};
+use triple_arena::{ArenaTrait, PtrCore, PtrInxCore, Recast, Recaster};
 
 /// The items are those of the value.
-impl<N, I: PtrInx, T: Recast<N>> Recast<N> for IndexLink<I, T> {
+impl<N, I: PtrInxCore, T: Recast<N>> Recast<N> for IndexLink<I, T> {
     ghost items = { link_items T.items };
 
     ghost recasted = { λ f link. link_recasted (T.recasted f) link };
@@ -20,12 +20,7 @@ impl<N, I: PtrInx, T: Recast<N>> Recast<N> for IndexLink<I, T> {
 }
 
 /// The items are those of the values, in the order of the indexes. The interlinks stay.
-impl<
-    N,
-    P: Ptr,
-    T: Recast<N> + Drop,
-    S: NonZeroInxGenericStack<ArenaSlot<P, LinkNoGen<P, T>>> + Drop,
-> Recast<N> for ChainArena<P, T, S> {
+impl<N, P: PtrCore, T: Recast<N> + Drop, S: ChainSlots<P, T>> Recast<N> for ChainArena<P, T, S> {
     ghost items = { content_items (link_items T.items) };
 
     ghost recasted = { λ f c. content_recasted (link_items T.items) f (link_recasted (T.recasted f)) c };

@@ -6,14 +6,10 @@ ghost use Rattle.triple_arena_chain.specs.Links.{prev_next_of, ends_in, ends_fou
 ghost use Rattle.triple_arena_chain.specs.Kinds.{ends_by, place_by};
 
 use crate::place::{Place, after_end, before_start, bridging, inside};
-use crate::{ChainArena, LinkInsertKind, LinkNoGen};
-use triple_arena::{ArenaSlot, ArenaTrait, NonZeroInxGenericStack, Ptr};
+use crate::{ChainArena, ChainSlots, LinkInsertKind};
+use triple_arena::{ArenaTrait, PtrCore};
 
-impl<P: Ptr, T: Drop, S: NonZeroInxGenericStack<ArenaSlot<P, LinkNoGen<P, T>>> + Drop> ChainArena<
-    P,
-    T,
-    S,
-> {
+impl<P: PtrCore, T: Drop, S: ChainSlots<P, T>> ChainArena<P, T, S> {
     // The previous and the next index of the link that `p` points to.
     pub(crate) fn ends_of(&self, p: P) -> Option<(Option<P::Inx>, Option<P::Inx>)>
         ensures value { result

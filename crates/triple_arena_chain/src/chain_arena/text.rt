@@ -1,14 +1,10 @@
 //! The debug text of a chain arena.
-use crate::{ChainArena, LinkNoGen};
+use crate::{ChainArena, ChainSlots};
 use std::fmt;
-use triple_arena::{ArenaSlot, NonZeroInxGenericStack, Ptr};
+use triple_arena::Ptr;
 
 /// A map from the pointers to the values, in the order of the indexes: `{P0[1](2): "test", P0[2](2): "hello"}`.
-impl<
-    P: Ptr,
-    T: fmt::Debug + Drop,
-    S: NonZeroInxGenericStack<ArenaSlot<P, LinkNoGen<P, T>>>,
-> fmt::Debug for ChainArena<P, T, S> {
+impl<P: Ptr, T: fmt::Debug + Drop, S: ChainSlots<P, T>> fmt::Debug for ChainArena<P, T, S> {
     fn fmt<W: fmt::Write>(&self, f: &mut fmt::Formatter<W>) -> fmt::Result {
         let mut out = f.debug_map();
         for (p, value) in self.iter() {

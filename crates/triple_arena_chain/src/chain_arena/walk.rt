@@ -8,16 +8,16 @@ ghost use Rattle.triple_arena_chain.specs.Links.{ends_in, values_in};
 ghost use Rattle.triple_arena_chain.specs.Walks.{walk_from, left_to, past_index, IsWalkAlong, ChainSteps};
 
 use crate::chain_iterators::IterLinkNoGen;
-use crate::{ChainArena, ChainArenaTrait, LinkNoGen};
+use crate::{ChainArena, ChainArenaTrait, ChainSlots, LinkNoGen};
 use std::marker::Model;
-use triple_arena::{Advancer, ArenaSlot, ArenaTrait, NonZeroInxGenericStack, Ptr};
+use triple_arena::{Advancer, ArenaTrait, PtrCore};
 
 /// Gives the pointers to the links of a chain, one a call: from a link on to the end and then backwards from the link
 /// before it, or once round a ring. The links are free between the calls.
 ///
 /// As it gives a link it notes the index that comes next, and later gives what is live there. Where nothing is, it ends.
 #[derive(Drop)]
-pub struct ChainPtrAdvancer<P: Ptr> {
+pub struct ChainPtrAdvancer<P: PtrCore> {
     // Where the walk began.
     start: P,
     // The index that comes next.
@@ -25,7 +25,7 @@ pub struct ChainPtrAdvancer<P: Ptr> {
     back: bool,
 }
 
-impl<P: Ptr> Model for ChainPtrAdvancer<P> {
+impl<P: PtrCore> Model for ChainPtrAdvancer<P> {
     ghost use Rattle.std.specs.Option.{option_map};
     ghost use Rattle.triple_arena_chain.specs.Walks.{ChainWalk};
 
@@ -38,7 +38,7 @@ impl<P: Ptr> Model for ChainPtrAdvancer<P> {
     } };
 }
 
-impl<P: Ptr> ChainPtrAdvancer<P> {
+impl<P: PtrCore> ChainPtrAdvancer<P> {
     // The walk that begins at a pointer.
     pub(crate) fn from(p: P) -> Self
         ensures { result ≡ walk_from (P.index p) }
@@ -51,7 +51,7 @@ impl<P: Ptr> ChainPtrAdvancer<P> {
     }
 
     // Goes on from a link with these neighbors, which it gave.
-    fn go_on<T: Drop, S: NonZeroInxGenericStack<ArenaSlot<P, LinkNoGen<P, T>>> + Drop>(
+    fn go_on<T: Drop, S: ChainSlots<P, T>>(
         &mut self,
         chains: &ChainArena<P, T, S>,
         prev: Option<P::Inx>,
@@ -81,11 +81,10 @@ impl<P: Ptr> ChainPtrAdvancer<P> {
     }
 
     // Gives the link where the walk is, and goes on from there. Where nothing is live the walk ends.
-    pub(crate) fn step<
-        'a,
-        T: Drop,
-        S: NonZeroInxGenericStack<ArenaSlot<P, LinkNoGen<P, T>>> + Drop,
-    >(&mut self, chains: &'a ChainArena<P, T, S>) -> Option<(P, &'a LinkNoGen<P, T>)>
+    pub(crate) fn step<'a, T: Drop, S: ChainSlots<P, T>>(
+        &mut self,
+        chains: &'a ChainArena<P, T, S>,
+    ) -> Option<(P, &'a LinkNoGen<P, T>)>
         ensures steps { ChainSteps (ends_in P.Inx.number chains.now) (values_in chains.now) self.old
             (option_map (λ e. (P.index e.0, P.generation e.0)) result) self.new }
         ensures link { IfSome result (λ e. get chains.now (P.index e.0) (P.generation e.0) ≡ Some e.1.now) }
@@ -104,9 +103,8 @@ impl<P: Ptr> ChainPtrAdvancer<P> {
     }
 }
 
-impl<P: Ptr, T: Drop, S: NonZeroInxGenericStack<ArenaSlot<P, LinkNoGen<P, T>>> + Drop> Advancer<
-    ChainArena<P, T, S>,
-> for ChainPtrAdvancer<P> {
+impl<P: PtrCore, T: Drop, S: ChainSlots<P, T>> Advancer<ChainArena<P, T, S>>
+    for ChainPtrAdvancer<P> {
     type Item = P;
 
     ghost remaining = { λ a _. left_to a.at };
@@ -130,11 +128,7 @@ impl<P: Ptr, T: Drop, S: NonZeroInxGenericStack<ArenaSlot<P, LinkNoGen<P, T>>> +
     }
 }
 
-impl<P: Ptr, T: Drop, S: NonZeroInxGenericStack<ArenaSlot<P, LinkNoGen<P, T>>> + Drop> ChainArena<
-    P,
-    T,
-    S,
-> {
+impl<P: PtrCore, T: Drop, S: ChainSlots<P, T>> ChainArena<P, T, S> {
     // The previous index of the link at an index.
     fn prev_of(&self, i: P::Inx) -> Option<P::Inx>
         ensures { option_map P.Inx.number result

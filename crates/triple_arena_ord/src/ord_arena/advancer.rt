@@ -3,16 +3,12 @@ ghost use Rattle.std.specs.Option.{option_map};
 ghost use Rattle.triple_arena.specs.Walk.{to_come, Steps};
 ghost use Rattle.triple_arena_ord.specs.Ordered.{entry_in};
 
-use crate::{SimpleOrdArena, SimpleOrdArenaNode};
+use crate::{OrdSlots, SimpleOrdArena, SimpleOrdArenaNode};
 use triple_arena::arena_iterators::PtrAdvancer;
-use triple_arena::{Advancer, ArenaSlot, NonZeroInxGenericStack, Ptr};
-use triple_arena_chain::{ChainArena, LinkNoGen};
+use triple_arena::{Advancer, PtrCore};
+use triple_arena_chain::ChainArena;
 
-impl<
-    P: Ptr,
-    T: Drop,
-    S: NonZeroInxGenericStack<ArenaSlot<P, LinkNoGen<P, SimpleOrdArenaNode<P, T>>>>,
-> Advancer<SimpleOrdArena<P, T, S>> for PtrAdvancer<P> {
+impl<P: PtrCore, T: Drop, S: OrdSlots<P, T>> Advancer<SimpleOrdArena<P, T, S>> for PtrAdvancer<P> {
     type Item = P;
 
     ghost remaining = { λ a _. to_come a };

@@ -5,19 +5,15 @@ ghost use Rattle.triple_arena_ord.specs.Ordered.{listed};
 ghost use Rattle.triple_arena_ord.specs.Canonical.{by_item};
 
 use crate::ord_iterators::Iter;
-use crate::{SimpleOrdArena, SimpleOrdArenaNode};
+use crate::{OrdSlots, SimpleOrdArena};
 use std::cmp::Ordering;
-use triple_arena::{ArenaSlot, NonZeroInxGenericStack, Ptr};
-use triple_arena_chain::LinkNoGen;
+use triple_arena::PtrCore;
 
 // Whether two lists of entries have equal items, and as many.
-fn same<
-    P: Ptr,
-    Q: Ptr,
-    T: PartialEq + Drop,
-    S: NonZeroInxGenericStack<ArenaSlot<P, LinkNoGen<P, SimpleOrdArenaNode<P, T>>>> + Drop,
-    R: NonZeroInxGenericStack<ArenaSlot<Q, LinkNoGen<Q, SimpleOrdArenaNode<Q, T>>>> + Drop,
->(left: Iter<'_, P, T, S>, right: Iter<'_, Q, T, R>) -> bool
+fn same<P: PtrCore, Q: PtrCore, T: PartialEq + Drop, S: OrdSlots<P, T>, R: OrdSlots<Q, T>>(
+    left: Iter<'_, P, T, S>,
+    right: Iter<'_, Q, T, R>,
+) -> bool
     ensures { result ≡ pointwise (by_item T.eq) left.entry right.entry }
 {
     let mut left = left;
@@ -35,11 +31,11 @@ fn same<
 
 // How the items of two lists of entries compare, where they may not.
 fn partial_order<
-    P: Ptr,
-    Q: Ptr,
+    P: PtrCore,
+    Q: PtrCore,
     T: PartialOrd + Drop,
-    S: NonZeroInxGenericStack<ArenaSlot<P, LinkNoGen<P, SimpleOrdArenaNode<P, T>>>> + Drop,
-    R: NonZeroInxGenericStack<ArenaSlot<Q, LinkNoGen<Q, SimpleOrdArenaNode<Q, T>>>> + Drop,
+    S: OrdSlots<P, T>,
+    R: OrdSlots<Q, T>,
 >(left: Iter<'_, P, T, S>, right: Iter<'_, Q, T, R>) -> Option<Ordering>
     ensures { result ≡ slice_partial_cmp (by_item T.partial_cmp) left.entry right.entry }
 {
@@ -65,13 +61,10 @@ fn partial_order<
 }
 
 // How the items of two lists of entries compare.
-fn order<
-    P: Ptr,
-    Q: Ptr,
-    T: Ord + Drop,
-    S: NonZeroInxGenericStack<ArenaSlot<P, LinkNoGen<P, SimpleOrdArenaNode<P, T>>>> + Drop,
-    R: NonZeroInxGenericStack<ArenaSlot<Q, LinkNoGen<Q, SimpleOrdArenaNode<Q, T>>>> + Drop,
->(left: Iter<'_, P, T, S>, right: Iter<'_, Q, T, R>) -> Ordering
+fn order<P: PtrCore, Q: PtrCore, T: Ord + Drop, S: OrdSlots<P, T>, R: OrdSlots<Q, T>>(
+    left: Iter<'_, P, T, S>,
+    right: Iter<'_, Q, T, R>,
+) -> Ordering
     ensures { result ≡ slice_cmp (by_item T.cmp) left.entry right.entry }
 {
     let mut left = left;
@@ -92,16 +85,12 @@ fn order<
     }
 }
 
-impl<
-    P: Ptr,
-    T: Drop,
-    S: NonZeroInxGenericStack<ArenaSlot<P, LinkNoGen<P, SimpleOrdArenaNode<P, T>>>> + Drop,
-> SimpleOrdArena<P, T, S> {
+impl<P: PtrCore, T: Drop, S: OrdSlots<P, T>> SimpleOrdArena<P, T, S> {
     /// Whether both lists have equal items, and as many. Pointers, generations and room are not looked at.
-    pub fn canonical_eq<
-        Q: Ptr,
-        R: NonZeroInxGenericStack<ArenaSlot<Q, LinkNoGen<Q, SimpleOrdArenaNode<Q, T>>>> + Drop,
-    >(&self, other: &SimpleOrdArena<Q, T, R>) -> bool
+    pub fn canonical_eq<Q: PtrCore, R: OrdSlots<Q, T>>(
+        &self,
+        other: &SimpleOrdArena<Q, T, R>,
+    ) -> bool
     where
         T: PartialEq,
         ensures { result ≡ pointwise (by_item T.eq) (listed P.Inx.number self.now) (listed Q.Inx.number other.now) }
@@ -111,10 +100,10 @@ impl<
 
     /// How the items of both lists compare: the first pair that is not equal decides, and else the lengths do, as for two
     /// vectors. `None` where the items of that pair do not compare.
-    pub fn canonical_partial_cmp<
-        Q: Ptr,
-        R: NonZeroInxGenericStack<ArenaSlot<Q, LinkNoGen<Q, SimpleOrdArenaNode<Q, T>>>> + Drop,
-    >(&self, other: &SimpleOrdArena<Q, T, R>) -> Option<Ordering>
+    pub fn canonical_partial_cmp<Q: PtrCore, R: OrdSlots<Q, T>>(
+        &self,
+        other: &SimpleOrdArena<Q, T, R>,
+    ) -> Option<Ordering>
     where
         T: PartialOrd,
         ensures { result ≡ slice_partial_cmp (by_item T.partial_cmp) (listed P.Inx.number self.now) (listed Q.Inx.number other.now) }
@@ -123,10 +112,10 @@ impl<
     }
 
     /// The same, of items that always compare.
-    pub fn canonical_cmp<
-        Q: Ptr,
-        R: NonZeroInxGenericStack<ArenaSlot<Q, LinkNoGen<Q, SimpleOrdArenaNode<Q, T>>>> + Drop,
-    >(&self, other: &SimpleOrdArena<Q, T, R>) -> Ordering
+    pub fn canonical_cmp<Q: PtrCore, R: OrdSlots<Q, T>>(
+        &self,
+        other: &SimpleOrdArena<Q, T, R>,
+    ) -> Ordering
     where
         T: Ord,
         ensures { result ≡ slice_cmp (by_item T.cmp) (listed P.Inx.number self.now) (listed Q.Inx.number other.now) }

@@ -3,15 +3,11 @@ ghost use Rattle.std.specs.Prelude.{◌≡◌, ◌↔◌, IsOk, IfErr, codes};
 ghost use Rattle.triple_arena_ord.specs.Ordered.{IsAscending};
 
 use crate::ascends::ascends;
-use crate::{SimpleOrdArena, SimpleOrdArenaNode, SimpleOrdItem};
-use triple_arena::{ArenaSlot, ArenaTrait, NonZeroInxGenericStack, Ptr};
-use triple_arena_chain::{ChainArena, LinkNoGen};
+use crate::{OrdSlots, SimpleOrdArena, SimpleOrdArenaNode, SimpleOrdItem};
+use triple_arena::{ArenaTrait, PtrCore};
+use triple_arena_chain::ChainArena;
 
-impl<
-    P: Ptr,
-    T: SimpleOrdItem + Drop,
-    S: NonZeroInxGenericStack<ArenaSlot<P, LinkNoGen<P, SimpleOrdArenaNode<P, T>>>> + Drop,
-> SimpleOrdArena<P, T, S> {
+impl<P: PtrCore, T: SimpleOrdItem + Drop, S: OrdSlots<P, T>> SimpleOrdArena<P, T, S> {
     /// Whether no key is greater than the next one. Where one is, it answers the error "incorrect ordering". All else that an
     /// arena keeps, its tree, ranks and list, needs no look: no call can break it.
     pub fn _check_invariants(this: &Self) -> Result<(), &'static str>

@@ -9,17 +9,10 @@ ghost use Rattle.triple_arena.specs.Changes.{IsCleared, IsInvalidated};
 ghost use Rattle.triple_arena_ord.specs.Ordered.{IsOrdered, order_in, entry_in, size_in, counter_in, room_in};
 ghost use Rattle.triple_arena_ord.specs.States.{cleared_in, invalidated_in};
 
-use crate::{SimpleOrdArena, SimpleOrdArenaNode};
-use triple_arena::{
-    ArenaSlot, ArenaTrait, InvalidationOption, InvalidationResult, NonZeroInxGenericStack, Ptr,
-};
-use triple_arena_chain::LinkNoGen;
+use crate::{OrdSlots, SimpleOrdArena};
+use triple_arena::{ArenaTrait, InvalidationOption, InvalidationResult, PtrCore};
 
-impl<
-    P: Ptr,
-    T: Drop,
-    S: NonZeroInxGenericStack<ArenaSlot<P, LinkNoGen<P, SimpleOrdArenaNode<P, T>>>> + Drop,
-> SimpleOrdArena<P, T, S> {
+impl<P: PtrCore, T: Drop, S: OrdSlots<P, T>> SimpleOrdArena<P, T, S> {
     /// Removes every entry and every slot, and steps the counter once, also where there was no entry.
     pub fn clear(&mut self) -> InvalidationOption<()>
         ensures overflow { overflowed result ≡ next_wraps P.Gen.last self.old.chains.counter }

@@ -6,10 +6,10 @@ ghost use Rattle.triple_arena.specs.Content.{empty};
 ghost use Rattle.triple_arena_ord.specs.Ordered.{IsOrdered};
 
 use crate::{SimpleOrdArena, SimpleOrdArenaNode};
-use triple_arena::{ArenaSlot, NonZeroInxArray, Ptr};
+use triple_arena::{ArenaSlot, NonZeroInxArray, PtrCore};
 use triple_arena_chain::LinkNoGen;
 
-impl<P: Ptr, T: Drop, const LIMIT: usize> Default
+impl<P: PtrCore, T: Drop, const LIMIT: usize> Default
     for SimpleOrdArena<
         P,
         T,

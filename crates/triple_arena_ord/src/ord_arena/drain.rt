@@ -4,10 +4,9 @@ ghost use Rattle.std.specs.Iterator.{item_count};
 ghost use Rattle.triple_arena_ord.specs.Ordered.{IsOrdered};
 ghost use Rattle.triple_arena_ord.specs.OrderedDrains.{drain_arena, drain_lender, drain_rest, drain_leaves, TakesFirst, DrainSteps, DrainKeepsAlong};
 
-use crate::{SimpleOrdArena, SimpleOrdArenaNode};
+use crate::{OrdSlots, SimpleOrdArena};
 use std::iter::FusedIterator;
-use triple_arena::{ArenaSlot, ArenaTrait, InvalidationOption, NonZeroInxGenericStack, Ptr};
-use triple_arena_chain::LinkNoGen;
+use triple_arena::{ArenaTrait, InvalidationOption, PtrCore};
 
 /// Takes the entries out of an arena, from the first of the list to the last.
 ///
@@ -15,20 +14,11 @@ use triple_arena_chain::LinkNoGen;
 /// again. Dropped, at whatever item, it clears the arena: the entries that are left go at once, by one step of the counter
 /// more, which is made also where none is left, and no slot stays. What is left when it is never dropped is an arena
 /// without the entries that it gave.
-pub struct OrderedDrain<
-    'a,
-    P: Ptr,
-    T: Drop,
-    S: NonZeroInxGenericStack<ArenaSlot<P, LinkNoGen<P, SimpleOrdArenaNode<P, T>>>> + Drop,
-> {
+pub struct OrderedDrain<'a, P: PtrCore, T: Drop, S: OrdSlots<P, T>> {
     arena: &'a mut SimpleOrdArena<P, T, S>,
 }
 
-impl<
-    P: Ptr,
-    T: Drop,
-    S: NonZeroInxGenericStack<ArenaSlot<P, LinkNoGen<P, SimpleOrdArenaNode<P, T>>>> + Drop,
-> SimpleOrdArena<P, T, S> {
+impl<P: PtrCore, T: Drop, S: OrdSlots<P, T>> SimpleOrdArena<P, T, S> {
     /// Takes each entry out, from the first of the list to the last. Once the iterator is dropped the arena has no entry
     /// and no slot, its counter has stepped once for each item and once more, and its room is as it was.
     pub fn drain_ordered(&mut self) -> OrderedDrain<'_, P, T, S>
@@ -54,12 +44,7 @@ impl<
     }
 }
 
-impl<
-    'a,
-    P: Ptr,
-    T: Drop,
-    S: NonZeroInxGenericStack<ArenaSlot<P, LinkNoGen<P, SimpleOrdArenaNode<P, T>>>> + Drop,
-> Drop for OrderedDrain<'a, P, T, S> {
+impl<'a, P: PtrCore, T: Drop, S: OrdSlots<P, T>> Drop for OrderedDrain<'a, P, T, S> {
     fn drop(self)
         ensures value { self.exit.0.now ≡ drain_leaves P.Gen.last self.entry }
         ensures ordered { IsOrdered P.Inx.number self.exit.0.now }
@@ -69,12 +54,7 @@ impl<
     }
 }
 
-impl<
-    'a,
-    P: Ptr,
-    T: Drop,
-    S: NonZeroInxGenericStack<ArenaSlot<P, LinkNoGen<P, SimpleOrdArenaNode<P, T>>>> + Drop,
-> Iterator for OrderedDrain<'a, P, T, S> {
+impl<'a, P: PtrCore, T: Drop, S: OrdSlots<P, T>> Iterator for OrderedDrain<'a, P, T, S> {
     type Item = InvalidationOption<(P, T)>;
 
     ghost next_gives = { DrainSteps P.Gen.last P.Inx.number P.index P.generation };
@@ -91,9 +71,4 @@ impl<
     }
 }
 
-impl<
-    'a,
-    P: Ptr,
-    T: Drop,
-    S: NonZeroInxGenericStack<ArenaSlot<P, LinkNoGen<P, SimpleOrdArenaNode<P, T>>>> + Drop,
-> FusedIterator for OrderedDrain<'a, P, T, S> {}
+impl<'a, P: PtrCore, T: Drop, S: OrdSlots<P, T>> FusedIterator for OrderedDrain<'a, P, T, S> {}

@@ -7,15 +7,10 @@ ghost use Rattle.triple_arena_ord.specs.Ordered.{IsOrdered, order_in, entry_in};
 ghost use Rattle.triple_arena_ord.specs.OrderedWalks.{IsEnd};
 
 use crate::ord_arena::found::ptr_at;
-use crate::{SimpleOrdArena, SimpleOrdArenaNode};
-use triple_arena::{ArenaSlot, NonZeroInxGenericStack, Ptr};
-use triple_arena_chain::LinkNoGen;
+use crate::{OrdSlots, SimpleOrdArena};
+use triple_arena::PtrCore;
 
-impl<
-    P: Ptr,
-    T: Drop,
-    S: NonZeroInxGenericStack<ArenaSlot<P, LinkNoGen<P, SimpleOrdArenaNode<P, T>>>> + Drop,
-> SimpleOrdArena<P, T, S> {
+impl<P: PtrCore, T: Drop, S: OrdSlots<P, T>> SimpleOrdArena<P, T, S> {
     // The index of the first entry.
     pub(crate) fn first_index(&self) -> Option<P::Inx>
         ensures at { option_map P.Inx.number result ≡ first_or (order_in P.Inx.number self.now) None }

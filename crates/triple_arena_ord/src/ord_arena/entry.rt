@@ -12,32 +12,21 @@ ghost use Rattle.triple_arena_ord.specs.Ordered.{IsOrdered, entry_in, size_in};
 
 use crate::ord_arena::found::found_at;
 use crate::ord_arena::insert::grown_error;
-use crate::{OrdEntryKind, OrdInsertKind, SimpleOrdArena, SimpleOrdArenaNode, SimpleOrdItem};
+use crate::{OrdEntryKind, OrdInsertKind, OrdSlots, SimpleOrdArena, SimpleOrdItem};
 use std::cmp::Ordering;
-use triple_arena::{ArenaSlot, NonZeroInxGenericStack, Ptr};
-use triple_arena_chain::LinkNoGen;
+use triple_arena::PtrCore;
 use triple_arena_ptr::OrdInsertionError;
 use unreached::unreached;
 
 /// A place for one item more. Dropped unused, it leaves the entries as they are.
 #[derive(Drop)]
-pub struct SimpleOrdArenaInsertEntry<
-    'a,
-    P: Ptr,
-    T: Drop,
-    S: NonZeroInxGenericStack<ArenaSlot<P, LinkNoGen<P, SimpleOrdArenaNode<P, T>>>>,
-> {
+pub struct SimpleOrdArenaInsertEntry<'a, P: PtrCore, T: Drop, S: OrdSlots<P, T>> {
     arena: &'a mut SimpleOrdArena<P, T, S>,
     place: Option<(P::Inx, Ordering)>,
     ptr: P,
 }
 
-impl<
-    'a,
-    P: Ptr,
-    T: Drop,
-    S: NonZeroInxGenericStack<ArenaSlot<P, LinkNoGen<P, SimpleOrdArenaNode<P, T>>>> + Drop,
-> SimpleOrdArenaInsertEntry<'a, P, T, S> {
+impl<'a, P: PtrCore, T: Drop, S: OrdSlots<P, T>> SimpleOrdArenaInsertEntry<'a, P, T, S> {
     /// The pointer that the item gets: a new one, or that of the item which it replaces.
     pub fn ptr(&self) -> OrdEntryKind<P>
         ensures { result ≡ kind_at (entry_place P.Inx.number self.now) self.now.ptr }
@@ -79,11 +68,7 @@ impl<
     }
 }
 
-impl<
-    P: Ptr,
-    T: Drop,
-    S: NonZeroInxGenericStack<ArenaSlot<P, LinkNoGen<P, SimpleOrdArenaNode<P, T>>>> + Drop,
-> SimpleOrdArena<P, T, S> {
+impl<P: PtrCore, T: Drop, S: OrdSlots<P, T>> SimpleOrdArena<P, T, S> {
     // The pointer that an item gets at a place: that of the entry there, or a new one, if there is room for it.
     fn ptr_within_capacity(&mut self, place: Option<(P::Inx, Ordering)>) -> Option<P>
         requires live { IfSome place (λ a. IsSome (entry_in self.old (P.Inx.number a.0))) }
@@ -128,11 +113,7 @@ impl<
     }
 }
 
-impl<
-    P: Ptr,
-    T: SimpleOrdItem + Drop,
-    S: NonZeroInxGenericStack<ArenaSlot<P, LinkNoGen<P, SimpleOrdArenaNode<P, T>>>> + Drop,
-> SimpleOrdArena<P, T, S> {
+impl<P: PtrCore, T: SimpleOrdItem + Drop, S: OrdSlots<P, T>> SimpleOrdArena<P, T, S> {
     ghost use Rattle.triple_arena_ord.specs.contracts.ord_arena.SimpleOrdArena.{the_row};
 
     /// A place for one item more, where the kind says. It answers `FailedOrdRequirement` for `Empty` where there is an entry,
@@ -149,10 +130,7 @@ impl<
         ensures same_reference { IfOk result (λ e. entry_lender e ≡ self.entry.ghost_name) }
         ensures arena { IfOk result (λ e. entry_arena e ≡ self.old) }
         ensures* err { sem 𝓛 (RestsIfErr
-            (the_row P.row T.row S.row P.Inx.row P.Gen.row S.Alloc.row P.Ptr.own P.Debug P.Hash.own
-            P.PartialEq P.Ord.own P.PartialOrd.own P.Inx.PtrInx.own P.Inx.Debug P.Inx.Hash.own
-            P.Inx.PartialEq P.Inx.Ord.own P.Inx.PartialOrd.own P.Gen.PtrGen.own P.Gen.Debug
-            P.Gen.Hash.own P.Gen.PartialEq P.Gen.Ord.own P.Gen.PartialOrd.own
+            (the_row P.row T.row S.row P.Inx.row P.Gen.row S.Alloc.row P.PtrCore P.Inx.PtrInxCore.own P.Inx.PartialEq P.Gen.PtrGenCore.own P.Gen.PartialEq
             S.NonZeroInxGenericStack) self.entry entry_lender result (λ a. a ≡ self.old)) }
     {
         let Some(place) = self.place_for(kind) else {
@@ -182,10 +160,7 @@ impl<
         ensures arena { IfOk result (λ e. IsInRoom P.Inx.number (room_for (entry_place P.Inx.number e)
             (size_in self.old) self.old.chains.room) self.old (entry_arena e)) }
         ensures* err { sem 𝓛 (RestsIfErr
-            (the_row P.row T.row S.row P.Inx.row P.Gen.row S.Alloc.row P.Ptr.own P.Debug P.Hash.own
-            P.PartialEq P.Ord.own P.PartialOrd.own P.Inx.PtrInx.own P.Inx.Debug P.Inx.Hash.own
-            P.Inx.PartialEq P.Inx.Ord.own P.Inx.PartialOrd.own P.Gen.PtrGen.own P.Gen.Debug
-            P.Gen.Hash.own P.Gen.PartialEq P.Gen.Ord.own P.Gen.PartialOrd.own
+            (the_row P.row T.row S.row P.Inx.row P.Gen.row S.Alloc.row P.PtrCore P.Inx.PtrInxCore.own P.Inx.PartialEq P.Gen.PtrGenCore.own P.Gen.PartialEq
             S.NonZeroInxGenericStack) self.entry entry_lender result (λ a. a ≡ self.old)) }
     {
         let Some(place) = self.place_for(kind) else {
@@ -212,10 +187,7 @@ impl<
         ensures arena { IfOk result (λ e. IsInRoom P.Inx.number (room_for (entry_place P.Inx.number e)
             (size_in self.old) self.old.chains.room) self.old (entry_arena e)) }
         ensures* err { sem 𝓛 (RestsIfErr
-            (the_row P.row T.row S.row P.Inx.row P.Gen.row S.Alloc.row P.Ptr.own P.Debug P.Hash.own
-            P.PartialEq P.Ord.own P.PartialOrd.own P.Inx.PtrInx.own P.Inx.Debug P.Inx.Hash.own
-            P.Inx.PartialEq P.Inx.Ord.own P.Inx.PartialOrd.own P.Gen.PtrGen.own P.Gen.Debug
-            P.Gen.Hash.own P.Gen.PartialEq P.Gen.Ord.own P.Gen.PartialOrd.own
+            (the_row P.row T.row S.row P.Inx.row P.Gen.row S.Alloc.row P.PtrCore P.Inx.PtrInxCore.own P.Inx.PartialEq P.Gen.PtrGenCore.own P.Gen.PartialEq
             S.NonZeroInxGenericStack) self.entry entry_lender result (λ a. a ≡ self.old)) }
     {
         self.entry_insert_reallocating(kind)

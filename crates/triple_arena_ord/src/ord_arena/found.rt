@@ -5,18 +5,17 @@ ghost use Rattle.std.specs.declared.cmp.Ordering.{Ordering as Way};
 ghost use Rattle.triple_arena.specs.Entries.{generation_at};
 ghost use Rattle.triple_arena_ord.specs.Node.{items_in};
 
-use crate::SimpleOrdArenaNode;
+use crate::{OrdSlots, SimpleOrdArenaNode};
 use std::cmp::Ordering;
-use triple_arena::{ArenaSlot, ArenaTrait, NonZeroInxGenericStack, Ptr, PtrInx};
-use triple_arena_chain::{ChainArena, LinkNoGen};
+use triple_arena::{ArenaTrait, PtrCore, PtrInxCore};
+use triple_arena_chain::ChainArena;
 use unreached::unreached;
 
 // The pointer to the entry at an index that is live.
-pub(crate) fn ptr_at<
-    P: Ptr,
-    T: Drop,
-    S: NonZeroInxGenericStack<ArenaSlot<P, LinkNoGen<P, SimpleOrdArenaNode<P, T>>>> + Drop,
->(chains: &ChainArena<P, SimpleOrdArenaNode<P, T>, S>, i: P::Inx) -> P
+pub(crate) fn ptr_at<P: PtrCore, T: Drop, S: OrdSlots<P, T>>(
+    chains: &ChainArena<P, SimpleOrdArenaNode<P, T>, S>,
+    i: P::Inx,
+) -> P
     requires { IsSome (items_in chains.now (P.Inx.number i)) }
     ensures index { P.index result ≡ P.Inx.number i }
     ensures live { generation_at (items_in chains.now) (P.index result) ≡ Some (P.generation result) }
@@ -28,11 +27,7 @@ pub(crate) fn ptr_at<
 }
 
 // The pointer to where a search ended, with its last answer.
-pub(crate) fn similar_at<
-    P: Ptr,
-    T: Drop,
-    S: NonZeroInxGenericStack<ArenaSlot<P, LinkNoGen<P, SimpleOrdArenaNode<P, T>>>> + Drop,
->(
+pub(crate) fn similar_at<P: PtrCore, T: Drop, S: OrdSlots<P, T>>(
     chains: &ChainArena<P, SimpleOrdArenaNode<P, T>, S>,
     place: Option<(P::Inx, Ordering)>,
 ) -> Option<(P, Ordering)>
@@ -47,11 +42,7 @@ pub(crate) fn similar_at<
 }
 
 // The pointer to where a search ended, if it found what it looked for.
-pub(crate) fn found_at<
-    P: Ptr,
-    T: Drop,
-    S: NonZeroInxGenericStack<ArenaSlot<P, LinkNoGen<P, SimpleOrdArenaNode<P, T>>>> + Drop,
->(
+pub(crate) fn found_at<P: PtrCore, T: Drop, S: OrdSlots<P, T>>(
     chains: &ChainArena<P, SimpleOrdArenaNode<P, T>, S>,
     place: Option<(P::Inx, Ordering)>,
 ) -> Option<P>

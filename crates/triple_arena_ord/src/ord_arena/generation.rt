@@ -6,15 +6,10 @@ ghost use Rattle.triple_arena_ptr.specs.InvalidationOption.{overflowed};
 ghost use Rattle.triple_arena_ord.specs.Ordered.{IsOrdered, counter_in};
 ghost use Rattle.triple_arena_ord.specs.States.{with_counter_in, stepped_in};
 
-use crate::{SimpleOrdArena, SimpleOrdArenaNode};
-use triple_arena::{ArenaSlot, ArenaTrait, InvalidationOption, NonZeroInxGenericStack, Ptr};
-use triple_arena_chain::LinkNoGen;
+use crate::{OrdSlots, SimpleOrdArena};
+use triple_arena::{ArenaTrait, InvalidationOption, PtrCore};
 
-impl<
-    P: Ptr,
-    T: Drop,
-    S: NonZeroInxGenericStack<ArenaSlot<P, LinkNoGen<P, SimpleOrdArenaNode<P, T>>>> + Drop,
-> SimpleOrdArena<P, T, S> {
+impl<P: PtrCore, T: Drop, S: OrdSlots<P, T>> SimpleOrdArena<P, T, S> {
     /// The counter, which is the generation of the next entry.
     pub fn generation(&self) -> P::Gen
         ensures { P.Gen.number result ≡ self.now.chains.counter }

@@ -9,15 +9,11 @@ ghost use Rattle.triple_arena.specs.Content.{arena_capacity, next_index, empty};
 ghost use Rattle.triple_arena_ord.specs.Growth.{IsInRoom, IsRoomRefusal};
 ghost use Rattle.triple_arena_ord.specs.Ordered.{IsOrdered, entry_in, size_in};
 
-use crate::{SimpleOrdArena, SimpleOrdArenaNode};
-use triple_arena::{ArenaSlot, ArenaTrait, NonZeroInxGenericStack, Ptr, ReallocationError};
-use triple_arena_chain::{ChainArena, LinkNoGen};
+use crate::{OrdSlots, SimpleOrdArena};
+use triple_arena::{ArenaTrait, PtrCore, ReallocationError};
+use triple_arena_chain::ChainArena;
 
-impl<
-    P: Ptr,
-    T: Drop,
-    S: NonZeroInxGenericStack<ArenaSlot<P, LinkNoGen<P, SimpleOrdArenaNode<P, T>>>> + Drop,
-> SimpleOrdArena<P, T, S> {
+impl<P: PtrCore, T: Drop, S: OrdSlots<P, T>> SimpleOrdArena<P, T, S> {
     /// An arena without an entry, with room for `min` of them. It answers `BeyondMaxCapacity` where no arena of this type has
     /// so much, and `AllocError` where the memory was refused.
     pub fn with_min_capacity(alloc: S::Alloc, min: usize) -> Result<Self, ReallocationError>

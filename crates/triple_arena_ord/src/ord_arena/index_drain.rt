@@ -12,34 +12,21 @@ ghost use Rattle.triple_arena_ord.specs.Ordered.{IsOrdered, entry_in, size_in};
 ghost use Rattle.triple_arena_ord.specs.OrderedDrains.{emptied_after};
 ghost use Rattle.triple_arena_ord.specs.Removal.{IsRemoved};
 
-use crate::{SimpleOrdArena, SimpleOrdArenaNode};
+use crate::{OrdSlots, SimpleOrdArena};
 use std::iter::FusedIterator;
 use triple_arena::arena_iterators::PtrAdvancer;
-use triple_arena::{
-    Advancer, ArenaSlot, ArenaTrait, InvalidationOption, InvalidationResult,
-    NonZeroInxGenericStack, Ptr,
-};
-use triple_arena_chain::LinkNoGen;
+use triple_arena::{Advancer, ArenaTrait, InvalidationOption, InvalidationResult, PtrCore};
 
 /// Takes the entries out of an arena, in the order of the indexes, and gives their pointers and items.
 ///
 /// Each item is one removal, which steps the counter; it is `GenerationOverflow` where that step started the generations
 /// again. Dropped, at whatever item, it takes those that are left, with a step for each, and leaves no slot.
-pub struct Drain<
-    'a,
-    P: Ptr,
-    T: Drop,
-    S: NonZeroInxGenericStack<ArenaSlot<P, LinkNoGen<P, SimpleOrdArenaNode<P, T>>>> + Drop,
-> {
+pub struct Drain<'a, P: PtrCore, T: Drop, S: OrdSlots<P, T>> {
     arena: &'a mut SimpleOrdArena<P, T, S>,
     walk: PtrAdvancer<P>,
 }
 
-impl<
-    P: Ptr,
-    T: Drop,
-    S: NonZeroInxGenericStack<ArenaSlot<P, LinkNoGen<P, SimpleOrdArenaNode<P, T>>>> + Drop,
-> SimpleOrdArena<P, T, S> {
+impl<P: PtrCore, T: Drop, S: OrdSlots<P, T>> SimpleOrdArena<P, T, S> {
     /// Takes each entry out, in the order of the indexes. Once the iterator is dropped, the arena has no entry and no slot,
     /// its counter has stepped once for each entry that it had, and its room is as it was.
     pub fn drain(&mut self) -> Drain<'_, P, T, S>
@@ -93,12 +80,7 @@ impl<
     }
 }
 
-impl<
-    'a,
-    P: Ptr,
-    T: Drop,
-    S: NonZeroInxGenericStack<ArenaSlot<P, LinkNoGen<P, SimpleOrdArenaNode<P, T>>>> + Drop,
-> Drop for Drain<'a, P, T, S> {
+impl<'a, P: PtrCore, T: Drop, S: OrdSlots<P, T>> Drop for Drain<'a, P, T, S> {
     fn drop(self)
         ensures value { self.exit.0.now ≡ drain_leaves P.Gen.last self.entry }
         ensures ordered { IsOrdered P.Inx.number self.exit.0.now }
@@ -108,12 +90,7 @@ impl<
     }
 }
 
-impl<
-    'a,
-    P: Ptr,
-    T: Drop,
-    S: NonZeroInxGenericStack<ArenaSlot<P, LinkNoGen<P, SimpleOrdArenaNode<P, T>>>> + Drop,
-> Iterator for Drain<'a, P, T, S> {
+impl<'a, P: PtrCore, T: Drop, S: OrdSlots<P, T>> Iterator for Drain<'a, P, T, S> {
     type Item = InvalidationOption<(P, T)>;
 
     ghost can_next = { DrainCanStep };
@@ -134,20 +111,10 @@ impl<
     }
 }
 
-impl<
-    'a,
-    P: Ptr,
-    T: Drop,
-    S: NonZeroInxGenericStack<ArenaSlot<P, LinkNoGen<P, SimpleOrdArenaNode<P, T>>>> + Drop,
-> ExactSizeIterator for Drain<'a, P, T, S> {
+impl<'a, P: PtrCore, T: Drop, S: OrdSlots<P, T>> ExactSizeIterator for Drain<'a, P, T, S> {
     fn len(&self) -> usize {
         self.arena.len()
     }
 }
 
-impl<
-    'a,
-    P: Ptr,
-    T: Drop,
-    S: NonZeroInxGenericStack<ArenaSlot<P, LinkNoGen<P, SimpleOrdArenaNode<P, T>>>> + Drop,
-> FusedIterator for Drain<'a, P, T, S> {}
+impl<'a, P: PtrCore, T: Drop, S: OrdSlots<P, T>> FusedIterator for Drain<'a, P, T, S> {}

@@ -4,17 +4,12 @@ ghost use Rattle.triple_arena.specs.Entries.{value_if};
 ghost use Rattle.triple_arena_ord.specs.Ordered.{entry_in};
 
 use crate::ord_arena::lending::ItemAtMut;
-use crate::{SimpleOrdArena, SimpleOrdArenaNode};
+use crate::{OrdSlots, SimpleOrdArena};
 use std::ops::{Index, IndexMut};
-use triple_arena::{ArenaSlot, NonZeroInxGenericStack, Ptr};
-use triple_arena_chain::LinkNoGen;
+use triple_arena::PtrCore;
 use unreached::unreached;
 
-impl<
-    P: Ptr,
-    T: Drop,
-    S: NonZeroInxGenericStack<ArenaSlot<P, LinkNoGen<P, SimpleOrdArenaNode<P, T>>>> + Drop,
-> Index<P> for SimpleOrdArena<P, T, S> {
+impl<P: PtrCore, T: Drop, S: OrdSlots<P, T>> Index<P> for SimpleOrdArena<P, T, S> {
     type Output = T;
 
     ghost can_index = { λ o p. IsSome (value_if (P.generation p) (entry_in o (P.index p))) };
@@ -29,11 +24,7 @@ impl<
     }
 }
 
-impl<
-    P: Ptr,
-    T: Drop,
-    S: NonZeroInxGenericStack<ArenaSlot<P, LinkNoGen<P, SimpleOrdArenaNode<P, T>>>> + Drop,
-> IndexMut<P> for SimpleOrdArena<P, T, S> {
+impl<P: PtrCore, T: Drop, S: OrdSlots<P, T>> IndexMut<P> for SimpleOrdArena<P, T, S> {
     ghost use Rattle.std.specs.Prelude.{◌≡◌, Some, IsSome};
     ghost use Rattle.std.specs.Borrow.{sem, Lends};
     ghost use Rattle.triple_arena.specs.Entries.{value_if};
@@ -44,10 +35,7 @@ impl<
     fn index_mut(&mut self, p: P) -> &mut T
         requires { IsSome (value_if (P.generation p) (entry_in self.old (P.index p))) }
         ensures* writes_back { sem 𝓛 (Lends
-            (the_row P.row T.row S.row P.Inx.row P.Gen.row S.Alloc.row P.Ptr.own P.Debug P.Hash.own
-            P.PartialEq P.Ord.own P.PartialOrd.own P.Inx.PtrInx.own P.Inx.Debug P.Inx.Hash.own
-            P.Inx.PartialEq P.Inx.Ord.own P.Inx.PartialOrd.own P.Gen.PtrGen.own P.Gen.Debug
-            P.Gen.Hash.own P.Gen.PartialEq P.Gen.Ord.own P.Gen.PartialOrd.own
+            (the_row P.row T.row S.row P.Inx.row P.Gen.row S.Alloc.row P.PtrCore P.Inx.PtrInxCore.own P.Inx.PartialEq P.Gen.PtrGenCore.own P.Gen.PartialEq
             S.NonZeroInxGenericStack) T.row self.entry result
             (with_item self.old (P.index p))) }
         ensures value { value_if (P.generation p) (entry_in self.old (P.index p)) ≡ Some result.now }

@@ -6,24 +6,21 @@ ghost use Rattle.rank_tree.specs.Search.{IsFreeAt};
 ghost use Rattle.triple_arena_ord.specs.Ordered.{IsOrdered, IsAscending, size_in};
 ghost use Rattle.triple_arena_ord.specs.Inserted.{IsRenewed, IsReplaced, IsInsertedAt, IsInserted, Replaces, within_room, growing_room, room_made};
 
-use crate::{SimpleOrdArena, SimpleOrdArenaNode, SimpleOrdItem};
+use crate::{OrdSlots, SimpleOrdArena, SimpleOrdArenaNode, SimpleOrdItem};
 use rank_tree::Side;
 use std::cmp::Ordering;
 use std::mem;
-use triple_arena::{
-    ArenaSlot, ArenaTrait, NonZeroInxGenericStack, NotWithinCapacityError, Ptr, PtrInx,
-    ReallocationError,
-};
-use triple_arena_chain::{ChainArena, LinkNoGen};
+use triple_arena::{ArenaTrait, NotWithinCapacityError, PtrCore, PtrInxCore, ReallocationError};
+use triple_arena_chain::ChainArena;
 use triple_arena_ptr::{OrdInsertionError, Probes};
 use unreached::unreached;
 
 // Another item in a node, and the one that it had.
-fn renew<
-    P: Ptr,
-    T: Drop,
-    S: NonZeroInxGenericStack<ArenaSlot<P, LinkNoGen<P, SimpleOrdArenaNode<P, T>>>> + Drop,
->(chains: &mut ChainArena<P, SimpleOrdArenaNode<P, T>, S>, i: P::Inx, t: T) -> (P, T)
+fn renew<P: PtrCore, T: Drop, S: OrdSlots<P, T>>(
+    chains: &mut ChainArena<P, SimpleOrdArenaNode<P, T>, S>,
+    i: P::Inx,
+    t: T,
+) -> (P, T)
     requires { IsSome (knots_in P.Inx.number chains.old (P.Inx.number i)) }
     ensures index { P.index result.0 ≡ P.Inx.number i }
     ensures renewed { IsRenewed P.Inx.number (P.index result.0) (P.generation result.0) t result.1 chains.old chains.new }
@@ -64,7 +61,7 @@ pub(crate) fn grown_error(error: ReallocationError) -> OrdInsertionError
 }
 
 // Whether an insertion there replaces an item, and needs no room.
-pub(crate) fn replaces<I: PtrInx>(place: Option<(I, Ordering)>) -> bool
+pub(crate) fn replaces<I: PtrInxCore>(place: Option<(I, Ordering)>) -> bool
     ensures { IsTrue result ↔ Replaces (option_map (λ a. (I.number a.0, a.1)) place) }
 {
     match place {
@@ -73,11 +70,7 @@ pub(crate) fn replaces<I: PtrInx>(place: Option<(I, Ordering)>) -> bool
     }
 }
 
-impl<
-    P: Ptr,
-    T: Drop,
-    S: NonZeroInxGenericStack<ArenaSlot<P, LinkNoGen<P, SimpleOrdArenaNode<P, T>>>> + Drop,
-> SimpleOrdArena<P, T, S> {
+impl<P: PtrCore, T: Drop, S: OrdSlots<P, T>> SimpleOrdArena<P, T, S> {
     // Another item at an index, and the one that stood there.
     pub(crate) fn replace_item(&mut self, i: P::Inx, t: T) -> (P, T)
         requires { IsSome (knots_in P.Inx.number self.old.chains (P.Inx.number i)) }
@@ -141,11 +134,7 @@ impl<
     }
 }
 
-impl<
-    P: Ptr,
-    T: SimpleOrdItem + Drop,
-    S: NonZeroInxGenericStack<ArenaSlot<P, LinkNoGen<P, SimpleOrdArenaNode<P, T>>>> + Drop,
-> SimpleOrdArena<P, T, S> {
+impl<P: PtrCore, T: SimpleOrdItem + Drop, S: OrdSlots<P, T>> SimpleOrdArena<P, T, S> {
     /// Puts an item in where its key belongs. Where an entry with an equal key is found its item is replaced, and answered,
     /// whether or not there is room. Else there is a new entry; `NotWithinCapacity`, where there is no room for it, changes
     /// nothing. A list whose keys ascend still does.

@@ -3,28 +3,19 @@ ghost use Rattle.std.specs.Prelude.{◌≡◌};
 ghost use Rattle.std.specs.Iterator.{YieldsFirstBy, item_count};
 ghost use Rattle.triple_arena_ord.specs.Ordered.{listed};
 
-use crate::{SimpleOrdArena, SimpleOrdArenaNode};
+use crate::{OrdSlots, SimpleOrdArena};
 use std::iter::FusedIterator;
 use std::marker::Model;
-use triple_arena::{ArenaSlot, NonZeroInxGenericStack, Ptr};
-use triple_arena_chain::LinkNoGen;
+use triple_arena::PtrCore;
 
 /// The pointers and the items of the entries, by value, from the first of the list to the last, seen as the list of those
 /// that are left. Dropped, it drops those.
 #[derive(Drop)]
-pub struct CapacityDrain<
-    P: Ptr,
-    T: Drop,
-    S: NonZeroInxGenericStack<ArenaSlot<P, LinkNoGen<P, SimpleOrdArenaNode<P, T>>>> + Drop,
-> {
+pub struct CapacityDrain<P: PtrCore, T: Drop, S: OrdSlots<P, T>> {
     arena: SimpleOrdArena<P, T, S>,
 }
 
-impl<
-    P: Ptr,
-    T: Drop,
-    S: NonZeroInxGenericStack<ArenaSlot<P, LinkNoGen<P, SimpleOrdArenaNode<P, T>>>> + Drop,
-> Model for CapacityDrain<P, T, S> {
+impl<P: PtrCore, T: Drop, S: OrdSlots<P, T>> Model for CapacityDrain<P, T, S> {
     ghost use Rattle.std.specs.Prelude.{ℕ, List};
     ghost use Rattle.triple_arena_ord.specs.Ordered.{listed};
 
@@ -33,11 +24,7 @@ impl<
     ghost view = { λ it. listed P.Inx.number it.arena };
 }
 
-impl<
-    P: Ptr,
-    T: Drop,
-    S: NonZeroInxGenericStack<ArenaSlot<P, LinkNoGen<P, SimpleOrdArenaNode<P, T>>>> + Drop,
-> Iterator for CapacityDrain<P, T, S> {
+impl<P: PtrCore, T: Drop, S: OrdSlots<P, T>> Iterator for CapacityDrain<P, T, S> {
     type Item = (P, T);
 
     ghost next_gives = { YieldsFirstBy (λ e. (P.index e.0, (P.generation e.0, e.1))) (λ left. left) };
@@ -55,17 +42,9 @@ impl<
     }
 }
 
-impl<
-    P: Ptr,
-    T: Drop,
-    S: NonZeroInxGenericStack<ArenaSlot<P, LinkNoGen<P, SimpleOrdArenaNode<P, T>>>> + Drop,
-> FusedIterator for CapacityDrain<P, T, S> {}
+impl<P: PtrCore, T: Drop, S: OrdSlots<P, T>> FusedIterator for CapacityDrain<P, T, S> {}
 
-impl<
-    P: Ptr,
-    T: Drop,
-    S: NonZeroInxGenericStack<ArenaSlot<P, LinkNoGen<P, SimpleOrdArenaNode<P, T>>>> + Drop,
-> IntoIterator for SimpleOrdArena<P, T, S> {
+impl<P: PtrCore, T: Drop, S: OrdSlots<P, T>> IntoIterator for SimpleOrdArena<P, T, S> {
     type Item = (P, T);
 
     type IntoIter = CapacityDrain<P, T, S>;

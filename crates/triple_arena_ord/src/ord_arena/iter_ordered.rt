@@ -4,20 +4,14 @@ ghost use Rattle.std.specs.Iterator.{YieldsFirstBy, item_count};
 ghost use Rattle.triple_arena_ord.specs.Ordered.{listed};
 
 use crate::ord_arena::walk::OrderedPtrAdvancer;
-use crate::{SimpleOrdArena, SimpleOrdArenaNode};
+use crate::{OrdSlots, SimpleOrdArena};
 use std::marker::Model;
-use triple_arena::{ArenaSlot, NonZeroInxGenericStack, Ptr};
-use triple_arena_chain::LinkNoGen;
+use triple_arena::PtrCore;
 
 /// The pointers and the items of the entries, from the first of the list to the last, seen as the list of the entries that
 /// are left.
 #[derive(Drop)]
-pub struct Iter<
-    'a,
-    P: Ptr,
-    T: Drop,
-    S: NonZeroInxGenericStack<ArenaSlot<P, LinkNoGen<P, SimpleOrdArenaNode<P, T>>>> + Drop,
->
+pub struct Iter<'a, P: PtrCore, T: Drop, S: OrdSlots<P, T>>
 where
     P::Inx: 'a,
 {
@@ -25,12 +19,7 @@ where
     advancer: OrderedPtrAdvancer<P>,
 }
 
-impl<
-    'a,
-    P: Ptr,
-    T: Drop,
-    S: NonZeroInxGenericStack<ArenaSlot<P, LinkNoGen<P, SimpleOrdArenaNode<P, T>>>> + Drop,
-> Model for Iter<'a, P, T, S>
+impl<'a, P: PtrCore, T: Drop, S: OrdSlots<P, T>> Model for Iter<'a, P, T, S>
 where
     P::Inx: 'a,
 {
@@ -43,12 +32,7 @@ where
     ghost view = { λ it. listed_at it.arena.now (left_over P.Inx.number it.arena.now it.advancer) };
 }
 
-impl<
-    'a,
-    P: Ptr,
-    T: Drop,
-    S: NonZeroInxGenericStack<ArenaSlot<P, LinkNoGen<P, SimpleOrdArenaNode<P, T>>>> + Drop,
-> Iterator for Iter<'a, P, T, S>
+impl<'a, P: PtrCore, T: Drop, S: OrdSlots<P, T>> Iterator for Iter<'a, P, T, S>
 where
     P::Inx: 'a,
 {
@@ -64,11 +48,7 @@ where
     }
 }
 
-impl<
-    P: Ptr,
-    T: Drop,
-    S: NonZeroInxGenericStack<ArenaSlot<P, LinkNoGen<P, SimpleOrdArenaNode<P, T>>>> + Drop,
-> SimpleOrdArena<P, T, S> {
+impl<P: PtrCore, T: Drop, S: OrdSlots<P, T>> SimpleOrdArena<P, T, S> {
     /// The pointers and the items of the entries, from the first of the list to the last.
     pub fn iter_ordered(&self) -> Iter<'_, P, T, S>
         ensures { result ≡ listed P.Inx.number self.now }
@@ -80,12 +60,7 @@ impl<
     }
 }
 
-impl<
-    'a,
-    P: Ptr,
-    T: Drop,
-    S: NonZeroInxGenericStack<ArenaSlot<P, LinkNoGen<P, SimpleOrdArenaNode<P, T>>>> + Drop,
-> IntoIterator for &'a SimpleOrdArena<P, T, S>
+impl<'a, P: PtrCore, T: Drop, S: OrdSlots<P, T>> IntoIterator for &'a SimpleOrdArena<P, T, S>
 where
     P::Inx: 'a,
 {

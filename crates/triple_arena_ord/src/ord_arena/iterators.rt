@@ -6,19 +6,19 @@ ghost use Rattle.triple_arena.specs.Iterators.{pointer_of};
 ghost use Rattle.triple_arena_ord.specs.Indexed.{indexed};
 
 use crate::ord_iterators::Ptrs;
-use crate::{SimpleOrdArena, SimpleOrdArenaNode};
+use crate::{OrdSlots, SimpleOrdArena, SimpleOrdArenaNode};
 use std::iter::FusedIterator;
 use std::marker::Model;
-use triple_arena::{ArenaSlot, NonZeroInxGenericStack, Ptr};
-use triple_arena_chain::{LinkNoGen, chain_iterators};
+use triple_arena::PtrCore;
+use triple_arena_chain::chain_iterators;
 
 /// The pointers and the items of the entries, in the order of the indexes, seen as the list of those that are left.
 #[derive(Drop)]
-pub struct InxIter<'a, P: Ptr, T> {
+pub struct InxIter<'a, P: PtrCore, T> {
     nodes: chain_iterators::Iter<'a, P, SimpleOrdArenaNode<P, T>>,
 }
 
-impl<'a, P: Ptr, T> Model for InxIter<'a, P, T> {
+impl<'a, P: PtrCore, T> Model for InxIter<'a, P, T> {
     ghost use Rattle.std.specs.Prelude.{ℕ, List, map};
     ghost use Rattle.triple_arena_ord.specs.Indexed.{listed_item};
 
@@ -27,7 +27,7 @@ impl<'a, P: Ptr, T> Model for InxIter<'a, P, T> {
     ghost view = { λ it. map listed_item it.nodes };
 }
 
-impl<'a, P: Ptr, T> Iterator for InxIter<'a, P, T> {
+impl<'a, P: PtrCore, T> Iterator for InxIter<'a, P, T> {
     type Item = (P, &'a T);
 
     ghost next_gives = { YieldsFirstBy (λ e. (P.index e.0, (P.generation e.0, e.1.now))) (λ left. left) };
@@ -46,15 +46,15 @@ impl<'a, P: Ptr, T> Iterator for InxIter<'a, P, T> {
     }
 }
 
-impl<'a, P: Ptr, T> FusedIterator for InxIter<'a, P, T> {}
+impl<'a, P: PtrCore, T> FusedIterator for InxIter<'a, P, T> {}
 
 /// The items of the entries, in the order of the indexes, seen as the list of those that are left.
 #[derive(Drop)]
-pub struct Vals<'a, P: Ptr, T> {
+pub struct Vals<'a, P: PtrCore, T> {
     entries: InxIter<'a, P, T>,
 }
 
-impl<'a, P: Ptr, T> Model for Vals<'a, P, T> {
+impl<'a, P: PtrCore, T> Model for Vals<'a, P, T> {
     ghost use Rattle.std.specs.Prelude.{List, map};
     ghost use Rattle.triple_arena.specs.Compression.{value_of};
 
@@ -63,7 +63,7 @@ impl<'a, P: Ptr, T> Model for Vals<'a, P, T> {
     ghost view = { λ it. map value_of it.entries };
 }
 
-impl<'a, P: Ptr, T> Vals<'a, P, T> {
+impl<'a, P: PtrCore, T> Vals<'a, P, T> {
     // Of the entries that are left.
     fn of(entries: InxIter<'a, P, T>) -> Self
         ensures { result ≡ list_map value_of entries.entry }
@@ -72,7 +72,7 @@ impl<'a, P: Ptr, T> Vals<'a, P, T> {
     }
 }
 
-impl<'a, P: Ptr, T> Iterator for Vals<'a, P, T> {
+impl<'a, P: PtrCore, T> Iterator for Vals<'a, P, T> {
     type Item = &'a T;
 
     ghost next_gives = { YieldsFirstBy (λ value. value.now) (λ left. left) };
@@ -91,13 +91,9 @@ impl<'a, P: Ptr, T> Iterator for Vals<'a, P, T> {
     }
 }
 
-impl<'a, P: Ptr, T> FusedIterator for Vals<'a, P, T> {}
+impl<'a, P: PtrCore, T> FusedIterator for Vals<'a, P, T> {}
 
-impl<
-    P: Ptr,
-    T: Drop,
-    S: NonZeroInxGenericStack<ArenaSlot<P, LinkNoGen<P, SimpleOrdArenaNode<P, T>>>> + Drop,
-> SimpleOrdArena<P, T, S> {
+impl<P: PtrCore, T: Drop, S: OrdSlots<P, T>> SimpleOrdArena<P, T, S> {
     /// The pointers to the entries, in the order of the indexes.
     pub fn ptrs(&self) -> Ptrs<'_, P, T>
         ensures { result ≡ list_map pointer_of (indexed self.now) }

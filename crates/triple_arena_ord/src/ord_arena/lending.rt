@@ -7,12 +7,11 @@ ghost use Rattle.triple_arena.specs.Entries.{value_if};
 ghost use Rattle.triple_arena_ord.specs.Ordered.{entry_in};
 ghost use Rattle.triple_arena_ord.specs.States.{with_item};
 
-use crate::{SimpleOrdArena, SimpleOrdArenaNode};
-use triple_arena::{ArenaSlot, ArenaTrait, NonZeroInxGenericStack, Ptr};
-use triple_arena_chain::LinkNoGen;
+use crate::{OrdSlots, SimpleOrdArena};
+use triple_arena::{ArenaTrait, PtrCore};
 
 // What lends the item at an index. A method of a trait names the row of the lender in one word.
-pub(crate) trait ItemAtMut<P: Ptr, T> {
+pub(crate) trait ItemAtMut<P: PtrCore, T> {
     ghost item_at: { Self → ℕ → Option (ℕ × T) };
 
     ghost with_item_at: { Self → ℕ → T → Self };
@@ -25,11 +24,7 @@ pub(crate) trait ItemAtMut<P: Ptr, T> {
         ensures value { option_map (λ e. e.1) (item_at self.old (P.Inx.number i)) ≡ Some result.now };
 }
 
-impl<
-    P: Ptr,
-    T: Drop,
-    S: NonZeroInxGenericStack<ArenaSlot<P, LinkNoGen<P, SimpleOrdArenaNode<P, T>>>> + Drop,
-> ItemAtMut<P, T> for SimpleOrdArena<P, T, S> {
+impl<P: PtrCore, T: Drop, S: OrdSlots<P, T>> ItemAtMut<P, T> for SimpleOrdArena<P, T, S> {
     ghost item_at = { entry_in };
 
     ghost with_item_at = { with_item };
@@ -39,11 +34,7 @@ impl<
     }
 }
 
-impl<
-    P: Ptr,
-    T: Drop,
-    S: NonZeroInxGenericStack<ArenaSlot<P, LinkNoGen<P, SimpleOrdArenaNode<P, T>>>> + Drop,
-> SimpleOrdArena<P, T, S> {
+impl<P: PtrCore, T: Drop, S: OrdSlots<P, T>> SimpleOrdArena<P, T, S> {
     ghost use Rattle.std.specs.Prelude.{◌≡◌, Some, IsSome};
     ghost use Rattle.std.specs.Borrow.{sem, Lends, LendsIf};
     ghost use Rattle.std.specs.Option.{option_map, option_copied_mut};
@@ -56,10 +47,7 @@ impl<
     pub fn get_inx_mut_unwrap(&mut self, i: P::Inx) -> &mut T
         requires { IsSome (entry_in self.old (P.Inx.number i)) }
         ensures* writes_back { sem 𝓛 (Lends
-            (the_row P.row T.row S.row P.Inx.row P.Gen.row S.Alloc.row P.Ptr.own P.Debug P.Hash.own
-            P.PartialEq P.Ord.own P.PartialOrd.own P.Inx.PtrInx.own P.Inx.Debug P.Inx.Hash.own
-            P.Inx.PartialEq P.Inx.Ord.own P.Inx.PartialOrd.own P.Gen.PtrGen.own P.Gen.Debug
-            P.Gen.Hash.own P.Gen.PartialEq P.Gen.Ord.own P.Gen.PartialOrd.own
+            (the_row P.row T.row S.row P.Inx.row P.Gen.row S.Alloc.row P.PtrCore P.Inx.PtrInxCore.own P.Inx.PartialEq P.Gen.PtrGenCore.own P.Gen.PartialEq
             S.NonZeroInxGenericStack) T.row self.entry result
             (with_item self.old (P.Inx.number i))) }
         ensures value { option_map (λ e. e.1) (entry_in self.old (P.Inx.number i)) ≡ Some result.now }
@@ -70,10 +58,7 @@ impl<
     /// The item that `p` points to for writing, if it is live.
     pub fn get_mut(&mut self, p: P) -> Option<&mut T>
         ensures* writes_back { sem 𝓛 (LendsIf
-            (the_row P.row T.row S.row P.Inx.row P.Gen.row S.Alloc.row P.Ptr.own P.Debug P.Hash.own
-            P.PartialEq P.Ord.own P.PartialOrd.own P.Inx.PtrInx.own P.Inx.Debug P.Inx.Hash.own
-            P.Inx.PartialEq P.Inx.Ord.own P.Inx.PartialOrd.own P.Gen.PtrGen.own P.Gen.Debug
-            P.Gen.Hash.own P.Gen.PartialEq P.Gen.Ord.own P.Gen.PartialOrd.own
+            (the_row P.row T.row S.row P.Inx.row P.Gen.row S.Alloc.row P.PtrCore P.Inx.PtrInxCore.own P.Inx.PartialEq P.Gen.PtrGenCore.own P.Gen.PartialEq
             S.NonZeroInxGenericStack) T.row self.entry result
             (with_item self.old (P.index p)) self.old) }
         ensures value { option_copied_mut result ≡ value_if (P.generation p) (entry_in self.old (P.index p)) }
@@ -88,10 +73,7 @@ impl<
     /// The item at an index for writing, if it is live. `get_inx` tells its generation.
     pub fn get_inx_mut(&mut self, i: P::Inx) -> Option<&mut T>
         ensures* writes_back { sem 𝓛 (LendsIf
-            (the_row P.row T.row S.row P.Inx.row P.Gen.row S.Alloc.row P.Ptr.own P.Debug P.Hash.own
-            P.PartialEq P.Ord.own P.PartialOrd.own P.Inx.PtrInx.own P.Inx.Debug P.Inx.Hash.own
-            P.Inx.PartialEq P.Inx.Ord.own P.Inx.PartialOrd.own P.Gen.PtrGen.own P.Gen.Debug
-            P.Gen.Hash.own P.Gen.PartialEq P.Gen.Ord.own P.Gen.PartialOrd.own
+            (the_row P.row T.row S.row P.Inx.row P.Gen.row S.Alloc.row P.PtrCore P.Inx.PtrInxCore.own P.Inx.PartialEq P.Gen.PtrGenCore.own P.Gen.PartialEq
             S.NonZeroInxGenericStack) T.row self.entry result
             (with_item self.old (P.Inx.number i)) self.old) }
         ensures value { option_copied_mut result ≡ option_map (λ e. e.1) (entry_in self.old (P.Inx.number i)) }

@@ -3,17 +3,12 @@ ghost use Rattle.std.specs.Prelude.{◌≡◌, ℕ, Some, IsSome, IfOk};
 ghost use Rattle.triple_arena_ord.specs.Inserted.{IsInsertedAt, growing_room, room_made, under};
 ghost use Rattle.triple_arena_ord.specs.Ordered.{IsOrdered, entry_in, size_in};
 
-use crate::{SimpleOrdArena, SimpleOrdArenaNode};
+use crate::{OrdSlots, SimpleOrdArena};
 use std::cmp::Ordering;
-use triple_arena::{ArenaSlot, NonZeroInxGenericStack, Ptr};
-use triple_arena_chain::LinkNoGen;
+use triple_arena::PtrCore;
 use triple_arena_ptr::OrdInsertionError;
 
-impl<
-    P: Ptr,
-    T: Drop,
-    S: NonZeroInxGenericStack<ArenaSlot<P, LinkNoGen<P, SimpleOrdArenaNode<P, T>>>> + Drop,
-> SimpleOrdArena<P, T, S> {
+impl<P: PtrCore, T: Drop, S: OrdSlots<P, T>> SimpleOrdArena<P, T, S> {
     /// Puts an item in at an entry that is live, whatever the keys are: `Equal` replaces the item there, and answers it,
     /// `Less` puts a new entry directly before it, `Greater` directly after it. Where there is no room for a new entry the
     /// arena grows, as in `insert_reallocating`; `BeyondMaxCapacity` and `AllocError` change nothing.

@@ -6,15 +6,11 @@ ghost use Rattle.triple_arena_ord.specs.Node.{bare};
 ghost use Rattle.triple_arena_ord.specs.Ordered.{IsOrdered};
 ghost use Rattle.triple_arena_ord.specs.OrderedWalks.{read_link};
 
-use crate::{SimpleOrdArena, SimpleOrdArenaNode};
-use triple_arena::{ArenaSlot, NonZeroInxGenericStack, Ptr};
+use crate::{OrdSlots, SimpleOrdArena, SimpleOrdArenaNode};
+use triple_arena::PtrCore;
 use triple_arena_chain::{ChainArenaTrait, LinkNoGen};
 
-impl<
-    P: Ptr,
-    T: Drop,
-    S: NonZeroInxGenericStack<ArenaSlot<P, LinkNoGen<P, SimpleOrdArenaNode<P, T>>>> + Drop,
-> SimpleOrdArena<P, T, S> {
+impl<P: PtrCore, T: Drop, S: OrdSlots<P, T>> SimpleOrdArena<P, T, S> {
     /// The generation and the item at an index, if it is live, with the indexes of its neighbors in the list.
     pub fn get_inx_link_no_gen(&self, i: P::Inx) -> Option<(P::Gen, LinkNoGen<P, &T>)>
         ensures link { option_map (λ e. (P.Gen.number e.0, read_link e.1)) result

@@ -5,14 +5,13 @@ ghost use Rattle.triple_arena_ord.specs.Placing.{Meets, IsPlaceByKey, IsPlaceBef
 ghost use Rattle.triple_arena_ord.specs.Ordered.{IsOrdered, entry_in, size_in};
 
 use crate::kind::InsertKind;
-use crate::{OrdInsertKind, SimpleOrdArena, SimpleOrdArenaNode, SimpleOrdItem};
+use crate::{OrdInsertKind, OrdSlots, SimpleOrdArena, SimpleOrdItem};
 use std::cmp::Ordering;
-use triple_arena::{ArenaSlot, ArenaTrait, NonZeroInxGenericStack, Ptr, PtrInx};
-use triple_arena_chain::LinkNoGen;
+use triple_arena::{ArenaTrait, PtrCore, PtrInxCore};
 use triple_arena_ptr::Probes;
 
 // Directly before an entry in place of in it.
-fn before_equal<I: PtrInx>(place: Option<(I, Ordering)>) -> Option<(I, Ordering)>
+fn before_equal<I: PtrInxCore>(place: Option<(I, Ordering)>) -> Option<(I, Ordering)>
     ensures { option_map (λ a. (I.number a.0, a.1)) result ≡ before_equal (option_map (λ a. (I.number a.0, a.1)) place) }
 {
     match place {
@@ -25,11 +24,7 @@ fn before_equal<I: PtrInx>(place: Option<(I, Ordering)>) -> Option<(I, Ordering)
     }
 }
 
-impl<
-    P: Ptr,
-    T: SimpleOrdItem + Drop,
-    S: NonZeroInxGenericStack<ArenaSlot<P, LinkNoGen<P, SimpleOrdArenaNode<P, T>>>> + Drop,
-> SimpleOrdArena<P, T, S> {
+impl<P: PtrCore, T: SimpleOrdItem + Drop, S: OrdSlots<P, T>> SimpleOrdArena<P, T, S> {
     // The place for a key.
     fn place_by_key(&self, k: &T::Key) -> Option<(P::Inx, Ordering)>
         ensures by_key { IsPlaceByKey P.Inx.number T.Key.cmp T.key_of k.now self.now (option_map (λ a. (P.Inx.number a.0, a.1)) result) }

@@ -4,17 +4,13 @@ ghost use Rattle.std.specs.Option.{option_map};
 ghost use Rattle.triple_arena.specs.Entries.{value_if, generation_at};
 ghost use Rattle.triple_arena_ord.specs.Ordered.{entry_in};
 
-use crate::{SimpleOrdArena, SimpleOrdArenaNode};
+use crate::{OrdSlots, SimpleOrdArena};
 use triple_arena::arena_iterators::PtrAdvancer;
-use triple_arena::{ArenaSlot, ArenaTrait, NonZeroInxGenericStack, Ptr};
-use triple_arena_chain::{ChainArena, LinkNoGen};
+use triple_arena::{ArenaTrait, PtrCore};
+use triple_arena_chain::ChainArena;
 use unreached::unreached;
 
-impl<
-    P: Ptr,
-    T: Drop,
-    S: NonZeroInxGenericStack<ArenaSlot<P, LinkNoGen<P, SimpleOrdArenaNode<P, T>>>> + Drop,
-> SimpleOrdArena<P, T, S> {
+impl<P: PtrCore, T: Drop, S: OrdSlots<P, T>> SimpleOrdArena<P, T, S> {
     /// Whether `p` points to a live entry.
     pub fn contains(&self, p: P) -> bool
         ensures { IsTrue result ↔ IsSome (value_if (P.generation p) (entry_in self.now (P.index p))) }

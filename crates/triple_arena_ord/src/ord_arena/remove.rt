@@ -13,19 +13,13 @@ ghost use Rattle.triple_arena_chain.specs.declared.link.IndexLink.{IndexLink};
 ghost use Rattle.triple_arena_ord.specs.declared.node.IndexNode.{IndexNode};
 
 use crate::taken::take_entry;
-use crate::{SimpleOrdArena, SimpleOrdArenaNode};
-use triple_arena::{
-    ArenaSlot, ArenaTrait, InvalidationResult, NonZeroInxGenericStack, Ptr, PtrInx,
-};
+use crate::{OrdSlots, SimpleOrdArena, SimpleOrdArenaNode};
+use triple_arena::{ArenaTrait, InvalidationResult, PtrCore, PtrInxCore};
 use triple_arena_chain::{ChainArena, ChainArenaTrait, LinkNoGen};
 use unreached::unreached;
 
 // The neighbors of an index in the list.
-fn neighbors<
-    P: Ptr,
-    T: Drop,
-    S: NonZeroInxGenericStack<ArenaSlot<P, LinkNoGen<P, SimpleOrdArenaNode<P, T>>>> + Drop,
->(
+fn neighbors<P: PtrCore, T: Drop, S: OrdSlots<P, T>>(
     chains: &ChainArena<P, SimpleOrdArenaNode<P, T>, S>,
     i: P::Inx,
 ) -> (Option<P::Inx>, Option<P::Inx>)
@@ -39,7 +33,7 @@ fn neighbors<
 }
 
 // What an end of the list is without an index, which had this neighbor.
-fn ended<I: PtrInx>(end: Option<I>, gone: I, neighbor: Option<I>) -> Option<I>
+fn ended<I: PtrInxCore>(end: Option<I>, gone: I, neighbor: Option<I>) -> Option<I>
     ensures { option_map I.number result ≡ ended (option_map I.number end) (I.number gone) (option_map I.number neighbor) }
 {
     match end {
@@ -50,7 +44,7 @@ fn ended<I: PtrInx>(end: Option<I>, gone: I, neighbor: Option<I>) -> Option<I>
 
 // An entry that was taken out, with its item alone.
 #[inline(always)]
-fn item_of<P: Ptr, T>(
+fn item_of<P: PtrCore, T>(
     taken: InvalidationResult<(P::Gen, LinkNoGen<P, SimpleOrdArenaNode<P, T>>)>,
 ) -> InvalidationResult<(P::Gen, T)>
     ensures value { option_map {U = ℕ × T} (λ a. let v : P.Gen × T = value_of a in (P.Gen.number v.0, v.1)) (answer_of result)
@@ -68,11 +62,7 @@ fn item_of<P: Ptr, T>(
     }
 }
 
-impl<
-    P: Ptr,
-    T: Drop,
-    S: NonZeroInxGenericStack<ArenaSlot<P, LinkNoGen<P, SimpleOrdArenaNode<P, T>>>> + Drop,
-> SimpleOrdArena<P, T, S> {
+impl<P: PtrCore, T: Drop, S: OrdSlots<P, T>> SimpleOrdArena<P, T, S> {
     // The entry at an index that is live leaves.
     #[inline(always)]
     pub(crate) fn remove_live(&mut self, gone: P::Inx) -> InvalidationResult<(P::Gen, T)>

@@ -9,17 +9,12 @@ ghost use Rattle.triple_arena_ord.specs.Ordered.{IsOrdered, IsAscending, tree_in
 ghost use Rattle.triple_arena_ord.specs.Found.{IsFound, IsSimilar};
 
 use crate::ord_arena::found::{found_at, similar_at};
-use crate::{SimpleOrdArena, SimpleOrdArenaNode, SimpleOrdItem};
+use crate::{OrdSlots, SimpleOrdArena, SimpleOrdItem};
 use std::cmp::Ordering;
-use triple_arena::{ArenaSlot, ArenaTrait, NonZeroInxGenericStack, Ptr};
-use triple_arena_chain::LinkNoGen;
+use triple_arena::{ArenaTrait, PtrCore};
 use triple_arena_ptr::Probes;
 
-impl<
-    P: Ptr,
-    T: SimpleOrdItem + Drop,
-    S: NonZeroInxGenericStack<ArenaSlot<P, LinkNoGen<P, SimpleOrdArenaNode<P, T>>>> + Drop,
-> SimpleOrdArena<P, T, S> {
+impl<P: PtrCore, T: SimpleOrdItem + Drop, S: OrdSlots<P, T>> SimpleOrdArena<P, T, S> {
     // Where a search by key ends, with the last answer.
     pub(crate) fn seek(&self, k: &T::Key, probes: &mut Probes) -> Option<(P::Inx, Ordering)>
         ensures answer { IsAnswer (asked_at T.Key.cmp T.key_of k.now self.now)

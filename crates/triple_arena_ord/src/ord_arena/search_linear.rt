@@ -12,17 +12,13 @@ ghost use Rattle.triple_arena_ord.specs.Ordered.{IsOrdered, IsAscending, tree_in
 
 use crate::ord_arena::found::{found_at, similar_at};
 use crate::walks::walk_from;
-use crate::{SimpleOrdArena, SimpleOrdArenaNode, SimpleOrdItem};
+use crate::{OrdSlots, SimpleOrdArena, SimpleOrdArenaNode, SimpleOrdItem};
 use std::cmp::Ordering;
-use triple_arena::{ArenaSlot, ArenaTrait, NonZeroInxGenericStack, Ptr};
-use triple_arena_chain::{ChainArena, LinkNoGen};
+use triple_arena::{ArenaTrait, PtrCore};
+use triple_arena_chain::ChainArena;
 use triple_arena_ptr::Probes;
 
-impl<
-    P: Ptr,
-    T: SimpleOrdItem + Drop,
-    S: NonZeroInxGenericStack<ArenaSlot<P, LinkNoGen<P, SimpleOrdArenaNode<P, T>>>> + Drop,
-> SimpleOrdArena<P, T, S> {
+impl<P: PtrCore, T: SimpleOrdItem + Drop, S: OrdSlots<P, T>> SimpleOrdArena<P, T, S> {
     // Where a search by key ends that goes along the list first, from an index, for at most `num` comparisons. The entry there
     // may have a child on the side of the gap.
     pub(crate) fn seek_linear(

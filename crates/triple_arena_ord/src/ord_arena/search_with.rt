@@ -9,17 +9,12 @@ ghost use Rattle.triple_arena_ord.specs.Asked.{IsAsked, AnswersBy, answer_at, fo
 ghost use Rattle.triple_arena_ord.specs.Ordered.{IsOrdered, tree_in, order_in, entry_in, size_in};
 
 use crate::asks::ask_down;
-use crate::{SimpleOrdArena, SimpleOrdArenaNode};
+use crate::{OrdSlots, SimpleOrdArena};
 use std::cmp::Ordering;
-use triple_arena::{ArenaSlot, NonZeroInxGenericStack, Ptr};
-use triple_arena_chain::LinkNoGen;
+use triple_arena::PtrCore;
 use triple_arena_ptr::Probes;
 
-impl<
-    P: Ptr,
-    T: Drop,
-    S: NonZeroInxGenericStack<ArenaSlot<P, LinkNoGen<P, SimpleOrdArenaNode<P, T>>>> + Drop,
-> SimpleOrdArena<P, T, S> {
+impl<P: PtrCore, T: Drop, S: OrdSlots<P, T>> SimpleOrdArena<P, T, S> {
     /// Asks `f` at entries, with the pointer and the item: `Less` leads to the entries before it, `Greater` to those after it,
     /// and `Equal` ends the search, as does a gap between entries that were asked. It answers the last entry that was asked,
     /// with the answer; `None` where there is no entry. Each question is a tick, and there are no more than the rank of the root,

@@ -8,18 +8,13 @@ ghost use Rattle.triple_arena_ord.specs.Ordered.{StandsBeside, order_in};
 
 use crate::knots::read;
 use crate::leaf::neighbors_beside;
-use crate::{SimpleOrdArena, SimpleOrdArenaNode};
+use crate::{OrdSlots, SimpleOrdArena};
 use rank_tree::Side;
 use std::cmp::Ordering;
-use triple_arena::{ArenaSlot, NonZeroInxGenericStack, Ptr};
-use triple_arena_chain::LinkNoGen;
+use triple_arena::PtrCore;
 use unreached::unreached;
 
-impl<
-    P: Ptr,
-    T: Drop,
-    S: NonZeroInxGenericStack<ArenaSlot<P, LinkNoGen<P, SimpleOrdArenaNode<P, T>>>> + Drop,
-> SimpleOrdArena<P, T, S> {
+impl<P: PtrCore, T: Drop, S: OrdSlots<P, T>> SimpleOrdArena<P, T, S> {
     // Where a new leaf hangs that stands directly before an index: there, or on the right of the previous one.
     fn settle_before(&self, i: P::Inx) -> (P::Inx, Ordering)
         requires { IsSome (knots_in P.Inx.number self.now.chains (P.Inx.number i)) }

@@ -6,23 +6,22 @@ ghost use Rattle.triple_arena_chain.specs.Walks.{left_to};
 ghost use Rattle.triple_arena_ord.specs.Ordered.{IsOrdered, order_in, entry_in};
 ghost use Rattle.triple_arena_ord.specs.OrderedWalks.{OrderedSteps, IsFrom, walk_at, left_over};
 
-use crate::{SimpleOrdArena, SimpleOrdArenaNode};
+use crate::{OrdSlots, SimpleOrdArena};
 use std::marker::Model;
-use triple_arena::{Advancer, ArenaSlot, ArenaTrait, NonZeroInxGenericStack, Ptr, PtrInx};
-use triple_arena_chain::LinkNoGen;
+use triple_arena::{Advancer, ArenaTrait, PtrCore, PtrInxCore};
 
 /// Gives the pointers to the entries of the list, one a call: from an entry on to the last, or backward to the first. The
 /// arena is free between the calls.
 ///
 /// As it gives an entry it notes the index that comes next, and later gives what is live there. Where nothing is, it ends.
 #[derive(Drop)]
-pub struct OrderedPtrAdvancer<P: Ptr> {
+pub struct OrderedPtrAdvancer<P: PtrCore> {
     // The index that comes next.
     at: Option<P::Inx>,
     back: bool,
 }
 
-impl<P: Ptr> Model for OrderedPtrAdvancer<P> {
+impl<P: PtrCore> Model for OrderedPtrAdvancer<P> {
     ghost use Rattle.std.specs.Option.{option_map};
     ghost use Rattle.triple_arena_ord.specs.OrderedWalks.{OrderedWalk};
 
@@ -32,13 +31,13 @@ impl<P: Ptr> Model for OrderedPtrAdvancer<P> {
 }
 
 // The neighbor to which a walk goes, of these two.
-fn toward<I: PtrInx>(back: bool, ends: (Option<I>, Option<I>)) -> Option<I>
+fn toward<I: PtrInxCore>(back: bool, ends: (Option<I>, Option<I>)) -> Option<I>
     ensures { result ≡ (if back then ends.0 else ends.1) }
 {
     if back { ends.0 } else { ends.1 }
 }
 
-impl<P: Ptr> OrderedPtrAdvancer<P> {
+impl<P: PtrCore> OrderedPtrAdvancer<P> {
     // The walk that begins at an index, if there is one.
     pub(crate) fn from(at: Option<P::Inx>, back: bool) -> Self
         ensures at { result.at ≡ option_map P.Inx.number at }
@@ -48,11 +47,10 @@ impl<P: Ptr> OrderedPtrAdvancer<P> {
     }
 
     // Gives the entry where the walk is, and goes on from there. Where nothing is live the walk ends.
-    pub(crate) fn step<
-        'a,
-        T: Drop,
-        S: NonZeroInxGenericStack<ArenaSlot<P, LinkNoGen<P, SimpleOrdArenaNode<P, T>>>> + Drop,
-    >(&mut self, arena: &'a SimpleOrdArena<P, T, S>) -> Option<(P, &'a T)>
+    pub(crate) fn step<'a, T: Drop, S: OrdSlots<P, T>>(
+        &mut self,
+        arena: &'a SimpleOrdArena<P, T, S>,
+    ) -> Option<(P, &'a T)>
         ensures steps { OrderedSteps P.Inx.number arena.now self.old
             (option_map (λ e. (P.index e.0, P.generation e.0)) result) self.new }
         ensures item { IfSome result (λ e. entry_in arena.now (P.index e.0) ≡ Some (P.generation e.0, e.1.now)) }
@@ -72,11 +70,8 @@ impl<P: Ptr> OrderedPtrAdvancer<P> {
     }
 }
 
-impl<
-    P: Ptr,
-    T: Drop,
-    S: NonZeroInxGenericStack<ArenaSlot<P, LinkNoGen<P, SimpleOrdArenaNode<P, T>>>> + Drop,
-> Advancer<SimpleOrdArena<P, T, S>> for OrderedPtrAdvancer<P> {
+impl<P: PtrCore, T: Drop, S: OrdSlots<P, T>> Advancer<SimpleOrdArena<P, T, S>>
+    for OrderedPtrAdvancer<P> {
     type Item = P;
 
     ghost remaining = { λ a _. left_to a.at };
@@ -99,11 +94,7 @@ impl<
     }
 }
 
-impl<
-    P: Ptr,
-    T: Drop,
-    S: NonZeroInxGenericStack<ArenaSlot<P, LinkNoGen<P, SimpleOrdArenaNode<P, T>>>> + Drop,
-> SimpleOrdArena<P, T, S> {
+impl<P: PtrCore, T: Drop, S: OrdSlots<P, T>> SimpleOrdArena<P, T, S> {
     // The arena is ordered, and this is whether a pointer finds an entry.
     fn finds(&self, p: P) -> bool
         ensures found { IsTrue result ↔ IsSome (value_if (P.generation p) (entry_in self.now (P.index p))) }

@@ -6,7 +6,7 @@ use arena_examples::{
 use std::alloc::Global;
 use std::process::Abort;
 use std::test::Fail;
-use triple_arena::{ArenaInsertTrait, ArenaTrait, HeapArena, P0, Ptr, PtrInx};
+use triple_arena::{ArenaInsertTrait, ArenaTrait, HeapArena, P0, PtrCore, PtrInxCore};
 
 #[test]
 fn a_cancelled_task_is_not_found_again(rt: HostRuntime) -> Result<(), Fail> {

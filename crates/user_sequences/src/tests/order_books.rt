@@ -4,14 +4,14 @@ ghost use Rattle.triple_arena_user.specs.OrderBooks.{IsBook};
 use std::alloc::Global;
 use std::process::Abort;
 use std::test::Fail;
-use triple_arena::{NonZeroInxArray, NonZeroInxGenericStack, NonZeroInxVec, P0, Ptr};
+use triple_arena::{NonZeroInxArray, NonZeroInxGenericStack, NonZeroInxVec, P0, Ptr, PtrCore};
 use triple_arena_ptr::{OrdInsertionError, ReallocationError};
 use triple_arena_user::{
     OrderBook, OrderSlot, add_order, best_order, cancel_order, next_order, open_book,
 };
 
 // The orders of the book, from the best on.
-fn lists<P: Ptr, S: NonZeroInxGenericStack<OrderSlot<P, u64>> + Drop>(
+fn lists<P: Ptr, S: NonZeroInxGenericStack<Item = OrderSlot<P, u64>> + Drop>(
     rt: &impl Abort,
     book: &OrderBook<P, u64, S>,
     orders: &[P],
@@ -27,7 +27,7 @@ fn lists<P: Ptr, S: NonZeroInxGenericStack<OrderSlot<P, u64>> + Drop>(
 }
 
 // Orders come into a book for three and leave it.
-fn trades<S: NonZeroInxGenericStack<OrderSlot<P0, u64>> + Drop>(
+fn trades<S: NonZeroInxGenericStack<Item = OrderSlot<P0, u64>> + Drop>(
     rt: &impl Abort,
     alloc: S::Alloc,
 ) -> Result<(), Fail> {

@@ -5,8 +5,8 @@ ghost use Rattle.triple_arena_ptr.specs.Recast.{renamed};
 use std::num::NonZeroUsize;
 use std::test::Fail;
 use triple_arena_ptr::{
-    Advancer, InvalidationOption, InvalidationResult, P0, Ptr, PtrGen, PtrInx, Recast, Recaster,
-    nzusize_iter,
+    Advancer, InvalidationOption, InvalidationResult, P0, PtrCore, PtrGenCore, PtrInxCore, Recast,
+    Recaster, nzusize_iter,
 };
 
 // The items that generic code finds after a recast.
@@ -44,7 +44,7 @@ impl Recaster for Renaming {
 #[test]
 fn recasts_up_to_the_first_that_is_missing(rt: HostRuntime) -> Result<(), Fail> {
     let old = P0::invalid();
-    let new = P0::_from_raw(NonZeroUsize::MIN, PtrGen::two());
+    let new = P0::_from_raw(NonZeroUsize::MIN, PtrGenCore::two());
     let renaming = Renaming { from: old, to: new };
     let mut value = (Some(old), (7u64, (old, None::<P0>)));
     assert!(rt; recast_items(&mut value, &renaming) == Ok(()));

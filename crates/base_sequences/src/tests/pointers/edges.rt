@@ -3,7 +3,7 @@
 use std::num::{NonZeroU8, NonZeroU16, NonZeroU32, NonZeroU64, NonZeroU128, NonZeroUsize};
 use std::process::Abort;
 use std::test::Fail;
-use triple_arena_ptr::PtrInx;
+use triple_arena_ptr::{PtrInx, PtrInxCore};
 
 // 1 and the greatest index have an index of this type and come back from it; what follows the greatest has none.
 fn ends_at<I: PtrInx>(rt: &impl Abort, greatest: NonZeroUsize) {

@@ -7,7 +7,9 @@ use std::alloc::{AllocError, Global};
 use std::num::NonZeroUsize;
 use std::process::Abort;
 use std::test::Fail;
-use triple_arena_ptr::{P0, P1, P4, P5, Ptr, PtrGen, PtrInx, PtrNoGen};
+use triple_arena_ptr::{
+    P0, P1, P4, P5, Ptr, PtrCore, PtrGen, PtrGenCore, PtrInx, PtrInxCore, PtrNoGen,
+};
 
 // The pointers are equal where they are one, and only there.
 fn is_same<P: Ptr>(p: P, q: P) -> bool
@@ -136,7 +138,7 @@ fn laws_at_each_kind_of_pointer(rt: HostRuntime) -> Result<(), Fail> {
     laws_at(&rt, P4::invalid(), true);
     laws_at(&rt, P5::invalid(), false);
     laws_without_the_generation::<P0>(&rt);
-    let p = P0::_from_raw(NonZeroUsize::MIN, PtrGen::one());
+    let p = P0::_from_raw(NonZeroUsize::MIN, PtrGenCore::one());
     assert!(rt; is_before_by_index(p, P0::invalid()));
     assert!(rt; is_before_by_generation(p, in_next_generation(p)));
     assert!(rt; text(rt.alloc(), p)?.as_str() == "P0[1](1)");

@@ -7,8 +7,8 @@ use std::process::Abort;
 use std::test::Fail;
 use triple_arena_ptr::{
     ChainInsertionError, DirectInsertionError, GetDisjointMutError, MaxCapacityReductionError,
-    NotWithinCapacityError, OrdInsertionError, P0, P1, P2, P3, P4, P5, Pointer, Ptr, PtrKind,
-    PtrNoGen, Q2, ReallocationError,
+    NotWithinCapacityError, OrdInsertionError, P0, P1, P2, P3, P4, P5, Pointer, Ptr, PtrCore,
+    PtrKind, PtrNoGen, Q2, ReallocationError,
 };
 
 // A pointer writes this text by `{:?}` and by `{}`, and the formatter's answer is no error.

@@ -9,7 +9,11 @@ use triple_arena_stack::{
 };
 
 // Pushes one item for each of `capacities`, which are those after each push.
-fn pushes<S: NonZeroInxGenericStack<u64>>(rt: &impl Abort, stack: &mut S, capacities: &[usize]) {
+fn pushes<S: NonZeroInxGenericStack<Item = u64>>(
+    rt: &impl Abort,
+    stack: &mut S,
+    capacities: &[usize],
+) {
     for capacity in capacities {
         let len = stack.len();
         match stack.push(len as u64) {
@@ -24,7 +28,7 @@ fn pushes<S: NonZeroInxGenericStack<u64>>(rt: &impl Abort, stack: &mut S, capaci
 }
 
 // The stack is full, and nothing makes it greater.
-fn is_at_limit<S: NonZeroInxGenericStack<u64>>(rt: &impl Abort, stack: &mut S) {
+fn is_at_limit<S: NonZeroInxGenericStack<Item = u64>>(rt: &impl Abort, stack: &mut S) {
     let len = stack.len();
     assert!(rt; stack.max_capacity() == Some(len));
     assert!(rt; stack.push_within_capacity(7) == Err(NotWithinCapacityError));

@@ -17,7 +17,11 @@ use triple_arena_stack::{
 };
 
 // Writes `x` at `i`, and says whether there was an item.
-fn write_at<T: Drop, S: NonZeroInxGenericStack<T>>(stack: &mut S, i: NonZeroUsize, x: T) -> bool
+fn write_at<T: Drop, S: NonZeroInxGenericStack<Item = T>>(
+    stack: &mut S,
+    i: NonZeroUsize,
+    x: T,
+) -> bool
     ensures found { IsTrue result ↔ (non_zero_usize_get i ≤ length (S.items stack.old)) }
     ensures items { IsTrue result
         → S.items stack.new ≡ with_item (S.items stack.old) (non_zero_usize_get i) x }
@@ -34,7 +38,7 @@ fn write_at<T: Drop, S: NonZeroInxGenericStack<T>>(stack: &mut S, i: NonZeroUsiz
 }
 
 // Pushes `x` by an entry.
-fn push_by_entry<S: NonZeroInxGenericStackEntries<u64>>(stack: &mut S, x: u64) -> bool
+fn push_by_entry<S: NonZeroInxGenericStackEntries<Item = u64>>(stack: &mut S, x: u64) -> bool
     ensures { IsTrue result → S.items stack.new ≡ S.items stack.old ++ x ∷ [] }
 {
     match stack.entry_push_within_capacity() {
@@ -61,7 +65,7 @@ fn push_to_array_by_entry(stack: &mut NonZeroInxArray<u64, 4>, x: u64) -> bool
 }
 
 // Exchanges two items that are lent at once, and answers whether there were two.
-fn exchange<T: Drop, S: NonZeroInxGenericStack<T>>(
+fn exchange<T: Drop, S: NonZeroInxGenericStack<Item = T>>(
     stack: &mut S,
     i: NonZeroUsize,
     j: NonZeroUsize,
@@ -80,7 +84,7 @@ fn exchange<T: Drop, S: NonZeroInxGenericStack<T>>(
 }
 
 // Writes `x` at index 1 by the slice of the items.
-fn write_first<S: NonZeroInxGenericStack<u64>>(stack: &mut S, x: u64)
+fn write_first<S: NonZeroInxGenericStack<Item = u64>>(stack: &mut S, x: u64)
     requires { 1 ≤ length (S.items stack.old) }
     ensures items { S.items stack.new ≡ with_item (S.items stack.old) 1 x }
     ensures room { S.room stack.new ≡ S.room stack.old }
@@ -89,7 +93,7 @@ fn write_first<S: NonZeroInxGenericStack<u64>>(stack: &mut S, x: u64)
 }
 
 // Sets a limit.
-fn limit_to<S: NonZeroInxLimitedStack<u64>>(stack: &mut S, max: usize) -> bool
+fn limit_to<S: NonZeroInxLimitedStack<Item = u64>>(stack: &mut S, max: usize) -> bool
     ensures accepted { IsTrue result ↔ (length (S.items stack.old) ≤ max) }
     ensures items { S.items stack.new ≡ S.items stack.old }
     ensures room { IsTrue result → S.room stack.new ≡ limited (S.room stack.old) max }
@@ -98,7 +102,7 @@ fn limit_to<S: NonZeroInxLimitedStack<u64>>(stack: &mut S, max: usize) -> bool
     stack.set_max_capacity(max).is_ok()
 }
 
-fn three<S: NonZeroInxGenericStackEntries<u64>>(rt: &impl Abort, stack: &mut S) {
+fn three<S: NonZeroInxGenericStackEntries<Item = u64>>(rt: &impl Abort, stack: &mut S) {
     assert!(rt; stack.is_empty());
     match stack.entry_push_reallocating() {
         Ok(entry) => {
@@ -118,7 +122,7 @@ fn three<S: NonZeroInxGenericStackEntries<u64>>(rt: &impl Abort, stack: &mut S) 
     assert!(rt; stack.pop() == Some(9));
 }
 
-fn reads_and_writes<S: NonZeroInxGenericStackEntries<u64>>(rt: &impl Abort, stack: &mut S) {
+fn reads_and_writes<S: NonZeroInxGenericStackEntries<Item = u64>>(rt: &impl Abort, stack: &mut S) {
     three(rt, stack);
     let Some(two) = NonZeroUsize::new(2) else {
         return;

@@ -13,7 +13,12 @@ use triple_arena_stack::{
 type Heap = RefusingAllocator<Global>;
 
 // The stack holds its own indexes, from 0 on, and has this length and capacity.
-fn holds<S: NonZeroInxGenericStack<u64>>(rt: &impl Abort, stack: &S, len: usize, capacity: usize) {
+fn holds<S: NonZeroInxGenericStack<Item = u64>>(
+    rt: &impl Abort,
+    stack: &S,
+    len: usize,
+    capacity: usize,
+) {
     assert!(rt; stack.len() == len);
     assert!(rt; stack.capacity() == capacity);
     for (place, item) in stack.as_slice().iter().enumerate() {
@@ -29,7 +34,7 @@ struct Before {
     capacity: usize,
 }
 
-fn seen<S: NonZeroInxGenericStack<u64>>(heap: &Heap, stack: &S) -> Before {
+fn seen<S: NonZeroInxGenericStack<Item = u64>>(heap: &Heap, stack: &S) -> Before {
     Before {
         has_refused: heap.has_refused(),
         len: stack.len(),
@@ -38,7 +43,7 @@ fn seen<S: NonZeroInxGenericStack<u64>>(heap: &Heap, stack: &S) -> Before {
 }
 
 // The call was refused exactly where the heap refused it the memory, and left the stack as it was.
-fn is_refused_with_the_heap<T, S: NonZeroInxGenericStack<u64>>(
+fn is_refused_with_the_heap<T, S: NonZeroInxGenericStack<Item = u64>>(
     rt: &impl Abort,
     heap: &Heap,
     stack: &S,
@@ -55,14 +60,14 @@ where
     }
 }
 
-pub(super) fn push_by_entry<S: NonZeroInxGenericStackEntries<u64>>(
+pub(super) fn push_by_entry<S: NonZeroInxGenericStackEntries<Item = u64>>(
     stack: &mut S,
     x: u64,
 ) -> Result<NonZeroUsize, ReallocationError> {
     Ok(stack.entry_push()?.push(x))
 }
 
-pub(super) fn push_by_reallocating_entry<S: NonZeroInxGenericStackEntries<u64>>(
+pub(super) fn push_by_reallocating_entry<S: NonZeroInxGenericStackEntries<Item = u64>>(
     stack: &mut S,
     x: u64,
 ) -> Result<NonZeroUsize, ReallocationError> {
@@ -70,7 +75,11 @@ pub(super) fn push_by_reallocating_entry<S: NonZeroInxGenericStackEntries<u64>>(
 }
 
 // Each call that can take memory.
-fn grows<S: NonZeroInxGenericStackEntries<u64>>(rt: &impl Abort, heap: &Heap, stack: &mut S) {
+fn grows<S: NonZeroInxGenericStackEntries<Item = u64>>(
+    rt: &impl Abort,
+    heap: &Heap,
+    stack: &mut S,
+) {
     for _ in 0..6 {
         let was = seen(heap, stack);
         let pushed = stack.push(was.len as u64);
@@ -95,7 +104,7 @@ fn grows<S: NonZeroInxGenericStackEntries<u64>>(rt: &impl Abort, heap: &Heap, st
 }
 
 // A stack for three items, whose one request the heap may refuse.
-fn makes<'a, S: NonZeroInxGenericStack<u64, Alloc = &'a Heap> + Drop>(
+fn makes<'a, S: NonZeroInxGenericStack<Item = u64, Alloc = &'a Heap> + Drop>(
     rt: &impl Abort,
     heap: &'a Heap,
 ) {
@@ -108,7 +117,7 @@ fn makes<'a, S: NonZeroInxGenericStack<u64, Alloc = &'a Heap> + Drop>(
     }
 }
 
-fn runs<'a, S: NonZeroInxGenericStackEntries<u64, Alloc = &'a Heap> + Drop>(
+fn runs<'a, S: NonZeroInxGenericStackEntries<Item = u64, Alloc = &'a Heap> + Drop>(
     rt: &impl Abort,
     heap: &'a Heap,
 ) {
@@ -140,7 +149,7 @@ fn each_request_in_turn(rt: HostRuntime) -> Result<(), Fail> {
 }
 
 // A stack that is made empty asks for nothing, nor does what takes items out of it.
-fn asks_for_nothing<'a, S: NonZeroInxGenericStack<u64, Alloc = &'a Heap> + Drop>(
+fn asks_for_nothing<'a, S: NonZeroInxGenericStack<Item = u64, Alloc = &'a Heap> + Drop>(
     rt: &impl Abort,
     heap: &'a Heap,
 ) {

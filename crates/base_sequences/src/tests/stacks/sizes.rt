@@ -11,7 +11,10 @@ use triple_arena_stack::{
 const SIZES: usize = 5_000;
 
 // Makes a stack for each size up to `SIZES`, and for the powers of 2 past it.
-fn makes<S: NonZeroInxGenericStack<u64, Alloc = Global> + Drop>(rt: &impl Abort, alloc: Global) {
+fn makes<S: NonZeroInxGenericStack<Item = u64, Alloc = Global> + Drop>(
+    rt: &impl Abort,
+    alloc: Global,
+) {
     for size in 0..SIZES {
         makes_for::<S>(rt, alloc, size);
     }
@@ -20,7 +23,7 @@ fn makes<S: NonZeroInxGenericStack<u64, Alloc = Global> + Drop>(rt: &impl Abort,
     }
 }
 
-fn makes_for<S: NonZeroInxGenericStack<u64, Alloc = Global> + Drop>(
+fn makes_for<S: NonZeroInxGenericStack<Item = u64, Alloc = Global> + Drop>(
     rt: &impl Abort,
     alloc: Global,
     size: usize,
@@ -32,7 +35,7 @@ fn makes_for<S: NonZeroInxGenericStack<u64, Alloc = Global> + Drop>(
 }
 
 // Grows an empty stack by one slot at a time, and then to the powers of 2.
-fn reallocates<S: NonZeroInxGenericStack<u64>>(rt: &impl Abort, stack: &mut S) {
+fn reallocates<S: NonZeroInxGenericStack<Item = u64>>(rt: &impl Abort, stack: &mut S) {
     for size in 0..SIZES {
         assert!(rt; stack.reallocate_min_capacity(size).is_ok());
         assert!(rt; stack.capacity() == size);
@@ -43,7 +46,7 @@ fn reallocates<S: NonZeroInxGenericStack<u64>>(rt: &impl Abort, stack: &mut S) {
 }
 
 // Fills a stack by each of the pushes in turn.
-fn fills<S: NonZeroInxGenericStackEntries<u64>>(rt: &impl Abort, stack: &mut S) {
+fn fills<S: NonZeroInxGenericStackEntries<Item = u64>>(rt: &impl Abort, stack: &mut S) {
     for round in 0..100_000u64 {
         let pushed = match round % 4 {
             0 => stack.push(round).is_ok(),

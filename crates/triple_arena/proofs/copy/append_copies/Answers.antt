@@ -49,3 +49,55 @@ loop-slot-preserved g c = (
 
 pub returns-clause-live : goal.returns-clause-live
 returns-clause-live g c = (copying_all _ _ _ _ (length-map c.loop-slot.left.now g.E.LentEntry.shown ∙ c.in_default.ensures.cases) c.loop-slot.invariant.1).lives
+
+pub returns-clause-mapped : goal.returns-clause-mapped
+returns-clause-mapped g c = (copying_all _ _ _ _ (length-map c.loop-slot.left.now g.E.LentEntry.shown ∙ c.in_default.ensures.cases) c.loop-slot.invariant.1).mapped
+
+pub returns-clause-slots : goal.returns-clause-slots
+returns-clause-slots g c =
+    let counted = length-map (g.S.NonZeroInxGenericStack.items c.loop-slot.slots) g.L.EntrySlot.entry in
+    let all = length-map c.args.source.now g.E.LentEntry.shown in
+    let whole = (copying_all _ _ _ _ (length-map c.loop-slot.left.now g.E.LentEntry.shown ∙ c.in_default.ensures.cases) c.loop-slot.invariant.1).whole in
+    omega arith
+
+pub returns-clause-room : goal.returns-clause-room
+returns-clause-room g c = c.loop-slot.invariant.2
+
+pub pointer_at-requires : goal.pointer_at-requires
+pointer_at-requires g c =
+    let counted = length-map (g.S.NonZeroInxGenericStack.items c.loop-slot.slots) g.L.EntrySlot.entry in
+    let passed = length-map c.loop-slot.left.now g.E.LentEntry.shown in
+    let all = length-map c.args.source.now g.E.LentEntry.shown in
+    let whole = c.loop-slot.invariant.1.whole in
+    let bound = c.requires.indexes in
+    let split = c.in-Some.ensures.cases.1 in
+    omega (arith, c.saturating_add-index.ensures, c.len.ensures.value)
+
+pub append-requires : goal.append-requires
+append-requires g c =
+    let counted = length-map (g.S.NonZeroInxGenericStack.items c.loop-slot.slots) g.L.EntrySlot.entry in
+    let passed = length-map c.loop-slot.left.now g.E.LentEntry.shown in
+    let all = length-map c.args.source.now g.E.LentEntry.shown in
+    let whole = c.loop-slot.invariant.1.whole in
+    let split = c.in-Some.ensures.cases.1 in
+    rw c.loop-slot.invariant.2 (omega (arith, c.requires.fits))
+
+pub append-requires-in-None : goal.append-requires-in-None
+append-requires-in-None g c =
+    let counted = length-map (g.S.NonZeroInxGenericStack.items c.loop-slot.slots) g.L.EntrySlot.entry in
+    let passed = length-map c.loop-slot.left.now g.E.LentEntry.shown in
+    let all = length-map c.args.source.now g.E.LentEntry.shown in
+    let whole = c.loop-slot.invariant.1.whole in
+    let split = c.in-Some.ensures.cases.1 in
+    rw c.loop-slot.invariant.2 (omega (arith, c.requires.fits))
+
+pub overflow_add-live : goal.overflow_add-live
+overflow_add-live g c =
+    let counted = length-map (g.S.NonZeroInxGenericStack.items c.loop-slot.slots) g.L.EntrySlot.entry in
+    let all = length-map c.args.source.now g.E.LentEntry.shown in
+    let whole = c.loop-slot.invariant.1.whole in
+    let few = c.loop-slot.invariant.1.few in
+    let bound = c.requires.indexes in
+    let split = c.in-Some.ensures.cases.1 in
+    let passed = length-map c.loop-slot.left.now g.E.LentEntry.shown in
+    omega arith

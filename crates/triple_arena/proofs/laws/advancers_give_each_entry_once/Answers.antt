@@ -6,7 +6,7 @@ pub returns-clause-given : goal.returns-clause-given
 returns-clause-given g c arena advancer left given run =
     advances_give (g.A.ArenaTrait.entry_at arena) (g.A.ArenaTrait.live_entries arena) (g.met.A.ArenaTrait.none_at_zero arena)
     (g.met.A.ArenaTrait.entry_listed arena) (g.met.A.ArenaTrait.live_entries_increase arena) _ g.A.ArenaTrait.walk
-    (option_map (λ p. (g.P.Ptr.index p, g.P.Ptr.generation p)))
+    (option_map (λ p. (g.P.PtrCore.index p, g.P.PtrCore.generation p)))
     (λ before given after step. g.met.A.ArenaTrait.advances before arena given after step) given advancer left run
 
 pub returns-clause-live : goal.returns-clause-live

@@ -14,5 +14,5 @@ returns-clause-free_end g c arena = (λ j. ap (option_map (λ entry. entry.0)) (
 
 pub returns-clause-limit : goal.returns-clause-limit
 returns-clause-limit g c arena max =
-    let greatest = g.P.Inx.PtrInx.greatest in
+    let greatest = g.P.Inx.PtrInxCore.greatest in
     (λ j. ap (option_map (λ entry. entry.0)) (entry-with_limit greatest arena max j), ap Some (counter-with_limit greatest arena max))

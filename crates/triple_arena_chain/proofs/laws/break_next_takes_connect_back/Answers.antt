@@ -3,4 +3,4 @@ use Rattle.triple_arena_chain.proofs.laws.break_next_takes_connect_back.Goals as
 
 pub returns : goal.returns
 returns g c before between after p q met one two =
-    connect_back g.P.Inx.PtrInx.number before between after (g.P.Ptr.index p) (g.P.Ptr.generation p) (g.P.Ptr.index q) (g.P.Ptr.generation q) met one two
+    connect_back g.P.Inx.PtrInxCore.number before between after (g.P.PtrCore.index p) (g.P.PtrCore.generation p) (g.P.PtrCore.index q) (g.P.PtrCore.generation q) met one two

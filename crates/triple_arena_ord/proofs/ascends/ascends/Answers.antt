@@ -5,30 +5,30 @@ use Rattle.triple_arena_ord.proofs.ascends.ascends.Goals as goal
 
 pub link_at-link-requires : goal.link_at-link-requires
 link_at-link-requires g c =
-    first_lives g.P.Inx.PtrInx.number g.T.Key.Ord.cmp g.T.SimpleOrdItem.key_of g.met.T.Key.Ord.total (g.A.ChainArenaTrait.links c.args.arena.now) c.requires.0 (g.P.Inx.PtrInx.number c.args.first) c.requires.1 c.requires.2
+    first_lives g.P.Inx.PtrInxCore.number g.T.Key.Ord.cmp g.T.SimpleOrdItem.key_of g.met.T.Key.Ord.total (g.A.ChainArenaTrait.links c.args.arena.now) c.requires.0 (g.P.Inx.PtrInxCore.number c.args.first) c.requires.1 c.requires.2
 
 pub along-init : goal.along-init
 along-init g c = λ w linear at most.
-    let number = g.P.Inx.PtrInx.number in
+    let number = g.P.Inx.PtrInxCore.number in
     let links = g.A.ChainArenaTrait.links c.args.arena.now in
     checking_begins number g.T.Key.Ord.cmp g.T.SimpleOrdItem.key_of g.met.T.Key.Ord.total links w (number c.args.first) c.link_at-link.result.now at
     (seen number g.T.Key.Ord.cmp g.T.SimpleOrdItem.key_of g.met.T.Key.Ord.total links (number c.args.first) c.link_at-link.result.now c.link_at-link.ensures)
 
 pub returns-in_default : goal.returns-in_default
 returns-in_default g c = λ w linear at most. (
-  λ _. checking_ends g.P.Inx.PtrInx.number g.T.Key.Ord.cmp g.T.SimpleOrdItem.key_of g.met.T.Key.Ord.total (g.A.ChainArenaTrait.links c.args.arena.now) w c.along.link.now c.along._done
-      (c.along.invariant w linear at most) linear (ap (option_map g.P.Inx.PtrInx.number) (sym c.next.ensures ∙ c.in_default.is)),
+  λ _. checking_ends g.P.Inx.PtrInxCore.number g.T.Key.Ord.cmp g.T.SimpleOrdItem.key_of g.met.T.Key.Ord.total (g.A.ChainArenaTrait.links c.args.arena.now) w c.along.link.now c.along._done
+      (c.along.invariant w linear at most) linear (ap (option_map g.P.Inx.PtrInxCore.number) (sym c.next.ensures ∙ c.in_default.is)),
   λ _. refl,
 )
 
 pub link_at-next-requires : goal.link_at-next-requires
 link_at-next-requires g c =
-    next_lives g.P.Inx.PtrInx.number g.T.Key.Ord.cmp g.T.SimpleOrdItem.key_of g.met.T.Key.Ord.total (g.A.ChainArenaTrait.links c.args.arena.now) c.requires.0 c.along.link.now c.along._done
-    (c.along.invariant c.requires.0 c.requires.1 c.requires.2 c.requires.3) c.requires.1 (g.P.Inx.PtrInx.number c.in-Some.i) (ap (option_map g.P.Inx.PtrInx.number) (sym c.next.ensures ∙ c.in-Some.is))
+    next_lives g.P.Inx.PtrInxCore.number g.T.Key.Ord.cmp g.T.SimpleOrdItem.key_of g.met.T.Key.Ord.total (g.A.ChainArenaTrait.links c.args.arena.now) c.requires.0 c.along.link.now c.along._done
+    (c.along.invariant c.requires.0 c.requires.1 c.requires.2 c.requires.3) c.requires.1 (g.P.Inx.PtrInxCore.number c.in-Some.i) (ap (option_map g.P.Inx.PtrInxCore.number) (sym c.next.ensures ∙ c.in-Some.is))
 
 pub returns-in-Greater : goal.returns-in-Greater
 returns-in-Greater g c = λ w linear at most.
-    let number = g.P.Inx.PtrInx.number in
+    let number = g.P.Inx.PtrInxCore.number in
     let cmp = g.T.Key.Ord.cmp in
     let key = g.T.SimpleOrdItem.key_of in
     let links = g.A.ChainArenaTrait.links c.args.arena.now in
@@ -39,7 +39,7 @@ returns-in-Greater g c = λ w linear at most.
 
 pub along-preserved : goal.along-preserved
 along-preserved g c = λ w linear at most.
-    let number = g.P.Inx.PtrInx.number in
+    let number = g.P.Inx.PtrInxCore.number in
     let cmp = g.T.Key.Ord.cmp in
     let key = g.T.SimpleOrdItem.key_of in
     let links = g.A.ChainArenaTrait.links c.args.arena.now in
@@ -51,7 +51,7 @@ along-preserved g c = λ w linear at most.
 
 pub returns : goal.returns
 returns g c = λ w linear at most. (
-  λ _. checking_done g.P.Inx.PtrInx.number g.T.Key.Ord.cmp g.T.SimpleOrdItem.key_of g.met.T.Key.Ord.total (g.A.ChainArenaTrait.links c.args.arena.now) w c.along.link.now c.along._done
+  λ _. checking_done g.P.Inx.PtrInxCore.number g.T.Key.Ord.cmp g.T.SimpleOrdItem.key_of g.met.T.Key.Ord.total (g.A.ChainArenaTrait.links c.args.arena.now) w c.along.link.now c.along._done
       (c.along.invariant w linear at most) linear c.args.most most (omega arith),
   λ _. refl,
 )

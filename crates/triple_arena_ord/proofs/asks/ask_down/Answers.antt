@@ -9,8 +9,8 @@ down-init g c = (search of_calls, asking_begins _ _ _ _ _ _ _ _ c.requires.whole
 
 pub down-preserved-in-Less : goal.down-preserved-in-Less
 down-preserved-in-Less g c =
-    let number = g.P.Inx.PtrInx.number in
-    let at = sym c.get_inx.ensures ∙ ap (option_map (λ e. (g.P.Gen.PtrGen.number e.0, e.1.now))) c.in-Some-get_inx.is in
+    let number = g.P.Inx.PtrInxCore.number in
+    let at = sym c.get_inx.ensures ∙ ap (option_map (λ e. (g.P.Gen.PtrGenCore.number e.0, e.1.now))) c.in-Some-get_inx.is in
     let asked = asking_step number _ _ _ _ _ _ _ _ _ _ _ c.down.invariant.1 (number c.in-Some.i) (ap (option_map number) c.in-Some.is) _ _ at
     _ c._from_raw-p.ensures.has_index c._from_raw-p.ensures.has_generation _ refl _ _ c.f-answer.ensures _ (ap (λ d. goes d (knot_of number c.in-Some-get_inx.entry.1.now)) (sym c.in-Less.is))
     _ c.tick.ensures in
@@ -18,8 +18,8 @@ down-preserved-in-Less g c =
 
 pub down-preserved-in-Equal : goal.down-preserved-in-Equal
 down-preserved-in-Equal g c =
-    let number = g.P.Inx.PtrInx.number in
-    let at = sym c.get_inx.ensures ∙ ap (option_map (λ e. (g.P.Gen.PtrGen.number e.0, e.1.now))) c.in-Some-get_inx.is in
+    let number = g.P.Inx.PtrInxCore.number in
+    let at = sym c.get_inx.ensures ∙ ap (option_map (λ e. (g.P.Gen.PtrGenCore.number e.0, e.1.now))) c.in-Some-get_inx.is in
     let asked = asking_step number _ _ _ _ _ _ _ _ _ _ _ c.down.invariant.1 (number c.in-Some.i) (ap (option_map number) c.in-Some.is) _ _ at
     _ c._from_raw-p.ensures.has_index c._from_raw-p.ensures.has_generation _ refl _ _ c.f-answer.ensures _ (ap (λ d. goes d (knot_of number c.in-Some-get_inx.entry.1.now)) (sym c.in-Equal.is))
     _ c.tick.ensures in
@@ -27,15 +27,15 @@ down-preserved-in-Equal g c =
 
 pub down-preserved : goal.down-preserved
 down-preserved g c =
-    let number = g.P.Inx.PtrInx.number in
-    let at = sym c.get_inx.ensures ∙ ap (option_map (λ e. (g.P.Gen.PtrGen.number e.0, e.1.now))) c.in-Some-get_inx.is in
+    let number = g.P.Inx.PtrInxCore.number in
+    let at = sym c.get_inx.ensures ∙ ap (option_map (λ e. (g.P.Gen.PtrGenCore.number e.0, e.1.now))) c.in-Some-get_inx.is in
     let asked = asking_step number _ _ _ _ _ _ _ _ _ _ _ c.down.invariant.1 (number c.in-Some.i) (ap (option_map number) c.in-Some.is) _ _ at
     _ c._from_raw-p.ensures.has_index c._from_raw-p.ensures.has_generation _ refl _ _ c.f-answer.ensures _ (ap (λ d. goes d (knot_of number c.in-Some-get_inx.entry.1.now)) (sym c.in-Greater.is))
     _ c.tick.ensures in
     (search of_calls, asked.goes_on)
 
 pub returns-clause-asked : goal.returns-clause-asked
-returns-clause-asked g c = (asking_ends _ _ _ _ _ _ _ _ _ _ _ _ c.down.invariant.1 (ap (option_map g.P.Inx.PtrInx.number) c.in_default.is)).0
+returns-clause-asked g c = (asking_ends _ _ _ _ _ _ _ _ _ _ _ _ c.down.invariant.1 (ap (option_map g.P.Inx.PtrInxCore.number) c.in_default.is)).0
 
 pub returns-clause-bound : goal.returns-clause-bound
-returns-clause-bound g c = (asking_ends _ _ _ _ _ _ _ _ _ _ _ _ c.down.invariant.1 (ap (option_map g.P.Inx.PtrInx.number) c.in_default.is)).1
+returns-clause-bound g c = (asking_ends _ _ _ _ _ _ _ _ _ _ _ _ c.down.invariant.1 (ap (option_map g.P.Inx.PtrInxCore.number) c.in_default.is)).1

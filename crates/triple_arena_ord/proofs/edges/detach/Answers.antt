@@ -8,12 +8,12 @@ pub read-knot-requires : goal.read-knot-requires
 read-knot-requires g c = loose_lives _ _ _ c.requires
 
 pub reparent-requires : goal.reparent-requires
-reparent-requires g c = if_live_from g.P.Inx.PtrInx.number (knots_in g.P.Inx.PtrInx.number c.args.chains.now) c.first_child-child.result ((loose_reads _ _ _ _ _ c.read-knot.ensures c.first_child-child.ensures.left c.first_child-child.ensures.right c.requires).sub_lives)
+reparent-requires g c = if_live_from g.P.Inx.PtrInxCore.number (knots_in g.P.Inx.PtrInxCore.number c.args.chains.now) c.first_child-child.result ((loose_reads _ _ _ _ _ c.read-knot.ensures c.first_child-child.ensures.left c.first_child-child.ensures.right c.requires).sub_lives)
 
 pub relink-requires : goal.relink-requires
 relink-requires g c =
     let r = loose_reads _ _ _ _ _ c.read-knot.ensures c.first_child-child.ensures.left c.first_child-child.ensures.right c.requires in
-    if_live g.P.Inx.PtrInx.number (knots_in g.P.Inx.PtrInx.number c.reparent.new.chains) c.read-knot.result.parent (λ i e. reparent-lives _ _ _ _ c.reparent.ensures.does i (r.holder_lives i e))
+    if_live g.P.Inx.PtrInxCore.number (knots_in g.P.Inx.PtrInxCore.number c.reparent.new.chains) c.read-knot.result.parent (λ i e. reparent-lives _ _ _ _ c.reparent.ensures.does i (r.holder_lives i e))
 
 pub returns-clause-does : goal.returns-clause-does
 returns-clause-does g c = λ h.

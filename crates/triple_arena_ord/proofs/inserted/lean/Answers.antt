@@ -10,23 +10,23 @@ use Rattle.triple_arena_ord.proofs.inserted.lean.Goals as goal
 
 -- what was read is what stands there
 read : (g : _) (c : After-rank_at g) (w : List ℕ)
-    (h : Leaning (knots_in g.P.Inx.PtrInx.number c.args.chains.now) (option_map g.P.Inx.PtrInx.number c.args.root.now)
-    (g.P.Inx.PtrInx.number c.args.low) w)
-    → LeanReads _ _ _ w h c.read-below.result.rank (option_map g.P.Inx.PtrInx.number c.child-inner.result) c.rank_at.result
+    (h : Leaning (knots_in g.P.Inx.PtrInxCore.number c.args.chains.now) (option_map g.P.Inx.PtrInxCore.number c.args.root.now)
+    (g.P.Inx.PtrInxCore.number c.args.low) w)
+    → LeanReads _ _ _ w h c.read-below.result.rank (option_map g.P.Inx.PtrInxCore.number c.child-inner.result) c.rank_at.result
 read g c w h =
-    lean_reads _ _ _ _ _ _ _ _ _ _ c.read-below.ensures (ap (option_map g.P.Inx.PtrInx.number) c.in-Some.is) c.read-above.ensures
+    lean_reads _ _ _ _ _ _ _ _ _ _ c.read-below.ensures (ap (option_map g.P.Inx.PtrInxCore.number) c.in-Some.is) c.read-above.ensures
     c.side_of-side.ensures.left c.side_of-side.ensures.right c.other.ensures c.child-inner.ensures
     c.rank_at.ensures.some c.rank_at.ensures.none w h
 
 -- the inner child turns up, twice
 twice : (g : _) (c : In-Some-inner g) (w : List ℕ)
-    (h : Leaning (knots_in g.P.Inx.PtrInx.number c.args.chains.now) (option_map g.P.Inx.PtrInx.number c.args.root.now)
-    (g.P.Inx.PtrInx.number c.args.low) w)
-    → TurnsTwice (knots_in g.P.Inx.PtrInx.number c.args.chains.now) (option_map g.P.Inx.PtrInx.number c.args.root.now)
-    (g.P.Inx.PtrInx.number c.in-Some-inner.middle) c.read-below.result.rank (c.read-below.result.rank - 1) w
+    (h : Leaning (knots_in g.P.Inx.PtrInxCore.number c.args.chains.now) (option_map g.P.Inx.PtrInxCore.number c.args.root.now)
+    (g.P.Inx.PtrInxCore.number c.args.low) w)
+    → TurnsTwice (knots_in g.P.Inx.PtrInxCore.number c.args.chains.now) (option_map g.P.Inx.PtrInxCore.number c.args.root.now)
+    (g.P.Inx.PtrInxCore.number c.in-Some-inner.middle) c.read-below.result.rank (c.read-below.result.rank - 1) w
 twice g c w h =
     let r = read g (goal.at.In-Some-inner g c).After-rank_at w h in
-    lean_twice _ _ _ _ _ _ w h (sym r.inner_is ∙ ap (option_map g.P.Inx.PtrInx.number) c.in-Some-inner.is) (omega arith) r.rank_is
+    lean_twice _ _ _ _ _ _ w h (sym r.inner_is ∙ ap (option_map g.P.Inx.PtrInxCore.number) c.in-Some-inner.is) (omega arith) r.rank_is
     (ap (λ z. z - 1) r.rank_is)
 
 pub read-below-requires : goal.read-below-requires
@@ -34,17 +34,17 @@ read-below-requires g c = spot_low _ _ _ (lean_spot _ _ _ _ c.requires.1)
 
 pub unreached-unreachable-requires : goal.unreached-unreachable-requires
 unreached-unreachable-requires g c =
-    not_some g.P.Inx.PtrInx.number c.read-below.result.parent _
+    not_some g.P.Inx.PtrInxCore.number c.read-below.result.parent _
     (spot_parent _ _ _ _ c.read-below.ensures (lean_spot _ _ _ _ c.requires.1)) c.in_default.not-Some
 
 pub read-above-requires : goal.read-above-requires
 read-above-requires g c =
-    spot_high _ _ _ _ _ c.read-below.ensures (ap (option_map g.P.Inx.PtrInx.number) c.in-Some.is) (lean_spot _ _ _ _ c.requires.1)
+    spot_high _ _ _ _ _ c.read-below.ensures (ap (option_map g.P.Inx.PtrInxCore.number) c.in-Some.is) (lean_spot _ _ _ _ c.requires.1)
 
 pub rank_at-requires : goal.rank_at-requires
 rank_at-requires g c =
     let spot = lean_spot _ _ _ _ c.requires.1 in
-    if_live g.P.Inx.PtrInx.number (knots_in g.P.Inx.PtrInx.number c.args.chains.now) c.child-inner.result
+    if_live g.P.Inx.PtrInxCore.number (knots_in g.P.Inx.PtrInxCore.number c.args.chains.now) c.child-inner.result
     (λ i e. spot_child _ _ _ _ _ c.read-below.ensures spot i (sym c.child-inner.ensures ∙ e))
 
 pub overflow_add-rank_at : goal.overflow_add-rank_at
@@ -56,7 +56,7 @@ pub unreached-unreachable-requires-in_default-inner : goal.unreached-unreachable
 unreached-unreachable-requires-in_default-inner g c =
     let h = c.requires.1 in
     let r = read g (goal.at.unreached-unreachable-requires-in_default-inner g c).After-rank_at _ h in
-    root-some h.inner (omega arith) (sym r.inner_is ∙ ap (option_map g.P.Inx.PtrInx.number) c.in_default-inner.is)
+    root-some h.inner (omega arith) (sym r.inner_is ∙ ap (option_map g.P.Inx.PtrInxCore.number) c.in_default-inner.is)
 
 pub overflow_sub-rank-else-rank_at-rank : goal.overflow_sub-rank-else-rank_at-rank
 overflow_sub-rank-else-rank_at-rank g c =

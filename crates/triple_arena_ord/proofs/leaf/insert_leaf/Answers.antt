@@ -6,18 +6,18 @@ use Rattle.triple_arena_ord.proofs.leaf.insert_leaf.Goals as goal
 
 -- the list is cut beside the holder
 cut : (g : _) (c : After-neighbors_beside-prev g)
-    → Cut g.P.Inx.PtrInx.number (record { chains = c.args.chains.now; root = option_map g.P.Inx.PtrInx.number c.args.root.now })
-    (g.P.Inx.PtrInx.number c.args.holder) c.args.side (option_map g.P.Inx.PtrInx.number c.neighbors_beside-prev.result.0)
-    (option_map g.P.Inx.PtrInx.number c.neighbors_beside-prev.result.1)
+    → Cut g.P.Inx.PtrInxCore.number (record { chains = c.args.chains.now; root = option_map g.P.Inx.PtrInxCore.number c.args.root.now })
+    (g.P.Inx.PtrInxCore.number c.args.holder) c.args.side (option_map g.P.Inx.PtrInxCore.number c.neighbors_beside-prev.result.0)
+    (option_map g.P.Inx.PtrInxCore.number c.neighbors_beside-prev.result.1)
 cut g c =
-    cut_found g.P.Inx.PtrInx.number _ c.requires.ordered _ _ _ _ c.requires.lives c.requires.free
+    cut_found g.P.Inx.PtrInxCore.number _ c.requires.ordered _ _ _ _ c.requires.lives c.requires.free
     c.neighbors_beside-prev.ensures.prev c.neighbors_beside-prev.ensures.next
 
 -- the chain has one more link there
 linked : (g : _) (c : After-inx g)
-    → Linked g.P.Inx.PtrInx.number (record { chains = c.args.chains.now; root = option_map g.P.Inx.PtrInx.number c.args.root.now })
-    c.insert_in_gap_within_capacity.new.self (g.P.Inx.PtrInx.number c.args.holder) (g.P.Inx.PtrInx.number c.inx.result)
-    (g.P.Ptr.index c.in-Ok.p) (g.P.Ptr.generation c.in-Ok.p) c.args.side
+    → Linked g.P.Inx.PtrInxCore.number (record { chains = c.args.chains.now; root = option_map g.P.Inx.PtrInxCore.number c.args.root.now })
+    c.insert_in_gap_within_capacity.new.self (g.P.Inx.PtrInxCore.number c.args.holder) (g.P.Inx.PtrInxCore.number c.inx.result)
+    (g.P.PtrCore.index c.in-Ok.p) (g.P.PtrCore.generation c.in-Ok.p) c.args.side
     (record { t = c.args.t; p_back = None; p_tree0 = None; p_tree1 = None; rank = 1 })
 linked g c =
     let bound : c.capacity-capacity.result < 2 ^ 64 = search rules in
@@ -25,8 +25,8 @@ linked g c =
     let room = c.requires.room in
     record {
       is = c.requires.ordered;
-      prev = option_map g.P.Inx.PtrInx.number c.neighbors_beside-prev.result.0;
-      next = option_map g.P.Inx.PtrInx.number c.neighbors_beside-prev.result.1;
+      prev = option_map g.P.Inx.PtrInxCore.number c.neighbors_beside-prev.result.0;
+      next = option_map g.P.Inx.PtrInxCore.number c.neighbors_beside-prev.result.1;
       cut = cut g (goal.at.After-inx g c).After-neighbors_beside-prev;
       placed = c.in-Ok.ensures.placed;
       index_is = c.inx.ensures;
@@ -35,19 +35,19 @@ linked g c =
 
 -- and the tree one more leaf
 leaf : (g : _) (c : After-bring_in g)
-    → Leaf g.P.Inx.PtrInx.number (linked g (goal.at.After-bring_in g c).After-inx) c.bring_in.new.chains
-    (option_map g.P.Inx.PtrInx.number c.bring_in.new.root)
+    → Leaf g.P.Inx.PtrInxCore.number (linked g (goal.at.After-bring_in g c).After-inx) c.bring_in.new.chains
+    (option_map g.P.Inx.PtrInxCore.number c.bring_in.new.root)
 leaf g c =
     let link = linked g (goal.at.After-bring_in g c).After-inx in
-    leaf_works g.P.Inx.PtrInx.number link _ _ (c.bring_in.ensures.does (leaf_gap g.P.Inx.PtrInx.number link)) c.bring_in.ensures.keeps
+    leaf_works g.P.Inx.PtrInxCore.number link _ _ (c.bring_in.ensures.does (leaf_gap g.P.Inx.PtrInxCore.number link)) c.bring_in.ensures.keeps
 
 pub insert_in_gap_within_capacity-requires : goal.insert_in_gap_within_capacity-requires
 insert_in_gap_within_capacity-requires g c =
-    cut_gap g.P.Inx.PtrInx.number _ c.requires.ordered _ _ _ _
+    cut_gap g.P.Inx.PtrInxCore.number _ c.requires.ordered _ _ _ _
     (cut g (goal.at.insert_in_gap_within_capacity-requires g c).After-neighbors_beside-prev)
 
 pub bring_in-requires-clause-gap : goal.bring_in-requires-clause-gap
-bring_in-requires-clause-gap g c = leaf_gap g.P.Inx.PtrInx.number (linked g (goal.at.bring_in-requires-clause-gap g c).After-inx)
+bring_in-requires-clause-gap g c = leaf_gap g.P.Inx.PtrInxCore.number (linked g (goal.at.bring_in-requires-clause-gap g c).After-inx)
 
 pub returns-clause-ordered : goal.returns-clause-ordered
 returns-clause-ordered g c = (leaf g (goal.at.returns-clause-ordered g c).After-bring_in).ordered

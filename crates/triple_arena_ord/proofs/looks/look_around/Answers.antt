@@ -11,11 +11,11 @@ use Rattle.triple_arena_ord.proofs.looks.look_around.Goals as goal
 
 -- what was read is what stands there
 read : (g : _) (c : After-side_of-side g) (root : Option ℕ)
-    (spot : Spot (knots_in g.P.Inx.PtrInx.number c.args.chains.now) root (g.P.Inx.PtrInx.number c.args.low))
-    → Reads _ _ _ spot (named g.P.Inx.PtrInx.number c.read-below.result) (named g.P.Inx.PtrInx.number c.read-above.result)
-    (g.P.Inx.PtrInx.number c.in-Some.high) c.side_of-side.result
+    (spot : Spot (knots_in g.P.Inx.PtrInxCore.number c.args.chains.now) root (g.P.Inx.PtrInxCore.number c.args.low))
+    → Reads _ _ _ spot (named g.P.Inx.PtrInxCore.number c.read-below.result) (named g.P.Inx.PtrInxCore.number c.read-above.result)
+    (g.P.Inx.PtrInxCore.number c.in-Some.high) c.side_of-side.result
 read g c root spot =
-    reads _ root _ spot _ _ _ _ c.read-below.ensures (ap (option_map g.P.Inx.PtrInx.number) c.in-Some.is) c.read-above.ensures
+    reads _ root _ spot _ _ _ _ c.read-below.ensures (ap (option_map g.P.Inx.PtrInxCore.number) c.in-Some.is) c.read-above.ensures
     c.side_of-side.ensures.left c.side_of-side.ensures.right
 
 pub read-below-requires : goal.read-below-requires
@@ -23,35 +23,35 @@ read-below-requires g c = spot_low _ _ _ c.requires.1
 
 pub unreached-unreachable-requires : goal.unreached-unreachable-requires
 unreached-unreachable-requires g c =
-    not_some g.P.Inx.PtrInx.number c.read-below.result.parent _
+    not_some g.P.Inx.PtrInxCore.number c.read-below.result.parent _
     (spot_parent _ _ _ _ c.read-below.ensures c.requires.1) c.in_default.not-Some
 
 pub read-above-requires : goal.read-above-requires
-read-above-requires g c = spot_high _ _ _ _ _ c.read-below.ensures (ap (option_map g.P.Inx.PtrInx.number) c.in-Some.is) c.requires.1
+read-above-requires g c = spot_high _ _ _ _ _ c.read-below.ensures (ap (option_map g.P.Inx.PtrInxCore.number) c.in-Some.is) c.requires.1
 
 pub rank_at-requires : goal.rank_at-requires
 rank_at-requires g c =
-    if_live g.P.Inx.PtrInx.number (knots_in g.P.Inx.PtrInx.number c.args.chains.now) c.child-outer.result
+    if_live g.P.Inx.PtrInxCore.number (knots_in g.P.Inx.PtrInxCore.number c.args.chains.now) c.child-outer.result
     (λ i e. spot_child _ _ _ _ _ c.read-below.ensures c.requires.1 i (sym c.child-outer.ensures ∙ e))
 
 pub rank_at-requires-2 : goal.rank_at-requires-2
 rank_at-requires-2 g c =
-    if_live g.P.Inx.PtrInx.number (knots_in g.P.Inx.PtrInx.number c.args.chains.now) c.child-inner.result
+    if_live g.P.Inx.PtrInxCore.number (knots_in g.P.Inx.PtrInxCore.number c.args.chains.now) c.child-inner.result
     (λ i e. spot_child _ _ _ _ _ c.read-below.ensures c.requires.1 i (sym c.child-inner.ensures ∙ e))
 
 pub rank_at-requires-3 : goal.rank_at-requires-3
 rank_at-requires-3 g c =
     let r = read g (goal.at.rank_at-requires-3 g c).After-side_of-side _ c.requires.1 in
-    let away = ap (λ z. child_of z (named g.P.Inx.PtrInx.number c.read-above.result)) c.other-away.ensures in
-    if_live g.P.Inx.PtrInx.number (knots_in g.P.Inx.PtrInx.number c.args.chains.now) c.child-far.result
+    let away = ap (λ z. child_of z (named g.P.Inx.PtrInxCore.number c.read-above.result)) c.other-away.ensures in
+    if_live g.P.Inx.PtrInxCore.number (knots_in g.P.Inx.PtrInxCore.number c.args.chains.now) c.child-far.result
     (λ i e. spot_far _ _ _ c.requires.1 _ _ _ _ r i (sym away ∙ sym c.child-far.ensures ∙ e))
 
 pub returns : goal.returns
 returns g c = λ root spot.
     let r = read g (goal.at.returns g c).After-side_of-side root spot in
     let f = spotted _ _ _ spot in
-    let below = named g.P.Inx.PtrInx.number c.read-below.result in
-    let above = named g.P.Inx.PtrInx.number c.read-above.result in
+    let below = named g.P.Inx.PtrInxCore.number c.read-below.result in
+    let above = named g.P.Inx.PtrInxCore.number c.read-above.result in
     let outer_is = c.child-outer.ensures ∙ r.outer_is in
     let inner_is = c.child-inner.ensures ∙ ap (λ z. child_of z below) c.other-away.ensures ∙ r.inner_is in
     let far_is = c.child-far.ensures ∙ ap (λ z. child_of z above) c.other-away.ensures ∙ r.far_is in

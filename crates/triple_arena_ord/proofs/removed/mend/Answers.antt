@@ -12,20 +12,20 @@ use Rattle.triple_arena_ord.proofs.removed.mend.Goals as goal
 
 -- what was read is what stands there
 read : (g : _) (c : After-rank_at-right g) (w : List ℕ)
-    (h : Broken (knots_in g.P.Inx.PtrInx.number c.args.chains.now) (option_map g.P.Inx.PtrInx.number c.args.root.now)
-    (g.P.Inx.PtrInx.number c.args.high) w)
-    → MendReads _ _ _ w h (named g.P.Inx.PtrInx.number c.read-above.result) c.rank_at-left.result c.rank_at-right.result
+    (h : Broken (knots_in g.P.Inx.PtrInxCore.number c.args.chains.now) (option_map g.P.Inx.PtrInxCore.number c.args.root.now)
+    (g.P.Inx.PtrInxCore.number c.args.high) w)
+    → MendReads _ _ _ w h (named g.P.Inx.PtrInxCore.number c.read-above.result) c.rank_at-left.result c.rank_at-right.result
 read g c w h =
     mend_reads _ _ _ _ _ _ c.read-above.ensures c.rank_at-left.ensures.some c.rank_at-left.ensures.none
     c.rank_at-right.ensures.some c.rank_at-right.ensures.none w h
 
 -- both children are two lower, and the node loses one rank
 falls : (g : _) (c : After-set_rank g) (w : List ℕ)
-    → Broken (knots_in g.P.Inx.PtrInx.number c.args.chains.now) (option_map g.P.Inx.PtrInx.number c.args.root.now)
-    (g.P.Inx.PtrInx.number c.args.high) w
-    → Lowered (knots_in g.P.Inx.PtrInx.number c.set_rank.new.chains) (option_map g.P.Inx.PtrInx.number c.args.root.now)
-    (g.P.Inx.PtrInx.number c.args.high) (knots_in g.P.Inx.PtrInx.number c.args.chains.now)
-    (option_map g.P.Inx.PtrInx.number c.read-above.result.parent) w
+    → Broken (knots_in g.P.Inx.PtrInxCore.number c.args.chains.now) (option_map g.P.Inx.PtrInxCore.number c.args.root.now)
+    (g.P.Inx.PtrInxCore.number c.args.high) w
+    → Lowered (knots_in g.P.Inx.PtrInxCore.number c.set_rank.new.chains) (option_map g.P.Inx.PtrInxCore.number c.args.root.now)
+    (g.P.Inx.PtrInxCore.number c.args.high) (knots_in g.P.Inx.PtrInxCore.number c.args.chains.now)
+    (option_map g.P.Inx.PtrInxCore.number c.read-above.result.parent) w
 falls g c w h =
     let m = read g (goal.at.After-set_rank g c).After-rank_at-right w h in
     broken_lower _ _ _ _ _ c.read-above.ensures (c.set_rank.ensures.does _ c.read-above.ensures) w h (omega arith) (omega arith)
@@ -33,29 +33,29 @@ falls g c w h =
 
 -- the higher child is one lower, and the other three
 higher : (g : _) (c : After-child g) (w : List ℕ)
-    (h : Broken (knots_in g.P.Inx.PtrInx.number c.args.chains.now) (option_map g.P.Inx.PtrInx.number c.args.root.now)
-    (g.P.Inx.PtrInx.number c.args.high) w)
-    → Higher _ _ _ w h c.higher.result (option_map g.P.Inx.PtrInx.number c.child.result)
+    (h : Broken (knots_in g.P.Inx.PtrInxCore.number c.args.chains.now) (option_map g.P.Inx.PtrInxCore.number c.args.root.now)
+    (g.P.Inx.PtrInxCore.number c.args.high) w)
+    → Higher _ _ _ w h c.higher.result (option_map g.P.Inx.PtrInxCore.number c.child.result)
 higher g c w h =
     let m = read g (goal.at.After-child g c).After-rank_at-right w h in
     mend_higher _ _ _ _ _ _ _ _ w h m c.read-above.ensures (not_fit _ _ _ _ c.is_fit.ensures c.if-is_fit.false) (omega arith)
     c.higher.ensures.right c.higher.ensures.left c.child.ensures
 
 sibling : (g : _) (c : In-Some g) (w : List ℕ)
-    → Broken (knots_in g.P.Inx.PtrInx.number c.args.chains.now) (option_map g.P.Inx.PtrInx.number c.args.root.now)
-    (g.P.Inx.PtrInx.number c.args.high) w
-    → Sibling (knots_in g.P.Inx.PtrInx.number c.args.chains.now) (option_map g.P.Inx.PtrInx.number c.args.root.now)
-    (g.P.Inx.PtrInx.number c.in-Some.low) w (g.P.Inx.PtrInx.number c.args.high)
+    → Broken (knots_in g.P.Inx.PtrInxCore.number c.args.chains.now) (option_map g.P.Inx.PtrInxCore.number c.args.root.now)
+    (g.P.Inx.PtrInxCore.number c.args.high) w
+    → Sibling (knots_in g.P.Inx.PtrInxCore.number c.args.chains.now) (option_map g.P.Inx.PtrInxCore.number c.args.root.now)
+    (g.P.Inx.PtrInxCore.number c.in-Some.low) w (g.P.Inx.PtrInxCore.number c.args.high)
 sibling g c w h =
-    broken_sibling _ _ _ _ _ _ w h (higher g (goal.at.In-Some g c).After-child w h) (ap (option_map g.P.Inx.PtrInx.number) c.in-Some.is)
+    broken_sibling _ _ _ _ _ _ w h (higher g (goal.at.In-Some g c).After-child w h) (ap (option_map g.P.Inx.PtrInxCore.number) c.in-Some.is)
 
 -- the sibling and the node lose one rank each
 both_fall : (g : _) (c : After-set_rank-3 g) (w : List ℕ)
-    → Broken (knots_in g.P.Inx.PtrInx.number c.args.chains.now) (option_map g.P.Inx.PtrInx.number c.args.root.now)
-    (g.P.Inx.PtrInx.number c.args.high) w
-    → Lowered (knots_in g.P.Inx.PtrInx.number c.set_rank-3.new.chains) (option_map g.P.Inx.PtrInx.number c.args.root.now)
-    (g.P.Inx.PtrInx.number c.args.high) (knots_in g.P.Inx.PtrInx.number c.args.chains.now)
-    (option_map g.P.Inx.PtrInx.number c.read-above.result.parent) w
+    → Broken (knots_in g.P.Inx.PtrInxCore.number c.args.chains.now) (option_map g.P.Inx.PtrInxCore.number c.args.root.now)
+    (g.P.Inx.PtrInxCore.number c.args.high) w
+    → Lowered (knots_in g.P.Inx.PtrInxCore.number c.set_rank-3.new.chains) (option_map g.P.Inx.PtrInxCore.number c.args.root.now)
+    (g.P.Inx.PtrInxCore.number c.args.high) (knots_in g.P.Inx.PtrInxCore.number c.args.chains.now)
+    (option_map g.P.Inx.PtrInxCore.number c.read-above.result.parent) w
 both_fall g c w h =
     let s = sibling g (goal.at.After-set_rank-3 g c).In-Some w h in
     let r = c.look_around-near.ensures _ s.spot in
@@ -67,12 +67,12 @@ read-above-requires g c = broken_lives _ _ _ _ c.requires.1
 
 pub rank_at-left-requires : goal.rank_at-left-requires
 rank_at-left-requires g c =
-    if_live_from g.P.Inx.PtrInx.number (knots_in g.P.Inx.PtrInx.number c.args.chains.now) c.read-above.result.left
+    if_live_from g.P.Inx.PtrInxCore.number (knots_in g.P.Inx.PtrInxCore.number c.args.chains.now) c.read-above.result.left
     (broken_reads _ _ _ _ c.read-above.ensures _ c.requires.1).left_lives
 
 pub rank_at-right-requires : goal.rank_at-right-requires
 rank_at-right-requires g c =
-    if_live_from g.P.Inx.PtrInx.number (knots_in g.P.Inx.PtrInx.number c.args.chains.now) c.read-above.result.right
+    if_live_from g.P.Inx.PtrInxCore.number (knots_in g.P.Inx.PtrInxCore.number c.args.chains.now) c.read-above.result.right
     (broken_reads _ _ _ _ c.read-above.ensures _ c.requires.1).right_lives
 
 pub is_fit-requires-clause-low_left : goal.is_fit-requires-clause-low_left
@@ -97,7 +97,7 @@ returns-then-max-rank-clause-pending g c = λ w h. (falls g (goal.at.returns-the
 
 pub returns-then-max-rank-clause-rises : goal.returns-then-max-rank-clause-rises
 returns-then-max-rank-clause-rises g c =
-    let number = g.P.Inx.PtrInx.number in
+    let number = g.P.Inx.PtrInxCore.number in
     let old = knots_in number c.args.chains.now in
     if_named number (λ i. rank_in old (number c.args.high) < rank_in (knots_in number c.set_rank.new.chains) i) c.read-above.result.parent
     (falls g (goal.at.returns-then-max-rank-clause-rises g c).After-set_rank _ c.requires.1).rises
@@ -106,11 +106,11 @@ pub unreached-unreachable-requires : goal.unreached-unreachable-requires
 unreached-unreachable-requires g c =
     let h = c.requires.1 in
     higher_some _ _ _ _ _ _ h (higher g (goal.at.unreached-unreachable-requires g c).After-child _ h)
-    (ap (option_map g.P.Inx.PtrInx.number) c.in_default.is)
+    (ap (option_map g.P.Inx.PtrInxCore.number) c.in_default.is)
 
 pub look_around-near-requires : goal.look_around-near-requires
 look_around-near-requires g c =
-    (option_map g.P.Inx.PtrInx.number c.args.root.now, (sibling g (goal.at.look_around-near-requires g c).In-Some _ c.requires.1).spot)
+    (option_map g.P.Inx.PtrInxCore.number c.args.root.now, (sibling g (goal.at.look_around-near-requires g c).In-Some _ c.requires.1).spot)
 
 pub overflow_add-max-2 : goal.overflow_add-max-2
 overflow_add-max-2 g c =
@@ -140,7 +140,7 @@ returns-clause-pending g c = λ w h. (both_fall g (goal.at.returns-clause-pendin
 
 pub returns-clause-rises : goal.returns-clause-rises
 returns-clause-rises g c =
-    let number = g.P.Inx.PtrInx.number in
+    let number = g.P.Inx.PtrInxCore.number in
     let old = knots_in number c.args.chains.now in
     if_named number (λ i. rank_in old (number c.args.high) < rank_in (knots_in number c.set_rank-3.new.chains) i) c.read-above.result.parent
     (both_fall g (goal.at.returns-clause-rises g c).After-set_rank-3 _ c.requires.1).rises

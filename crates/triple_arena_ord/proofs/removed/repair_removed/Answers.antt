@@ -9,7 +9,7 @@ use Rattle.triple_arena_ord.proofs.removed.repair_removed.Goals as goal
 
 pub climb-smaller : goal.climb-smaller
 climb-smaller g c =
-    let number = g.P.Inx.PtrInx.number in
+    let number = g.P.Inx.PtrInxCore.number in
     let old = knots_in number c.climb.chains in
     let new = knots_in number c.mend-at.new.chains in
     let at_is = ap (option_map number) c.in-Some.is in

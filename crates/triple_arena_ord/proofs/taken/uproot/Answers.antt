@@ -10,7 +10,7 @@ small count live e h = omega arith
 
 pub bring_out-requires : goal.bring_out-requires
 bring_out-requires g c =
-    let number = g.P.Inx.PtrInx.number in
+    let number = g.P.Inx.PtrInxCore.number in
     let o : Ordered g.row.P-Inx.Denot g.row.T.Denot = record { chains = c.args.chains.now; root = option_map number c.args.root.now } in
     (out number o c.requires.ordered (number c.args.gone) (small _ _ c.len-count.ensures.value (search rules)) c.requires.lives
     _ c.read-knot.ensures (ap (option_map number) c.in-None.is)).loose
@@ -18,7 +18,7 @@ bring_out-requires g c =
 -- a node with a right child has one after it
 pub unreached-unreachable-requires : goal.unreached-unreachable-requires
 unreached-unreachable-requires g c =
-    let number = g.P.Inx.PtrInx.number in
+    let number = g.P.Inx.PtrInxCore.number in
     let o : Ordered g.row.P-Inx.Denot g.row.T.Denot = record { chains = c.args.chains.now; root = option_map number c.args.root.now } in
     let s = successor number o c.requires.ordered (number c.args.gone) (small _ _ c.len-count.ensures.value (search rules)) c.requires.lives
     _ c.read-knot.ensures _ (ap (option_map number) c.in-Some.is) in
@@ -27,7 +27,7 @@ unreached-unreachable-requires g c =
 
 pub bring_out-requires-in-Some : goal.bring_out-requires-in-Some
 bring_out-requires-in-Some g c =
-    let number = g.P.Inx.PtrInx.number in
+    let number = g.P.Inx.PtrInxCore.number in
     let o : Ordered g.row.P-Inx.Denot g.row.T.Denot = record { chains = c.args.chains.now; root = option_map number c.args.root.now } in
     let s = successor number o c.requires.ordered (number c.args.gone) (small _ _ c.len-count.ensures.value (search rules)) c.requires.lives
     _ c.read-knot.ensures _ (ap (option_map number) c.in-Some.is) in
@@ -35,7 +35,7 @@ bring_out-requires-in-Some g c =
 
 pub exchange-requires : goal.exchange-requires
 exchange-requires g c =
-    let number = g.P.Inx.PtrInx.number in
+    let number = g.P.Inx.PtrInxCore.number in
     let o : Ordered g.row.P-Inx.Denot g.row.T.Denot = record { chains = c.args.chains.now; root = option_map number c.args.root.now } in
     let s = successor number o c.requires.ordered (number c.args.gone) (small _ _ c.len-count.ensures.value (search rules)) c.requires.lives
     _ c.read-knot.ensures _ (ap (option_map number) c.in-Some.is) in
@@ -49,7 +49,7 @@ exchange-requires g c =
 
 pub returns-in-None-clause-uprooted : goal.returns-in-None-clause-uprooted
 returns-in-None-clause-uprooted g c =
-    let number = g.P.Inx.PtrInx.number in
+    let number = g.P.Inx.PtrInxCore.number in
     let o : Ordered g.row.P-Inx.Denot g.row.T.Denot = record { chains = c.args.chains.now; root = option_map number c.args.root.now } in
     let there = out number o c.requires.ordered (number c.args.gone) (small _ _ c.len-count.ensures.value (search rules)) c.requires.lives
     _ c.read-knot.ensures (ap (option_map number) c.in-None.is) in
@@ -58,7 +58,7 @@ returns-in-None-clause-uprooted g c =
 
 pub returns-in-Some-next-clause-uprooted : goal.returns-in-Some-next-clause-uprooted
 returns-in-Some-next-clause-uprooted g c =
-    let number = g.P.Inx.PtrInx.number in
+    let number = g.P.Inx.PtrInxCore.number in
     let o : Ordered g.row.P-Inx.Denot g.row.T.Denot = record { chains = c.args.chains.now; root = option_map number c.args.root.now } in
     let s = successor number o c.requires.ordered (number c.args.gone) (small _ _ c.len-count.ensures.value (search rules)) c.requires.lives
     _ c.read-knot.ensures _ (ap (option_map number) c.in-Some.is) in

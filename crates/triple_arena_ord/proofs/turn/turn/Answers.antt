@@ -10,26 +10,26 @@ pub read-below-requires : goal.read-below-requires
 read-below-requires g c = spot_low _ _ _ c.requires
 
 pub unreached-unreachable-requires : goal.unreached-unreachable-requires
-unreached-unreachable-requires g c = not_some g.P.Inx.PtrInx.number c.read-below.result.parent _ (spot_parent _ _ _ _ c.read-below.ensures c.requires) c.in_default.not-Some
+unreached-unreachable-requires g c = not_some g.P.Inx.PtrInxCore.number c.read-below.result.parent _ (spot_parent _ _ _ _ c.read-below.ensures c.requires) c.in_default.not-Some
 
 pub read-above-requires : goal.read-above-requires
-read-above-requires g c = spot_high _ _ _ _ _ c.read-below.ensures (ap (option_map g.P.Inx.PtrInx.number) c.in-Some.is) c.requires
+read-above-requires g c = spot_high _ _ _ _ _ c.read-below.ensures (ap (option_map g.P.Inx.PtrInxCore.number) c.in-Some.is) c.requires
 
 pub reparent-requires : goal.reparent-requires
-reparent-requires g c = if_live g.P.Inx.PtrInx.number (knots_in g.P.Inx.PtrInx.number c.write.new.chains) c.child-middle.result (λ i e.
+reparent-requires g c = if_live g.P.Inx.PtrInxCore.number (knots_in g.P.Inx.PtrInxCore.number c.write.new.chains) c.child-middle.result (λ i e.
     write-lives _ _ _ _ c.write.ensures.written i (spot_child _ _ _ _ _ c.read-below.ensures c.requires i (sym c.child-middle.ensures ∙ e)))
 
 pub write-requires-2 : goal.write-requires-2
 write-requires-2 g c = reparent-lives _ _ _ _ c.reparent.ensures.does _ (write-lives _ _ _ _ c.write.ensures.written _ (spot_low _ _ _ c.requires))
 
 pub relink-requires : goal.relink-requires
-relink-requires g c = if_live g.P.Inx.PtrInx.number (knots_in g.P.Inx.PtrInx.number c.write-2.new.chains) c.read-above.result.parent (λ i e.
+relink-requires g c = if_live g.P.Inx.PtrInxCore.number (knots_in g.P.Inx.PtrInxCore.number c.write-2.new.chains) c.read-above.result.parent (λ i e.
     write-lives _ _ _ _ c.write-2.ensures.written i (reparent-lives _ _ _ _ c.reparent.ensures.does i (write-lives _ _ _ _ c.write.ensures.written i
-    (spot_holder _ _ _ _ _ _ c.read-below.ensures (ap (option_map g.P.Inx.PtrInx.number) c.in-Some.is) c.read-above.ensures c.requires i e))))
+    (spot_holder _ _ _ _ _ _ c.read-below.ensures (ap (option_map g.P.Inx.PtrInxCore.number) c.in-Some.is) c.read-above.ensures c.requires i e))))
 
 pub returns-clause-does : goal.returns-clause-does
 returns-clause-does g c = λ spot.
-    let number = g.P.Inx.PtrInx.number in
+    let number = g.P.Inx.PtrInxCore.number in
     let below = named number c.read-below.result in
     let raised_is : named number c.with_child-raised.result ≡ with_child (other_side c.side_of-side.result) (Some (number c.in-Some.high)) below =
     c.with_child-raised.ensures ∙ ap (λ z. with_child z (Some (number c.in-Some.high)) below) c.other-2.ensures in

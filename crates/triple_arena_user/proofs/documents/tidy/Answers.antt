@@ -9,7 +9,7 @@ pub unreachable-requires : goal.unreachable-requires
 unreachable-requires g c =
     let e = c.in_ok-map.ensures in
     let r = recaster-is_renaming c.args.nodes.now c.compress_recaster.new.arena c.in_ok-map.map e.recaster e.values e.compressed.compact in
-    let ok = all_named g.P.Ptr.index g.P.Ptr.generation g.T.Recast.items r e.values c.requires in
+    let ok = all_named g.P.PtrCore.index g.P.PtrCore.generation g.T.Recast.items r e.values c.requires in
     let both : Err c.in-Err.field-0 ≡ Ok tt = c.in-Err.ensures.answer ∙ ok in
     cc
 
@@ -18,7 +18,7 @@ returns-clause-renamed g c =
     let e = c.in_ok-map.ensures in
     let r = recaster-is_renaming c.args.nodes.now c.compress_recaster.new.arena c.in_ok-map.map e.recaster e.values e.compressed.compact in (
       _,
-      is_renamed g.P.Ptr.index g.P.Ptr.generation g.T.Recast.items _ (g.T.Recast.recasted _) r e.exact e.values c.requires
+      is_renamed g.P.PtrCore.index g.P.PtrCore.generation g.T.Recast.items _ (g.T.Recast.recasted _) r e.exact e.values c.requires
           (g.met.T.Recast.items_recasted _) c.recast.ensures.value,
     )
 

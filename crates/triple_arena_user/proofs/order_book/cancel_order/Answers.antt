@@ -7,9 +7,9 @@ use Rattle.triple_arena_user.proofs.order_book.cancel_order.Goals as goal
 
 pub returns-clause-book : goal.returns-clause-book
 returns-clause-book g c =
-    let number = g.P.Inx.PtrInx.number in
-    let last = g.P.Gen.PtrGen.last in
-    let i = g.P.Ptr.index c.args.p in
+    let number = g.P.Inx.PtrInxCore.number in
+    let last = g.P.Gen.PtrGenCore.last in
+    let i = g.P.PtrCore.index c.args.p in
     let old = c.args.book.now in
     let new = c.remove.new.self in
     let removed : IsRemoved number last i old new =

@@ -10,9 +10,9 @@ use Rattle.triple_arena_user.proofs.order_book.next_order.Goals as goal
 pub returns-clause-next : goal.returns-clause-next
 returns-clause-next g c =
     let o = c.args.book.now in
-    let index = g.P.Ptr.index in
-    let generation = g.P.Ptr.generation in
-    let number = g.P.Inx.PtrInx.number in
+    let index = g.P.PtrCore.index in
+    let generation = g.P.PtrCore.generation in
+    let number = g.P.Inx.PtrInxCore.number in
     let from = c.in_ok-walk.ensures.along in
     let ordered = c.in_ok-walk.ensures.ordered in
     let compared : Compared index generation number o = record {
@@ -29,9 +29,9 @@ returns-clause-next g c =
 pub returns-clause-none : goal.returns-clause-none
 returns-clause-none g c =
     let o = c.args.book.now in
-    let index = g.P.Ptr.index in
-    let generation = g.P.Ptr.generation in
-    let number = g.P.Inx.PtrInx.number in
+    let index = g.P.PtrCore.index in
+    let generation = g.P.PtrCore.generation in
+    let number = g.P.Inx.PtrInxCore.number in
     let from = c.in_ok-walk.ensures.along in
     let ordered = c.in_ok-walk.ensures.ordered in
     let compared : Compared index generation number o = record {

@@ -8,13 +8,13 @@ use Rattle.triple_arena_user.proofs.PlaylistLemmas.{adds, ends_at, Heard, heard,
 use Rattle.triple_arena_user.proofs.playlist.play_from.Goals as goal
 
 -- the walk gave the pointer to a song, and goes on behind it
-pub heard_one : (g : _) (c : goal.After-row_known-1 g) → Heard g.P.Inx.PtrInx.number (g.A.ChainArenaTrait.links c.args.songs.now)
+pub heard_one : (g : _) (c : goal.After-row_known-1 g) → Heard g.P.Inx.PtrInxCore.number (g.A.ChainArenaTrait.links c.args.songs.now)
     (g.A.ChainArenaTrait.chain_walk c.loop-q.player) (g.A.ChainArenaTrait.chain_walk c.advance.new.self) c.in-Some-get.length.now
 heard_one g c =
-    let number = g.P.Inx.PtrInx.number in
+    let number = g.P.Inx.PtrInxCore.number in
     let songs = g.A.ChainArenaTrait.links c.args.songs.now in
-    let q = g.P.Ptr.index c.in-Some.q in
-    let h = g.P.Ptr.generation c.in-Some.q in
+    let q = g.P.PtrCore.index c.in-Some.q in
+    let h = g.P.PtrCore.generation c.in-Some.q in
     let found : value_if h (g.A.ArenaTrait.entry_at c.args.songs.now q) ≡ Some c.in-Some-get.length.now = search rules in
     let value : value_if h (values_in songs q) ≡ Some c.in-Some-get.length.now =
     ap (value_if h) (g.met.A.ChainArenaTrait.links_entries c.args.songs.now q) ∙ found in
@@ -34,8 +34,8 @@ loop-q-preserved-in-Some-get g c =
 pub loop-q-preserved : goal.loop-q-preserved
 loop-q-preserved g c =
     let songs = g.A.ChainArenaTrait.links c.args.songs.now in
-    let q = g.P.Ptr.index c.in-Some.q in
-    let h = g.P.Ptr.generation c.in-Some.q in
+    let q = g.P.PtrCore.index c.in-Some.q in
+    let h = g.P.PtrCore.generation c.in-Some.q in
     let none : value_if h (g.A.ArenaTrait.entry_at c.args.songs.now q) ≡ None = search rules in
     let missing : value_if h (values_in songs q) ≡ None = ap (value_if h) (g.met.A.ChainArenaTrait.links_entries c.args.songs.now q) ∙ none in
     let step = g.met.A.ChainArenaTrait.advances_along c.loop-q.player c.args.songs.now (Some c.in-Some.q) c.advance.new.self (search rules) in
@@ -43,7 +43,7 @@ loop-q-preserved g c =
 
 pub returns-clause-total : goal.returns-clause-total
 returns-clause-total g c =
-    let number = g.P.Inx.PtrInx.number in
+    let number = g.P.Inx.PtrInxCore.number in
     let songs = g.A.ChainArenaTrait.links c.args.songs.now in
     let along = c.in_ok-player.ensures.along in
     let given : ChainSteps (ends_in number songs) (values_in songs) (g.A.ChainArenaTrait.chain_walk c.loop-q.player) None

@@ -8,11 +8,11 @@ use Rattle.triple_arena_user.proofs.ReversalLemmas.{Reversed, still_next, exchan
 use Rattle.triple_arena_user.proofs.playlist.reverse_pair.Goals as goal
 
 -- the first of the two was put in again by an exchange
-exchanged_twice : (g : _) (c : goal.Then-is_some g) → Reversed g.P.Inx.PtrInx.number c.args.songs.now (g.P.Ptr.index c.args.before) (g.P.Ptr.index c.args.p) c.exchange_next-2.new.self
+exchanged_twice : (g : _) (c : goal.Then-is_some g) → Reversed g.P.Inx.PtrInxCore.number c.args.songs.now (g.P.PtrCore.index c.args.before) (g.P.PtrCore.index c.args.p) c.exchange_next-2.new.self
 exchanged_twice g c =
-    let number = g.P.Inx.PtrInx.number in
-    let index = g.P.Ptr.index in
-    let generation = g.P.Ptr.generation in
+    let number = g.P.Inx.PtrInxCore.number in
+    let index = g.P.PtrCore.index in
+    let generation = g.P.PtrCore.generation in
     let old = c.args.songs.now in
     let o = index c.args.before in
     let p = index c.args.p in
@@ -31,11 +31,11 @@ exchanged_twice g c =
     c.len.ensures.formed to_p to_q at_q c.in_ok-exchange_next.ensures.relinked c.in_ok-exchange_next.ensures.lists c.exchange_next-2.new.self there again second)
 
 -- or at the end, where it was parted from itself and appended
-appended : (g : _) (c : goal.After-connect g) → IsSome c.connect.result × Reversed g.P.Inx.PtrInx.number c.args.songs.now (g.P.Ptr.index c.args.before) (g.P.Ptr.index c.args.p) c.connect.new.self
+appended : (g : _) (c : goal.After-connect g) → IsSome c.connect.result × Reversed g.P.Inx.PtrInxCore.number c.args.songs.now (g.P.PtrCore.index c.args.before) (g.P.PtrCore.index c.args.p) c.connect.new.self
 appended g c =
-    let number = g.P.Inx.PtrInx.number in
-    let index = g.P.Ptr.index in
-    let generation = g.P.Ptr.generation in
+    let number = g.P.Inx.PtrInxCore.number in
+    let index = g.P.PtrCore.index in
+    let generation = g.P.PtrCore.generation in
     let old = c.args.songs.now in
     let o = index c.args.before in
     let p = index c.args.p in
@@ -70,9 +70,9 @@ appended g c =
 -- it is parted from itself
 parts : (g : _) (c : goal.After-from_residual-in_err-break_next g) → ⊥
 parts g c =
-    let number = g.P.Inx.PtrInx.number in
-    let index = g.P.Ptr.index in
-    let generation = g.P.Ptr.generation in
+    let number = g.P.Inx.PtrInxCore.number in
+    let index = g.P.PtrCore.index in
+    let generation = g.P.PtrCore.generation in
     let old = c.args.songs.now in
     let o = index c.args.before in
     let p = index c.args.p in
@@ -124,9 +124,9 @@ returns-in_err-break_next-clause-none g c = absurd (parts g c)
 
 pub returns-clause-variant : goal.returns-clause-variant
 returns-clause-variant g c =
-    let number = g.P.Inx.PtrInx.number in
-    let to_p : next_in (ends_found number c.args.songs.now (g.P.Ptr.index c.args.before) (g.P.Ptr.generation c.args.before)) ≡ Some (g.P.Ptr.index c.args.p) = search rules in
-    let to_q : next_in (ends_found number c.args.songs.now (g.P.Ptr.index c.args.p) (g.P.Ptr.generation c.args.p)) ≡ Some (g.P.Ptr.index c.in_ok-q.q) = search rules in
+    let number = g.P.Inx.PtrInxCore.number in
+    let to_p : next_in (ends_found number c.args.songs.now (g.P.PtrCore.index c.args.before) (g.P.PtrCore.generation c.args.before)) ≡ Some (g.P.PtrCore.index c.args.p) = search rules in
+    let to_q : next_in (ends_found number c.args.songs.now (g.P.PtrCore.index c.args.p) (g.P.PtrCore.generation c.args.p)) ≡ Some (g.P.PtrCore.index c.in_ok-q.q) = search rules in
     let some = (appended g c).0 in
     search (rules, some, to_p, to_q)
 

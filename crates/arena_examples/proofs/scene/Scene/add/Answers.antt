@@ -15,4 +15,4 @@ returns-clause-others g c k other =
     (added _ _ (λ m. m.value) {new = record { nodes = c.insert.new.self; pointers = c.push.new.self.items }}
     c.in_ok-p.ensures.inserted (search (rules, c.push.ensures.items, c.reserve.ensures.items))
     c.in_ok-p.ensures.formed c.self.invariant).others k (λ e. other (e ∙ length))
-    ∙ ap (λ s. node_at g.P.Ptr.index g.P.Ptr.generation (λ m. m.value) s k) c.self.view_is
+    ∙ ap (λ s. node_at g.P.PtrCore.index g.P.PtrCore.generation (λ m. m.value) s k) c.self.view_is

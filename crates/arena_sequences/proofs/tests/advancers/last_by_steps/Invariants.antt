@@ -8,8 +8,8 @@ invariant-loop-p g l =
     record {
       rises : (g.A.ArenaTrait.walk l.advancer).falls ≡ false;
       reaches : (j : ℕ) → IsSome (g.A.ArenaTrait.entry_at l.arena j) → j ≤ (g.A.ArenaTrait.walk l.advancer).high;
-      live : IfSome l.last (λ p. generation_at (g.A.ArenaTrait.entry_at l.arena) (g.P.Ptr.index p) ≡ Some (g.P.Ptr.generation p));
-      last : IfSome l.last (λ p. (j : ℕ) → g.P.Ptr.index p < j → j < (g.A.ArenaTrait.walk l.advancer).low → g.A.ArenaTrait.entry_at l.arena j ≡ None);
+      live : IfSome l.last (λ p. generation_at (g.A.ArenaTrait.entry_at l.arena) (g.P.PtrCore.index p) ≡ Some (g.P.PtrCore.generation p));
+      last : IfSome l.last (λ p. (j : ℕ) → g.P.PtrCore.index p < j → j < (g.A.ArenaTrait.walk l.advancer).low → g.A.ArenaTrait.entry_at l.arena j ≡ None);
       none : IfNone l.last ((j : ℕ) → j < (g.A.ArenaTrait.walk l.advancer).low → g.A.ArenaTrait.entry_at l.arena j ≡ None);
     }
 

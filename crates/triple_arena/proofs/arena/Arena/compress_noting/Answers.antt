@@ -14,7 +14,7 @@ compact_noting-requires-clause-reaches g c k entry found =
 pub invariant_of-self : goal.invariant_of-self
 invariant_of-self g c =
     (compressed_arena c.compact_noting.ensures.moved.moved c.self.invariant c.self.view_is
-    (ap (room_of g.P.Inx.PtrInx.greatest) c.compact_noting.ensures.room) c.renewal-generation.ensures.next).sound
+    (ap (room_of g.P.Inx.PtrInxCore.greatest) c.compact_noting.ensures.room) c.renewal-generation.ensures.next).sound
 
 pub returns-clause-recaster : goal.returns-clause-recaster
 returns-clause-recaster g c = rw (← c.self.view_is) (is_recaster _ _ c.compact_noting.ensures.moved)
@@ -22,19 +22,19 @@ returns-clause-recaster g c = rw (← c.self.view_is) (is_recaster _ _ c.compact
 pub returns-clause-compressed : goal.returns-clause-compressed
 returns-clause-compressed g c =
     (compressed_arena c.compact_noting.ensures.moved.moved c.self.invariant c.self.view_is
-    (ap (room_of g.P.Inx.PtrInx.greatest) c.compact_noting.ensures.room) c.renewal-generation.ensures.next).compressed
+    (ap (room_of g.P.Inx.PtrInxCore.greatest) c.compact_noting.ensures.room) c.renewal-generation.ensures.next).compressed
 
 pub returns-clause-values : goal.returns-clause-values
 returns-clause-values g c =
-    let room = ap (room_of g.P.Inx.PtrInx.greatest) c.compact_noting.ensures.room in
+    let room = ap (room_of g.P.Inx.PtrInxCore.greatest) c.compact_noting.ensures.room in
     let d = compacted_arena _ _ _ _ _ _ _ _ _ _ _ _ _ c.compact_noting.ensures.moved.moved c.self.invariant c.self.view_is room in
     values_kept _ _ _ (λ h k from to t u s. s.0) d.mapped
 
 pub returns-clause-exact : goal.returns-clause-exact
 returns-clause-exact g c =
     (compressed_arena c.compact_noting.ensures.moved.moved c.self.invariant c.self.view_is
-    (ap (room_of g.P.Inx.PtrInx.greatest) c.compact_noting.ensures.room) c.renewal-generation.ensures.next).exact
-    ∙ ap (λ values. compacted (renewed g.P.Gen.PtrGen.last c.args.reset c.args.self.now.counter) values c.args.self.now)
+    (ap (room_of g.P.Inx.PtrInxCore.greatest) c.compact_noting.ensures.room) c.renewal-generation.ensures.next).exact
+    ∙ ap (λ values. compacted (renewed g.P.Gen.PtrGenCore.last c.args.reset c.args.self.now.counter) values c.args.self.now)
     (returns-clause-values g c)
 
 pub returns-clause-map_exact : goal.returns-clause-map_exact

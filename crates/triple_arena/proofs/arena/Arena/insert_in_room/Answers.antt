@@ -13,7 +13,7 @@ invariant_of-self g c =
     (g.met.S.NonZeroInxGenericStack.items_with_items c.self.inside.slots
     (with_item (g.S.NonZeroInxGenericStack.items c.self.inside.slots) (non_zero_usize_get c.in-Some.index) c.replace-old.new.dest))
     (c.replace-old.ensures.after ∙ c.used-slot.ensures)
-    (ap (room_of g.P.Inx.PtrInx.greatest)
+    (ap (room_of g.P.Inx.PtrInxCore.greatest)
     (g.met.S.NonZeroInxGenericStack.room_with_items c.self.inside.slots
     (with_item (g.S.NonZeroInxGenericStack.items c.self.inside.slots) (non_zero_usize_get c.in-Some.index) c.replace-old.new.dest)))
     c.self.view_is).sound
@@ -21,7 +21,7 @@ invariant_of-self g c =
 pub invariant_of-self-in-Ok : goal.invariant_of-self-in-Ok
 invariant_of-self-in-Ok g c =
     (pushed (ap (option_map non_zero_usize_get) c.in-None.is) c.self.invariant c.requires c.in-Ok.ensures.items
-    c.used-slot.ensures (ap (room_of g.P.Inx.PtrInx.greatest) c.push_within_capacity.ensures.room) c.self.view_is).sound
+    c.used-slot.ensures (ap (room_of g.P.Inx.PtrInxCore.greatest) c.push_within_capacity.ensures.room) c.self.view_is).sound
 
 pub returns-in-Some-clause-value : goal.returns-in-Some-clause-value
 returns-in-Some-clause-value g c =
@@ -30,7 +30,7 @@ returns-in-Some-clause-value g c =
     (g.met.S.NonZeroInxGenericStack.items_with_items c.self.inside.slots
     (with_item (g.S.NonZeroInxGenericStack.items c.self.inside.slots) (non_zero_usize_get c.in-Some.index) c.replace-old.new.dest))
     (c.replace-old.ensures.after ∙ c.used-slot.ensures)
-    (ap (room_of g.P.Inx.PtrInx.greatest)
+    (ap (room_of g.P.Inx.PtrInxCore.greatest)
     (g.met.S.NonZeroInxGenericStack.room_with_items c.self.inside.slots
     (with_item (g.S.NonZeroInxGenericStack.items c.self.inside.slots) (non_zero_usize_get c.in-Some.index) c.replace-old.new.dest)))
     c.self.view_is).content
@@ -38,4 +38,4 @@ returns-in-Some-clause-value g c =
 pub returns-in-Ok-clause-value : goal.returns-in-Ok-clause-value
 returns-in-Ok-clause-value g c =
     (pushed (ap (option_map non_zero_usize_get) c.in-None.is) c.self.invariant c.requires c.in-Ok.ensures.items
-    c.used-slot.ensures (ap (room_of g.P.Inx.PtrInx.greatest) c.push_within_capacity.ensures.room) c.self.view_is).content
+    c.used-slot.ensures (ap (room_of g.P.Inx.PtrInxCore.greatest) c.push_within_capacity.ensures.room) c.self.view_is).content

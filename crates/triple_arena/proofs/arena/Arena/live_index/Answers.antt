@@ -22,6 +22,6 @@ returns-else-is_some-clause-live g c =
 
 pub returns-in-None-get-clause-live : goal.returns-in-None-get-clause-live
 returns-in-None-get-clause-live g c =
-    let found = get_of_none _ _ (g.P.Ptr.generation c.args.p) c.self.view_is (ap option_copied
+    let found = get_of_none _ _ (g.P.PtrCore.generation c.args.p) c.self.view_is (ap option_copied
     c.in-None-get.is) c.get.ensures (c.in-Some.ensures.same ∙ c.inx.ensures) in
     (λ e. absurd (true≢false (sym e)), λ h. absurd (true≢false (sym (rw found at h))))

@@ -1,8 +1,15 @@
-use Rattle.std.proofs.Common.{option_copied, refl, sym, ap, ◌∙◌}
+use Rattle.std.proofs.Common.{option_copied, refl, sym, ap, ◌∙◌, arith}
+use Rattle.std.proofs.lemmas.Option.{slice_get_within}
 use Rattle.triple_arena.specs.Content.{entry_at}
+use Rattle.triple_arena.proofs.DirectLemmas.{index_within}
 use Rattle.triple_arena.proofs.FreeListLemmas.{entry_of_some, entry_of_none}
 use Rattle.triple_arena.proofs.WalkLemmas.{pointer_some, pointer_none}
 use Rattle.triple_arena.proofs.arena.Arena.pointer.Goals as goal
+
+pub pointer_at-requires : goal.pointer_at-requires
+pointer_at-requires g c =
+    let within = slice_get_within _ _ _ (sym c.get.ensures ∙ ap option_copied c.in-Some.is) in
+    index_within _ _ _ (omega arith) within c.self.invariant.fits
 
 pub returns-in-Some-entry : goal.returns-in-Some-entry
 returns-in-Some-entry g c =

@@ -22,7 +22,7 @@ invariant_of-self g c =
     let room = second.room ∙ first.room in
     (cut _ c.self.invariant c.self.view_is c.last_index-last.ensures (second.entries ∙ first.entries)
     (chain_again _ _ _ _ (λ i. leb i c.last_index-last.result) first.entries first.chain) second.chain c.keep_first.ensures.slots
-    (ap (room_of g.P.Inx.PtrInx.greatest) (c.keep_first.ensures.room ∙ room))).sound
+    (ap (room_of g.P.Inx.PtrInxCore.greatest) (c.keep_first.ensures.room ∙ room))).sound
 
 pub returns-clause-value : goal.returns-clause-value
 returns-clause-value g c =
@@ -31,4 +31,4 @@ returns-clause-value g c =
     let room = second.room ∙ first.room in
     (cut _ c.self.invariant c.self.view_is c.last_index-last.ensures (second.entries ∙ first.entries)
     (chain_again _ _ _ _ (λ i. leb i c.last_index-last.result) first.entries first.chain) second.chain c.keep_first.ensures.slots
-    (ap (room_of g.P.Inx.PtrInx.greatest) (c.keep_first.ensures.room ∙ room))).content
+    (ap (room_of g.P.Inx.PtrInxCore.greatest) (c.keep_first.ensures.room ∙ room))).content

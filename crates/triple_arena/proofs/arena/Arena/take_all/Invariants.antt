@@ -7,8 +7,8 @@ use Rattle.triple_arena.proofs.arena.Arena.take_all.Given as goal
 -- the steps that are left end where all of them end
 abbrev pub invariant-loop-left : goal.invariant-loop-left
 invariant-loop-left g l =
-    (iterate (next_generation g.P.Gen.PtrGen.last) l.left l.self.counter
-    ≡ iterate (next_generation g.P.Gen.PtrGen.last) (live_count l.fn.self) l.fn.self.counter)
+    (iterate (next_generation g.P.Gen.PtrGenCore.last) l.left l.self.counter
+    ≡ iterate (next_generation g.P.Gen.PtrGenCore.last) (live_count l.fn.self) l.fn.self.counter)
     × (l.self.room ≡ l.fn.self.room)
 
 abbrev pub decreases-loop-left : goal.decreases-loop-left

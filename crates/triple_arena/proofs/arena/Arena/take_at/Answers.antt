@@ -9,7 +9,7 @@ pub invariant_of-self : goal.invariant_of-self
 invariant_of-self g c =
     let live = the_some _ c.requires in
     (popped c.self.invariant (sym c.get.ensures.value ∙ c.if-get-len.true ∙ c.len.ensures.value) c.self.view_is live.1
-    c.in-Some.ensures.items (ap (room_of g.P.Inx.PtrInx.greatest) c.pop.ensures.room)).sound
+    c.in-Some.ensures.items (ap (room_of g.P.Inx.PtrInxCore.greatest) c.pop.ensures.room)).sound
 
 pub into_entry-requires-else-get-len : goal.into_entry-requires-else-get-len
 into_entry-requires-else-get-len g c =
@@ -23,7 +23,7 @@ invariant_of-self-else-get-len g c =
     (g.met.S.NonZeroInxGenericStack.items_with_items c.self.inside.slots
     (with_item (g.S.NonZeroInxGenericStack.items c.self.inside.slots) (non_zero_usize_get c.args.i) c.replace-slot.new.dest))
     (c.replace-slot.ensures.after ∙ c.free.ensures) refl
-    (ap (room_of g.P.Inx.PtrInx.greatest)
+    (ap (room_of g.P.Inx.PtrInxCore.greatest)
     (g.met.S.NonZeroInxGenericStack.room_with_items c.self.inside.slots
     (with_item (g.S.NonZeroInxGenericStack.items c.self.inside.slots) (non_zero_usize_get c.args.i) c.replace-slot.new.dest)))).sound
 
@@ -31,7 +31,7 @@ pub returns-in-Some-clause-value : goal.returns-in-Some-clause-value
 returns-in-Some-clause-value g c =
     let live = the_some _ c.requires in
     (popped c.self.invariant (sym c.get.ensures.value ∙ c.if-get-len.true ∙ c.len.ensures.value) c.self.view_is live.1
-    c.in-Some.ensures.items (ap (room_of g.P.Inx.PtrInx.greatest) c.pop.ensures.room)).content
+    c.in-Some.ensures.items (ap (room_of g.P.Inx.PtrInxCore.greatest) c.pop.ensures.room)).content
 
 pub returns-else-get-len-clause-value : goal.returns-else-get-len-clause-value
 returns-else-get-len-clause-value g c =
@@ -41,7 +41,7 @@ returns-else-get-len-clause-value g c =
     (g.met.S.NonZeroInxGenericStack.items_with_items c.self.inside.slots
     (with_item (g.S.NonZeroInxGenericStack.items c.self.inside.slots) (non_zero_usize_get c.args.i) c.replace-slot.new.dest))
     (c.replace-slot.ensures.after ∙ c.free.ensures) refl
-    (ap (room_of g.P.Inx.PtrInx.greatest)
+    (ap (room_of g.P.Inx.PtrInxCore.greatest)
     (g.met.S.NonZeroInxGenericStack.room_with_items c.self.inside.slots
     (with_item (g.S.NonZeroInxGenericStack.items c.self.inside.slots) (non_zero_usize_get c.args.i) c.replace-slot.new.dest)))).content
 

@@ -53,17 +53,17 @@ loop-at-preserved g c =
           let stood = stood_some _ _ _ c.take_entry.ensures.entry old_is w.in-Some.is in
           let stored = w.map-is ∙ w.insert_at.ensures.value in
           let noted = ap live_entries stored ∙ listed_more at.map _ _ at.invariant.1 old_is in
-          let longer = slots-inserted at.map i (g.P.Gen.PtrGen.number w.generation.result) w.pointer_at-to.result in
+          let longer = slots-inserted at.map i (g.P.Gen.PtrGenCore.number w.generation.result) w.pointer_at-to.result in
           let long = ap (λ d. length d.slots) stored in (
             partly_same _ _ _ refl (ap (λ s. map entry_of (g.S.NonZeroInxGenericStack.items s)) w.slots-is) w.live-is refl
                 (partly_live _ _ _ p stood below old_is c.take_entry.ensures.slots
                 new_is w.put_entry.ensures.slots w.pointer_at-from.ensures.has_index w.pointer_at-from.ensures.has_generation
                 w.pointer_at-to.ensures.has_index w.pointer_at-to.ensures.has_generation refl refl
-                (noted_one g.P.Ptr.index g.P.Ptr.generation _ w.pointer_at-from.result _ noted w.pointer_at-from.ensures.has_index w.generation.ensures)),
+                (noted_one g.P.PtrCore.index g.P.PtrCore.generation _ w.pointer_at-from.result _ noted w.pointer_at-from.ensures.has_index w.generation.ensures)),
             omega (arith, long, longer, at.invariant.1, old_is),
             ap (λ d. d.room) stored ∙ at.invariant.2,
             ap g.S.NonZeroInxGenericStack.room w.slots-is ∙ w.put_entry.ensures.room ∙ c.take_entry.ensures.room ∙ at.invariant.3,
-            ends_more (live_entries at.map) (i, (g.P.Gen.PtrGen.number w.generation.result, w.pointer_at-to.result)) _ noted
+            ends_more (live_entries at.map) (i, (g.P.Gen.PtrGenCore.number w.generation.result, w.pointer_at-to.result)) _ noted
                 (omega (arith, long, longer, at.invariant.1, old_is)),
           )
       | in_default w ↦

@@ -7,4 +7,4 @@ pub returns-in-Ok-clause-exact : goal.returns-in-Ok-clause-exact
 returns-in-Ok-clause-exact g c =
     copied_direct _ _ _ g.E.LentEntry.shown c.args.source.now c.args.self.now _ c.in-Ok.ensures.mapped c.in-Ok.ensures.slots c.requires.last
     c.requires.fits
-    (ap (room_of g.P.Inx.PtrInx.greatest) c.append_copies.ensures.room ∙ ap (λ x. x.room) (c.self.view_is ∙ c.empty.ensures.value))
+    (ap (room_of g.P.Inx.PtrInxCore.greatest) c.append_copies.ensures.room ∙ ap (λ x. x.room) (c.self.view_is ∙ c.empty.ensures.value))

@@ -1,8 +1,25 @@
-use Rattle.std.proofs.Common.{option_copied, ap, refl}
+use Rattle.std.proofs.Common.{option_copied, ap, refl, sym, ◌∙◌, arith}
+use Rattle.std.proofs.lemmas.Option.{slice_get_within}
 use Rattle.triple_arena.specs.DirectContent.{entry_at}
-use Rattle.triple_arena.proofs.WalkLemmas.{pointer_none}
-use Rattle.triple_arena.proofs.DirectLemmas.{nothing_at}
+use Rattle.triple_arena.proofs.WalkLemmas.{pointer_some, pointer_none}
+use Rattle.triple_arena.proofs.DirectLemmas.{held_at, nothing_at, index_within}
 use Rattle.triple_arena.proofs.direct.DirectArena.pointer.Goals as goal
+
+pub pointer_at-requires : goal.pointer_at-requires
+pointer_at-requires g c =
+    let within = slice_get_within _ _ _ (sym c.get.ensures ∙ ap option_copied c.in-Some.is) in
+    index_within _ _ _ (omega arith) within c.self.invariant.fits
+
+pub returns-in-Some-entry : goal.returns-in-Some-entry
+returns-in-Some-entry g c =
+    pointer_some (entry_at c.args.self.now)
+    (held_at _ c.self.view_is c.args.i.ok (sym (ap option_copied c.in-Some.is) ∙ c.get.ensures) ∙ sym c.in-Some-entry.ensures)
+    c.pointer_at.ensures.has_index c.pointer_at.ensures.has_generation
+
+pub returns-in-None-entry : goal.returns-in-None-entry
+returns-in-None-entry g c =
+    pointer_none (entry_at c.args.self.now) _
+    (held_at _ c.self.view_is c.args.i.ok (sym (ap option_copied c.in-Some.is) ∙ c.get.ensures) ∙ sym c.in-None-entry.ensures)
 
 pub returns-in-None : goal.returns-in-None
 returns-in-None g c =

@@ -6,4 +6,4 @@ use Rattle.triple_arena.proofs.direct.DirectArena.pop_free_end_slots.Goals as go
 pub invariant_of-self : goal.invariant_of-self
 invariant_of-self g c =
     cut c.self.invariant c.self.view_is c.last_index-last.ensures c.keep_first.ensures.slots
-    (ap (room_of g.P.Inx.PtrInx.greatest) c.keep_first.ensures.room)
+    (ap (room_of g.P.Inx.PtrInxCore.greatest) c.keep_first.ensures.room)

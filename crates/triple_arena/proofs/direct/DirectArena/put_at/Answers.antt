@@ -8,7 +8,7 @@ use Rattle.triple_arena.proofs.direct.DirectArena.put_at.Goals as goal
 
 pub overflow_add-self : goal.overflow_add-self
 overflow_add-self g c =
-    let room = ap (room_of g.P.Inx.PtrInx.greatest)
+    let room = ap (room_of g.P.Inx.PtrInxCore.greatest)
     (g.met.S.NonZeroInxGenericStack.room_with_items c.reach.new.slots
     (with_item (g.S.NonZeroInxGenericStack.items c.reach.new.slots) (non_zero_usize_get c.args.i) c.used.result)
     ∙ c.reach.ensures.room) in
@@ -21,7 +21,7 @@ overflow_add-self g c =
 
 pub invariant_of-self : goal.invariant_of-self
 invariant_of-self g c =
-    let room = ap (room_of g.P.Inx.PtrInx.greatest)
+    let room = ap (room_of g.P.Inx.PtrInxCore.greatest)
     (g.met.S.NonZeroInxGenericStack.room_with_items c.reach.new.slots
     (with_item (g.S.NonZeroInxGenericStack.items c.reach.new.slots) (non_zero_usize_get c.args.i) c.used.result)
     ∙ c.reach.ensures.room) in

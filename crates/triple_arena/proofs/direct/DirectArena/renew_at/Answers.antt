@@ -10,7 +10,7 @@ invariant_of-self g c =
     (renewed _ _ c.self.invariant c.self.view_is c.args.i.ok c.item_mut.ensures.value c.set_generation.ensures
     (g.met.S.NonZeroInxGenericStack.items_with_items c.self.inside.slots
     (with_item (g.S.NonZeroInxGenericStack.items c.self.inside.slots) (non_zero_usize_get c.args.i) c.set_generation.new.self))
-    (ap (room_of g.P.Inx.PtrInx.greatest)
+    (ap (room_of g.P.Inx.PtrInxCore.greatest)
     (g.met.S.NonZeroInxGenericStack.room_with_items c.self.inside.slots
     (with_item (g.S.NonZeroInxGenericStack.items c.self.inside.slots) (non_zero_usize_get c.args.i) c.set_generation.new.self)))).sound
 
@@ -19,6 +19,6 @@ returns-clause-value g c =
     (renewed _ _ c.self.invariant c.self.view_is c.args.i.ok c.item_mut.ensures.value c.set_generation.ensures
     (g.met.S.NonZeroInxGenericStack.items_with_items c.self.inside.slots
     (with_item (g.S.NonZeroInxGenericStack.items c.self.inside.slots) (non_zero_usize_get c.args.i) c.set_generation.new.self))
-    (ap (room_of g.P.Inx.PtrInx.greatest)
+    (ap (room_of g.P.Inx.PtrInxCore.greatest)
     (g.met.S.NonZeroInxGenericStack.room_with_items c.self.inside.slots
     (with_item (g.S.NonZeroInxGenericStack.items c.self.inside.slots) (non_zero_usize_get c.args.i) c.set_generation.new.self)))).content

@@ -9,7 +9,7 @@ invariant-loop-slot g l =
     record {
       left : listed_from (l.initial.self-inside.passed + 1) (map g.E.LentEntry.shown l.initial.self-inside.slots.now)
           ≡ listed_from (l.self-inside.passed + 1) (map g.E.LentEntry.shown l.self-inside.slots.now);
-      indexed : l.self-inside.passed + length l.self-inside.slots.now ≤ max_index_of g.P.Inx.PtrInx.greatest;
+      indexed : l.self-inside.passed + length l.self-inside.slots.now ≤ max_index_of g.P.Inx.PtrInxCore.greatest;
     }
 
 abbrev pub decreases-loop-slot : goal.decreases-loop-slot

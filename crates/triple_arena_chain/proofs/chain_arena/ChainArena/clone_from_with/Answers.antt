@@ -8,14 +8,14 @@ use Rattle.triple_arena_chain.proofs.LinkCopyLemmas.{values_new, ends_linked, ch
 use Rattle.triple_arena_chain.proofs.chain_arena.ChainArena.clone_from_with.Goals as goal
 
 same : (g : _) (c : goal.After-copy_links g) → OnOk c.copy_links.result ((k : ℕ)
-    → ends_in g.P.Inx.PtrInx.number c.copy_links.new.target k ≡ ends_in g.P.Inx.PtrInx.number c.source.inside.arena k)
-same g c = on_ok c.copy_links.result (ends_linked g.P.Inx.PtrInx.number c.source.inside.arena c.copy_links.new.target) c.copy_links.ensures.linked
+    → ends_in g.P.Inx.PtrInxCore.number c.copy_links.new.target k ≡ ends_in g.P.Inx.PtrInxCore.number c.source.inside.arena k)
+same g c = on_ok c.copy_links.result (ends_linked g.P.Inx.PtrInxCore.number c.source.inside.arena c.copy_links.new.target) c.copy_links.ensures.linked
 
-chained : (g : _) (c : goal.After-copy_links g) → IsChained g.P.Inx.PtrInx.number c.copy_links.new.target
+chained : (g : _) (c : goal.After-copy_links g) → IsChained g.P.Inx.PtrInxCore.number c.copy_links.new.target
 chained g c =
-    chained_after g.P.Inx.PtrInx.number c.source.inside.arena c.self.inside.arena c.copy_links.new.target
-    (λ d. cleared g.P.Gen.PtrGen.last (reallocated d (last_listed (live_entries c.source.inside.arena)))) g.S.NonZeroInxGenericStack.takes_memory
-    g.P.Gen.PtrGen.last (last_listed (live_entries c.source.inside.arena)) (Unit {0}) c.copy_links.result c.source.invariant c.self.invariant
+    chained_after g.P.Inx.PtrInxCore.number c.source.inside.arena c.self.inside.arena c.copy_links.new.target
+    (λ d. cleared g.P.Gen.PtrGenCore.last (reallocated d (last_listed (live_entries c.source.inside.arena)))) g.S.NonZeroInxGenericStack.takes_memory
+    g.P.Gen.PtrGenCore.last (last_listed (live_entries c.source.inside.arena)) (Unit {0}) c.copy_links.result c.source.invariant c.self.invariant
     c.copy_links.ensures.formed (same g c) c.copy_links.ensures.kept
     (λ failed. elim (c.copy_links.ensures.unmade failed) [
       | inl left ↦ inl (left.0, left.1, left.2)

@@ -5,8 +5,8 @@ use Rattle.triple_arena_chain.proofs.chain_arena.ChainArena.drain_chain.Goals as
 
 pub returns : goal.returns
 returns g c =
-    let some : IsSome (get c.args.self.now (g.P.Ptr.index c.args.p) (g.P.Ptr.generation c.args.p)) = search rules in
-    let walk = walk_from g.P.Inx.PtrInx.number g.P.Gen.PtrGen.last c.args.self.now c.inx.result (g.P.Ptr.index c.args.p) (g.P.Ptr.generation c.args.p) c.has_room.ensures.chained c.inx.ensures some in (
+    let some : IsSome (get c.args.self.now (g.P.PtrCore.index c.args.p) (g.P.PtrCore.generation c.args.p)) = search rules in
+    let walk = walk_from g.P.Inx.PtrInxCore.number g.P.Gen.PtrGenCore.last c.args.self.now c.inx.result (g.P.PtrCore.index c.args.p) (g.P.PtrCore.generation c.args.p) c.has_room.ensures.chained c.inx.ensures some in (
       (refl, λ w. refl, tt),
       record {
         variant = (λ is. some, λ is. refl);
@@ -14,8 +14,8 @@ returns g c =
         chains = refl;
         start = ap Some c.inx.ensures;
         ready = walk;
-        stays = keeps_along g.P.Inx.PtrInx.number g.P.Gen.PtrGen.last g.P.Ptr.index g.P.Ptr.generation _;
-        in_order = goes_along g.P.Inx.PtrInx.number g.P.Gen.PtrGen.last g.P.Ptr.index g.P.Ptr.generation _;
+        stays = keeps_along g.P.Inx.PtrInxCore.number g.P.Gen.PtrGenCore.last g.P.PtrCore.index g.P.PtrCore.generation _;
+        in_order = goes_along g.P.Inx.PtrInxCore.number g.P.Gen.PtrGenCore.last g.P.PtrCore.index g.P.PtrCore.generation _;
         none = tt;
       },
     )

@@ -8,13 +8,13 @@ use Rattle.triple_arena_chain.proofs.chain_arena.ChainArena.entry_insert_within_
 
 pub returns-in-Some-next_ptr : goal.returns-in-Some-next_ptr
 returns-in-Some-next_ptr g c =
-    let number = g.P.Inx.PtrInx.number in
+    let number = g.P.Inx.PtrInxCore.number in
     let old = c.args.self.now in
     let kept : c.next_ptr.new.self ≡ old = c.in-Some-next_ptr.ensures.kept in
     let place = place_by number c.in-Some.place in
-    let is : place_among g.P.Ptr.index g.P.Ptr.generation number old c.args.kind ≡ Some place = search rules in
+    let is : place_among g.P.PtrCore.index g.P.PtrCore.generation number old c.args.kind ≡ Some place = search rules in
     let there : IsPlace (ends_in number old) place =
-    placeable g.P.Ptr.index g.P.Ptr.generation number old c.args.kind place c.has_room.ensures.chained is in
+    placeable g.P.PtrCore.index g.P.PtrCore.generation number old c.args.kind place c.has_room.ensures.chained is in
     let room = c.in-Some-next_ptr.ensures.variant.0 refl in (
       (refl, λ w. refl, tt),
       record {

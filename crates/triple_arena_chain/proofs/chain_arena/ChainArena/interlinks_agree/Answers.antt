@@ -6,8 +6,8 @@ use Rattle.triple_arena_chain.proofs.chain_arena.ChainArena.interlinks_agree.Goa
 
 pub returns-then-not-goes_back : goal.returns-then-not-goes_back
 returns-then-not-goes_back g c =
-    let number = g.P.Inx.PtrInx.number in
-    let at : get c.args.arena.now (g.P.Ptr.index c.in-Some.p) (g.P.Ptr.generation c.in-Some.p) ≡ Some c.in-Some-get.link.now = search rules in (
+    let number = g.P.Inx.PtrInxCore.number in
+    let at : get c.args.arena.now (g.P.PtrCore.index c.in-Some.p) (g.P.PtrCore.generation c.in-Some.p) ≡ Some c.in-Some-get.link.now = search rules in (
       λ no. absurd (true≢false (sym no)),
       λ agreed.
           absurd (elim c.then-not-goes_back.branch [

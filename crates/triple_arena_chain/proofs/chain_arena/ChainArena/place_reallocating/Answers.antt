@@ -8,11 +8,11 @@ use Rattle.triple_arena_chain.proofs.chain_arena.ChainArena.place_reallocating.G
 
 pub returns-in-Ok-clause-is_place : goal.returns-in-Ok-clause-is_place
 returns-in-Ok-clause-is_place g c =
-    let number = g.P.Inx.PtrInx.number in
+    let number = g.P.Inx.PtrInxCore.number in
     let old = c.args.self.now in
     let place = place_by number c.in-Some.place in
-    let is : place_among g.P.Ptr.index g.P.Ptr.generation number old c.args.kind ≡ Some place = search rules in
+    let is : place_among g.P.PtrCore.index g.P.PtrCore.generation number old c.args.kind ≡ Some place = search rules in
     let grown : c.make_room.new.self ≡ grown_if_full old = search rules in
     let there : IsPlace (ends_in number (grown_if_full old)) place =
-    placeable g.P.Ptr.index g.P.Ptr.generation number old c.args.kind place c.has_room.ensures.chained is in
+    placeable g.P.PtrCore.index g.P.PtrCore.generation number old c.args.kind place c.has_room.ensures.chained is in
     rw grown there

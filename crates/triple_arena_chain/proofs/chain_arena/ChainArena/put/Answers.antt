@@ -6,9 +6,9 @@ use Rattle.triple_arena_chain.proofs.chain_arena.ChainArena.put.Given.{Over}
 use Rattle.triple_arena_chain.proofs.chain_arena.ChainArena.put.Goals as goal
 
 placed : (g : Over) (c : goal.After-join g)
-    → Placed g.P.Inx.PtrInx.number c.args.self.now c.join.new.arena c.args.place (g.P.Inx.PtrInx.number c.inx-i.result) c.args.self.now.counter c.args.t
+    → Placed g.P.Inx.PtrInxCore.number c.args.self.now c.join.new.arena c.args.place (g.P.Inx.PtrInxCore.number c.inx-i.result) c.args.self.now.counter c.args.t
 placed g c =
-    let number = g.P.Inx.PtrInx.number in
+    let number = g.P.Inx.PtrInxCore.number in
     let old = c.args.self.now in
     let chained : IsChained number old = search rules in
     let index : number c.inx-i.result ≡ next_index old = search rules in

@@ -3,7 +3,7 @@ use Rattle.triple_arena_chain.proofs.chain_arena.compression.compress_links.Goal
 
 -- the passes up to the last one
 ready : (g : _) (c : goal.After-join_nexts-arg-1 g)
-    → AreMoved g.P.Inx.PtrInx.number g.P.Gen.PtrGen.last c.args.reset c.args.arena.now c.number_links.new.arena c.forward_nexts.new.arena
+    → AreMoved g.P.Inx.PtrInxCore.number g.P.Gen.PtrGenCore.last c.args.reset c.args.arena.now c.number_links.new.arena c.forward_nexts.new.arena
     c.compact_links-answer.new.arena
 ready g c =
     record {
@@ -25,7 +25,7 @@ pub join_nexts-requires-clause-apart : goal.join_nexts-requires-clause-apart
 join_nexts-requires-clause-apart g c = nexts_one _ _ _ _ _ _ _ (ready g c)
 
 moved : (g : _) (c : goal.After-join_nexts g)
-    → AreMoved g.P.Inx.PtrInx.number g.P.Gen.PtrGen.last c.args.reset c.args.arena.now c.number_links.new.arena c.forward_nexts.new.arena
+    → AreMoved g.P.Inx.PtrInxCore.number g.P.Gen.PtrGenCore.last c.args.reset c.args.arena.now c.number_links.new.arena c.forward_nexts.new.arena
     c.compact_links-answer.new.arena
 moved g c =
     record {

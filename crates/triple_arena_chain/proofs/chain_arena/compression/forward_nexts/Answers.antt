@@ -12,29 +12,29 @@ loop-p-init g c =
       rises = c.advancer-advancer.ensures.rises;
       reaches = c.advancer-advancer.ensures.high;
       passed =
-          begun g.P.Inx.PtrInx.number _ c.args.arena.now (free_forwarded g.P.Inx.PtrInx.number c.args.arena.now) _ c.advancer-advancer.ensures.low
+          begun g.P.Inx.PtrInxCore.number _ c.args.arena.now (free_forwarded g.P.Inx.PtrInxCore.number c.args.arena.now) _ c.advancer-advancer.ensures.low
           c.len.ensures.formed;
     }
 
 pub loop-p-preserved : goal.loop-p-preserved
 loop-p-preserved g c =
-    let after : c.advance.new.self ≡ past c.loop-p.advancer (g.P.Ptr.index c.in-Some.p) = (c.in-Some.ensures).given.1 in
+    let after : c.advance.new.self ≡ past c.loop-p.advancer (g.P.PtrCore.index c.in-Some.p) = (c.in-Some.ensures).given.1 in
     let rises = c.loop-p.invariant.rises in
-    let next = passed_by c.loop-p.advancer c.advance.new.self (g.P.Ptr.index c.in-Some.p) rises after in
+    let next = passed_by c.loop-p.advancer c.advance.new.self (g.P.PtrCore.index c.in-Some.p) rises after in
     let same =
     live_as c.loop-p.arena c.set_next.new.arena
-    (next_unchanged g.P.Inx.PtrInx.number c.loop-p.arena c.set_next.new.arena (Some c.inx-i.result) c.prev_there-renamed.result c.set_next.ensures) in
+    (next_unchanged g.P.Inx.PtrInxCore.number c.loop-p.arena c.set_next.new.arena (Some c.inx-i.result) c.prev_there-renamed.result c.set_next.ensures) in
     record {
       rises = next.rises;
       reaches = λ j some. subst (λ h. j ≤ h) (sym next.high) (c.loop-p.invariant.reaches j (sym (same j) ∙ some));
       passed =
           subst
-          (λ n. IsPassed g.P.Inx.PtrInx.number (forwarded (ends_in g.P.Inx.PtrInx.number c.args.arena.now)) n c.args.arena.now c.set_next.new.arena)
+          (λ n. IsPassed g.P.Inx.PtrInxCore.number (forwarded (ends_in g.P.Inx.PtrInxCore.number c.args.arena.now)) n c.args.arena.now c.set_next.new.arena)
           (sym next.low)
-          (forwarded_one g.P.Inx.PtrInx.number c.args.arena.now c.loop-p.arena c.set_next.new.arena c.loop-p.advancer (g.P.Ptr.index c.in-Some.p)
-          (g.P.Ptr.generation c.in-Some.p) c.inx-i.result c.next_there-next.result c.prev_there-renamed.result c.loop-p.invariant.passed rises
+          (forwarded_one g.P.Inx.PtrInxCore.number c.args.arena.now c.loop-p.arena c.set_next.new.arena c.loop-p.advancer (g.P.PtrCore.index c.in-Some.p)
+          (g.P.PtrCore.generation c.in-Some.p) c.inx-i.result c.next_there-next.result c.prev_there-renamed.result c.loop-p.invariant.passed rises
           (c.in-Some.ensures).given.0 c.inx-i.ensures
-          (subst (λ n. option_map g.P.Inx.PtrInx.number c.next_there-next.result ≡ next_at (ends_in g.P.Inx.PtrInx.number c.loop-p.arena) n) c.inx-i.ensures
+          (subst (λ n. option_map g.P.Inx.PtrInxCore.number c.next_there-next.result ≡ next_at (ends_in g.P.Inx.PtrInxCore.number c.loop-p.arena) n) c.inx-i.ensures
           c.next_there-next.ensures)
           c.prev_there-renamed.ensures c.set_next.ensures);
     }

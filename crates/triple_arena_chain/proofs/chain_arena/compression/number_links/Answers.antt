@@ -14,17 +14,17 @@ loop-p-init g c =
       rises = c.advancer-advancer.ensures.rises;
       reaches = c.advancer-advancer.ensures.high;
       indexes = λ j some. let within = c.capacity.ensures.indexes j some in let bound = c.capacity.ensures.bounded in omega (arith, within, bound);
-      count = ap (rank (ends_in g.P.Inx.PtrInx.number c.args.arena.now)) (sym low);
-      passed = begun g.P.Inx.PtrInx.number _ c.args.arena.now (free_numbered g.P.Inx.PtrInx.number c.args.arena.now) _ low c.len.ensures.formed;
+      count = ap (rank (ends_in g.P.Inx.PtrInxCore.number c.args.arena.now)) (sym low);
+      passed = begun g.P.Inx.PtrInxCore.number _ c.args.arena.now (free_numbered g.P.Inx.PtrInxCore.number c.args.arena.now) _ low c.len.ensures.formed;
     }
 
-is_counted : (g : _) (c : goal.After-set_prev g) → IsCounted g.P.Inx.PtrInx.number c.args.arena.now c.loop-p.arena c.loop-p.advancer (g.P.Ptr.index c.in-Some.p) c.loop-p.count
+is_counted : (g : _) (c : goal.After-set_prev g) → IsCounted g.P.Inx.PtrInxCore.number c.args.arena.now c.loop-p.arena c.loop-p.advancer (g.P.PtrCore.index c.in-Some.p) c.loop-p.count
 is_counted g c =
-    counted g.P.Inx.PtrInx.number c.args.arena.now c.loop-p.arena c.loop-p.advancer (g.P.Ptr.index c.in-Some.p) (g.P.Ptr.generation c.in-Some.p) c.loop-p.count
+    counted g.P.Inx.PtrInxCore.number c.args.arena.now c.loop-p.arena c.loop-p.advancer (g.P.PtrCore.index c.in-Some.p) (g.P.PtrCore.generation c.in-Some.p) c.loop-p.count
     c.loop-p.invariant.passed c.loop-p.invariant.rises (c.in-Some.ensures).given.0 c.loop-p.invariant.count
 
-within : (g : _) (c : goal.After-set_prev g) → g.P.Ptr.index c.in-Some.p ≤ max_index_of g.P.Inx.PtrInx.greatest
-within g c = c.loop-p.invariant.indexes (g.P.Ptr.index c.in-Some.p) (found_live (entry_at c.loop-p.arena) _ _ (c.in-Some.ensures).given.0.live)
+within : (g : _) (c : goal.After-set_prev g) → g.P.PtrCore.index c.in-Some.p ≤ max_index_of g.P.Inx.PtrInxCore.greatest
+within g c = c.loop-p.invariant.indexes (g.P.PtrCore.index c.in-Some.p) (found_live (entry_at c.loop-p.arena) _ _ (c.in-Some.ensures).given.0.live)
 
 pub overflow_add-count : goal.overflow_add-count
 overflow_add-count g c =
@@ -36,19 +36,19 @@ pub loop-p-preserved : goal.loop-p-preserved
 loop-p-preserved g c =
     let below = (is_counted g c).below in
     let index = within g c in
-    let after : c.advance.new.self ≡ past c.loop-p.advancer (g.P.Ptr.index c.in-Some.p) = (c.in-Some.ensures).given.1 in
+    let after : c.advance.new.self ≡ past c.loop-p.advancer (g.P.PtrCore.index c.in-Some.p) = (c.in-Some.ensures).given.1 in
     let rises = c.loop-p.invariant.rises in
-    let next = passed_by c.loop-p.advancer c.advance.new.self (g.P.Ptr.index c.in-Some.p) rises after in
-    let same = live_as c.loop-p.arena c.set_prev.new.arena (unchanged g.P.Inx.PtrInx.number c.loop-p.arena c.set_prev.new.arena (Some c.inx.result) c.try_from_usize.result c.set_prev.ensures) in
+    let next = passed_by c.loop-p.advancer c.advance.new.self (g.P.PtrCore.index c.in-Some.p) rises after in
+    let same = live_as c.loop-p.arena c.set_prev.new.arena (unchanged g.P.Inx.PtrInxCore.number c.loop-p.arena c.set_prev.new.arena (Some c.inx.result) c.try_from_usize.result c.set_prev.ensures) in
     record {
       rises = next.rises;
       reaches = λ j some. subst (λ h. j ≤ h) (sym next.high) (c.loop-p.invariant.reaches j (sym (same j) ∙ some));
       indexes = λ j some. c.loop-p.invariant.indexes j (sym (same j) ∙ some);
-      count = (is_counted g c).after ∙ ap (rank (ends_in g.P.Inx.PtrInx.number c.args.arena.now)) (sym next.low);
+      count = (is_counted g c).after ∙ ap (rank (ends_in g.P.Inx.PtrInxCore.number c.args.arena.now)) (sym next.low);
       passed =
-          subst (λ n. IsPassed g.P.Inx.PtrInx.number (numbered (ends_in g.P.Inx.PtrInx.number c.args.arena.now)) n c.args.arena.now c.set_prev.new.arena) (sym next.low)
-          (numbered_one g.P.Inx.PtrInx.number c.args.arena.now c.loop-p.arena c.set_prev.new.arena c.loop-p.advancer (g.P.Ptr.index c.in-Some.p)
-          (g.P.Ptr.generation c.in-Some.p) c.loop-p.count g.P.Inx.PtrInx.greatest _ c.inx.result c.try_from_usize.result c.loop-p.invariant.passed rises
+          subst (λ n. IsPassed g.P.Inx.PtrInxCore.number (numbered (ends_in g.P.Inx.PtrInxCore.number c.args.arena.now)) n c.args.arena.now c.set_prev.new.arena) (sym next.low)
+          (numbered_one g.P.Inx.PtrInxCore.number c.args.arena.now c.loop-p.arena c.set_prev.new.arena c.loop-p.advancer (g.P.PtrCore.index c.in-Some.p)
+          (g.P.PtrCore.generation c.in-Some.p) c.loop-p.count g.P.Inx.PtrInxCore.greatest _ c.inx.result c.try_from_usize.result c.loop-p.invariant.passed rises
           (c.in-Some.ensures).given.0 (is_counted g c) c.inx.ensures c.set_prev.ensures c.try_from_usize.ensures.past c.try_from_usize.ensures.same
           (let fits = c.saturating_add-number.ensures in omega (arith, fits, below, index)) (omega (arith, index)));
     }

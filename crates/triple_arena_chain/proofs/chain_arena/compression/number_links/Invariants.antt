@@ -12,9 +12,9 @@ invariant-loop-p g l =
     record {
       rises : l.advancer.falls ≡ false;
       reaches : (j : ℕ) → IsSome (entry_at l.arena j) → j ≤ l.advancer.high;
-      indexes : (j : ℕ) → IsSome (entry_at l.arena j) → j ≤ max_index_of g.P.Inx.PtrInx.greatest;
-      count : l.count ≡ rank (ends_in g.P.Inx.PtrInx.number l.fn.arena) l.advancer.low;
-      passed : IsPassed g.P.Inx.PtrInx.number (numbered (ends_in g.P.Inx.PtrInx.number l.fn.arena)) l.advancer.low l.fn.arena l.arena;
+      indexes : (j : ℕ) → IsSome (entry_at l.arena j) → j ≤ max_index_of g.P.Inx.PtrInxCore.greatest;
+      count : l.count ≡ rank (ends_in g.P.Inx.PtrInxCore.number l.fn.arena) l.advancer.low;
+      passed : IsPassed g.P.Inx.PtrInxCore.number (numbered (ends_in g.P.Inx.PtrInxCore.number l.fn.arena)) l.advancer.low l.fn.arena l.arena;
     }
 
 abbrev pub decreases-loop-p : goal.decreases-loop-p

@@ -6,7 +6,7 @@ use Rattle.triple_arena_ord.proofs.ord_arena.SimpleOrdArena._check_invariants.Go
 
 pub returns-in_default-clause-ascends : goal.returns-in_default-clause-ascends
 returns-in_default-clause-ascends g c =
-    let number = g.P.Inx.PtrInx.number in
+    let number = g.P.Inx.PtrInxCore.number in
     let cmp = g.T.Key.Ord.cmp in
     let key = g.T.SimpleOrdItem.key_of in
     let o : Ordered g.row.P-Inx.Denot g.row.T.Denot = record { chains = c.this.inside.chains; root = option_map number c.this.inside.root } in
@@ -15,7 +15,7 @@ returns-in_default-clause-ascends g c =
 
 pub returns-then-ascends-clause-ascends : goal.returns-then-ascends-clause-ascends
 returns-then-ascends-clause-ascends g c =
-    let number = g.P.Inx.PtrInx.number in
+    let number = g.P.Inx.PtrInxCore.number in
     let cmp = g.T.Key.Ord.cmp in
     let key = g.T.SimpleOrdItem.key_of in
     let o : Ordered g.row.P-Inx.Denot g.row.T.Denot = record { chains = c.this.inside.chains; root = option_map number c.this.inside.root } in
@@ -27,7 +27,7 @@ returns-then-ascends-clause-ascends g c =
 
 pub returns-else-ascends-clause-ascends : goal.returns-else-ascends-clause-ascends
 returns-else-ascends-clause-ascends g c =
-    let number = g.P.Inx.PtrInx.number in
+    let number = g.P.Inx.PtrInxCore.number in
     let cmp = g.T.Key.Ord.cmp in
     let key = g.T.SimpleOrdItem.key_of in
     let o : Ordered g.row.P-Inx.Denot g.row.T.Denot = record { chains = c.this.inside.chains; root = option_map number c.this.inside.root } in

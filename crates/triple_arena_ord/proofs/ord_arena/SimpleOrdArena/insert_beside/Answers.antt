@@ -6,7 +6,7 @@ use Rattle.triple_arena_ord.proofs.ord_arena.SimpleOrdArena.insert_beside.Goals 
 
 pub invariant_of-self : goal.invariant_of-self
 invariant_of-self g c =
-    let number = g.P.Inx.PtrInx.number in
+    let number = g.P.Inx.PtrInxCore.number in
     let o : Ordered g.row.P-Inx.Denot g.row.T.Denot = record { chains = c.self.inside.chains; root = option_map number c.self.inside.root } in
     let p : Ordered g.row.P-Inx.Denot g.row.T.Denot = record { chains = c.insert_leaf-p.new.chains; root = option_map number c.insert_leaf-p.new.root } in
     let s : StandsBeside c.args.side (order_in number o) (order_in number p) (number c.args.holder) (number c.inx-inx.result) =

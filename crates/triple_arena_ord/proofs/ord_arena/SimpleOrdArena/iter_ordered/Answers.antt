@@ -6,5 +6,5 @@ use Rattle.triple_arena_ord.proofs.ord_arena.SimpleOrdArena.iter_ordered.Goals a
 pub returns : goal.returns
 returns g c =
     let o = c.args.self.now in
-    ap (listed_at o) (whole g.P.Inx.PtrInx.number o c.first_index.ensures.ordered c.from.result
+    ap (listed_at o) (whole g.P.Inx.PtrInxCore.number o c.first_index.ensures.ordered c.from.result
     (c.from.ensures.at ∙ c.first_index.ensures.at) c.from.ensures.back)

@@ -10,7 +10,7 @@ use Rattle.triple_arena_ord.proofs.ord_arena.SimpleOrdArena.make_room.Goals as g
 
 pub invariant_of-self : goal.invariant_of-self
 invariant_of-self g c =
-    let number = g.P.Inx.PtrInx.number in
+    let number = g.P.Inx.PtrInxCore.number in
     let o : Ordered g.row.P-Inx.Denot g.row.T.Denot = record { chains = c.self.inside.chains; root = option_map number c.self.inside.root } in
     let d = c.make_room.new.self in
     let r = room_after (size_in o) o.chains.room in
@@ -22,7 +22,7 @@ invariant_of-self g c =
 
 pub returns-clause-grown : goal.returns-clause-grown
 returns-clause-grown g c =
-    let number = g.P.Inx.PtrInx.number in
+    let number = g.P.Inx.PtrInxCore.number in
     let o : Ordered g.row.P-Inx.Denot g.row.T.Denot = record { chains = c.self.inside.chains; root = option_map number c.self.inside.root } in
     let d = c.make_room.new.self in
     subst (λ z. OnOk c.make_room.result (IsInRoom number (room_after (size_in z) z.chains.room) z (record { chains = d; root = o.root }))) c.self.view_is
@@ -30,6 +30,6 @@ returns-clause-grown g c =
 
 pub returns-clause-ordered : goal.returns-clause-ordered
 returns-clause-ordered g c =
-    let number = g.P.Inx.PtrInx.number in
+    let number = g.P.Inx.PtrInxCore.number in
     let o : Ordered g.row.P-Inx.Denot g.row.T.Denot = record { chains = c.self.inside.chains; root = option_map number c.self.inside.root } in
     still_ordered number o c.make_room.new.self (room_after (size_in o) o.chains.room) c.make_room.result c.make_room.ensures.grown c.make_room.ensures.err c.self.invariant.0

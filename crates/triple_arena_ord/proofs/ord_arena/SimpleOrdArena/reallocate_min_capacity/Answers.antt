@@ -10,7 +10,7 @@ use Rattle.triple_arena_ord.proofs.ord_arena.SimpleOrdArena.reallocate_min_capac
 
 pub invariant_of-self : goal.invariant_of-self
 invariant_of-self g c =
-    let number = g.P.Inx.PtrInx.number in
+    let number = g.P.Inx.PtrInxCore.number in
     let o : Ordered g.row.P-Inx.Denot g.row.T.Denot = record { chains = c.self.inside.chains; root = option_map number c.self.inside.root } in
     let d = c.reallocate_min_capacity.new.self in
     let r = room_with c.args.min o.chains.room in
@@ -22,7 +22,7 @@ invariant_of-self g c =
 
 pub returns-clause-reallocated : goal.returns-clause-reallocated
 returns-clause-reallocated g c =
-    let number = g.P.Inx.PtrInx.number in
+    let number = g.P.Inx.PtrInxCore.number in
     let o : Ordered g.row.P-Inx.Denot g.row.T.Denot = record { chains = c.self.inside.chains; root = option_map number c.self.inside.root } in
     let d = c.reallocate_min_capacity.new.self in
     subst (λ z. OnOk c.reallocate_min_capacity.result (IsInRoom number (room_with c.args.min z.chains.room) z (record { chains = d; root = o.root }))) c.self.view_is
@@ -30,6 +30,6 @@ returns-clause-reallocated g c =
 
 pub returns-clause-ordered : goal.returns-clause-ordered
 returns-clause-ordered g c =
-    let number = g.P.Inx.PtrInx.number in
+    let number = g.P.Inx.PtrInxCore.number in
     let o : Ordered g.row.P-Inx.Denot g.row.T.Denot = record { chains = c.self.inside.chains; root = option_map number c.self.inside.root } in
     still_ordered number o c.reallocate_min_capacity.new.self (room_with c.args.min o.chains.room) c.reallocate_min_capacity.result c.reallocate_min_capacity.ensures.exact c.reallocate_min_capacity.ensures.err c.self.invariant.0

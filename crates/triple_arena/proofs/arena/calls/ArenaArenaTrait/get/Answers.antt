@@ -13,5 +13,5 @@ returns-in-Some-get g c =
 
 pub returns-in-None-get : goal.returns-in-None-get
 returns-in-None-get g c =
-    sym (get_of_none _ _ (g.P.Ptr.generation c.args.p) c.self.view_is (ap option_copied c.in-None-get.is) c.get.ensures
+    sym (get_of_none _ _ (g.P.PtrCore.generation c.args.p) c.self.view_is (ap option_copied c.in-None-get.is) c.get.ensures
     (c.in-Some.ensures.same ∙ c.inx.ensures))

@@ -21,10 +21,10 @@ invariant_of-self-lent g c lent =
       λ w.
           let now = with_item items i (with_slot_value slot w) in
           (written i w c.self.invariant c.self.view_is c.in-Some.i.ok found (laws.items_with_items slots now)
-          (ap (room_of g.P.Inx.PtrInx.greatest) (laws.room_with_items slots now))).sound,
+          (ap (room_of g.P.Inx.PtrInxCore.greatest) (laws.room_with_items slots now))).sound,
       let now = with_item items i slot in
           (unchanged i c.self.invariant c.self.view_is found (laws.items_with_items slots now)
-          (ap (room_of g.P.Inx.PtrInx.greatest) (laws.room_with_items slots now))).sound,
+          (ap (room_of g.P.Inx.PtrInxCore.greatest) (laws.room_with_items slots now))).sound,
     )
 
 pub returns-in-Some-get_mut : goal.returns-in-Some-get_mut
@@ -39,11 +39,11 @@ returns-in-Some-get_mut g c =
     let written_at = λ (w : g.row.T.Denot).
     let now = with_item items i (with_slot_value slot w) in
     (written i w c.self.invariant c.self.view_is c.in-Some.i.ok found (laws.items_with_items slots now)
-    (ap (room_of g.P.Inx.PtrInx.greatest) (laws.room_with_items slots now))).content
+    (ap (room_of g.P.Inx.PtrInxCore.greatest) (laws.room_with_items slots now))).content
     ∙ ap (λ j. with_value c.args.self.now j w) same in
     let now = with_item items i slot in
     let kept = (unchanged i c.self.invariant c.self.view_is found (laws.items_with_items slots now)
-    (ap (room_of g.P.Inx.PtrInx.greatest) (laws.room_with_items slots now))).content in (
+    (ap (room_of g.P.Inx.PtrInxCore.greatest) (laws.room_with_items slots now))).content in (
       λ t. read_of (ghost_name_of c.get_mut-in-Some-get_mut.result) (λ (w : g.row.T.Denot). written_at w t) (kept t),
       record {
         writes_back = tt;

@@ -14,7 +14,7 @@ returns-in-Some-clause-steps g c =
     let i = non_zero_usize_get c.saturating_add-i.result in
     let place : i ≡ l.self-inside.passed + 1 = omega (arith, c.saturating_add-i.ensures) in
     let took = c.take_entry.ensures in
-    let t = entry_taken g.P.Gen.PtrGen.number c.take_entry.result _ _ _ _ _ i l.invariant.vacant c.in-Some.is took.entry place took.slots in
+    let t = entry_taken g.P.Gen.PtrGenCore.number c.take_entry.result _ _ _ _ _ i l.invariant.vacant c.in-Some.is took.entry place took.slots in
     rw (c.pointer_at.ensures.has_index, c.pointer_at.ensures.has_generation) (sym l.invariant.left ∙ t.first)
 
 pub returns-in-Some-clause-goes : goal.returns-in-Some-clause-goes
@@ -25,7 +25,7 @@ returns-in-Some-clause-goes g c =
     let i = non_zero_usize_get c.saturating_add-i.result in
     let place : i ≡ l.self-inside.passed + 1 = omega (arith, c.saturating_add-i.ensures) in
     let took = c.take_entry.ensures in
-    let t = entry_taken g.P.Gen.PtrGen.number c.take_entry.result _ _ _ _ _ i l.invariant.vacant c.in-Some.is took.entry place took.slots in
+    let t = entry_taken g.P.Gen.PtrGenCore.number c.take_entry.result _ _ _ _ _ i l.invariant.vacant c.in-Some.is took.entry place took.slots in
     let fewer = ap length (sym l.invariant.left ∙ t.first) in
     record { on = λ finite. (tt, finite, omega (arith, fewer)); keeps = tt; rests = λ _. tt }
 
@@ -37,7 +37,7 @@ loop-self-preserved g c =
     let i = non_zero_usize_get c.saturating_add-i.result in
     let place : i ≡ l.self-inside.passed + 1 = omega (arith, c.saturating_add-i.ensures) in
     let took = c.take_entry.ensures in
-    let p = free_passed g.P.Gen.PtrGen.number c.take_entry.result _ _ _ i l.invariant.vacant c.in_default.is took.entry place took.slots in
+    let p = free_passed g.P.Gen.PtrGenCore.number c.take_entry.result _ _ _ i l.invariant.vacant c.in_default.is took.entry place took.slots in
     let long = as_long entry_of _ _ _ _ c.take_entry.ensures.slots in
     record {
       vacant = rw c.get-self-inside.ensures.value p.vacant;

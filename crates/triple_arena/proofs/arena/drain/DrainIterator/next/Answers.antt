@@ -9,7 +9,7 @@ use Rattle.triple_arena.proofs.DrainLemmas.{Stepped, stepped, removals_none}
 use Rattle.triple_arena.proofs.arena.drain.DrainIterator.next.Goals as goal
 
 -- what the step took and left
-took : (g : _) (c : goal.In-Some g) → Stepped g.P.Gen.PtrGen.last g.P.Ptr.index g.P.Ptr.generation c.loop-self.self.arena.now c.in-Some.item
+took : (g : _) (c : goal.In-Some g) → Stepped g.P.Gen.PtrGenCore.last g.P.PtrCore.index g.P.PtrCore.generation c.loop-self.self.arena.now c.in-Some.item
     (non_zero_usize_get c.saturating_add-i.result) c.take_listed.new.self
 took g c =
     let l = c.loop-self in
@@ -18,7 +18,7 @@ took g c =
     let i = non_zero_usize_get c.saturating_add-i.result in
     let place : i ≡ l.self.passed + 1 = omega (arith, c.saturating_add-i.ensures) in
     let lower : (j : ℕ) → j < i → entry_at l.self.arena.now j ≡ None = λ j under. l.invariant.0 j (omega (arith, under, place)) in
-    stepped g.P.Gen.PtrGen.last g.P.Ptr.index g.P.Ptr.generation l.self.arena.now c.take_listed.new.self c.take_listed.result c.in-Some.item i c.in-Some.is
+    stepped g.P.Gen.PtrGenCore.last g.P.PtrCore.index g.P.PtrCore.generation l.self.arena.now c.take_listed.new.self c.take_listed.result c.in-Some.item i c.in-Some.is
     lower c.take_listed.ensures.index c.take_listed.ensures.entry c.take_listed.ensures.overflow c.take_listed.ensures.removed
 
 ready : (g : _) (c : goal.In-Some g) → (j : ℕ) → j ≤ c.get-self.result → entry_at c.take_listed.new.self j ≡ None
@@ -35,7 +35,7 @@ returns-in-Some-clause-goes g c =
     let t = took g c in
     let same = c.loop-self.invariant.1 in
     let fewer = ap length t.first in
-    let counted = ap (λ r. length (removals g.P.Gen.PtrGen.last r.now.counter (live_entries r.now))) same in
+    let counted = ap (λ r. length (removals g.P.Gen.PtrGenCore.last r.now.counter (live_entries r.now))) same in
     record { on = λ finite. (ready g c, finite, omega (arith, fewer, counted)); keeps = ready g c; rests = λ _. tt }
 
 pub returns-clause-steps : goal.returns-clause-steps
@@ -48,5 +48,5 @@ returns-clause-steps g c =
       | inl within ↦ kept.0 j within.1
       | inr beyond ↦ none_past c.loop-self.self.arena.now j (omega (arith, beyond.1, over, sized))
     ] in
-    let over = removals_none g.P.Gen.PtrGen.last c.loop-self.self.arena.now none in
+    let over = removals_none g.P.Gen.PtrGenCore.last c.loop-self.self.arena.now none in
     (rw (← kept.1) (over, over), rw (← kept.1) (refl, refl), kept.0)

@@ -17,7 +17,7 @@ invariant_of-self-lent g c w =
     (rewritten _ w c.self.invariant c.self.view_is live.1 (sym c.item_mut.ensures.value)
     (g.met.S.NonZeroInxGenericStack.items_with_items c.self.inside.slots
     (with_item (g.S.NonZeroInxGenericStack.items c.self.inside.slots) (non_zero_usize_get c.args.i) (with_slot_value c.item_mut.result.now w)))
-    (ap (room_of g.P.Inx.PtrInx.greatest)
+    (ap (room_of g.P.Inx.PtrInxCore.greatest)
     (g.met.S.NonZeroInxGenericStack.room_with_items c.self.inside.slots
     (with_item (g.S.NonZeroInxGenericStack.items c.self.inside.slots) (non_zero_usize_get c.args.i) (with_slot_value c.item_mut.result.now w))))).sound
 
@@ -30,7 +30,7 @@ returns g c =
             (rewritten _ w c.self.invariant c.self.view_is live.1 (sym c.item_mut.ensures.value)
             (g.met.S.NonZeroInxGenericStack.items_with_items c.self.inside.slots
             (with_item (g.S.NonZeroInxGenericStack.items c.self.inside.slots) (non_zero_usize_get c.args.i) (with_slot_value c.item_mut.result.now w)))
-            (ap (room_of g.P.Inx.PtrInx.greatest)
+            (ap (room_of g.P.Inx.PtrInxCore.greatest)
             (g.met.S.NonZeroInxGenericStack.room_with_items c.self.inside.slots
             (with_item (g.S.NonZeroInxGenericStack.items c.self.inside.slots) (non_zero_usize_get c.args.i)
             (with_slot_value c.item_mut.result.now w))))).content,

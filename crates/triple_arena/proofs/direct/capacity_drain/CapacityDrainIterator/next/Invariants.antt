@@ -10,7 +10,7 @@ invariant-loop-self g l =
     record {
       vacant : AreVacant l.self-inside.passed (g.S.NonZeroInxGenericStack.items l.self-inside.slots);
       left : listed_from 1 (g.S.NonZeroInxGenericStack.items l.self-inside.slots) ≡ l.fn.self;
-      indexed : length (g.S.NonZeroInxGenericStack.items l.self-inside.slots) ≤ max_index_of g.P.Inx.PtrInx.greatest;
+      indexed : length (g.S.NonZeroInxGenericStack.items l.self-inside.slots) ≤ max_index_of g.P.Inx.PtrInxCore.greatest;
     }
 
 abbrev pub decreases-loop-self : goal.decreases-loop-self

@@ -22,7 +22,7 @@ returns-in-Ok-clause-exact g c =
 
 pub returns-in-Err-clause-unmade : goal.returns-in-Err-clause-unmade
 returns-in-Err-clause-unmade g c _ =
-    let left = emptied_direct g.P.Gen.PtrGen.last c.args.self.now (c.in-Err.ensures.cleared refl) c.in_ok-reallocate.ensures.exact
+    let left = emptied_direct g.P.Gen.PtrGenCore.last c.args.self.now (c.in-Err.ensures.cleared refl) c.in_ok-reallocate.ensures.exact
     (c.up_to_last-slots.ensures.last ∙ ap last_listed c.lent_slots.ensures.entries) in
     inr (
       refused_same _ _ _ (c.up_to_last-slots.ensures.entries ∙ c.lent_slots.ensures.entries) (c.in-Err.ensures.refused refl),

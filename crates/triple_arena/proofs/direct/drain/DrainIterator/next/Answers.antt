@@ -8,7 +8,7 @@ use Rattle.triple_arena.proofs.DirectDrainLemmas.{Stepped, stepped, removals_non
 use Rattle.triple_arena.proofs.direct.drain.DrainIterator.next.Goals as goal
 
 -- what the step took and left
-took : (g : _) (c : goal.In-Some g) → Stepped g.P.Ptr.index g.P.Ptr.generation c.loop-self.self.arena.now c.in-Some.item
+took : (g : _) (c : goal.In-Some g) → Stepped g.P.PtrCore.index g.P.PtrCore.generation c.loop-self.self.arena.now c.in-Some.item
     (non_zero_usize_get c.saturating_add-i.result) c.take_listed.new.self
 took g c =
     let l = c.loop-self in
@@ -17,7 +17,7 @@ took g c =
     let i = non_zero_usize_get c.saturating_add-i.result in
     let place : i ≡ l.self.passed + 1 = omega (arith, c.saturating_add-i.ensures) in
     let lower : (j : ℕ) → j < i → entry_at l.self.arena.now j ≡ None = λ j under. l.invariant.0 j (omega (arith, under, place)) in
-    stepped g.P.Gen.PtrGen.last g.P.Ptr.index g.P.Ptr.generation l.self.arena.now c.take_listed.new.self c.take_listed.result c.in-Some.item i c.in-Some.is
+    stepped g.P.Gen.PtrGenCore.last g.P.PtrCore.index g.P.PtrCore.generation l.self.arena.now c.take_listed.new.self c.take_listed.result c.in-Some.item i c.in-Some.is
     lower c.take_listed.ensures.index c.take_listed.ensures.entry c.take_listed.ensures.removed
 
 ready : (g : _) (c : goal.In-Some g) → (j : ℕ) → j ≤ c.get-self.result → entry_at c.take_listed.new.self j ≡ None

@@ -16,7 +16,7 @@ invariant_of-self-lent g c w =
     (written _ w c.self.invariant c.self.view_is c.args.i.ok c.item_mut.ensures.value
     (g.met.S.NonZeroInxGenericStack.items_with_items c.self.inside.slots
     (with_item (g.S.NonZeroInxGenericStack.items c.self.inside.slots) (non_zero_usize_get c.args.i) (with_slot_value c.item_mut.result.now w)))
-    (ap (room_of g.P.Inx.PtrInx.greatest)
+    (ap (room_of g.P.Inx.PtrInxCore.greatest)
     (g.met.S.NonZeroInxGenericStack.room_with_items c.self.inside.slots
     (with_item (g.S.NonZeroInxGenericStack.items c.self.inside.slots) (non_zero_usize_get c.args.i) (with_slot_value c.item_mut.result.now w))))).sound
 
@@ -28,7 +28,7 @@ returns g c = (
         (written _ w c.self.invariant c.self.view_is c.args.i.ok c.item_mut.ensures.value
         (g.met.S.NonZeroInxGenericStack.items_with_items c.self.inside.slots
         (with_item (g.S.NonZeroInxGenericStack.items c.self.inside.slots) (non_zero_usize_get c.args.i) (with_slot_value c.item_mut.result.now w)))
-        (ap (room_of g.P.Inx.PtrInx.greatest)
+        (ap (room_of g.P.Inx.PtrInxCore.greatest)
         (g.met.S.NonZeroInxGenericStack.room_with_items c.self.inside.slots
         (with_item (g.S.NonZeroInxGenericStack.items c.self.inside.slots) (non_zero_usize_get c.args.i)
         (with_slot_value c.item_mut.result.now w))))).content,

@@ -17,13 +17,13 @@ returns-in_err-p-clause-steps g c =
 
 -- what the step took
 taken : (g : _) (c : goal.In_ok-value g) → listed_values c.self.inside.chains
-    ≡ (g.P.Ptr.index c.in_ok-p.p, (g.P.Ptr.generation c.in_ok-p.p, c.in_ok-value.value)) ∷ listed_values c.remove.new.self
+    ≡ (g.P.PtrCore.index c.in_ok-p.p, (g.P.PtrCore.generation c.in_ok-p.p, c.in_ok-value.value)) ∷ listed_values c.remove.new.self
 taken g c =
     let old = c.self.inside.chains in
-    let i = g.P.Ptr.index c.in_ok-p.p in
-    let k = g.P.Ptr.generation c.in_ok-p.p in
+    let i = g.P.PtrCore.index c.in_ok-p.p in
+    let k = g.P.PtrCore.generation c.in_ok-p.p in
     let value : Some c.in_ok-value.value ≡ value_if k (values_in old i) = search rules in
-    let removed : IsRemoved values_in live_count some_counter room_in g.P.Gen.PtrGen.last i old c.remove.new.self = search rules in
+    let removed : IsRemoved values_in live_count some_counter room_in g.P.Gen.PtrGenCore.last i old c.remove.new.self = search rules in
     value_taken old c.remove.new.self i (k, c.in_ok-value.value) (none_before old c.self.inside.walk i k c.self.invariant c.in_ok-p.ensures.given.0)
     (entry_of_value (values_in old i) k c.in_ok-value.value value) removed.entries
 

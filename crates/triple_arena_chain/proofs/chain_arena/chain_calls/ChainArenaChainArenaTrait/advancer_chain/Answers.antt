@@ -5,6 +5,6 @@ use Rattle.triple_arena_chain.proofs.chain_arena.chain_calls.ChainArenaChainAren
 
 pub returns-then-contains-clause-along : goal.returns-then-contains-clause-along
 returns-then-contains-clause-along g c =
-    let live : IsSome (get c.args.self.now (g.P.Ptr.index c.args.p) (g.P.Ptr.generation c.args.p)) = search rules in
-    walk_along g.P.Inx.PtrInx.number c.args.self.now (g.P.Ptr.index c.args.p) (g.P.Ptr.generation c.args.p) _ c.has_room.ensures.chained live
+    let live : IsSome (get c.args.self.now (g.P.PtrCore.index c.args.p) (g.P.PtrCore.generation c.args.p)) = search rules in
+    walk_along g.P.Inx.PtrInxCore.number c.args.self.now (g.P.PtrCore.index c.args.p) (g.P.PtrCore.generation c.args.p) _ c.has_room.ensures.chained live
     c.from.ensures

@@ -9,36 +9,36 @@ use Rattle.triple_arena_chain.proofs.chain_arena.chain_calls.ChainArenaChainAren
 
 pub set_next-requires : goal.set_next-requires
 set_next-requires g c =
-    let number = g.P.Inx.PtrInx.number in
+    let number = g.P.Inx.PtrInxCore.number in
     let is = sym c.in_ok-ends_of.ensures.numbers ∙ ap (λ o. Some (option_map number o, option_map number c.in_ok-ends_of.field-0.1)) c.in_ok-prev.was in
     let live : IsSome (entry_at c.args.self.now (number c.in_ok-prev.prev)) =
-    prev_live number c.args.self.now (g.P.Ptr.index c.args.p) (g.P.Ptr.generation c.args.p) (number c.in_ok-prev.prev)
+    prev_live number c.args.self.now (g.P.PtrCore.index c.args.p) (g.P.PtrCore.generation c.args.p) (number c.in_ok-prev.prev)
     (option_map number c.in_ok-ends_of.field-0.1) c.has_room.ensures.chained is in
     search rules
 
 pub set_prev-requires : goal.set_prev-requires
 set_prev-requires g c =
-    let number = g.P.Inx.PtrInx.number in
+    let number = g.P.Inx.PtrInxCore.number in
     let is = sym c.in_ok-ends_of.ensures.numbers ∙ ap (λ o. Some (option_map number o, option_map number c.in_ok-ends_of.field-0.1)) c.in_ok-prev.was in
     let first : c.set_next.new.arena ≡ with_next_of number c.args.self.now (Some c.in_ok-prev.prev) None = search rules in
-    found_live_after number c.args.self.now c.set_next.new.arena (Some c.in_ok-prev.prev) None c.inx.result (g.P.Ptr.index c.args.p)
-    (g.P.Ptr.generation c.args.p) (Some (number c.in_ok-prev.prev), option_map number c.in_ok-ends_of.field-0.1) c.inx.ensures is first
+    found_live_after number c.args.self.now c.set_next.new.arena (Some c.in_ok-prev.prev) None c.inx.result (g.P.PtrCore.index c.args.p)
+    (g.P.PtrCore.generation c.args.p) (Some (number c.in_ok-prev.prev), option_map number c.in_ok-ends_of.field-0.1) c.inx.ensures is first
 
-done : (g : Over) (c : goal.After-set_prev g) (q : ℕ) → prev_at (ends_in g.P.Inx.PtrInx.number c.args.self.now) (g.P.Ptr.index c.args.p) ≡ Some q
-    → Relinked g.P.Inx.PtrInx.number (unlinked (ends_in g.P.Inx.PtrInx.number c.args.self.now) q (g.P.Ptr.index c.args.p)) c.args.self.now c.set_prev.new.arena
+done : (g : Over) (c : goal.After-set_prev g) (q : ℕ) → prev_at (ends_in g.P.Inx.PtrInxCore.number c.args.self.now) (g.P.PtrCore.index c.args.p) ≡ Some q
+    → Relinked g.P.Inx.PtrInxCore.number (unlinked (ends_in g.P.Inx.PtrInxCore.number c.args.self.now) q (g.P.PtrCore.index c.args.p)) c.args.self.now c.set_prev.new.arena
 done g c =
-    let number = g.P.Inx.PtrInx.number in
+    let number = g.P.Inx.PtrInxCore.number in
     let is = sym c.in_ok-ends_of.ensures.numbers ∙ ap (λ o. Some (option_map number o, option_map number c.in_ok-ends_of.field-0.1)) c.in_ok-prev.was in
     let first : c.set_next.new.arena ≡ with_next_of number c.args.self.now (Some c.in_ok-prev.prev) None = search rules in
-    parted_prev number c.args.self.now c.set_next.new.arena c.set_prev.new.arena c.in_ok-prev.prev c.inx.result (g.P.Ptr.index c.args.p)
-    (g.P.Ptr.generation c.args.p) (option_map number c.in_ok-ends_of.field-0.1) c.has_room.ensures.chained c.inx.ensures is first c.set_prev.ensures
+    parted_prev number c.args.self.now c.set_next.new.arena c.set_prev.new.arena c.in_ok-prev.prev c.inx.result (g.P.PtrCore.index c.args.p)
+    (g.P.PtrCore.generation c.args.p) (option_map number c.in_ok-ends_of.field-0.1) c.has_room.ensures.chained c.inx.ensures is first c.set_prev.ensures
 
-chained : (g : Over) (c : goal.After-set_prev g) → IsChained g.P.Inx.PtrInx.number c.set_prev.new.arena
+chained : (g : Over) (c : goal.After-set_prev g) → IsChained g.P.Inx.PtrInxCore.number c.set_prev.new.arena
 chained g c =
-    let number = g.P.Inx.PtrInx.number in
+    let number = g.P.Inx.PtrInxCore.number in
     let is = sym c.in_ok-ends_of.ensures.numbers ∙ ap (λ o. Some (option_map number o, option_map number c.in_ok-ends_of.field-0.1)) c.in_ok-prev.was in
     (done g c (number c.in_ok-prev.prev)
-    (prev_found number c.args.self.now (g.P.Ptr.index c.args.p) (g.P.Ptr.generation c.args.p) (number c.in_ok-prev.prev)
+    (prev_found number c.args.self.now (g.P.PtrCore.index c.args.p) (g.P.PtrCore.generation c.args.p) (number c.in_ok-prev.prev)
     (option_map number c.in_ok-ends_of.field-0.1) is)).chained
 
 pub invariant_of-self : goal.invariant_of-self
@@ -49,10 +49,10 @@ returns-clause-formed g c = chained g c
 
 pub returns-clause-lists : goal.returns-clause-lists
 returns-clause-lists g c q prev =
-    let number = g.P.Inx.PtrInx.number in
+    let number = g.P.Inx.PtrInxCore.number in
     let agreed = c.has_room.ensures.chained.agreed in
-    is_split (ends_in number c.args.self.now) (ends_in number c.set_prev.new.arena) q (g.P.Ptr.index c.args.p) agreed
-    (chained g c).agreed (agreed.backward q (g.P.Ptr.index c.args.p) prev) (done g c q prev).relinked.ends
+    is_split (ends_in number c.args.self.now) (ends_in number c.set_prev.new.arena) q (g.P.PtrCore.index c.args.p) agreed
+    (chained g c).agreed (agreed.backward q (g.P.PtrCore.index c.args.p) prev) (done g c q prev).relinked.ends
 
 pub returns-clause-relinked : goal.returns-clause-relinked
 returns-clause-relinked g c q prev = (done g c q prev).relinked

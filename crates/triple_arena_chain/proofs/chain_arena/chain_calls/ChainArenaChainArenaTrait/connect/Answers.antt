@@ -8,15 +8,15 @@ use Rattle.triple_arena_chain.proofs.chain_arena.chain_calls.ChainArenaChainAren
 use Rattle.triple_arena_chain.proofs.chain_arena.chain_calls.ChainArenaChainArenaTrait.connect.Goals as goal
 
 done : (g : Over) (c : goal.After-set_prev g)
-    → Relinked g.P.Inx.PtrInx.number (linked (ends_in g.P.Inx.PtrInx.number c.args.self.now) (g.P.Ptr.index c.args.p) (g.P.Ptr.index c.args.q)) c.args.self.now
+    → Relinked g.P.Inx.PtrInxCore.number (linked (ends_in g.P.Inx.PtrInxCore.number c.args.self.now) (g.P.PtrCore.index c.args.p) (g.P.PtrCore.index c.args.q)) c.args.self.now
     c.set_prev.new.arena
 done g c =
-    let number = g.P.Inx.PtrInx.number in
+    let number = g.P.Inx.PtrInxCore.number in
     let old = c.args.self.now in
-    let p = g.P.Ptr.index c.args.p in
-    let q = g.P.Ptr.index c.args.q in
-    let gp = g.P.Ptr.generation c.args.p in
-    let gq = g.P.Ptr.generation c.args.q in
+    let p = g.P.PtrCore.index c.args.p in
+    let q = g.P.PtrCore.index c.args.q in
+    let gp = g.P.PtrCore.generation c.args.p in
+    let gq = g.P.PtrCore.generation c.args.q in
     let place = place_by number c.in_ok-place.field-0 in
     let bridge : at_bridge p q (ends_found number old p gp) (ends_found number old q gq) ≡ Some place = search rules in
     let first : c.set_next.new.arena ≡ with_next_of number old (Some c.inx-i.result) (Some c.inx-j.result) = search rules in
@@ -31,9 +31,9 @@ returns-clause-relinked g c = (done g c).relinked
 
 pub returns-clause-lists : goal.returns-clause-lists
 returns-clause-lists g c =
-    let number = g.P.Inx.PtrInx.number in
+    let number = g.P.Inx.PtrInxCore.number in
     let d = done g c in
-    is_appended (ends_in number c.args.self.now) (ends_in number c.set_prev.new.arena) (g.P.Ptr.index c.args.p) (g.P.Ptr.index c.args.q) d.chained.agreed
+    is_appended (ends_in number c.args.self.now) (ends_in number c.set_prev.new.arena) (g.P.PtrCore.index c.args.p) (g.P.PtrCore.index c.args.q) d.chained.agreed
     d.relinked.ends
 
 pub returns-clause-formed : goal.returns-clause-formed

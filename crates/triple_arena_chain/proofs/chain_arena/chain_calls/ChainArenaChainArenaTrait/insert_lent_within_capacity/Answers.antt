@@ -6,8 +6,8 @@ use Rattle.triple_arena_chain.proofs.chain_arena.chain_calls.ChainArenaChainAren
 
 pub put-requires-clause-place : goal.put-requires-clause-place
 put-requires-clause-place g c =
-    let number = g.P.Inx.PtrInx.number in
+    let number = g.P.Inx.PtrInxCore.number in
     let old = c.args.self.now in
     let place = place_by number c.in-Some.place in
-    let is : place_among g.P.Ptr.index g.P.Ptr.generation number old c.args.kind.now ≡ Some place = search rules in
-    placeable g.P.Ptr.index g.P.Ptr.generation number old c.args.kind.now place c.has_room.ensures.chained is
+    let is : place_among g.P.PtrCore.index g.P.PtrCore.generation number old c.args.kind.now ≡ Some place = search rules in
+    placeable g.P.PtrCore.index g.P.PtrCore.generation number old c.args.kind.now place c.has_room.ensures.chained is

@@ -10,9 +10,9 @@ use Rattle.triple_arena_chain.proofs.chain_arena.chain_calls.ChainArenaChainAren
 
 pub set_next-requires : goal.set_next-requires
 set_next-requires g c =
-    let number = g.P.Inx.PtrInx.number in
-    let p = g.P.Ptr.index c.args.p in
-    let gp = g.P.Ptr.generation c.args.p in
+    let number = g.P.Inx.PtrInxCore.number in
+    let p = g.P.PtrCore.index c.args.p in
+    let gp = g.P.PtrCore.generation c.args.p in
     let is : get c.args.self.now p gp ≡ Some c.in-Some.link.now = search rules in
     let at = entry_seen gp (entry_at c.args.self.now p) c.in-Some.link.now is in
     let live = (neighbors_live number c.args.self.now p gp c.in-Some.link.now c.has_room.ensures.chained at).0 in
@@ -20,25 +20,25 @@ set_next-requires g c =
 
 pub set_prev-requires : goal.set_prev-requires
 set_prev-requires g c =
-    let number = g.P.Inx.PtrInx.number in
-    let p = g.P.Ptr.index c.args.p in
-    let gp = g.P.Ptr.generation c.args.p in
+    let number = g.P.Inx.PtrInxCore.number in
+    let p = g.P.PtrCore.index c.args.p in
+    let gp = g.P.PtrCore.generation c.args.p in
     let is : get c.args.self.now p gp ≡ Some c.in-Some.link.now = search rules in
     let at = entry_seen gp (entry_at c.args.self.now p) c.in-Some.link.now is in
     let first : c.set_next.new.arena ≡ with_next_of number c.args.self.now c.in-Some.link.now.prev c.in-Some.link.now.next = search rules in
     neighbor_live_after number c.args.self.now c.set_next.new.arena p gp c.in-Some.link.now c.has_room.ensures.chained at first
 
 done : (g : Over) (c : goal.After-remove g)
-    → Removed g.P.Inx.PtrInx.number value_of (answer_of c.remove.result) value_of (value_if (g.P.Ptr.generation c.args.p)) g.P.Gen.PtrGen.last
-    (g.P.Ptr.index c.args.p) c.args.self.now c.remove.new.self
+    → Removed g.P.Inx.PtrInxCore.number value_of (answer_of c.remove.result) value_of (value_if (g.P.PtrCore.generation c.args.p)) g.P.Gen.PtrGenCore.last
+    (g.P.PtrCore.index c.args.p) c.args.self.now c.remove.new.self
 done g c =
-    let number = g.P.Inx.PtrInx.number in
-    let p = g.P.Ptr.index c.args.p in
-    let gp = g.P.Ptr.generation c.args.p in
+    let number = g.P.Inx.PtrInxCore.number in
+    let p = g.P.PtrCore.index c.args.p in
+    let gp = g.P.PtrCore.generation c.args.p in
     let is : get c.args.self.now p gp ≡ Some c.in-Some.link.now = search rules in
     let at = entry_seen gp (entry_at c.args.self.now p) c.in-Some.link.now is in
     let first : c.set_next.new.arena ≡ with_next_of number c.args.self.now c.in-Some.link.now.prev c.in-Some.link.now.next = search rules in
-    removed_by number value_of (answer_of c.remove.result) value_of (value_if gp) g.P.Gen.PtrGen.last c.args.self.now c.set_next.new.arena c.set_prev.new.arena
+    removed_by number value_of (answer_of c.remove.result) value_of (value_if gp) g.P.Gen.PtrGenCore.last c.args.self.now c.set_next.new.arena c.set_prev.new.arena
     c.remove.new.self p gp c.in-Some.link.now c.in-Some.link.now c.has_room.ensures.chained at (entry_shows gp c.in-Some.link.now) first c.set_prev.ensures
     c.remove.ensures.value c.remove.ensures.exact (λ a is. is)
 

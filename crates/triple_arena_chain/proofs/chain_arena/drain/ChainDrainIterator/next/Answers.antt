@@ -7,17 +7,17 @@ use Rattle.triple_arena_chain.proofs.chain_arena.drain.ChainDrainIterator.next.G
 
 pub returns-in_err-item-clause-steps : goal.returns-in_err-item-clause-steps
 returns-in_err-item-clause-steps g c =
-    let number = g.P.Inx.PtrInx.number in
+    let number = g.P.Inx.PtrInxCore.number in
     let old = c.args.self.now.chains.now in
     let at = ap (option_map number) c.in_ok-i.was in
     let walk = subst (λ o. IsWalk (ends_in number old) o c.requires.0) at c.requires.1 in
-    let live : IsSome (entry_at old (number c.in_ok-i.i)) = walk_live number g.P.Gen.PtrGen.last old (number c.in_ok-i.i) c.requires.0 walk in
+    let live : IsSome (entry_at old (number c.in_ok-i.i)) = walk_live number g.P.Gen.PtrGenCore.last old (number c.in_ok-i.i) c.requires.0 walk in
     absurd (let never : false ≡ true = c.in_err-item.ensures.variant.1 live in cc)
 
 pub returns-clause-steps : goal.returns-clause-steps
 returns-clause-steps g c =
-    let number = g.P.Inx.PtrInx.number in
-    let last = g.P.Gen.PtrGen.last in
+    let number = g.P.Inx.PtrInxCore.number in
+    let last = g.P.Gen.PtrGenCore.last in
     let old = c.args.self.now.chains.now in
     let at = ap (option_map number) c.in_ok-i.was in
     let step = c.in_ok-item.ensures.step in
@@ -29,7 +29,7 @@ returns-clause-steps g c =
 
 pub returns-clause-goes : goal.returns-clause-goes
 returns-clause-goes g c =
-    let number = g.P.Inx.PtrInx.number in
+    let number = g.P.Inx.PtrInxCore.number in
     let old = c.args.self.now.chains.now in
     let at = ap (option_map number) c.in_ok-i.was in
     let step = c.in_ok-item.ensures.step in

@@ -4,6 +4,6 @@ use Rattle.triple_arena_ord.proofs.ord_arena.entry.SimpleOrdArenaInsertEntry.ins
 
 pub returns-clause-inserted : goal.returns-clause-inserted
 returns-clause-inserted g c =
-    inserted_told g.P.Inx.PtrInx.number g.P.Ptr.index g.P.Ptr.generation c.args.t (entry_arena c.args.self) c.insert_at_within_capacity.new.self
-    c.args.self.ptr c.in-Ok.field-0-0 c.in-Ok.replaced _ (entry_place g.P.Inx.PtrInx.number c.args.self) _ c.insert_at_within_capacity.result c.in-Ok.is
+    inserted_told g.P.Inx.PtrInxCore.number g.P.PtrCore.index g.P.PtrCore.generation c.args.t (entry_arena c.args.self) c.insert_at_within_capacity.new.self
+    c.args.self.ptr c.in-Ok.field-0-0 c.in-Ok.replaced _ (entry_place g.P.Inx.PtrInxCore.number c.args.self) _ c.insert_at_within_capacity.result c.in-Ok.is
     c.settle-place.ensures.same c.requires c.insert_at_within_capacity.ensures.inserted
