@@ -29,17 +29,16 @@ impl<P: PtrCore, T: SimpleOrdItem + Drop, S: OrdSlots<P, T>> SimpleOrdArena<P, T
         'down: while let Some(i) = link {
             probes.tick();
             let node = self.chains.get_inx_unwrap(i);
-            match k.cmp(node.t.key()) {
-                Ordering::Less => {
-                    place = Some((i, Ordering::Less));
-                    link = node.p_tree0;
-                }
-                Ordering::Equal => return Some((i, Ordering::Equal)),
-                Ordering::Greater => {
-                    place = Some((i, Ordering::Greater));
-                    link = node.p_tree1;
-                }
+            let answer = k.cmp(node.t.key());
+            if answer.is_eq() {
+                return Some((i, answer));
             }
+            place = Some((i, answer));
+            link = if answer.is_lt() {
+                node.p_tree0
+            } else {
+                node.p_tree1
+            };
         }
         place
     }

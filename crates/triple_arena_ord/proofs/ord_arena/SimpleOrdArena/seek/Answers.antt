@@ -1,13 +1,46 @@
-use Rattle.std.proofs.Common.{◌≡◌, ◌+◌, refl, sym, ap, ◌∙◌, option_map, arith}
+use Rattle.std.proofs.Common.{◌≡◌, ℕ, ◌+◌, Bool, Option, Some, IsSome, refl, sym, ap, ◌∙◌, subst, option_map, arith, true, false, true≢false}
+use Rattle.std.specs.Ordering.{is_eq, is_lt}
+use Rattle.std.specs.declared.cmp.Ordering.{Ordering}
+use Rattle.std.specs.declared.cmp.Ordering.TheVariants.{Less, Equal, Greater}
+use Rattle.rank_tree.specs.Store.{Store}
+use Rattle.rank_tree.specs.Tree.{Tree}
+use Rattle.rank_tree.specs.Search.{IsAnswer, IsFreeAt}
+use Rattle.rank_tree.specs.Knot.{Knot}
 use Rattle.triple_arena_ord.specs.Node.{knots_in}
 use Rattle.triple_arena_ord.specs.Ordered.{asked_at}
-use Rattle.rank_tree.proofs.Descents.{falls_down, descent_ends, descent_asked, descent_lives}
+use Rattle.rank_tree.proofs.Descents.{Descent, falls_down, descent_ends, descent_asked, descent_lives}
 use Rattle.triple_arena_ord.proofs.SeekLemmas.{Step, seek_begins, seek_step, seek_ends}
-use Rattle.triple_arena_ord.proofs.ord_arena.SimpleOrdArena.seek.Goals.{After-cmp}
+use Rattle.triple_arena_ord.proofs.ord_arena.SimpleOrdArena.seek.Goals.{After-cmp-answer}
 use Rattle.triple_arena_ord.proofs.ord_arena.SimpleOrdArena.seek.Goals as goal
 
+equal_of : (o : Ordering) (is : Bool) → is ≡ is_eq o → is ≡ true → o ≡ Equal
+equal_of Less is e h = absurd (true≢false (sym h ∙ e))
+equal_of Equal is e h = refl
+equal_of Greater is e h = absurd (true≢false (sym h ∙ e))
+
+less_of : (o : Ordering) (is : Bool) → is ≡ is_lt o → is ≡ true → o ≡ Less
+less_of Less is e h = refl
+less_of Equal is e h = absurd (true≢false (sym h ∙ e))
+less_of Greater is e h = absurd (true≢false (sym h ∙ e))
+
+greater_of : (o : Ordering) (is less : Bool) → is ≡ is_eq o → is ≡ false → less ≡ is_lt o → less ≡ false → o ≡ Greater
+greater_of Less is less e h f k = absurd (true≢false (sym f ∙ k))
+greater_of Equal is less e h f k = absurd (true≢false (sym e ∙ h))
+greater_of Greater is less e h f k = refl
+
+-- an answer by another name
+named_so : (n : Store) (f : ℕ → Ordering) (t : Tree) (link : Option ℕ) (i : ℕ) (d e : Ordering) (asked : ℕ)
+    → d ≡ e → Descent n f t link (Some (i, e)) asked → Descent n f t link (Some (i, d)) asked
+named_so n f t link i d e asked same = subst (λ o. Descent n f t link (Some (i, o)) asked) (sym same)
+
+answered_so : (f : ℕ → Ordering) (t : Tree) (i : ℕ) (d e : Ordering) → d ≡ e → IsAnswer f t (Some (i, e)) → IsAnswer f t (Some (i, d))
+answered_so f t i d e same = subst (λ o. IsAnswer f t (Some (i, o))) (sym same)
+
+lives_so : (v : Option Knot) (d : Ordering) → d ≡ Equal → IsSome v → IsFreeAt d v
+lives_so v d same = subst (λ o. IsFreeAt o v) (sym same)
+
 -- the node at the link is asked
-step : (g : _) (c : After-cmp g)
+step : (g : _) (c : After-cmp-answer g)
     → Step g.P.Inx.PtrInxCore.number g.T.Key.Ord.cmp g.T.SimpleOrdItem.key_of c.args.k.now c.args.self.now
     (g.P.Inx.PtrInxCore.number c.in-Some.i) c.get_inx_unwrap-node.result.now c.down.invariant.0
 step g c =
@@ -15,9 +48,9 @@ step g c =
     (g.P.Inx.PtrInxCore.number c.in-Some.i) _ _ refl c.get_inx_unwrap-node.ensures _ _ c.down.invariant.0
     (ap (option_map g.P.Inx.PtrInxCore.number) c.in-Some.is) c.down.invariant.1.1
 
-asked : (g : _) (c : After-cmp g)
-    → asked_at g.T.Key.Ord.cmp g.T.SimpleOrdItem.key_of c.args.k.now c.args.self.now (g.P.Inx.PtrInxCore.number c.in-Some.i) ≡ c.cmp.result
-asked g c = (step g c).is ∙ ap (g.T.Key.Ord.cmp c.args.k.now) (sym c.key.ensures) ∙ sym c.cmp.ensures
+asked : (g : _) (c : After-cmp-answer g)
+    → asked_at g.T.Key.Ord.cmp g.T.SimpleOrdItem.key_of c.args.k.now c.args.self.now (g.P.Inx.PtrInxCore.number c.in-Some.i) ≡ c.cmp-answer.result
+asked g c = (step g c).is ∙ ap (g.T.Key.Ord.cmp c.args.k.now) (sym c.key.ensures) ∙ sym c.cmp-answer.ensures
 
 pub down-init : goal.down-init
 down-init g c = (
@@ -29,30 +62,33 @@ down-init g c = (
   ),
 )
 
-pub down-smaller-in-Less : goal.down-smaller-in-Less
-down-smaller-in-Less g c =
+pub down-smaller-then-is_lt : goal.down-smaller-then-is_lt
+down-smaller-then-is_lt g c =
     falls_down (knots_in g.P.Inx.PtrInxCore.number c.args.self.now.chains) _
     (option_map g.P.Inx.PtrInxCore.number c.get_inx_unwrap-node.result.now.p_tree0) _ (ap (option_map g.P.Inx.PtrInxCore.number) c.in-Some.is)
-    (step g (goal.at.down-smaller-in-Less g c).After-cmp).here.rank_left
+    (step g (goal.at.down-smaller-then-is_lt g c).After-cmp-answer).here.rank_left
 
-pub down-preserved-in-Less : goal.down-preserved-in-Less
-down-preserved-in-Less g c =
-    let at = (goal.at.down-preserved-in-Less g c).After-cmp in
+pub down-preserved-then-is_lt : goal.down-preserved-then-is_lt
+down-preserved-then-is_lt g c =
+    let at = (goal.at.down-preserved-then-is_lt g c).After-cmp-answer in
     let before = c.down.invariant.1.0 in
     let ticked = c.tick.ensures in
-    (c.down.invariant.0 + 1, (omega arith, (step g at).here.left (asked g at ∙ c.in-Less.is)))
+    let less = less_of c.cmp-answer.result c.is_lt.result c.is_lt.ensures c.if-is_lt.true in
+    (c.down.invariant.0 + 1, (omega arith, named_so _ _ _ _ _ _ _ _ less ((step g at).here.left (asked g at ∙ less))))
 
-pub returns-in-Equal-clause-answer : goal.returns-in-Equal-clause-answer
-returns-in-Equal-clause-answer g c =
-    let at = (goal.at.returns-in-Equal-clause-answer g c).After-cmp in
-    (step g at).here.stop (asked g at ∙ c.in-Equal.is)
+pub returns-then-is_eq-clause-answer : goal.returns-then-is_eq-clause-answer
+returns-then-is_eq-clause-answer g c =
+    let at = (goal.at.returns-then-is_eq-clause-answer g c).After-cmp-answer in
+    let equal = equal_of c.cmp-answer.result c.is_eq.result c.is_eq.ensures c.if-is_eq.true in
+    answered_so _ _ _ _ _ equal ((step g at).here.stop (asked g at ∙ equal))
 
-pub returns-in-Equal-clause-ticks : goal.returns-in-Equal-clause-ticks
-returns-in-Equal-clause-ticks g c =
-    let at = (goal.at.returns-in-Equal-clause-ticks g c).After-cmp in
+pub returns-then-is_eq-clause-ticks : goal.returns-then-is_eq-clause-ticks
+returns-then-is_eq-clause-ticks g c =
+    let at = (goal.at.returns-then-is_eq-clause-ticks g c).After-cmp-answer in
     let before = c.down.invariant.1.0 in
     let ticked = c.tick.ensures in
-    let all = (step g at).here.all_asked (asked g at ∙ c.in-Equal.is) in
+    let equal = equal_of c.cmp-answer.result c.is_eq.result c.is_eq.ensures c.if-is_eq.true in
+    let all = (step g at).here.all_asked (asked g at ∙ equal) in
     omega (arith, before, ticked, all)
 
 pub returns-clause-ticks : goal.returns-clause-ticks
@@ -61,25 +97,26 @@ returns-clause-ticks g c =
     let all = descent_asked _ _ _ _ _ _ (ap (option_map g.P.Inx.PtrInxCore.number) c.in_default.is) c.down.invariant.1.1 in
     omega (arith, before, all)
 
-pub returns-in-Equal-clause-bound : goal.returns-in-Equal-clause-bound
-returns-in-Equal-clause-bound g c =
+pub returns-then-is_eq-clause-bound : goal.returns-then-is_eq-clause-bound
+returns-then-is_eq-clause-bound g c =
     let before = c.down.invariant.1.0 in
     let ticked = c.tick.ensures in
-    let bound = (step g (goal.at.returns-in-Equal-clause-bound g c).After-cmp).here.in_bound in
+    let bound = (step g (goal.at.returns-then-is_eq-clause-bound g c).After-cmp-answer).here.in_bound in
     omega arith
 
 pub down-smaller : goal.down-smaller
 down-smaller g c =
     falls_down (knots_in g.P.Inx.PtrInxCore.number c.args.self.now.chains) _
     (option_map g.P.Inx.PtrInxCore.number c.get_inx_unwrap-node.result.now.p_tree1) _ (ap (option_map g.P.Inx.PtrInxCore.number) c.in-Some.is)
-    (step g (goal.at.down-smaller g c).After-cmp).here.rank_right
+    (step g (goal.at.down-smaller g c).After-cmp-answer).here.rank_right
 
 pub down-preserved : goal.down-preserved
 down-preserved g c =
-    let at = (goal.at.down-preserved g c).After-cmp in
+    let at = (goal.at.down-preserved g c).After-cmp-answer in
     let before = c.down.invariant.1.0 in
     let ticked = c.tick.ensures in
-    (c.down.invariant.0 + 1, (omega arith, (step g at).here.right (asked g at ∙ c.in-Greater.is)))
+    let greater = greater_of c.cmp-answer.result c.is_eq.result c.is_lt.result c.is_eq.ensures c.if-is_eq.false c.is_lt.ensures c.if-is_lt.false in
+    (c.down.invariant.0 + 1, (omega arith, named_so _ _ _ _ _ _ _ _ greater ((step g at).here.right (asked g at ∙ greater))))
 
 pub returns-clause-answer : goal.returns-clause-answer
 returns-clause-answer g c = descent_ends _ _ _ _ _ _ (ap (option_map g.P.Inx.PtrInxCore.number) c.in_default.is) c.down.invariant.1.1
@@ -89,7 +126,8 @@ returns-clause-free g c =
     seek_ends g.P.Inx.PtrInxCore.number g.T.Key.Ord.cmp g.T.SimpleOrdItem.key_of c.args.k.now c.args.self.now _ c.self.view_is
     c.self.invariant.0 c.before.down.place _ _ (ap (option_map g.P.Inx.PtrInxCore.number) c.in_default.is) c.down.invariant.1.1
 
-pub returns-in-Equal-clause-free : goal.returns-in-Equal-clause-free
-returns-in-Equal-clause-free g c =
-    (descent_lives _ _ _ _ _ _ (g.P.Inx.PtrInxCore.number c.in-Some.i) (ap (option_map g.P.Inx.PtrInxCore.number) c.in-Some.is)
+pub returns-then-is_eq-clause-free : goal.returns-then-is_eq-clause-free
+returns-then-is_eq-clause-free g c =
+    let equal = equal_of c.cmp-answer.result c.is_eq.result c.is_eq.ensures c.if-is_eq.true in
+    lives_so _ _ equal (descent_lives _ _ _ _ _ _ (g.P.Inx.PtrInxCore.number c.in-Some.i) (ap (option_map g.P.Inx.PtrInxCore.number) c.in-Some.is)
     c.down.invariant.1.1).1
