@@ -7,7 +7,7 @@ ghost use Rattle.triple_arena_ord.specs.Node.{knots_in, rest};
 ghost use Rattle.rank_tree.specs.Named.{named};
 
 use crate::{OrdSlots, SimpleOrdArenaNode};
-use rank_tree::{TreeLinks, side_of};
+use rank_tree::{Side, TreeLinks, side_of};
 use triple_arena::{ArenaTrait, PtrCore};
 use triple_arena_chain::ChainArena;
 
@@ -43,6 +43,40 @@ pub(crate) fn write<P: PtrCore, T: Drop, S: OrdSlots<P, T>>(
     node.rank = knot.rank;
 }
 
+/// A node gets another parent.
+fn set_parent<P: PtrCore, T: Drop, S: OrdSlots<P, T>>(
+    chains: &mut ChainArena<P, SimpleOrdArenaNode<P, T>, S>,
+    i: P::Inx,
+    parent: Option<P::Inx>,
+)
+    requires { IsSome (knots_in P.Inx.number chains.old (P.Inx.number i)) }
+    ensures does { (v : Seen) → knots_in P.Inx.number chains.old (P.Inx.number i) ≡ Some v
+        → Written (knots_in P.Inx.number chains.old) (knots_in P.Inx.number chains.new) (P.Inx.number i)
+        (with_parent (option_map P.Inx.number parent) v) }
+    ensures keeps { rest chains.new ≡ rest chains.old }
+{
+    chains.get_inx_mut_unwrap(i).p_back = parent;
+}
+
+/// A node gets another child on a side.
+fn set_child<P: PtrCore, T: Drop, S: OrdSlots<P, T>>(
+    chains: &mut ChainArena<P, SimpleOrdArenaNode<P, T>, S>,
+    i: P::Inx,
+    side: Side,
+    child: Option<P::Inx>,
+)
+    requires { IsSome (knots_in P.Inx.number chains.old (P.Inx.number i)) }
+    ensures does { (v : Seen) → knots_in P.Inx.number chains.old (P.Inx.number i) ≡ Some v
+        → Written (knots_in P.Inx.number chains.old) (knots_in P.Inx.number chains.new) (P.Inx.number i)
+        (with_child side (option_map P.Inx.number child) v) }
+    ensures keeps { rest chains.new ≡ rest chains.old }
+{
+    match side {
+        Side::Left => chains.get_inx_mut_unwrap(i).p_tree0 = child,
+        Side::Right => chains.get_inx_mut_unwrap(i).p_tree1 = child,
+    }
+}
+
 /// The node that `link` names, if it names one, gets this parent.
 pub(crate) fn reparent<P: PtrCore, T: Drop, S: OrdSlots<P, T>>(
     chains: &mut ChainArena<P, SimpleOrdArenaNode<P, T>, S>,
@@ -55,8 +89,7 @@ pub(crate) fn reparent<P: PtrCore, T: Drop, S: OrdSlots<P, T>>(
     ensures keeps { rest chains.new ≡ rest chains.old }
 {
     if let Some(i) = link {
-        let knot = read(chains, i);
-        write(chains, i, TreeLinks { parent, ..knot });
+        set_parent(chains, i, parent);
     }
 }
 
@@ -75,9 +108,8 @@ pub(crate) fn relink<P: PtrCore, T: Drop, S: OrdSlots<P, T>>(
 {
     match holder {
         Some(i) => {
-            let knot = read(chains, i);
-            let side = side_of(knot, from);
-            write(chains, i, knot.with_child(side, to));
+            let side = side_of(read(chains, i), from);
+            set_child(chains, i, side, to);
         }
         None => *root = to,
     }
@@ -109,6 +141,5 @@ pub(crate) fn set_rank<P: PtrCore, T: Drop, S: OrdSlots<P, T>>(
         → Written (knots_in P.Inx.number chains.old) (knots_in P.Inx.number chains.new) (P.Inx.number i) (with_rank rank v) }
     ensures keeps { rest chains.new ≡ rest chains.old }
 {
-    let knot = read(chains, i);
-    write(chains, i, TreeLinks { rank, ..knot });
+    chains.get_inx_mut_unwrap(i).rank = rank;
 }
