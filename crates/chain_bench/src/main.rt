@@ -50,7 +50,7 @@ fn filled(alloc: Global, sequence: &mut Sequence) -> Result<(Chains, P0, P0), Ch
 fn queue(alloc: Global, steps: usize) -> Result<u64, ChainInsertionError> {
     let mut sequence = Sequence::new();
     let (mut chains, first, last) = filled(alloc, &mut sequence)?;
-    let mut first = Some(first.inx());
+    let mut first = first.inx();
     let mut last = last.inx();
     let mut sum = 0u64;
     for _ in 0..steps {
@@ -58,13 +58,14 @@ fn queue(alloc: Global, steps: usize) -> Result<u64, ChainInsertionError> {
         last = chains
             .insert_reallocating(LinkInsertKind::NextToInx(last), number)?
             .inx();
-        let Some(i) = first else {
+        let Some((_, link)) = chains.remove_inx_link_no_gen(first).allow() else {
             break;
         };
-        if let Some((_, link)) = chains.remove_inx_link_no_gen(i).allow() {
-            first = link.next();
-            sum = sum.wrapping_mul(31).wrapping_add(link.t);
-        }
+        let Some(next) = link.next() else {
+            break;
+        };
+        first = next;
+        sum = sum.wrapping_mul(31).wrapping_add(link.t);
     }
     Ok(sum)
 }
@@ -74,16 +75,17 @@ fn rotate(alloc: Global, steps: usize) -> Result<u64, ChainInsertionError> {
     let mut sequence = Sequence::new();
     let (mut chains, first, last) = filled(alloc, &mut sequence)?;
     let _ = chains.connect(last, first);
-    let mut at = Some(first.inx());
+    let mut at = first.inx();
     let mut sum = 0u64;
     for _ in 0..steps {
-        let Some(i) = at else {
+        let Some((_, link)) = chains.get_inx_link_no_gen(at) else {
             break;
         };
-        if let Some((_, link)) = chains.get_inx_link_no_gen(i) {
-            at = link.next();
-            sum = sum.wrapping_mul(31).wrapping_add(link.t);
-        }
+        let Some(next) = link.next() else {
+            break;
+        };
+        at = next;
+        sum = sum.wrapping_mul(31).wrapping_add(link.t);
     }
     Ok(sum)
 }
@@ -93,19 +95,22 @@ fn walk(alloc: Global, steps: usize) -> Result<u64, ChainInsertionError> {
     let mut sequence = Sequence::new();
     let (chains, first, _) = filled(alloc, &mut sequence)?;
     let mut sum = 0u64;
-    let mut left = steps;
-    for _ in 0..steps / LEN + 1 {
-        let Some(mut links) = chains.advancer_chain(first) else {
+    let Some(mut links) = chains.advancer_chain(first) else {
+        return Ok(sum);
+    };
+    for _ in 0..steps {
+        if let Some(p) = links.advance(&chains) {
+            if let Some(number) = chains.get(p) {
+                sum = sum.wrapping_mul(31).wrapping_add(*number);
+            }
+            continue;
+        }
+        // Round again.
+        let Some(again) = chains.advancer_chain(first) else {
             break;
         };
-        for _ in 0..LEN {
-            if left == 0 {
-                break;
-            }
-            left -= 1;
-            let Some(p) = links.advance(&chains) else {
-                break;
-            };
+        links = again;
+        if let Some(p) = links.advance(&chains) {
             if let Some(number) = chains.get(p) {
                 sum = sum.wrapping_mul(31).wrapping_add(*number);
             }
@@ -119,21 +124,24 @@ fn iterate(alloc: Global, steps: usize) -> Result<u64, ChainInsertionError> {
     let mut sequence = Sequence::new();
     let (chains, first, _) = filled(alloc, &mut sequence)?;
     let mut sum = 0u64;
-    let mut left = steps;
-    for _ in 0..steps / LEN + 1 {
-        let Some(mut links) = chains.iter_chain(first) else {
-            break;
-        };
-        for _ in 0..LEN {
-            if left == 0 {
-                break;
+    let Some(mut links) = chains.iter_chain(first) else {
+        return Ok(sum);
+    };
+    for _ in 0..steps {
+        let link = match links.next() {
+            Some((_, link)) => link,
+            None => {
+                let Some(again) = chains.iter_chain(first) else {
+                    break;
+                };
+                links = again;
+                let Some((_, link)) = links.next() else {
+                    break;
+                };
+                link
             }
-            left -= 1;
-            let Some((_, link)) = links.next() else {
-                break;
-            };
-            sum = sum.wrapping_mul(31).wrapping_add(link.t);
-        }
+        };
+        sum = sum.wrapping_mul(31).wrapping_add(link.t);
     }
     Ok(sum)
 }
@@ -142,20 +150,21 @@ fn iterate(alloc: Global, steps: usize) -> Result<u64, ChainInsertionError> {
 fn turn(alloc: Global, steps: usize) -> Result<u64, ChainInsertionError> {
     let mut sequence = Sequence::new();
     let (mut chains, first, last) = filled(alloc, &mut sequence)?;
-    let mut first = Some(first.inx());
+    let mut first = first.inx();
     let mut last = last.inx();
     let mut sum = 0u64;
     for _ in 0..steps {
-        let Some(i) = first else {
+        let Some((_, link)) = chains.remove_inx_link_no_gen(first).allow() else {
             break;
         };
-        if let Some((_, link)) = chains.remove_inx_link_no_gen(i).allow() {
-            first = link.next();
-            sum = sum.wrapping_mul(31).wrapping_add(link.t);
-            last = chains
-                .insert_reallocating(LinkInsertKind::NextToInx(last), link.t)?
-                .inx();
-        }
+        let Some(next) = link.next() else {
+            break;
+        };
+        first = next;
+        sum = sum.wrapping_mul(31).wrapping_add(link.t);
+        last = chains
+            .insert_reallocating(LinkInsertKind::NextToInx(last), link.t)?
+            .inx();
     }
     Ok(sum)
 }
