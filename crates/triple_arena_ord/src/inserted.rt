@@ -6,10 +6,10 @@ ghost use Rattle.rank_tree.specs.Repair.{Leaning, Grown, Restored, Gap, filled};
 ghost use Rattle.triple_arena_ord.specs.Node.{knots_in, rest};
 
 use crate::edges::attach;
-use crate::knots::{rank_at, read, write};
+use crate::knots::{rank_at, read, set_rank};
 use crate::turn::turn;
 use crate::{OrdSlots, SimpleOrdArenaNode};
-use rank_tree::{Side, TreeLinks, side_of};
+use rank_tree::{Side, side_of};
 use triple_arena::PtrCore;
 use triple_arena_chain::ChainArena;
 use unreached::unreached;
@@ -66,14 +66,7 @@ pub(crate) fn repair_inserted<P: PtrCore, T: Drop, S: OrdSlots<P, T>>(
             lean(chains, root, low);
             return;
         }
-        write(
-            chains,
-            high,
-            TreeLinks {
-                rank: above.rank + 1,
-                ..above
-            },
-        );
+        set_rank(chains, high, above.rank + 1);
         low = high;
     }
 }

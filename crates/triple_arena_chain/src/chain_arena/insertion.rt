@@ -9,6 +9,7 @@ use crate::chain_arena::interlinks::join;
 use crate::place::Place;
 use crate::{ChainArena, ChainSlots, IndexLink};
 use triple_arena::{ArenaInsertEntries, ArenaInsertEntryTrait, PtrCore, PtrInxCore};
+use unreached::unreached;
 
 // The link for `t` at a place, where its own index is `i`.
 #[inline(always)]
@@ -44,7 +45,7 @@ impl<P: PtrCore, T: Drop, S: ChainSlots<P, T>> ChainArena<P, T, S> {
                 join(&mut self.arena, place, i);
                 p
             }
-            Err(_) => unreachable!(),
+            Err(_) => unreached!(),
         }
     }
 }

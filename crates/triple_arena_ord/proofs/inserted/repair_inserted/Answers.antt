@@ -48,12 +48,12 @@ pub climb-smaller : goal.climb-smaller
 climb-smaller g c =
     let h = grown_under _ _ _ _ _ _ c.read-below.ensures (ap (option_map g.P.Inx.PtrInxCore.number) c.in-Some.is) (c.climb.invariant.0 c.requires.0 c.requires.1) in let r = climb_reads _ _ _ _ _ _ _ _ _ c.read-below.ensures (ap (option_map g.P.Inx.PtrInxCore.number) c.in-Some.is) c.read-above.ensures c.side_of-side.ensures.left c.side_of-side.ensures.right c.other.ensures c.child-sibling.ensures _ h in
     let b = climb_small _ _ _ _ _ h in
-    climb_falls _ _ _ _ _ _ c.read-below.ensures c.write.ensures.written (omega arith) (omega arith)
+    climb_falls _ _ _ _ _ _ c.read-below.ensures (c.set_rank.ensures.does _ c.read-above.ensures) (omega arith) (omega arith)
 
 pub climb-preserved : goal.climb-preserved
 climb-preserved g c = (
   λ w grown.
       let h = grown_under _ _ _ _ _ _ c.read-below.ensures (ap (option_map g.P.Inx.PtrInxCore.number) c.in-Some.is) (c.climb.invariant.0 w grown) in let r = climb_reads _ _ _ _ _ _ _ _ _ c.read-below.ensures (ap (option_map g.P.Inx.PtrInxCore.number) c.in-Some.is) c.read-above.ensures c.side_of-side.ensures.left c.side_of-side.ensures.right c.other.ensures c.child-sibling.ensures w h in let f = rank_read _ _ h.far _ _ r.far_is r.far_stands c.rank_at.ensures.some c.rank_at.ensures.none in
-      climb_up _ _ _ _ _ w h (omega arith) (omega arith) (climb_write _ _ _ _ _ _ _ _ w h r c.write.ensures.written),
-  c.write.ensures.keeps ∙ c.climb.invariant.1,
+      climb_up _ _ _ _ _ w h (omega arith) (omega arith) (climb_write _ _ _ _ _ _ _ _ w h r (c.set_rank.ensures.does _ c.read-above.ensures)),
+  c.set_rank.ensures.keeps ∙ c.climb.invariant.1,
 )

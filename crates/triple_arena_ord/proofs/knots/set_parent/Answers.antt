@@ -6,8 +6,8 @@ use Rattle.triple_arena_ord.proofs.WriteLemmas.{written_in}
 use Rattle.triple_arena_ord.proofs.knots.set_parent.Goals as goal
 
 pub returns-clause-keeps : goal.returns-clause-keeps
-returns-clause-keeps g c = rest-write c.args.chains.now (g.P.Inx.PtrInx.number c.args.i) c.get_inx_mut_unwrap.result.now _ c.get_inx_mut_unwrap.ensures.value refl
+returns-clause-keeps g c = rest-write c.args.chains.now (g.P.Inx.PtrInxCore.number c.args.i) c.get_inx_mut_unwrap.result.now _ c.get_inx_mut_unwrap.ensures.value refl
 
 pub returns-clause-does : goal.returns-clause-does
 returns-clause-does g c =
-    written_in g.P.Inx.PtrInx.number c.args.chains.now (g.P.Inx.PtrInx.number c.args.i) c.get_inx_mut_unwrap.result.now _ (with_parent (option_map g.P.Inx.PtrInx.number c.args.parent)) c.requires c.get_inx_mut_unwrap.ensures.value refl
+    written_in g.P.Inx.PtrInxCore.number c.args.chains.now (g.P.Inx.PtrInxCore.number c.args.i) c.get_inx_mut_unwrap.result.now _ (with_parent (option_map g.P.Inx.PtrInxCore.number c.args.parent)) c.requires c.get_inx_mut_unwrap.ensures.value refl
