@@ -2,11 +2,11 @@
 use Rattle.std.proofs.Common.{◌≡◌, ℕ, zero, suc, ◌+◌, ◌-◌, ◌*◌, ◌^◌, ◌<◌, ◌≤◌, arith, mul_assoc, subst}
 use Rattle.std.proofs.lemmas.Nat.{mul-le}
 use Rattle.std.proofs.Math.Nat.{pow-suc}
-use Rattle.counted_search.specs.Searches.{fair}
+use Rattle.counted_search.specs.Searches.{most_comparisons}
 use Rattle.counted_search.specs.SearchLaws.{greatest, below_pow}
 
--- where c comparisons left at least one entry of n, one more is fair
-pub one_more : (n c : ℕ) → 2 ^ c ≤ n → c + 1 ≤ fair n
+-- where c comparisons left at least one entry of n, one more is within the bound
+pub one_more : (n c : ℕ) → 2 ^ c ≤ n → c + 1 ≤ most_comparisons n
 one_more n c left =
     let below = below_pow c in
     let above : suc (suc c) ≡ c + 1 + 1 = omega arith in
@@ -37,8 +37,8 @@ halved len start now later size smaller rises ticked left half =
     subst (λ k. 2 ^ k * smaller ≤ len) more (rw regrouped (omega arith))
 
 -- a comparison with an entry that is left is within the bound
-pub fair_yet : (len start now later size : ℕ) → start ≤ now → later ≡ now + 1 → 0 < size → 2 ^ (now - start) * size ≤ len → later ≤ start + fair len
-fair_yet len start now later size rises ticked some left =
+pub within_most_comparisons : (len start now later size : ℕ) → start ≤ now → later ≡ now + 1 → 0 < size → 2 ^ (now - start) * size ≤ len → later ≤ start + most_comparisons len
+within_most_comparisons len start now later size rises ticked some left =
     let h = mul-le (2 ^ (now - start)) 1 (2 ^ (now - start)) size (omega arith) some in
     let bound = one_more len (now - start) (omega arith) in
     omega arith

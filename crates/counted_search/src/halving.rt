@@ -1,6 +1,6 @@
 //! The search by halves.
 ghost use Rattle.std.specs.Prelude.{◌≡◌, ℕ, ◌+◌, ◌-◌, ◌<◌, ◌≤◌, IfOk, IfErr};
-ghost use Rattle.counted_search.specs.Searches.{fair};
+ghost use Rattle.counted_search.specs.Searches.{most_comparisons};
 
 use std::cmp::Ordering;
 use triple_arena_ptr::Probes;
@@ -18,7 +18,7 @@ pub fn search<F: Fn(usize) -> u64 + Drop>(
     ensures within { IfErr result (λ i. i ≤ len) }
     ensures before { IfErr result (λ i. 0 < i → (n : ℕ) × (n < wanted) × F.post number_at (i - 1) n) }
     ensures behind { IfErr result (λ i. i < len → (n : ℕ) × (wanted < n) × F.post number_at i n) }
-    ensures bound { probes.new ≤ probes.old + fair len }
+    ensures bound { probes.new ≤ probes.old + most_comparisons len }
     ensures rises { probes.old ≤ probes.new }
 {
     let mut low = 0;

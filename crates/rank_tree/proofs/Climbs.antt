@@ -10,7 +10,7 @@ use Rattle.rank_tree.specs.Shape.{make, knot, root_of, Context, top, under, plug
 use Rattle.rank_tree.specs.Repair.{Spot, IsRankedRound, Restored, Grown, Leaning}
 use Rattle.rank_tree.proofs.Bound.{small_rank}
 use Rattle.rank_tree.proofs.Frames.{one-same, Represents-keep, Hangs-keep, make-count, make-root, make-rank, make-opens, make-closes, plug-count, plug-opens, plug-closes, plug-walk, IsDistinct-walk, write-elsewhere}
-use Rattle.rank_tree.proofs.Spots.{is_some, if_some, root-lives, knot_rank, reads, spotted}
+use Rattle.rank_tree.proofs.Spots.{is_some, if_some, root-lives, knot_rank, knot_ranked, reads, spotted}
 use Rattle.rank_tree.proofs.Leans.{make-ranked, make-ranked-opens, restored}
 
 -- one node gets another rank
@@ -257,10 +257,6 @@ climb_reads n root low high below above t z sibling eb eh ea left right ez es w 
       far_stands = f.far_stands;
       knot_is = cc f.at_high;
     }
-
-knot_ranked : (s : Side) (p a : Option ℕ) (k j : ℕ) (b : Option ℕ) → with_rank j (knot s p a k b) ≡ knot s p a j b
-knot_ranked Left p a k j b = refl
-knot_ranked Right p a k j b = refl
 
 pub climb_write : (n m : Store) (root : Option ℕ) (low high : ℕ) (below above : Knot) (sibling : Option ℕ) (w : List ℕ) (h : Climbing n root low w high)
     → ClimbReads n root low high w h below above sibling → Written n m high (with_rank (above.rank + 1) above)

@@ -10,7 +10,7 @@ use Rattle.rank_tree.specs.Tree.{Tree, leaf, node, walk, rank_of, IsRanked}
 use Rattle.rank_tree.specs.Shape.{knot, root_of, Context, top, under, plug, holder, Represents, Hangs, Stands, count, count_round}
 use Rattle.rank_tree.specs.Search.{AllIn, Before, IsParted, Places, IsAnswer, IsFreeAt, led_by, asked_down}
 use Rattle.rank_tree.proofs.Frames.{one-same, plug-count, plug-opens, root-counted}
-use Rattle.rank_tree.proofs.Spots.{root-lives}
+use Rattle.rank_tree.proofs.Spots.{root-lives, rank_link}
 
 -- the indexes before a hole, and those after it
 abbrev pub before : Context → List ℕ
@@ -165,10 +165,6 @@ pub record Here (n : Store) (f : ℕ → Ordering) (whole : Tree) (i : ℕ) (v :
   pub stop : f i ≡ Equal → IsAnswer f whole (Some (i, Equal))
   pub all_asked : f i ≡ Equal → asked + 1 ≡ asked_down f whole
   pub in_bound : asked + 1 ≤ rank_of whole
-
-rank_link : (n : Store) (p : Option ℕ) (t : Tree) → Represents n p t → rank_or_link n (root_of t) ≡ rank_of t
-rank_link n p leaf h = refl
-rank_link n p (node l i k r) h = ap rank_or_zero h.0
 
 answers : (f : ℕ → Ordering) (x : ℕ) (e : Ordering) → f x ≡ e → (i : ℕ) (d : Ordering) → ◌≡◌ {A = Option (ℕ × Ordering)} (Some (x, e)) (Some (i, d)) → f i ≡ d
 answers f x e q i d u = let g = some_pair x i e d u in sym (ap f g.0) ∙ q ∙ g.1

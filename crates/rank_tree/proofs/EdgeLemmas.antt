@@ -10,7 +10,7 @@ use Rattle.rank_tree.specs.Tree.{Tree, leaf, node, walk, rank_of, IsRanked}
 use Rattle.rank_tree.specs.Shape.{make, knot, root_of, Context, top, under, plug, holder, Hangs, one, count, count_round}
 use Rattle.rank_tree.specs.Repair.{IsRankedRound, Grown, Pending, Gap, filled, Loose}
 use Rattle.rank_tree.proofs.Frames.{one-same, one-other, Represents-keep, Hangs-keep, make-count, make-root, make-rank, make-opens, make-closes, plug-count, plug-opens, plug-closes, write-elsewhere, Represents-reparent, reparent-elsewhere, relink-elsewhere, Hangs-relink}
-use Rattle.rank_tree.proofs.Spots.{is_some as some_at, if_some, root-lives, holder-lives}
+use Rattle.rank_tree.proofs.Spots.{is_some as some_at, if_some, root-lives, holder-lives, knot_parent}
 use Rattle.rank_tree.proofs.Leans.{make-ranked-opens}
 use Rattle.rank_tree.proofs.Descents.{before, after, plug-walk_is}
 use Rattle.rank_tree.proofs.Mends.{pending_up}
@@ -167,10 +167,6 @@ pub record LooseReads (n : Store) (root : Option ℕ) (gone : ℕ) (h : Loose n 
   pub sub_lives : IfSome link (λ i. IsSome (n i))
   pub holder_lives : (i : ℕ) → value.parent ≡ Some i → IsSome (n i)
 
-knot_holder : (s : Side) (p a : Option ℕ) (k : ℕ) (b : Option ℕ) → (knot s p a k b).parent ≡ p
-knot_holder Left p a k b = refl
-knot_holder Right p a k b = refl
-
 pub loose_reads : (n : Store) (root : Option ℕ) (gone : ℕ) (value : Knot) (link : Option ℕ) → n gone ≡ Some value → ((i : ℕ) → value.left ≡ Some i → link ≡ Some i) → (value.left ≡ None → link ≡ value.right)
     → (h : Loose n root gone) → LooseReads n root gone h value link
 loose_reads n root gone value link e f g h =
@@ -178,7 +174,7 @@ loose_reads n root gone value link e f g h =
     let o = plug-opens n root h.context (make h.side h.sub gone h.rank leaf) h.stands in
     let parts = make-opens h.side n (holder h.context) h.sub gone h.rank leaf o.1 in
     let link_is = first_is h.side (holder h.context) h.sub h.rank link (subst (λ v. (i : ℕ) → v.left ≡ Some i → link ≡ Some i) is f) (subst (λ v. v.left ≡ None → link ≡ v.right) is g) in
-    let parent_is : value.parent ≡ holder h.context = ap (λ v. v.parent) is ∙ knot_holder h.side _ _ _ _ in
+    let parent_is : value.parent ≡ holder h.context = ap (λ v. v.parent) is ∙ knot_parent h.side _ _ _ _ in
     record {
       link_is = link_is;
       parent_is = parent_is;

@@ -11,7 +11,7 @@ use Rattle.rank_tree.specs.Tree.{Tree, node, walk, rank_of, IsRanked, Fits}
 use Rattle.rank_tree.specs.Shape.{make, knot, root_of, Context, top, under, plug, holder, Represents, Hangs, Stands, IsDistinct, one}
 use Rattle.rank_tree.specs.Repair.{Spot, IsRankedRound, Restored, Broken, Nearly, Pending, Short}
 use Rattle.rank_tree.proofs.Frames.{one-same, make-count, plug-count, make-rank, make-root, make-walk, plug-opens, plug-walk, IsDistinct-walk}
-use Rattle.rank_tree.proofs.Spots.{is_some, if_some, root-lives, spotted, knot_rank, knot_parent, rank_read, write-lives}
+use Rattle.rank_tree.proofs.Spots.{is_some, if_some, root-lives, spotted, knot_rank, knot_ranked, knot_parent, rank_read, write-lives}
 use Rattle.rank_tree.proofs.Leans.{make-ranked, make-ranked-opens, plug-ranked, open_tree, root-some}
 use Rattle.rank_tree.proofs.Climbs.{ranked-write, same-walk-rank, near_of, as_make, as_node, near_ranks, plug-small}
 
@@ -395,10 +395,6 @@ mend_higher n root high above l r z link w h m e not_fits tight right left is =
     let not_fits_at = not_fit_at n root high w h above l r m not_fits in
     subst (Higher n root high w h z) (sym is)
     (broken_higher n root high above z e w h (λ p. right (omega arith)) (λ p. left (omega arith)) not_fits_at (omega arith))
-
-knot_ranked : (s : Side) (p a : Option ℕ) (k j : ℕ) (b : Option ℕ) → with_rank j (knot s p a k b) ≡ knot s p a j b
-knot_ranked Left p a k j b = refl
-knot_ranked Right p a k j b = refl
 
 -- both lose one rank
 pub mend_lower : (n m m' : Store) (root : Option ℕ) (low high j k : ℕ) (above : Knot) (w : List ℕ) (h : Sibling n root low w high)

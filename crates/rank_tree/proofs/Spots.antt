@@ -5,7 +5,7 @@ use Rattle.std.proofs.lemmas.Bool.{cases_eq, false≢true}
 use Rattle.rank_tree.specs.Knot.{Knot}
 use Rattle.rank_tree.specs.declared.side.Side.{Side}
 use Rattle.rank_tree.specs.declared.side.Side.TheVariants.{Left, Right}
-use Rattle.rank_tree.specs.Store.{Store, other_side, child_of, Written, Reparented, Relinked, with_parent, with_child}
+use Rattle.rank_tree.specs.Store.{Store, other_side, child_of, rank_or_link, rank_or_zero, Written, Reparented, Relinked, with_parent, with_child, with_rank}
 use Rattle.rank_tree.specs.Tree.{Tree, leaf, node, rank_of}
 use Rattle.rank_tree.specs.Shape.{make, knot, root_of, Context, top, under, holder, Represents, Hangs, Stands}
 use Rattle.rank_tree.specs.Repair.{Spot, turned}
@@ -85,6 +85,15 @@ spotted n root low spot =
     }
 
 -- the code of a turn, over what it read
+-- the link to a tree tells its rank
+pub rank_link : (n : Store) (p : Option ℕ) (t : Tree) → Represents n p t → rank_or_link n (root_of t) ≡ rank_of t
+rank_link n p leaf h = refl
+rank_link n p (node l i k r) h = ap rank_or_zero h.0
+
+pub knot_ranked : (s : Side) (p a : Option ℕ) (k j : ℕ) (b : Option ℕ) → with_rank j (knot s p a k b) ≡ knot s p a j b
+knot_ranked Left p a k j b = refl
+knot_ranked Right p a k j b = refl
+
 pub knot_parent : (s : Side) (p a : Option ℕ) (k : ℕ) (b : Option ℕ) → (knot s p a k b).parent ≡ p
 knot_parent Left p a k b = refl
 knot_parent Right p a k b = refl

@@ -4,6 +4,7 @@ use Rattle.rank_tree.specs.declared.side.Side.TheVariants.{Left}
 use Rattle.rank_tree.specs.Store.{Store, rank_or_link, rank_or_zero}
 use Rattle.rank_tree.specs.Whole.{read_tree, tree_of}
 use Rattle.rank_tree.proofs.Bound.{height-le-rank}
+use Rattle.rank_tree.proofs.Spots.{rank_link}
 use Rattle.rank_tree.specs.Tree.{Tree, leaf, node, walk, rank_of, height, IsRanked}
 use Rattle.rank_tree.specs.Shape.{knot, make, root_of, Represents, Stands, Context, top, under, plug}
 
@@ -28,10 +29,6 @@ read_back zero n p (node l i k r) h e = absurd (omega arith)
 read_back (suc fuel) n p leaf h e = refl
 read_back (suc fuel) n p (node l i k r) h e =
     rw (h.0, read_back fuel n (Some i) l h.1 (omega arith), read_back fuel n (Some i) r h.2 (omega arith)) refl
-
-rank_link : (n : Store) (p : Option ℕ) (t : Tree) → Represents n p t → rank_or_link n (root_of t) ≡ rank_of t
-rank_link n p leaf h = refl
-rank_link n p (node l i k r) h = ap rank_or_zero h.0
 
 -- the tree that is read from the links is the one that stands there
 pub tree_is : (n : Store) (root : Option ℕ) (t : Tree) → Stands n root t → IsRanked t → tree_of n root ≡ t

@@ -3,7 +3,7 @@ ghost use Rattle.route_book.specs.ReplyText.{HasRoom};
 ghost use Rattle.std.specs.Io.KnownBytes.{Appends};
 ghost use Rattle.route_book.specs.Grammar.{command_of};
 ghost use Rattle.route_book.specs.Reply.{reply, next, places_text};
-ghost use Rattle.counted_search.specs.Searches.{fair};
+ghost use Rattle.counted_search.specs.Searches.{most_comparisons};
 ghost use Rattle.route_book.specs.Searches.{CountsWithin, place_count, living_count};
 ghost use Rattle.route_book.specs.Watched.{inner_of, failed_of};
 ghost use Rattle.route_book.specs.Written.{AppendsBeginning};
@@ -37,8 +37,8 @@ impl<A: Allocator> RouteBook<A> {
         ensures err { OnErr result (AppendsBeginning (W.contents (inner_of writer.old))
             (W.contents (inner_of writer.new)) (reply self.old (command_of line.now))) }
         ensures err_failed { OnErr result (failed_of writer.new ≡ failed_of writer.old + 1) }
-        ensures counts { CountsWithin counts.old counts.new (fair (place_count self.old))
-            (fair (living_count self.old)) (fair (living_count self.old)) }
+        ensures counts { CountsWithin counts.old counts.new (most_comparisons (place_count self.old))
+            (most_comparisons (living_count self.old)) (most_comparisons (living_count self.old)) }
     {
         self.carry_out(read_line(line), &mut ReplyText::new(), writer, counts)
     }
@@ -58,8 +58,8 @@ impl<A: Allocator> RouteBook<A> {
         ensures err { OnErr result (AppendsBeginning (W.contents (inner_of writer.old))
             (W.contents (inner_of writer.new)) (reply self.old command)) }
         ensures err_failed { OnErr result (failed_of writer.new ≡ failed_of writer.old + 1) }
-        ensures counts { CountsWithin counts.old counts.new (fair (place_count self.old))
-            (fair (living_count self.old)) (fair (living_count self.old)) }
+        ensures counts { CountsWithin counts.old counts.new (most_comparisons (place_count self.old))
+            (most_comparisons (living_count self.old)) (most_comparisons (living_count self.old)) }
     {
         text.clear();
         match command {

@@ -1,6 +1,6 @@
 ghost use Rattle.std.specs.Prelude.{◌≡◌, ℕ, ◌+◌, ◌-◌, ◌<◌, ◌≤◌, ◌^◌, ◌↔◌, ◌⊎◌, Ok, Err, IsOk, IfOk, IfErr, IsErrOf, [], ◌∷◌, ◌++◌, length, insert, vec_len, vec_capacity};
 ghost use Rattle.route_book.specs.Calls.{placed, after_place, shown, found};
-ghost use Rattle.counted_search.specs.Searches.{fair};
+ghost use Rattle.counted_search.specs.Searches.{most_comparisons};
 ghost use Rattle.route_book.specs.Searches.{CountsWithin, place_count, living_count};
 ghost use Rattle.route_book.specs.State.{Rooms, State, empty, is_full_of_places};
 ghost use Rattle.route_book.specs.Book.{IsOrder, entry_at, place_at, places_by};
@@ -115,7 +115,7 @@ impl<A: Allocator> RouteBook<A> {
     /// The same, with the comparisons of its search counted as `key`.
     pub fn find_counted(&self, key: u64, counts: &mut Counts) -> Option<u64>
         ensures result { result ≡ found self.now key }
-        ensures counts { CountsWithin counts.old counts.new (fair (place_count self.now)) 0 0 }
+        ensures counts { CountsWithin counts.old counts.new (most_comparisons (place_count self.now)) 0 0 }
     {
         match search_key(&self.places, &self.by_key, key, counts) {
             Ok(at) => Some(self.places[self.by_key[at]].ticket),
@@ -135,7 +135,7 @@ impl<A: Allocator> RouteBook<A> {
     /// The same, with the comparisons of its search counted as `first`.
     pub fn show_counted(&self, ticket: u64, counts: &mut Counts) -> Result<Shown, Refusal>
         ensures result { result ≡ shown self.now ticket }
-        ensures counts { CountsWithin counts.old counts.new 0 (fair (living_count self.now)) 0 }
+        ensures counts { CountsWithin counts.old counts.new 0 (most_comparisons (living_count self.now)) 0 }
     {
         if ticket == 0 || ticket > self.last {
             return Err(Refusal::Unknown);
@@ -172,7 +172,7 @@ impl<A: Allocator> RouteBook<A> {
     ) -> Result<Placed, Refusal>
         ensures result { result ≡ placed self.old key word }
         ensures state { self.new ≡ after_place self.old key word }
-        ensures counts { CountsWithin counts.old counts.new (fair (place_count self.old)) 0 0 }
+        ensures counts { CountsWithin counts.old counts.new (most_comparisons (place_count self.old)) 0 0 }
     {
         let searched = search_key(&self.places, &self.by_key, key, counts);
         match searched {
@@ -255,7 +255,7 @@ fn search_key(
         → (place_at (places_by places.now by_key.now) (at - 1)).key < key) }
     ensures behind { IfErr result (λ at. at < length by_key.now
         → key < (place_at (places_by places.now by_key.now) at).key) }
-    ensures counts { CountsWithin counts.old counts.new (fair (length by_key.now)) 0 0 }
+    ensures counts { CountsWithin counts.old counts.new (most_comparisons (length by_key.now)) 0 0 }
 {
     let key_at = |at: usize| -> u64
         requires known { IsOrder places.now by_key.now }
@@ -273,7 +273,7 @@ fn search_ticket(places: &[Place], ticket: u64, probes: &mut Probes) -> Result<u
     ensures before { IfErr result (λ at. 0 < at → (entry_at places.now (at - 1)).ticket < ticket) }
     ensures behind { IfErr result (λ at. at < length places.now
         → ticket < (entry_at places.now at).ticket) }
-    ensures bound { probes.new ≤ probes.old + fair (length places.now) }
+    ensures bound { probes.new ≤ probes.old + most_comparisons (length places.now) }
     ensures rises { probes.old ≤ probes.new }
 {
     let ticket_at = |at: usize| -> u64

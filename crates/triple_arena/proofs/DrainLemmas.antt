@@ -87,7 +87,8 @@ module _ {T : Type 0} where
       let one_less : live_count new ≡ live_count old - 1 = omega (arith, fewer) in
       rw (removed.room, is, one_less, iterate_first (next_generation last) (live_count old) old.counter (omega (arith, fewer))) refl
 
-  length-removals : (last : Option ℕ) (counter : ℕ) (entries : List (ℕ × (ℕ × T))) → length (removals last counter entries) ≡ length entries
+  -- there is a removal for each entry
+  pub length-removals : (last : Option ℕ) (counter : ℕ) (entries : List (ℕ × (ℕ × T))) → length (removals last counter entries) ≡ length entries
   length-removals last counter [] = refl
   length-removals last counter (e ∷ entries) = let rest = length-removals last (next_generation last counter) entries in omega (arith, rest)
 

@@ -6,6 +6,7 @@ use Rattle.std.proofs.lemmas.Option.{get_or_from_slice_get}
 use Rattle.std.specs.Option.{option_map}
 use Rattle.triple_arena.specs.Iterators.{AreVacant}
 use Rattle.triple_arena.specs.LiveEntries.{listed_from}
+use Rattle.triple_arena.specs.ContentLaws.{within_slots}
 use Rattle.triple_arena.specs.CopyLaws.{listed-none}
 use Rattle.triple_arena.proofs.DrainLemmas.{listed_first}
 
@@ -50,11 +51,6 @@ module _ {T : Type 0} where
         same = same;
         vacant = subst (λ k. AreVacant k ys) (sym place) (subst (AreVacant (n + 1)) (sym same) (more_vacant n xs vacant here));
       }
-
-  within_slots : (xs : List (Option (ℕ × T))) (k : ℕ) (e : ℕ × T) → get_or xs k None ≡ Some e → k < length xs
-  within_slots [] k e found = absurd (cc)
-  within_slots (x ∷ xs) zero e found = omega arith
-  within_slots (x ∷ xs) (suc k) e found = let rest = within_slots xs k e found in omega (arith, rest)
 
   -- the entry of a slot is taken
   pub record Taken (xs ys : List (Option (ℕ × T))) (i g : ℕ) (t : T) : Type 0 where

@@ -5,7 +5,7 @@ use Rattle.std.proofs.lemmas.Bool.{ne_eqb}
 use Rattle.std.proofs.lemmas.Bool.Decides.{eqb_tells}
 use Rattle.std.proofs.lemmas.List.{get_or-set_same, get_or-set_other, length-set}
 use Rattle.std.proofs.lemmas.List.Sums.{sum_by-set}
-use Rattle.triple_arena.specs.Entries.{with_value_at}
+use Rattle.triple_arena.specs.Entries.{value_if, with_value_at}
 use Rattle.triple_arena_stack.specs.Room.{capacity}
 use Rattle.triple_arena.specs.Content.{Content, entry_at, live_count, arena_capacity, next_index, with_value, Lacks, AllVacant, IsWellFormed}
 
@@ -17,10 +17,22 @@ module _ {T : Type 0} where
       let back : k ≡ suc k - 1 = omega arith in
       ap (λ n. get_or c.slots n None) back
 
-  within_slots : (xs : List (Option (ℕ × T))) (k : ℕ) (e : ℕ × T) → get_or xs k None ≡ Some e → k < length xs
+  pub within_slots : (xs : List (Option (ℕ × T))) (k : ℕ) (e : ℕ × T) → get_or xs k None ≡ Some e → k < length xs
   within_slots [] k e found = absurd (cc)
   within_slots (x ∷ xs) zero e found = omega arith
   within_slots (x ∷ xs) (suc k) e found = let h = within_slots xs k e found in omega arith
+
+  -- the entry that a pointer finds
+  pub entry_seen : (g : ℕ) (o : Option (ℕ × T)) (t : T) → value_if g o ≡ Some t → o ≡ Some (g, t)
+  entry_seen g None t found = absurd (cc)
+  entry_seen g (Some e) t found =
+      elim (eqb_tells e.0 g) [
+        | inl same ↦
+            let is : Some e.1 ≡ Some t = rw same.0 at found in
+            let value : e.1 ≡ t = cc in
+            ap (λ x. Some (x, e.1)) same.1 ∙ ap (λ x. Some (g, x)) value
+        | inr other ↦ absurd (let none : None ≡ Some t = rw other.0 at found in cc)
+      ]
 
   -- a live index is one of the slots
   pub record Live (c : Content T) (i : ℕ) : Type 0 where

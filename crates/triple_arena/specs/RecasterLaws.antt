@@ -6,6 +6,7 @@ use Rattle.std.proofs.lemmas.Bool.{eq-eqb}
 use Rattle.std.proofs.lemmas.Bool.Decides.{eqb_tells}
 use Rattle.std.proofs.lemmas.Option.{slice_get-map}
 use Rattle.triple_arena.specs.Content.{Content, entry_at, get}
+use Rattle.triple_arena.specs.ContentLaws.{entry_seen}
 use Rattle.triple_arena.specs.Entries.{value_if}
 use Rattle.triple_arena.specs.Iterators.{pointer_of}
 use Rattle.triple_arena.specs.LiveEntries.{listed_from, live_entries}
@@ -49,22 +50,10 @@ module _ {T : Type 0} where
       let next : (n + 1) + j ≡ n + suc j = omega arith in
       (suc rest.0, rest.1 ∙ ap (λ i. Some (i, e)) next)
 
-  -- the entry that a pointer finds
-  has_generation : (g : ℕ) (o : Option (ℕ × T)) (t : T) → value_if g o ≡ Some t → o ≡ Some (g, t)
-  has_generation g None t found = absurd (cc)
-  has_generation g (Some e) t found =
-      elim (eqb_tells e.0 g) [
-        | inl same ↦
-            let is : Some e.1 ≡ Some t = rw same.0 at found in
-            let value : e.1 ≡ t = cc in
-            ap (λ x. Some (x, e.1)) same.1 ∙ ap (λ x. Some (g, x)) value
-        | inr other ↦ absurd (let none : None ≡ Some t = rw other.0 at found in cc)
-      ]
-
   pub listed-found : (c : Content T) (i g : ℕ) (t : T) → get c i g ≡ Some t → (k : ℕ) × (slice_get (live_entries c) k ≡ Some (i, (g, t)))
   listed-found c zero g t found = absurd (cc)
   listed-found c (suc j) g t found =
-      let p = place 1 c.slots j (g, t) (has_generation g (entry_at c (suc j)) t found) in
+      let p = place 1 c.slots j (g, t) (entry_seen g (entry_at c (suc j)) t found) in
       let first : 1 + j ≡ suc j = omega arith in
       (p.0, p.1 ∙ ap (λ i. Some (i, (g, t))) first)
 

@@ -143,6 +143,14 @@ impl<P: PtrCore, T: Drop, S: ArenaSlots<P, T>> Arena<P, T, S> {
         self.len
     }
 
+    // Tells the proof that the arena is well-formed, as each one is. It does nothing.
+    #[inline(always)]
+    pub(crate) fn recall_formed(&self)
+        ensures { IsWellFormed self.now }
+    {
+        let _len = self.len;
+    }
+
     // The number of slots.
     pub(crate) fn slot_count(&self) -> usize
         ensures { result ≡ length self.now.slots }

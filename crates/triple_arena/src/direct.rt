@@ -95,6 +95,14 @@ impl<P: PtrCore, T: Drop, S: DirectSlots<P, T>> DirectArena<P, T, S> {
         self.len
     }
 
+    // Tells the proof that the arena is well-formed, as each one is. It does nothing.
+    #[inline(always)]
+    pub(crate) fn recall_formed(&self)
+        ensures { IsWellFormed self.now }
+    {
+        let _len = self.len;
+    }
+
     /// The stack that the slots are kept in.
     pub fn backing(&self) -> &S
         ensures slots { S.items result.now ≡ self.now.slots }

@@ -15,10 +15,11 @@ use Rattle.triple_arena_chain.specs.ListLaws.{live_prev_in}
 use Rattle.triple_arena_chain.specs.Links.{valued, values_in, entry_ends, ends_in, IsKept, IsChained, IsRelinked}
 use Rattle.triple_arena_chain.specs.Listed.{listed_value, listed_values}
 use Rattle.triple_arena_chain.specs.Values.{room_in}
-use Rattle.triple_arena_chain.specs.Renaming.{rank, new_index, numbered, prev_of, forwarded, IsRenamed, IsLeftWithNext, IsCompacted}
+use Rattle.triple_arena_chain.specs.Renaming.{live_below, new_index, numbered, prev_of, forwarded, FollowsRenaming, IsLeftWithNext, IsCompacted}
 use Rattle.triple_arena_chain.proofs.ListedLemmas.{values_listed}
-use Rattle.triple_arena_chain.proofs.PassLemmas.{live_as, live_ends, kept_on}
-use Rattle.triple_arena_chain.proofs.RenamingLemmas.{AreNextsRenamed, IsApart, slot_at, rank-first, rank-same, rank-apart, listed-ranked, listed-onto, nexts_live, nexts_apart, renamed_by}
+use Rattle.triple_arena_chain.specs.LinkLaws.{kept_on}
+use Rattle.triple_arena_chain.proofs.PassLemmas.{live_as, live_ends}
+use Rattle.triple_arena_chain.proofs.RenamingLemmas.{AreNextsRenamed, IsApart, slot_at, live_below-first, live_below-same, live_below-apart, listed-ranked, listed-onto, nexts_live, nexts_apart, renamed_by}
 
 module _ {X Y : Type 0} (R : X → Y → Type 0) where
   zip_forth : (xs : List X) (ys : List Y) → AllZip R xs ys → (k : ℕ) (x : X) → slice_get xs k ≡ Some x → (y : Y) × (slice_get ys k ≡ Some y) × R x y
@@ -87,14 +88,14 @@ module _ {I T : Type 0} (number : I → ℕ) (last : Option ℕ) (reset : Bool) 
     -- the link that a live index becomes
     record Moved (i : ℕ) : Type 0 where
       link : ℕ × (ℕ × IndexLink I T)
-      listed : slice_get (live_entries c3) (rank e0 i) ≡ Some link
+      listed : slice_get (live_entries c3) (live_below e0 i) ≡ Some link
       alone : link.1.1.prev ≡ None
       goes : option_map number link.1.1.next ≡ next_at (ends_in number c2) i
 
-    rank_slots : (k : ℕ) → rank e0 (suc k) ≡ rank (slot_at c2.slots) k
+    rank_slots : (k : ℕ) → live_below e0 (suc k) ≡ live_below (slot_at c2.slots) k
     rank_slots k =
-        let same = rank-same e0 (entry_at c2) live_same (suc k) in
-        let first = rank-first (entry_at c2) k in
+        let same = live_below-same e0 (entry_at c2) live_same (suc k) in
+        let first = live_below-first (entry_at c2) k in
         omega (arith, same, first)
 
     moved_link : (i : ℕ) → IsSome (e0 i) → Moved i
@@ -105,7 +106,7 @@ module _ {I T : Type 0} (number : I → ℕ) (last : Option ℕ) (reset : Bool) 
         by_slot None is = absurd (true≢false (sym some ∙ sym (live_same (suc k)) ∙ ap is_some is))
         by_slot (Some e) is =
             let there = listed-ranked 1 k c2.slots e is in
-            let z = zip_forth IsLeftWithNext (live_entries c2) (live_entries c3) m.links (rank (slot_at c2.slots) k) (1 + k, e) there in
+            let z = zip_forth IsLeftWithNext (live_entries c2) (live_entries c3) m.links (live_below (slot_at c2.slots) k) (1 + k, e) there in
             record {
               link = z.0;
               listed = ap (slice_get (live_entries c3)) (rank_slots k) ∙ z.1;
@@ -120,7 +121,7 @@ module _ {I T : Type 0} (number : I → ℕ) (last : Option ℕ) (reset : Bool) 
     moved_ends i some =
         let l = moved_link i some in
         let here : Option Ends = Some (None, option_map number l.link.1.1.next) in
-        ap (option_map (entry_ends number)) (at_place (rank e0 i) l.link l.listed)
+        ap (option_map (entry_ends number)) (at_place (live_below e0 i) l.link l.listed)
         ∙ ap (λ o. Some (option_map number o, option_map number l.link.1.1.next)) l.alone
         ∙ ap (λ o. Some (None, o)) (l.goes ∙ nexts2 i)
 
@@ -149,7 +150,7 @@ module _ {I T : Type 0} (number : I → ℕ) (last : Option ℕ) (reset : Bool) 
             by_link n (slice_get (live_entries c3) n) refl (subst (λ k. IsSome (ends_in number c3 k)) next some)
 
     pub apart : IsApart to e0 (ends_in number c3)
-    apart i j live live' same = rank-apart e0 i j live live' (omega (arith, same))
+    apart i j live live' same = live_below-apart e0 i j live live' (omega (arith, same))
 
     -- what the last pass asks for
     pub alone : (k : ℕ) → prev_at (ends_in number c3) k ≡ None
@@ -178,7 +179,7 @@ module _ {I T : Type 0} (number : I → ℕ) (last : Option ℕ) (reset : Bool) 
       live34 : (k : ℕ) → is_some (ends_in number c4 k) ≡ is_some (ends_in number c3 k)
       live34 k = live_ends number c4 k ∙ live_as c3 c4 values k ∙ sym (live_ends number c3 k)
 
-      pub renamed_links : IsRenamed to e0 (ends_in number c4)
+      pub renamed_links : FollowsRenaming to e0 (ends_in number c4)
       renamed_links =
           renamed_by to e0 (ends_in number c4) m.chained.agreed
           (record {

@@ -8,11 +8,11 @@ use Rattle.triple_arena_chain.specs.declared.place.Place.{Place}
 use Rattle.triple_arena_chain.specs.Kinds.{at_bridge}
 use Rattle.triple_arena_chain.specs.KindLaws.{found}
 use Rattle.triple_arena_chain.specs.Links.{entry_ends, ends_in, ends_found, with_next_of, with_prev_of, IsChained, IsRelinked}
-use Rattle.triple_arena_chain.specs.LinkLaws.{live-with_link, live-with_next_of, ends-with_next_of, ends-with_prev_of, values-with_next_of, values-with_prev_of, kept-with_next_of, kept-with_prev_of, formed-with_next_of, formed-with_prev_of}
+use Rattle.triple_arena_chain.specs.LinkLaws.{live-with_link, live-with_next_of, ends-with_next_of, ends-with_prev_of, values-with_next_of, values-with_prev_of, kept-with_next_of, kept-with_prev_of, kept_on, formed-with_next_of, formed-with_prev_of}
 use Rattle.triple_arena_chain.proofs.AgreedLemmas.{IsAgreed-linked, IsAgreed-unlinked, valid_next, valid_prev}
 use Rattle.triple_arena_chain.proofs.ExchangeLemmas.{exchanged_is, exchanged_self, IsAgreed-exchanged}
 use Rattle.triple_arena_chain.specs.ChainLaws.{IsAgreed-same}
-use Rattle.triple_arena_chain.proofs.InsertionLemmas.{with_next_if-same, with_prev_if-same, kept-after}
+use Rattle.triple_arena_chain.proofs.InsertionLemmas.{with_next_if-same, with_prev_if-same}
 
 -- an exchange of nexts keeps the two ways agreed, also of an index with itself
 agreed-exchanged : (e : ℕ → Option Ends) (p q s t : ℕ) → next_at e p ≡ Some s → next_at e q ≡ Some t → IsAgreed e → IsAgreed (exchanged e p q s t)
@@ -78,7 +78,7 @@ module _ {I T : Type 0} (number : I → ℕ) where
         relinked = record {
           ends = ends;
           values = λ k. values-with_prev_of number e1 a p k ∙ values-with_next_of number c b n k;
-          kept = kept-after number c e1 e2 (kept-with_next_of number c b n) (kept-with_prev_of number e1 a p);
+          kept = kept_on c e1 e2 (kept-with_next_of number c b n) (kept-with_prev_of number e1 a p);
         };
         chained = record {
           formed = formed-with_prev_of number e1 a p (formed-with_next_of number c b n formed);
@@ -128,8 +128,8 @@ module _ {I T : Type 0} (number : I → ℕ) where
       let ends : (k : ℕ) → ends_in number e4 k ≡ exchanged e (number i) (number j) (number s) (number t) k =
       λ k. ends-with_prev_of number e3 (Some s) (Some j) k
       ∙ with_prev_if-same w3 (ends_in number e3) (Some (number s)) (Some (number j)) same3 k in
-      let kept2 = kept-after number c e1 e2 (kept-with_next_of number c (Some i) (Some t)) (kept-with_next_of number e1 (Some j) (Some s)) in
-      let kept3 = kept-after number c e2 e3 kept2 (kept-with_prev_of number e2 (Some t) (Some i)) in
+      let kept2 = kept_on c e1 e2 (kept-with_next_of number c (Some i) (Some t)) (kept-with_next_of number e1 (Some j) (Some s)) in
+      let kept3 = kept_on c e2 e3 kept2 (kept-with_prev_of number e2 (Some t) (Some i)) in
       rw is
       (record {
         relinked = record {
@@ -139,7 +139,7 @@ module _ {I T : Type 0} (number : I → ℕ) where
               ∙ values-with_prev_of number e2 (Some t) (Some i) k
               ∙ values-with_next_of number e1 (Some j) (Some s) k
               ∙ values-with_next_of number c (Some i) (Some t) k;
-          kept = kept-after number c e3 e4 kept3 (kept-with_prev_of number e3 (Some s) (Some j));
+          kept = kept_on c e3 e4 kept3 (kept-with_prev_of number e3 (Some s) (Some j));
         };
         chained = record {
           formed =

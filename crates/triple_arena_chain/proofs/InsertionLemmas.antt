@@ -11,7 +11,7 @@ use Rattle.triple_arena_chain.specs.declared.place.Place.TheVariants.{Between, O
 use Rattle.triple_arena_chain.specs.Chains.{Ends, with_next_if, with_prev_if, added, put_in, IsPlace, IsAgreed, next_at, prev_at, next_in, prev_in}
 use Rattle.triple_arena_chain.specs.Kinds.{place_by}
 use Rattle.triple_arena_chain.specs.Links.{valued, values_in, entry_ends, ends_in, link_ends, link_for, joined_to, with_next_of, IsKept, IsChained, IsPlaced}
-use Rattle.triple_arena_chain.specs.LinkLaws.{ends-with_next_of, ends-with_prev_of, values-with_next_of, values-with_prev_of, kept-with_next_of, kept-with_prev_of, formed-with_next_of, formed-with_prev_of}
+use Rattle.triple_arena_chain.specs.LinkLaws.{ends-with_next_of, ends-with_prev_of, values-with_next_of, values-with_prev_of, kept-with_next_of, kept-with_prev_of, kept_on, formed-with_next_of, formed-with_prev_of}
 use Rattle.triple_arena_chain.specs.ChainLaws.{IsAgreed-same}
 use Rattle.triple_arena_chain.specs.Lists.{IsPutAt}
 use Rattle.triple_arena_chain.proofs.PlaceLemmas.{IsAgreed-placed}
@@ -91,19 +91,9 @@ module _ {I T : Type 0} (number : I → ℕ) where
       values-with_prev_of number (with_next_of number d before (Some i)) after (Some i) k ∙ values-with_next_of number d before (Some i) k
   values-joined d OwnRing i k = refl
 
-  pub kept-after : (a b c : Content (IndexLink I T)) → IsKept a b → IsKept b c → IsKept a c
-  kept-after a b c first second =
-      record {
-        live = second.live ∙ first.live;
-        slots = second.slots ∙ first.slots;
-        free = second.free ∙ first.free;
-        counter = second.counter ∙ first.counter;
-        room = second.room ∙ first.room;
-      }
-
   kept-joined : (d : Content (IndexLink I T)) (place : Place I) (i : I) → IsKept d (joined_to number d place i)
   kept-joined d (Between before after) i =
-      kept-after d (with_next_of number d before (Some i)) (joined_to number d (Between before after) i) (kept-with_next_of number d before (Some i))
+      kept_on d (with_next_of number d before (Some i)) (joined_to number d (Between before after) i) (kept-with_next_of number d before (Some i))
       (kept-with_prev_of number (with_next_of number d before (Some i)) after (Some i))
   kept-joined d OwnRing i = record { live = refl; slots = refl; free = refl; counter = refl; room = refl }
 

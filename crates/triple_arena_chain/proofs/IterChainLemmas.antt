@@ -6,7 +6,7 @@ use Rattle.triple_arena_chain.specs.IterChains.{link_and, links_along}
 use Rattle.triple_arena_chain.specs.Links.{ends_in, values_in}
 use Rattle.triple_arena_chain.specs.Walks.{ChainWalk, Leaves, ChainSteps, left_over, IsEnding}
 use Rattle.triple_arena_chain.specs.WalkLaws.{steps-left, left-after, left-none}
-use Rattle.triple_arena_chain.proofs.RemovalLemmas.{entry_seen}
+use Rattle.triple_arena.specs.ContentLaws.{entry_seen}
 
 module _ {I T : Type 0} (number : I → ℕ) (c : Content (IndexLink I T)) where
   -- the link that is given, and those that are left

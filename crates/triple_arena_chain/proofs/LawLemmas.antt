@@ -11,7 +11,8 @@ use Rattle.triple_arena_chain.specs.Kinds.{at_bridge}
 use Rattle.triple_arena_chain.specs.Links.{entry_ends, ends_in, ends_found, IsChained, IsRelinked}
 use Rattle.triple_arena_chain.specs.UniquenessLaws.{IsInOneChain, stands_once}
 use Rattle.triple_arena_chain.proofs.AgreedLemmas.{next_at_p}
-use Rattle.triple_arena_chain.proofs.InsertionLemmas.{with_next_if-same, with_prev_if-same, kept-after}
+use Rattle.triple_arena_chain.specs.LinkLaws.{kept_on}
+use Rattle.triple_arena_chain.proofs.InsertionLemmas.{with_next_if-same, with_prev_if-same}
 use Rattle.triple_arena_chain.specs.KindLaws.{found}
 use Rattle.triple_arena_chain.proofs.ReversalLemmas.{linked_back, unlinked_back, exchanged_back, next_exchanged}
 
@@ -55,7 +56,7 @@ module _ {I T : Type 0} (number : I → ℕ) where
       record {
         ends = λ k. two.ends k ∙ back k;
         values = λ k. two.values k ∙ one.values k;
-        kept = kept-after number c d f one.kept two.kept;
+        kept = kept_on c d f one.kept two.kept;
       }
 
   pub connect_back : (c d f : Content (IndexLink I T)) (p gp q gq : ℕ) → IsSome (at_bridge p q (ends_found number c p gp) (ends_found number c q gq))

@@ -14,7 +14,7 @@ use Rattle.triple_arena.specs.Entries.{look_up}
 use Rattle.triple_arena.specs.LiveEntries.{live_entries, entry-listed}
 use Rattle.triple_arena_chain.specs.declared.link.IndexLink.{IndexLink}
 use Rattle.triple_arena_chain.specs.Chains.{Ends}
-use Rattle.triple_arena_chain.specs.Copying.{IsLinkedCopy}
+use Rattle.triple_arena_chain.specs.LinkCopies.{IsLinkedCopy}
 use Rattle.triple_arena_chain.specs.ListLaws.{chain_where}
 use Rattle.triple_arena_chain.specs.Links.{valued, values_in, entry_ends, ends_in, IsChained}
 use Rattle.triple_arena_chain.specs.Lists.{Chain, IsChainOf}

@@ -9,6 +9,7 @@ use Rattle.triple_arena.specs.Content.{Content, live_count, some_counter}
 use Rattle.triple_arena.specs.Drains.{removals, drained}
 use Rattle.triple_arena.specs.Entries.{without}
 use Rattle.triple_arena.specs.LiveEntries.{listed_from, live_entries, live_entries-length}
+use Rattle.triple_arena.proofs.DrainLemmas.{length-removals}
 use Rattle.triple_arena_chain.specs.declared.link.IndexLink.{IndexLink}
 use Rattle.triple_arena_chain.specs.Links.{valued, values_in}
 use Rattle.triple_arena_chain.specs.Listed.{listed_value, listed_values}
@@ -17,10 +18,6 @@ use Rattle.triple_arena_chain.specs.Values.{room_in}
 -- a step of a repetition, taken first
 iterate_from : {A : Type 0} (h : A → A) (n m : ℕ) (x : A) → m ≡ suc n → iterate h n (h x) ≡ iterate h m x
 iterate_from h n m x is = rw is refl
-
-long_removals : {T : Type 0} (last : Option ℕ) (counter : ℕ) (entries : List (ℕ × (ℕ × T))) → length (removals last counter entries) ≡ length entries
-long_removals last counter [] = refl
-long_removals last counter (e ∷ entries) = let rest = long_removals last (next_generation last counter) entries in omega (arith, rest)
 
 module _ {I T : Type 0} where
   -- the value in a slot
@@ -121,7 +118,7 @@ module _ {I T : Type 0} where
   -- so many removals are left as links are live
   pub removals_counted : (last : Option ℕ) (c : Content (IndexLink I T)) → live_count c ≡ length (removals last c.counter (listed_values c))
   removals_counted last c =
-      let long = long_removals last c.counter (listed_values c) in
+      let long = length-removals last c.counter (listed_values c) in
       let mapped = length-map (live_entries c) listed_value in
       let live = live_entries-length c in
       omega (arith, long, mapped, live)

@@ -6,7 +6,7 @@ use Rattle.std.specs.List.{FoldsTo}
 use Rattle.triple_arena.specs.Compression.{Move, entry_before, entry_after, listed_under, IsMapped}
 use Rattle.triple_arena.specs.Copy.{Call, Calls, IsMappedCopy, IsRefusedCopy}
 use Rattle.triple_arena_chain.specs.declared.link.IndexLink.{IndexLink}
-use Rattle.triple_arena_chain.specs.Copying.{IsLinkedCopy}
+use Rattle.triple_arena_chain.specs.LinkCopies.{IsLinkedCopy}
 use Rattle.triple_arena_chain.specs.Links.{prev_next_of}
 use Rattle.triple_arena_chain.specs.Listed.{listed_value}
 

@@ -8,22 +8,12 @@ use Rattle.triple_arena.specs.Entries.{generation_at}
 use Rattle.triple_arena.specs.Walk.{Walk, IsAhead, IsFirstLive, past}
 use Rattle.triple_arena_chain.specs.declared.link.IndexLink.{IndexLink}
 use Rattle.triple_arena_chain.specs.Chains.{Ends, next_in, prev_in, next_at, prev_at, renext, reprev, IsAgreed}
-use Rattle.triple_arena_chain.specs.LinkLaws.{ends-with_prev_of, ends-with_next_of, values-with_prev_of, values-with_next_of, kept-with_prev_of, kept-with_next_of, formed-with_prev_of, formed-with_next_of}
+use Rattle.triple_arena_chain.specs.LinkLaws.{ends-with_prev_of, ends-with_next_of, values-with_prev_of, values-with_next_of, kept-with_prev_of, kept-with_next_of, kept_on, formed-with_prev_of, formed-with_next_of}
 use Rattle.triple_arena_chain.specs.Links.{valued, values_in, entry_ends, ends_in, with_next_of, with_prev_of, IsKept, IsRelinked}
-use Rattle.triple_arena_chain.specs.Renaming.{rank, numbered, prev_of, forwarded}
-use Rattle.triple_arena_chain.proofs.RenamingLemmas.{rank-live, rank-below, rank-flat}
+use Rattle.triple_arena_chain.specs.Renaming.{live_below, numbered, prev_of, forwarded}
+use Rattle.triple_arena_chain.proofs.RenamingLemmas.{live_below-live, live_below-below, live_below-flat}
 
 module _ {I T : Type 0} where
-  pub kept_on : (a b c : Content (IndexLink I T)) → IsKept a b → IsKept b c → IsKept a c
-  kept_on a b c first second =
-      record {
-        live = second.live ∙ first.live;
-        slots = second.slots ∙ first.slots;
-        free = second.free ∙ first.free;
-        counter = second.counter ∙ first.counter;
-        room = second.room ∙ first.room;
-      }
-
   some_valued : (o : Option (ℕ × IndexLink I T)) → is_some (option_map valued o) ≡ is_some o
   some_valued None = refl
   some_valued (Some e) = refl
@@ -155,11 +145,11 @@ module _ {I T : Type 0} (number : I → ℕ) (old : Content (IndexLink I T)) whe
   -- the ranks up to the first live index
   pub record IsCounted (c : Content (IndexLink I T)) (w : Walk) (i count : ℕ) : Type 0 where
     pub below : count + 1 ≤ i
-    pub rank_is : count ≡ rank before i
-    pub after : count + 1 ≡ rank before (i + 1)
+    pub rank_is : count ≡ live_below before i
+    pub after : count + 1 ≡ live_below before (i + 1)
 
   pub counted : (c : Content (IndexLink I T)) (w : Walk) (i g count : ℕ) → IsPassed number (numbered before) w.low old c → w.falls ≡ false
-      → IsFirstLive (entry_at c) w i g → count ≡ rank before w.low → IsCounted c w i count
+      → IsFirstLive (entry_at c) w i g → count ≡ live_below before w.low → IsCounted c w i count
   counted c w i g count p rises first is = by_index i refl
     where
       some_live : IsSome (entry_at c i)
@@ -172,21 +162,21 @@ module _ {I T : Type 0} (number : I → ℕ) (old : Content (IndexLink I T)) whe
       live : IsSome (before i)
       live = live_ends number old i ∙ sym (live_as old c p.values i) ∙ some_live
 
-      flat : rank before i ≡ rank before w.low
-      flat = rank-flat before w.low i first.ahead.0
+      flat : live_below before i ≡ live_below before w.low
+      flat = live_below-flat before w.low i first.ahead.0
           (λ j above under. sym (p.ahead j above) ∙ no_ends number c j (first.first j (above, omega (arith, under, first.ahead.1)) (rw rises under)))
 
       by_index : (k : ℕ) → i ≡ k → IsCounted c w i count
       by_index zero none = absurd (let no : is_some (before 0) ≡ true = subst (λ n. IsSome (before n)) none live in true≢false (sym no))
       by_index (suc k) here =
-          let under = rank-below before refl k in
-          let up = rank-live before i live in
-          let same : rank before i ≡ rank before (suc k) = ap (rank before) here in
+          let under = live_below-below before refl k in
+          let up = live_below-live before i live in
+          let same : live_below before i ≡ live_below before (suc k) = ap (live_below before) here in
           let next : i + 1 ≡ suc i = omega arith in
           record {
             below = omega (arith, under, flat, is, same, here);
             rank_is = is ∙ sym flat;
-            after = ap (λ n. n + 1) (is ∙ sym flat) ∙ sym up ∙ ap (rank before) (sym next);
+            after = ap (λ n. n + 1) (is ∙ sym flat) ∙ sym up ∙ ap (live_below before) (sym next);
           }
 
   -- the first live index ahead has its number

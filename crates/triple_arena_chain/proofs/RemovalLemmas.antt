@@ -5,15 +5,16 @@ use Rattle.std.proofs.lemmas.Bool.Decides.{eqb_tells}
 use Rattle.triple_arena_ptr.specs.Generation.{next_generation}
 use Rattle.triple_arena.specs.Entries.{value_if}
 use Rattle.triple_arena.specs.Content.{Content, entry_at, removed, IsWellFormed}
+use Rattle.triple_arena.specs.ContentLaws.{entry_seen}
 use Rattle.triple_arena.specs.RemovalLaws.{entry-removed, live-removed, counter-removed, free-removed, slots-removed, room-removed, formed-removed}
 use Rattle.triple_arena_chain.specs.declared.link.IndexLink.{IndexLink}
 use Rattle.triple_arena_chain.specs.Chains.{Ends, with_next_if, dropped, bridged, taken_from, next_in, prev_in}
 use Rattle.triple_arena_chain.specs.declared.place.Place.TheVariants.{Between}
 use Rattle.triple_arena_chain.specs.Links.{valued, values_in, entry_ends, ends_in, with_next_of, with_prev_of, bridged_over, link_removed, link_removed_of, AreNeighborsLive, IsKept, IsChained, IsTakenOut}
-use Rattle.triple_arena_chain.specs.LinkLaws.{neighbor-with_next_of, entry-with_link, ends-with_next_of, ends-with_prev_of, values-with_next_of, values-with_prev_of, kept-with_next_of, kept-with_prev_of, formed-with_next_of, formed-with_prev_of}
+use Rattle.triple_arena_chain.specs.LinkLaws.{neighbor-with_next_of, entry-with_link, ends-with_next_of, ends-with_prev_of, values-with_next_of, values-with_prev_of, kept-with_next_of, kept-with_prev_of, kept_on, formed-with_next_of, formed-with_prev_of}
 use Rattle.triple_arena_chain.specs.TakenLaws.{is_taken}
 use Rattle.triple_arena_chain.specs.ChainLaws.{IsAgreed-same}
-use Rattle.triple_arena_chain.proofs.InsertionLemmas.{with_prev_if-same, kept-after}
+use Rattle.triple_arena_chain.proofs.InsertionLemmas.{with_prev_if-same}
 use Rattle.triple_arena_chain.proofs.ConnectionLemmas.{live_next, live_prev}
 use Rattle.triple_arena_chain.proofs.TakeOutLemmas.{IsAgreed-taken}
 
@@ -87,7 +88,7 @@ module _ {I T : Type 0} (number : I → ℕ) where
   kept-bridged : (c : Content (IndexLink I T)) (l : IndexLink I T) → IsKept c (bridged_over number c l)
   kept-bridged c l =
       let one = with_next_of number c l.prev l.next in
-      kept-after number c one (bridged_over number c l) (kept-with_next_of number c l.prev l.next) (kept-with_prev_of number one l.next l.prev)
+      kept_on c one (bridged_over number c l) (kept-with_next_of number c l.prev l.next) (kept-with_prev_of number one l.next l.prev)
 
   formed-bridged : (c : Content (IndexLink I T)) (l : IndexLink I T) → IsWellFormed c → IsWellFormed (bridged_over number c l)
   formed-bridged c l formed =
@@ -187,18 +188,6 @@ module _ {I T : Type 0} (number : I → ℕ) where
           }
 
 module _ {T : Type 0} where
-  -- an entry that has this generation
-  pub entry_seen : (g : ℕ) (o : Option (ℕ × T)) (t : T) → value_if g o ≡ Some t → o ≡ Some (g, t)
-  entry_seen g None t is = absurd (let no : None ≡ Some t = is in cc)
-  entry_seen g (Some e) t is =
-      elim (eqb_tells e.0 g) [
-        | inl same ↦
-            let value : Some e.1 ≡ Some t = rw same.0 at is in
-            let t_is : e.1 ≡ t = cc in
-            ap (λ n. Some (n, e.1)) same.1 ∙ ap (λ u. Some (g, u)) t_is
-        | inr differs ↦ absurd (let no : None ≡ Some t = rw differs.0 at is in cc)
-      ]
-
   pub entry_shows : (g : ℕ) (t : T) → value_if g (Some (g, t)) ≡ Some t
   entry_shows g t = rw (eq-eqb g g refl) refl
 

@@ -7,73 +7,73 @@ use Rattle.triple_arena_chain.specs.Chains.{Ends, next_at, prev_at, IsAgreed, fi
 use Rattle.triple_arena_chain.specs.ChainLaws.{On-cons}
 use Rattle.triple_arena_chain.specs.ListLaws.{of_live, live_next_in, live_prev_in, live_on, On-first}
 use Rattle.triple_arena_chain.specs.Lists.{Chain, Linear, Cyclic, IsChainOf}
-use Rattle.triple_arena_chain.specs.Renaming.{rank, renamed, ends_renamed, IsRenamed}
+use Rattle.triple_arena_chain.specs.Renaming.{live_below, renamed, ends_renamed, FollowsRenaming}
 
 one_or_none : (b : Bool) → (if b then 1 else 0) ≤ 1
 one_or_none true = omega arith
 one_or_none false = omega arith
 
 module _ {A : Type 0} (at : ℕ → Option A) where
-  pub rank-live : (i : ℕ) → IsSome (at i) → rank at (suc i) ≡ rank at i + 1
-  rank-live i live = rw live refl
+  pub live_below-live : (i : ℕ) → IsSome (at i) → live_below at (suc i) ≡ live_below at i + 1
+  live_below-live i live = rw live refl
 
-  rank-none : (i : ℕ) → at i ≡ None → rank at (suc i) ≡ rank at i
-  rank-none i none = rw none (omega arith)
+  live_below-none : (i : ℕ) → at i ≡ None → live_below at (suc i) ≡ live_below at i
+  live_below-none i none = rw none (omega arith)
 
   -- where none is live between two indexes their ranks are the same
-  pub rank-flat : (low i : ℕ) → low ≤ i → ((j : ℕ) → low ≤ j → j < i → at j ≡ None) → rank at i ≡ rank at low
-  rank-flat low zero within none = let is : low ≡ 0 = omega (arith, within) in rw is refl
-  rank-flat low (suc i) within none =
+  pub live_below-flat : (low i : ℕ) → low ≤ i → ((j : ℕ) → low ≤ j → j < i → at j ≡ None) → live_below at i ≡ live_below at low
+  live_below-flat low zero within none = let is : low ≡ 0 = omega (arith, within) in rw is refl
+  live_below-flat low (suc i) within none =
       elim (leb_tells low i) [
         | inl below ↦
-            rank-none i (none i below.1 (omega arith)) ∙ rank-flat low i below.1 (λ j above under. none j above (omega (arith, under)))
-        | inr above ↦ let is : suc i ≡ low = omega (arith, within, above.1) in ap (rank at) is
+            live_below-none i (none i below.1 (omega arith)) ∙ live_below-flat low i below.1 (λ j above under. none j above (omega (arith, under)))
+        | inr above ↦ let is : suc i ≡ low = omega (arith, within, above.1) in ap (live_below at) is
       ]
 
   -- where index 0 is not live, a live index has fewer live ones below it than its number
-  pub rank-below : at 0 ≡ None → (i : ℕ) → rank at (suc i) ≤ i
-  rank-below none zero = rw none (omega arith)
-  rank-below none (suc i) =
-      let rest = rank-below none i in
+  pub live_below-below : at 0 ≡ None → (i : ℕ) → live_below at (suc i) ≤ i
+  live_below-below none zero = rw none (omega arith)
+  live_below-below none (suc i) =
+      let rest = live_below-below none i in
       let one = one_or_none (is_some (at (suc i))) in
       omega (arith, rest, one)
 
-  rank-up : (i j : ℕ) → i ≤ j → rank at i ≤ rank at j
-  rank-up i zero within = let is : i ≡ 0 = omega (arith, within) in rw is (omega arith)
-  rank-up i (suc j) within =
+  live_below-up : (i j : ℕ) → i ≤ j → live_below at i ≤ live_below at j
+  live_below-up i zero within = let is : i ≡ 0 = omega (arith, within) in rw is (omega arith)
+  live_below-up i (suc j) within =
       elim (leb_tells i j) [
-        | inl below ↦ let rest = rank-up i j below.1 in omega (arith, rest)
+        | inl below ↦ let rest = live_below-up i j below.1 in omega (arith, rest)
         | inr above ↦ let is : i ≡ suc j = omega (arith, within, above.1) in rw is (omega arith)
       ]
 
   -- the ranks of the live indexes rise
-  pub rank-rises : (i j : ℕ) → IsSome (at i) → i < j → rank at i < rank at j
-  rank-rises i j live below =
-      let up = rank-up (suc i) j (omega (arith, below)) in
-      let one = rank-live i live in
+  pub live_below-rises : (i j : ℕ) → IsSome (at i) → i < j → live_below at i < live_below at j
+  live_below-rises i j live below =
+      let up = live_below-up (suc i) j (omega (arith, below)) in
+      let one = live_below-live i live in
       omega (arith, up, one)
 
   -- and each has one of its own
-  pub rank-apart : (i j : ℕ) → IsSome (at i) → IsSome (at j) → rank at i ≡ rank at j → i ≡ j
-  rank-apart i j live live' same =
+  pub live_below-apart : (i j : ℕ) → IsSome (at i) → IsSome (at j) → live_below at i ≡ live_below at j → i ≡ j
+  live_below-apart i j live live' same =
       elim (leb_tells i j) [
         | inl within ↦
             elim (leb_tells j i) [
               | inl back ↦ omega (arith, within.1, back.1)
-              | inr below ↦ absurd (let rises = rank-rises i j live below.1 in omega (arith, rises, same))
+              | inr below ↦ absurd (let rises = live_below-rises i j live below.1 in omega (arith, rises, same))
             ]
-        | inr above ↦ absurd (let rises = rank-rises j i live' above.1 in omega (arith, rises, same))
+        | inr above ↦ absurd (let rises = live_below-rises j i live' above.1 in omega (arith, rises, same))
       ]
 
 -- the first index counted first
-pub rank-first : {A : Type 0} (at : ℕ → Option A) (k : ℕ) → rank at (suc k) ≡ (if is_some (at 0) then 1 else 0) + rank (λ j. at (suc j)) k
-rank-first at zero = omega arith
-rank-first at (suc k) = let rest = rank-first at k in omega (arith, rest)
+pub live_below-first : {A : Type 0} (at : ℕ → Option A) (k : ℕ) → live_below at (suc k) ≡ (if is_some (at 0) then 1 else 0) + live_below (λ j. at (suc j)) k
+live_below-first at zero = omega arith
+live_below-first at (suc k) = let rest = live_below-first at k in omega (arith, rest)
 
-pub rank-same : {A B : Type 0} (at : ℕ → Option A) (bt : ℕ → Option B) → ((j : ℕ) → is_some (bt j) ≡ is_some (at j)) → (i : ℕ) → rank bt i ≡ rank at i
-rank-same at bt same zero = refl
-rank-same at bt same (suc i) =
-    ap (λ n. n + (if is_some (bt i) then 1 else 0)) (rank-same at bt same i) ∙ ap (λ b. rank at i + (if b then 1 else 0)) (same i)
+pub live_below-same : {A B : Type 0} (at : ℕ → Option A) (bt : ℕ → Option B) → ((j : ℕ) → is_some (bt j) ≡ is_some (at j)) → (i : ℕ) → live_below bt i ≡ live_below at i
+live_below-same at bt same zero = refl
+live_below-same at bt same (suc i) =
+    ap (λ n. n + (if is_some (bt i) then 1 else 0)) (live_below-same at bt same i) ∙ ap (λ b. live_below at i + (if b then 1 else 0)) (same i)
 
 module _ {T : Type 0} where
   abbrev pub slot_at : List (Option (ℕ × T)) → ℕ → Option (ℕ × T)
@@ -81,7 +81,7 @@ module _ {T : Type 0} where
 
   -- a live slot is listed at its rank
   pub listed-ranked : (n k : ℕ) (xs : List (Option (ℕ × T))) (e : ℕ × T) → slot_at xs k ≡ Some e
-      → slice_get (listed_from n xs) (rank (slot_at xs) k) ≡ Some (n + k, e)
+      → slice_get (listed_from n xs) (live_below (slot_at xs) k) ≡ Some (n + k, e)
   listed-ranked n k [] e at = absurd (cc)
   listed-ranked n zero (None ∷ xs) e at = absurd (cc)
   listed-ranked n zero (Some x ∷ xs) e at =
@@ -89,28 +89,28 @@ module _ {T : Type 0} where
       let here : n ≡ n + 0 = omega arith in
       ap (λ m. Some (m, x)) here ∙ ap (λ y. Some (n + 0, y)) same
   listed-ranked n (suc k) (None ∷ xs) e at =
-      let first = rank-first (slot_at (None ∷ xs)) k in
-      let rest : rank (slot_at (None ∷ xs)) (suc k) ≡ rank (slot_at xs) k = omega (arith, first) in
+      let first = live_below-first (slot_at (None ∷ xs)) k in
+      let rest : live_below (slot_at (None ∷ xs)) (suc k) ≡ live_below (slot_at xs) k = omega (arith, first) in
       let next : (n + 1) + k ≡ n + suc k = omega arith in
       ap (slice_get (listed_from (n + 1) xs)) rest ∙ listed-ranked (n + 1) k xs e at ∙ ap (λ m. Some (m, e)) next
   listed-ranked n (suc k) (Some x ∷ xs) e at =
-      let first = rank-first (slot_at (Some x ∷ xs)) k in
-      let rest : rank (slot_at (Some x ∷ xs)) (suc k) ≡ suc (rank (slot_at xs) k) = omega (arith, first) in
+      let first = live_below-first (slot_at (Some x ∷ xs)) k in
+      let rest : live_below (slot_at (Some x ∷ xs)) (suc k) ≡ suc (live_below (slot_at xs) k) = omega (arith, first) in
       let next : (n + 1) + k ≡ n + suc k = omega arith in
       ap (slice_get (listed_from n (Some x ∷ xs))) rest ∙ listed-ranked (n + 1) k xs e at ∙ ap (λ m. Some (m, e)) next
 
   -- what is listed at a place stands at the slot of that rank
   pub listed-onto : (n m : ℕ) (xs : List (Option (ℕ × T))) (x : ℕ × (ℕ × T)) → slice_get (listed_from n xs) m ≡ Some x
-      → (k : ℕ) × (slot_at xs k ≡ Some x.1) × (rank (slot_at xs) k ≡ m)
+      → (k : ℕ) × (slot_at xs k ≡ Some x.1) × (live_below (slot_at xs) k ≡ m)
   listed-onto n m [] x at = absurd (cc)
   listed-onto n m (None ∷ xs) x at =
       let rest = listed-onto (n + 1) m xs x at in
-      let first = rank-first (slot_at (None ∷ xs)) rest.0 in
+      let first = live_below-first (slot_at (None ∷ xs)) rest.0 in
       (suc rest.0, rest.1, omega (arith, first, rest.2))
   listed-onto n zero (Some e ∷ xs) x at = (0, ap (λ o. option_map (λ (y : ℕ × (ℕ × T)). y.1) o) at, refl)
   listed-onto n (suc m) (Some e ∷ xs) x at =
       let rest = listed-onto (n + 1) m xs x at in
-      let first = rank-first (slot_at (Some e ∷ xs)) rest.0 in
+      let first = live_below-first (slot_at (Some e ∷ xs)) rest.0 in
       (suc rest.0, rest.1, omega (arith, first, rest.2))
 
 module _ (to : ℕ → ℕ) (old new : ℕ → Option Ends) where
@@ -167,7 +167,7 @@ module _ (to : ℕ → ℕ) (old new : ℕ → Option Ends) where
         sym n.is_from ∙ ap to is ∙ n'.is_from
 
     -- where the interlinks agree, the previous indexes follow too, and the chains
-    pub renamed_by : IsApart → IsAgreed new → IsRenamed to old new
+    pub renamed_by : IsApart → IsAgreed new → FollowsRenaming to old new
     renamed_by apart agreed' = record { ends = ends; apart = apart; onto = r.onto; lists = lists }
       where
         prevs : (i : ℕ) → IsSome (old i) → prev_at new (to i) ≡ option_map to (prev_at old i)

@@ -20,7 +20,7 @@ pub mod DrainLaws
 pub mod Listed
 pub mod ListedLaws
 pub mod Renaming
-pub mod Copying
+pub mod LinkCopies
 pub mod LinkRecasting
 pub mod SameLinksLaws
 pub mod LinkText

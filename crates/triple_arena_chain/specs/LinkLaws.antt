@@ -11,6 +11,17 @@ use Rattle.triple_arena_chain.specs.ChainLaws.{IsAgreed-same}
 use Rattle.triple_arena_chain.specs.Links.{valued, values_in, with_link, with_link_of, with_value_in, IsKept, IsChained, link_ends, entry_ends, ends_in, with_next_of, with_prev_of}
 
 module _ {I T : Type 0} where
+  -- what two changes in turn keep
+  pub kept_on : (a b c : Content (IndexLink I T)) → IsKept a b → IsKept b c → IsKept a c
+  kept_on a b c first second =
+      record {
+        live = second.live ∙ first.live;
+        slots = second.slots ∙ first.slots;
+        free = second.free ∙ first.free;
+        counter = second.counter ∙ first.counter;
+        room = second.room ∙ first.room;
+      }
+
   abbrev changed : (IndexLink I T → IndexLink I T) → ℕ × IndexLink I T → ℕ × IndexLink I T
   changed f entry = (entry.0, f entry.1)
 

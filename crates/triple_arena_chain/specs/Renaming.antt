@@ -11,13 +11,13 @@ use Rattle.triple_arena_chain.specs.Lists.{Chain, Linear, Cyclic, IsChainOf}
 
 module _ {A : Type 0} where
   -- how many indexes below this one are live
-  abbrev pub rank : (ℕ → Option A) → ℕ → ℕ
-  rank at zero = 0
-  rank at (suc i) = rank at i + (if is_some (at i) then 1 else 0)
+  abbrev pub live_below : (ℕ → Option A) → ℕ → ℕ
+  live_below at zero = 0
+  live_below at (suc i) = live_below at i + (if is_some (at i) then 1 else 0)
 
   -- the index that a live one gets where the live ones go to the indexes from 1 on, in their order
   abbrev pub new_index : (ℕ → Option A) → ℕ → ℕ
-  new_index at i = rank at i + 1
+  new_index at i = live_below at i + 1
 
 -- a chain under the new indexes
 abbrev pub renamed : (ℕ → ℕ) → Chain → Chain
@@ -29,7 +29,7 @@ abbrev pub ends_renamed : (ℕ → ℕ) → Ends → Ends
 ends_renamed to v = (option_map to v.0, option_map to v.1)
 
 -- each live index has another name, one of its own, and the interlinks and the chains follow
-pub record IsRenamed (to : ℕ → ℕ) (old new : ℕ → Option Ends) : Type 0 where
+pub record FollowsRenaming (to : ℕ → ℕ) (old new : ℕ → Option Ends) : Type 0 where
   pub ends : (i : ℕ) → IsSome (old i) → new (to i) ≡ option_map (ends_renamed to) (old i)
   pub apart : (i j : ℕ) → IsSome (old i) → IsSome (old j) → to i ≡ to j → i ≡ j
   pub onto : (k : ℕ) → IsSome (new k) → (i : ℕ) × IsSome (old i) × (to i ≡ k)
@@ -57,7 +57,7 @@ module _ {I T : Type 0} (number : I → ℕ) where
   -- the links stand at the indexes from 1 on, in the order that they had, with these values and with the generation renewed;
   -- the interlinks follow them, and no index is free
   pub record IsCompacted (last : Option ℕ) (reset : Bool) (given : List T) (old new : Content (IndexLink I T)) : Type 0 where
-    pub renamed : IsRenamed (new_index (ends_in number old)) (ends_in number old) (ends_in number new)
+    pub renamed : FollowsRenaming (new_index (ends_in number old)) (ends_in number old) (ends_in number new)
     pub values : (k : ℕ) → values_in new (k + 1) ≡ option_map (λ t. (renewed last reset old.counter, t)) (slice_get given k)
     pub slots : length new.slots ≡ live_count old
     pub free : new.free ≡ []

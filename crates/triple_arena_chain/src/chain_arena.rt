@@ -4,13 +4,12 @@ ghost use Rattle.triple_arena.specs.Content.{live_count, arena_capacity};
 ghost use Rattle.triple_arena_chain.specs.Links.{IsChained};
 
 mod advancer;
+mod arena_calls;
 mod backing;
-mod calls;
 pub(crate) mod capacity_drain;
 mod chain_calls;
 mod compression;
 mod copy;
-mod copying;
 mod default;
 pub(crate) mod drain;
 pub(crate) mod entry;
@@ -25,6 +24,7 @@ mod insertion;
 mod interlinks;
 pub(crate) mod iter_chain;
 pub(crate) mod iterators;
+mod link_copies;
 mod mapping;
 mod max_capacity;
 mod neighbors;
@@ -35,13 +35,44 @@ pub(crate) mod walk;
 
 use crate::{ChainSlots, LinkNoGen};
 use std::marker::Model;
-use triple_arena::{Arena, ArenaTrait, PtrCore};
+use triple_arena::{
+    Arena, ArenaSlot, ArenaTrait, NonZeroInxArray, NonZeroInxBoxedSlice, NonZeroInxLimitedVec,
+    NonZeroInxVec, PtrCore,
+};
 
 /// Links in chains, which are lists and rings: each link is in one chain, once.
 #[derive(Drop)]
 pub struct ChainArena<P: PtrCore, T: Drop, S: ChainSlots<P, T>> {
     arena: Arena<P, LinkNoGen<P, T>, S>,
 }
+
+/// A chain arena in a vector, which grows without a limit of its own.
+pub type HeapChainArena<P, T, A> = ChainArena<
+    P,
+    T,
+    NonZeroInxVec<ArenaSlot<P, LinkNoGen<P, T>>, A>,
+>;
+
+/// A chain arena in a vector, which grows up to a limit that can be set.
+pub type LimitedChainArena<P, T, A> = ChainArena<
+    P,
+    T,
+    NonZeroInxLimitedVec<ArenaSlot<P, LinkNoGen<P, T>>, A>,
+>;
+
+/// A chain arena in a boxed slice, which keeps the capacity that it is made with.
+pub type BoxedChainArena<P, T, A> = ChainArena<
+    P,
+    T,
+    NonZeroInxBoxedSlice<ArenaSlot<P, LinkNoGen<P, T>>, A>,
+>;
+
+/// A chain arena in an array, which takes no memory.
+pub type ArrayChainArena<P, T, const LIMIT: usize> = ChainArena<
+    P,
+    T,
+    NonZeroInxArray<ArenaSlot<P, LinkNoGen<P, T>>, LIMIT>,
+>;
 
 impl<P: PtrCore, T: Drop, S: ChainSlots<P, T>> Model for ChainArena<P, T, S> {
     ghost use Rattle.triple_arena.specs.Content.{Content};
@@ -62,5 +93,13 @@ impl<P: PtrCore, T: Drop, S: ChainSlots<P, T>> ChainArena<P, T, S> {
         ensures chained { IsChained P.Inx.number self.now }
     {
         self.arena.len() < self.arena.capacity()
+    }
+
+    // Tells the proof that the interlinks agree, as always. It does nothing.
+    #[inline(always)]
+    pub(crate) fn recall_chained(&self)
+        ensures { IsChained P.Inx.number self.now }
+    {
+        let _len = self.arena.len();
     }
 }

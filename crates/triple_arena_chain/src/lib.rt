@@ -35,8 +35,10 @@ pub mod chain_iterators {
     pub type Ptrs<'a, P, T> = triple_arena::arena_iterators::Ptrs<'a, P, crate::LinkNoGen<P, T>>;
 }
 
-pub use chain_arena::ChainArena;
 pub use chain_arena::entry::ChainArenaInsertEntry;
+pub use chain_arena::{
+    ArrayChainArena, BoxedChainArena, ChainArena, HeapChainArena, LimitedChainArena,
+};
 pub use chain_arena_trait::ChainArenaTrait;
 pub use kind::{InsertKind, LinkInsertKind};
 pub use link::{IndexLink, LinkNoGen};

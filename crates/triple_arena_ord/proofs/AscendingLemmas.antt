@@ -21,7 +21,7 @@ use Rattle.triple_arena_chain.specs.UniquenessLaws.{linear_apart}
 use Rattle.rank_tree.specs.Search.{AllIn}
 use Rattle.triple_arena_ord.specs.Ordered.{Ordered, IsOrdered, IsAscending, order_in, entry_in, asked_of}
 use Rattle.triple_arena_ord.specs.Inserted.{StandsAt, IsReplaced, IsAdded, IsInsertedAt}
-use Rattle.triple_arena_ord.specs.Removal.{IsRemoved}
+use Rattle.triple_arena_ord.specs.Removal.{IsEntryRemoved}
 use Rattle.triple_arena_ord.proofs.SortedLemmas.{parts}
 
 module _ {X : Type 0} (R : X → X → Ordering) where
@@ -272,7 +272,7 @@ module _ {K T : Type 0} (R : K → K → Ordering) (key : T → K) (total : IsTo
       by Greater e = ap is_lt e
 
   module _ {I : Type 0} (number : I → ℕ) where
-    pub removed_ascending : (last : Option ℕ) (h : ℕ) (o p : Ordered I T) → IsRemoved number last h o p → IsAscending number R key o → IsAscending number R key p
+    pub removed_ascending : (last : Option ℕ) (h : ℕ) (o p : Ordered I T) → IsEntryRemoved number last h o p → IsAscending number R key o → IsAscending number R key p
     removed_ascending last h o p s ascending =
         let w = order_in number o in
         let f : ℕ → Option (ℕ × (ℕ × T)) = λ i. option_map (λ e. (i, e)) (entry_in p i) in

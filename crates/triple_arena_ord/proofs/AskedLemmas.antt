@@ -15,6 +15,7 @@ use Rattle.rank_tree.specs.Store.{Store, rank_or_link, rank_or_zero}
 use Rattle.rank_tree.specs.Tree.{Tree, leaf, node, walk, rank_of, IsRanked}
 use Rattle.rank_tree.specs.Shape.{knot, root_of, Represents}
 use Rattle.rank_tree.specs.Whole.{IsWhole, tree_of}
+use Rattle.rank_tree.proofs.Spots.{rank_link}
 use Rattle.triple_arena_ord.specs.Asked.{IsWay, Question, IsAsked}
 use Rattle.triple_arena_ord.specs.Node.{knots_among, items_among}
 
@@ -31,10 +32,6 @@ All-push P (y ∷ ys) x all h = (all.0, All-push P ys x all.1 h)
 last-push : {X : Type 0} (o : Option X) (xs : List X) (x : X) → last_or o (xs ++ x ∷ []) ≡ Some x
 last-push o [] x = refl
 last-push o (y ∷ ys) x = last-push (Some y) ys x
-
-rank_link : (n : Store) (p : Option ℕ) (t : Tree) → Represents n p t → rank_or_link n (root_of t) ≡ rank_of t
-rank_link n p leaf h = refl
-rank_link n p (node l i k r) h = ap rank_or_zero h.0
 
 module _ {I T P F : Type 0} (number : I → ℕ) (index generation : P → ℕ) (step : F → P → Bor T → Ordering → F → Type 0) (entry : ℕ → Option (ℕ × IndexNode I T)) where
   abbrev way_of : List (Question P T) → List (ℕ × Ordering)

@@ -10,6 +10,7 @@ use Rattle.triple_arena_ptr.specs.declared.invalidation.InvalidationOption.{Inva
 use Rattle.triple_arena.specs.Compression.{index_of}
 use Rattle.triple_arena.specs.Content.{entry_at}
 use Rattle.triple_arena.specs.Drains.{removals, removal_of}
+use Rattle.triple_arena.proofs.DrainLemmas.{length-removals}
 use Rattle.triple_arena.specs.Entries.{look_up, value_if, without}
 use Rattle.triple_arena.specs.Iterators.{pointer_of}
 use Rattle.triple_arena.specs.Walk.{Walk, IsAhead, ComesBefore, IsFirstLive, past}
@@ -19,14 +20,14 @@ use Rattle.triple_arena_chain.specs.Listed.{listed_value, listed_values}
 use Rattle.triple_arena_chain.specs.ListedLaws.{value-listed, listed_values-increase, listed_values-length}
 use Rattle.triple_arena_chain.specs.declared.link.IndexLink.{IndexLink}
 use Rattle.triple_arena_ord.specs.Indexed.{listed_item, indexed}
-use Rattle.triple_arena_ord.specs.IndexedDrains.{DrainKeeps, DrainKeepsAlong}
+use Rattle.triple_arena_ord.specs.IndexDrains.{DrainKeeps, DrainKeepsAlong}
 use Rattle.triple_arena_ord.specs.Node.{itemed}
 use Rattle.triple_arena_ord.specs.Ordered.{Ordered, entry_in, size_in}
 use Rattle.triple_arena_ord.specs.OrderedDrains.{emptied_after}
-use Rattle.triple_arena_ord.specs.Removal.{IsRemoved}
+use Rattle.triple_arena_ord.specs.Removal.{IsEntryRemoved}
 use Rattle.triple_arena_ord.specs.declared.ord_arena.index_drain.Drain.{Drain}
 use Rattle.triple_arena_ord.specs.declared.node.IndexNode.{IndexNode}
-use Rattle.triple_arena_ord.proofs.OrderedDrainLemmas.{emptied_next, long_removals}
+use Rattle.triple_arena_ord.proofs.OrderedDrainLemmas.{emptied_next}
 
 module _ {E : Type 0} where
   -- the indexes rise, from this one on
@@ -224,12 +225,12 @@ module _ {I T : Type 0} where
     pub record Stepped (old : Ordered I T) (item : InvalidationOption (P × T)) (new : Ordered I T) : Type 0 where
       pub first : removals last old.chains.counter (indexed old) ≡ removal_of index generation item ∷ removals last new.chains.counter (indexed new)
       pub leaves : emptied_after last (size_in new) new ≡ emptied_after last (size_in old) old
-      pub removed : IsRemoved number last (index (value_of item).0) old new
+      pub removed : IsEntryRemoved number last (index (value_of item).0) old new
 
     pub stepped : (old new : Ordered I T) (w : Walk) (p : P) (item : InvalidationOption (P × T)) → IsAllAhead old.chains w
         → IsFirstLive (values_in old.chains) w (index p) (generation p) → (value_of item).0 ≡ p
         → Some (value_of item).1 ≡ value_if (generation p) (entry_in old (index p)) → overflowed item ≡ next_wraps last old.chains.counter
-        → IsRemoved number last (index p) old new → Stepped old item new
+        → IsEntryRemoved number last (index p) old new → Stepped old item new
     stepped old new w p item ahead first pointer value told removed =
         let found = item_of_value (entry_in old (index p)) (generation p) (value_of item).1 value in
         let lower = none_before old w (index p) (generation p) ahead first in
@@ -244,12 +245,12 @@ module _ {I T : Type 0} where
               ∙ ap (λ b. ((index p, (generation p, (value_of item).1)), b) ∷ removals last new.chains.counter (indexed new)) (sym told)
               ∙ ap (λ q. ((index q, (generation q, (value_of item).1)), overflowed item) ∷ removals last new.chains.counter (indexed new)) (sym pointer);
           leaves = emptied_next number last (size_in new) (index p) old new removed ∙ ap (λ n. emptied_after last n old) more;
-          removed = subst (λ q. IsRemoved number last (index q) old new) (sym pointer) removed;
+          removed = subst (λ q. IsEntryRemoved number last (index q) old new) (sym pointer) removed;
         }
 
   -- so many removals are left as entries
   pub removals_counted : (last : Option ℕ) (o : Ordered I T) → size_in o ≡ length (removals last o.chains.counter (indexed o))
-  removals_counted last o = sym (long_removals last o.chains.counter (indexed o) ∙ indexed-length o)
+  removals_counted last o = sym (length-removals last o.chains.counter (indexed o) ∙ indexed-length o)
 
   pub removals_over : (last : Option ℕ) (o : Ordered I T) → ((j : ℕ) → entry_in o j ≡ None) → removals last o.chains.counter (indexed o) ≡ []
   removals_over last o none = ap (removals last o.chains.counter) (none_indexed o none)

@@ -20,7 +20,7 @@ use Rattle.triple_arena_ord.specs.Node.{knots_in, knot_of, itemed}
 use Rattle.rank_tree.specs.Search.{AllIn, Before, IsParted, IsAnswer}
 use Rattle.triple_arena_ord.specs.Ordered.{Ordered, IsOrdered, tree_in, order_in, asked_of, asked_at}
 use Rattle.triple_arena_ord.specs.Placing.{IsPlaceByKey}
-use Rattle.triple_arena_ord.specs.Inserted.{Replaces, StandsAt, IsRenewed, IsReplaced, IsInsertedAt, IsPlacedByKey, IsInserted}
+use Rattle.triple_arena_ord.specs.Inserted.{Replaces, StandsAt, IsRenewed, IsReplaced, IsInsertedAt, IsPlacedByKey, IsKeyInserted}
 use Rattle.rank_tree.proofs.Descents.{AllIn-append, AllIn-map, parted-after, parted-before}
 use Rattle.triple_arena_ord.proofs.PlacingLemmas.{placed_by_key}
 use Rattle.triple_arena_ord.proofs.SeekLemmas.{parts_at, absent}
@@ -143,7 +143,7 @@ module _ {I T : Type 0} (number : I → ℕ) where
       pub inserted_by_key : (o p : Ordered I T) (t : T) (k : K) → k ≡ key t → (place : Option (ℕ × Ordering))
           → (result : Result (P × Option T) OrdInsertionError) → IsOrdered number o
           → IsOrdered number p → IsAnswer (asked_at cmp key k o) (tree_in number o) place
-          → IsInsertedAt number index generation allows place t result o p → IsInserted number cmp key index generation allows t result o p
+          → IsInsertedAt number index generation allows place t result o p → IsKeyInserted number cmp key index generation allows t result o p
       inserted_by_key o p t k k_is place result is new_is found put =
           let answer : IsAnswer (asked_at cmp key (key t) o) (tree_in number o) place =
           subst (λ z. IsAnswer (asked_at cmp key z o) (tree_in number o) place) k_is found in

@@ -23,7 +23,7 @@ pub mod GrowthLemmas
 pub mod SettleLemmas
 pub mod AscendingLemmas
 pub mod AlongLemmas
-pub mod TakenLemmas
+pub mod UprootingLemmas
 pub mod SuccessorLemmas
 pub mod LostEnds
 pub mod LawLemmas

@@ -7,7 +7,7 @@ use Rattle.std.specs.declared.cmp.Ordering.TheVariants.{Equal}
 use Rattle.triple_arena.specs.Entries.{value_if}
 use Rattle.triple_arena_ord.specs.declared.node.IndexNode.{IndexNode}
 use Rattle.std.specs.List.Sorted.{IsSorted}
-use Rattle.counted_search.specs.Searches.{fair}
+use Rattle.counted_search.specs.Searches.{most_comparisons}
 use Rattle.triple_arena_chain.specs.Chains.{IsLinear, On, first_or}
 use Rattle.triple_arena_chain.specs.Links.{ends_in, values_in}
 use Rattle.triple_arena_ord.specs.Node.{items_in, itemed}
@@ -62,7 +62,7 @@ module _ {I T : Type 0} (number : I → ℕ) where
   places_live o inside same is None answer = tt
   places_live o inside same is (Some x) answer = subst (λ z. IsSome (entry_in z (number x.0))) (sym same) (counted_entry number o is (number x.0) (answer.lives (number x.0) x.1 refl))
 
-  pub few_more : (o : Ordered I T) (old new num : ℕ) → IsOrdered number o → new ≤ old + (num + rank_of (tree_in number o)) → new ≤ old + (num + fair (size_in o))
+  pub few_more : (o : Ordered I T) (old new num : ℕ) → IsOrdered number o → new ≤ old + (num + rank_of (tree_in number o)) → new ≤ old + (num + most_comparisons (size_in o))
   few_more o old new num is ticks = let h = few number o (old + num) new is (omega (arith, ticks)) in omega (arith, h)
 
   module _ {K : Type 0} (cmp : K → K → Ordering) (key : T → K) where

@@ -6,21 +6,22 @@ use Rattle.triple_arena_ptr.specs.Generation.{next_generation, next_wraps}
 use Rattle.triple_arena_ptr.specs.InvalidationOption.{value_of, overflowed}
 use Rattle.triple_arena_ptr.specs.declared.invalidation.InvalidationOption.{InvalidationOption}
 use Rattle.triple_arena.specs.Drains.{removals}
+use Rattle.triple_arena.proofs.DrainLemmas.{length-removals}
 use Rattle.triple_arena.specs.Entries.{without}
 use Rattle.triple_arena_chain.specs.Chains.{Off, On, Apart, first_or}
 use Rattle.triple_arena_chain.specs.ChainLaws.{Off-not_on, On-cons}
 use Rattle.triple_arena_chain.specs.ListLaws.{On-first}
 use Rattle.triple_arena_chain.specs.Links.{ends_in}
 use Rattle.triple_arena_chain.specs.UniquenessLaws.{linear_apart}
-use Rattle.triple_arena_ord.specs.Ordered.{Ordered, IsOrdered, order_in, entry_in, size_in, listed, listed_at}
+use Rattle.triple_arena_ord.specs.Ordered.{Ordered, IsOrdered, order_in, entry_in, size_in, ordered_entries, entries_at}
 use Rattle.triple_arena_ord.specs.OrderedDrains.{emptied_after, IsFirstTaken, TakesFirst, drain_arena, drain_lender, drain_rest, IsOn, DrainSteps, DrainKeepsAlong}
-use Rattle.triple_arena_ord.specs.Removal.{Loses, IsRemoved}
+use Rattle.triple_arena_ord.specs.Removal.{Loses, IsEntryRemoved}
 use Rattle.triple_arena_ord.specs.declared.ord_arena.drain.OrderedDrain.{OrderedDrain}
 use Rattle.triple_arena_ord.proofs.OrderedWalkLemmas.{listed_first, on_lives}
 
 module _ {I T : Type 0} where
   -- an index that is not listed can go
-  listed_other : (o p : Ordered I T) (h : ℕ) → ((k : ℕ) → entry_in p k ≡ without (entry_in o) h k) → (xs : List ℕ) → Off xs h → listed_at p xs ≡ listed_at o xs
+  listed_other : (o p : Ordered I T) (h : ℕ) → ((k : ℕ) → entry_in p k ≡ without (entry_in o) h k) → (xs : List ℕ) → Off xs h → entries_at p xs ≡ entries_at o xs
   listed_other o p h entries [] off = refl
   listed_other o p h entries (x ∷ xs) off =
       let same : entry_in p x ≡ entry_in o x = entries x ∙ rw (ne_eqb x h off.0) refl in
@@ -45,18 +46,18 @@ module _ {I T : Type 0} where
             absurd (Off-not_on before lost.after h (subst (λ y. Off (before ++ h ∷ lost.after) y) same apart.0))
 
     -- the entries are listed without the first
-    pub first_gone : (last : Option ℕ) (entry : ℕ × T) → first_or (order_in number o) None ≡ Some h → entry_in o h ≡ Some entry → IsRemoved number last h o p
-        → listed number o ≡ (h, entry) ∷ listed number p
+    pub first_gone : (last : Option ℕ) (entry : ℕ × T) → first_or (order_in number o) None ≡ Some h → entry_in o h ≡ Some entry → IsEntryRemoved number last h o p
+        → ordered_entries number o ≡ (h, entry) ∷ ordered_entries number p
     first_gone last entry first at removed =
         let s = shorter first removed.order in
         let off = (subst Apart s.was (linear_apart (ends_in number o.chains) None (order_in number o) is.linear)).0 in
-        ap (listed_at o) s.was ∙ listed_first o h entry s.after at
+        ap (entries_at o) s.was ∙ listed_first o h entry s.after at
         ∙ ap (λ l. (h, entry) ∷ l) (sym (listed_other o p h removed.entries s.after off))
-        ∙ ap (λ l. (h, entry) ∷ listed_at p l) (sym s.now)
+        ∙ ap (λ l. (h, entry) ∷ entries_at p l) (sym s.now)
 
   -- nothing is listed where there is no first
-  pub none_first : (number : I → ℕ) (o : Ordered I T) → first_or (order_in number o) None ≡ None → listed number o ≡ []
-  none_first number o none = ap (listed_at o) (nil (order_in number o) none)
+  pub none_first : (number : I → ℕ) (o : Ordered I T) → first_or (order_in number o) None ≡ None → ordered_entries number o ≡ []
+  none_first number o none = ap (entries_at o) (nil (order_in number o) none)
     where
       nil : (w : List ℕ) → first_or w None ≡ None → w ≡ []
       nil [] h = refl
@@ -70,7 +71,7 @@ module _ {I T : Type 0} where
         → value_of item ≡ (q, t) → overflowed item ≡ wrapped
         → (let u : Option ((G × T) × Bool) = Some ((gen, t), wrapped) in u) ≡ option_map (λ a. (let v : (G × T) × Bool = (value_of a, overflowed a) in v)) r
         → option_map (λ b. (stamp (value_of b).0, (value_of b).1)) r ≡ entry_in o h
-        → option_map overflowed r ≡ Some (next_wraps last o.chains.counter) → IsRemoved number last h o p
+        → option_map overflowed r ≡ Some (next_wraps last o.chains.counter) → IsEntryRemoved number last h o p
         → IsFirstTaken number last index generation item o p
     taken_by o p h None q gen t wrapped item is first at_h is_gen value wraps told entry overflow removed =
         absurd (let never : (let u : Option ((G × T) × Bool) = Some ((gen, t), wrapped) in u) ≡ None = told in cc)
@@ -83,39 +84,34 @@ module _ {I T : Type 0} where
         let here : index (value_of item).0 ≡ h = ap (λ v. index v.0) value ∙ at_h in
         record {
           first = first_gone number o p is h last (stamp gen, t) first found removed
-              ∙ ap (λ n. (n, (stamp gen, t)) ∷ listed number p) (sym at_h)
-              ∙ ap (λ n. (index q, (n, t)) ∷ listed number p) (sym is_gen)
-              ∙ ap (λ v. (index v.0, (generation v.0, v.1)) ∷ listed number p) (sym value);
+              ∙ ap (λ n. (n, (stamp gen, t)) ∷ ordered_entries number p) (sym at_h)
+              ∙ ap (λ n. (index q, (n, t)) ∷ ordered_entries number p) (sym is_gen)
+              ∙ ap (λ v. (index v.0, (generation v.0, v.1)) ∷ ordered_entries number p) (sym value);
           overflow = wraps ∙ ap (λ v. v.1) given ∙ over;
-          removed = subst (λ k. IsRemoved number last k o p) (sym here) removed;
+          removed = subst (λ k. IsEntryRemoved number last k o p) (sym here) removed;
         }
 
 -- what is left in the end
-pub emptied_next : {I T : Type 0} (number : I → ℕ) (last : Option ℕ) (n h : ℕ) (o p : Ordered I T) → IsRemoved number last h o p
+pub emptied_next : {I T : Type 0} (number : I → ℕ) (last : Option ℕ) (n h : ℕ) (o p : Ordered I T) → IsEntryRemoved number last h o p
     → emptied_after last n p ≡ emptied_after last (suc n) o
 emptied_next number last n h o p removed = rw (removed.room, removed.counter) refl
 
--- so many are left to remove as are listed
-pub long_removals : {T : Type 0} (last : Option ℕ) (counter : ℕ) (entries : List (ℕ × (ℕ × T))) → length (removals last counter entries) ≡ length entries
-long_removals last counter [] = refl
-long_removals last counter (e ∷ entries) = let rest = long_removals last (next_generation last counter) entries in omega (arith, rest)
-
 module _ {I T : Type 0} (number : I → ℕ) (o : Ordered I T) (is : IsOrdered number o) where
-  listed_length : (xs : List ℕ) → ((i : ℕ) → On xs i → IsSome (entry_in o i)) → length (listed_at o xs) ≡ length xs
+  listed_length : (xs : List ℕ) → ((i : ℕ) → On xs i → IsSome (entry_in o i)) → length (entries_at o xs) ≡ length xs
   listed_length [] live = refl
   listed_length (x ∷ xs) live = by (listed_length xs (λ i on. live i (On-cons x i xs on))) (entry_in o x) refl (live x (On-first x xs))
     where
-      by : length (listed_at o xs) ≡ length xs → (v : Option (ℕ × T)) → entry_in o x ≡ v → IsSome v → length (listed_at o (x ∷ xs)) ≡ length (x ∷ xs)
+      by : length (entries_at o xs) ≡ length xs → (v : Option (ℕ × T)) → entry_in o x ≡ v → IsSome v → length (entries_at o (x ∷ xs)) ≡ length (x ∷ xs)
       by rest None at some = absurd (cc)
       by rest (Some entry) at some = ap length (listed_first o x entry xs at) ∙ omega (arith, rest)
 
   -- so many are listed as entries are left
-  pub all_listed : length (listed number o) ≡ size_in o
+  pub all_listed : length (ordered_entries number o) ≡ size_in o
   all_listed = listed_length (order_in number o) (on_lives number o is) ∙ is.counted
 
   -- and so many are left to remove
-  pub removals_left : (last : Option ℕ) → length (removals last o.chains.counter (listed number o)) ≡ size_in o
-  removals_left last = long_removals last o.chains.counter (listed number o) ∙ all_listed
+  pub removals_left : (last : Option ℕ) → length (removals last o.chains.counter (ordered_entries number o)) ≡ size_in o
+  removals_left last = length-removals last o.chains.counter (ordered_entries number o) ∙ all_listed
 
 module _ {P T S Inx Gen Alloc : Type 0} (last : Option ℕ) (number : Inx → ℕ) (index generation : P → ℕ) where
   -- the first entry leaves: a drain gives its removal, and is on by one
@@ -124,7 +120,7 @@ module _ {P T S Inx Gen Alloc : Type 0} (last : Option ℕ) (number : Inx → �
       → DrainSteps last number index generation old item new
   drain_steps None old new took lender =
       let rest : drain_rest last number old ≡ [] = ap (removals last (drain_arena old).chains.counter) took.0 in (
-        (rest, ap (λ (o : Ordered Inx T). removals last o.chains.counter (listed number o)) took.1 ∙ rest),
+        (rest, ap (λ (o : Ordered Inx T). removals last o.chains.counter (ordered_entries number o)) took.1 ∙ rest),
         record { lender = lender; leaves = ap (emptied_after last 1) took.1 },
         took,
       )

@@ -14,7 +14,7 @@ use Rattle.triple_arena_ord.specs.declared.node.IndexNode.{IndexNode}
 use Rattle.triple_arena_ord.specs.Node.{knots_in, itemed}
 use Rattle.triple_arena_ord.specs.Ordered.{Ordered, IsOrdered, tree_in, order_in, entry_in}
 use Rattle.triple_arena_ord.specs.OrderedWalks.{OrderedWalk, walk_at, from_index, from_where, along, IsFrom, left_over, IsEnd, IsGiven, IsOver}
-use Rattle.triple_arena_ord.specs.Ordered.{listed_at}
+use Rattle.triple_arena_ord.specs.Ordered.{entries_at}
 use Rattle.triple_arena_ord.proofs.EndLemmas.{last_some}
 use Rattle.triple_arena_ord.proofs.GapLemmas.{linear_ends}
 use Rattle.triple_arena_ord.proofs.LawLemmas.{stands}
@@ -256,5 +256,5 @@ chosen number b false x prev next is same = rw is (ap (option_map number) same)
 
 -- an entry that is listed
 pub listed_first : {I T : Type 0} (o : Ordered I T) (i : ℕ) (entry : ℕ × T) (is : List ℕ) → entry_in o i ≡ Some entry
-    → listed_at o (i ∷ is) ≡ (i, entry) ∷ listed_at o is
+    → entries_at o (i ∷ is) ≡ (i, entry) ∷ entries_at o is
 listed_first o i entry is at = rw at refl

@@ -9,8 +9,8 @@ use Rattle.triple_arena_chain.specs.Links.{values_in}
 use Rattle.rank_tree.specs.Knot.{Knot}
 use Rattle.triple_arena_ord.specs.declared.node.IndexNode.{IndexNode}
 use Rattle.triple_arena_ord.specs.Node.{knots_in, knot_of, itemed}
-use Rattle.counted_search.specs.Searches.{fair}
-use Rattle.counted_search.specs.SearchLaws.{fair-greatest}
+use Rattle.counted_search.specs.Searches.{most_comparisons}
+use Rattle.counted_search.specs.SearchLaws.{most_comparisons-greatest}
 use Rattle.rank_tree.specs.Tree.{Tree, leaf, node, walk, rank_of, size}
 use Rattle.rank_tree.specs.Shape.{count}
 use Rattle.rank_tree.specs.Search.{AllIn, Before, IsParted, IsAnswer, IsFreeAt}
@@ -72,10 +72,10 @@ unequal f (node l x r_k r) (Some p) is not parted = by p.1 refl
         ((λ u. absurd (cc)), AllIn-map (λ y. f y ≡ Less) (λ y. f y ≢ Equal) (λ y z u. absurd (cc)) places.after (places.greater refl)))
 
 -- the ticks of a search are few
-pub few : {I T : Type 0} (number : I → ℕ) (o : Ordered I T) (old new : ℕ) → IsOrdered number o → new ≤ old + rank_of (tree_in number o) → new ≤ old + fair (size_in o)
+pub few : {I T : Type 0} (number : I → ℕ) (o : Ordered I T) (old new : ℕ) → IsOrdered number o → new ≤ old + rank_of (tree_in number o) → new ≤ old + most_comparisons (size_in o)
 few number o old new is ticks = by (tree_in number o) refl
   where
-    by : (t : Tree) → tree_in number o ≡ t → new ≤ old + fair (size_in o)
+    by : (t : Tree) → tree_in number o ≡ t → new ≤ old + most_comparisons (size_in o)
     by leaf e = let z : rank_of (tree_in number o) ≡ 0 = ap rank_of e in omega arith
     by (node l i k r) e =
         let t = tree_in number o in
@@ -83,7 +83,7 @@ few number o old new is ticks = by (tree_in number o) refl
         let some : size t ≡ size l + size r + 1 = ap size e in
         let b : 2 ^ (rank_of t + 1) ≤ (size t + 1) * (size t + 1) = size_bound t is.whole.ranked (omega (arith, some)) in
         let s : 2 ^ (rank_of t + 1) ≤ (size_in o + 1) * (size_in o + 1) = subst (λ z. 2 ^ (rank_of t + 1) ≤ (z + 1) * (z + 1)) n b in
-        let m = fair-greatest (size_in o) (rank_of t) s in
+        let m = most_comparisons-greatest (size_in o) (rank_of t) s in
         omega (arith, m, ticks)
 
 module _ {I K T : Type 0} (number : I → ℕ) (cmp : K → K → Ordering) (key : T → K) (k : K) where
@@ -128,13 +128,10 @@ module _ {I K T : Type 0} (number : I → ℕ) (cmp : K → K → Ordering) (key
   asked-equal None h = absurd (cc)
   asked-equal (Some e) h = (refl, let z : cmp k (key e.1) ≡ Equal = cc in z)
 
-  pub lives-entry : (o : Ordered I T) → IsOrdered number o → (j : ℕ) → 0 < count j (tree_in number o) → IsSome (entry_in o j)
-  lives-entry o is j h = counted_entry number o is j h
-
   -- a sorted list parts at a key
   pub parts_at : IsTotalOrder cmp → (o : Ordered I T) → IsOrdered number o → IsAscending number cmp key o → IsParted (asked_at cmp key k o) (order_in number o)
   parts_at total o is ascending =
-      parted_from total key (entry_in o) k (order_in number o) (counted-all (λ i. IsSome (entry_in o i)) (tree_in number o) (λ j h. lives-entry o is j h)) ascending
+      parted_from total key (entry_in o) k (order_in number o) (counted-all (λ i. IsSome (entry_in o i)) (tree_in number o) (λ j h. counted_entry o is j h)) ascending
 
   pub absent : IsTotalOrder cmp → (o : Ordered I T) → IsOrdered number o → (a : Option (ℕ × Ordering)) → IsAnswer (asked_at cmp key k o) (tree_in number o) a → ((i : ℕ) (d : Ordering) → a ≡ Some (i, d) → d ≢ Equal)
       → IsAscending number cmp key o → (j : ℕ) → option_map (λ e. cmp k (key e.1)) (entry_in o j) ≢ Some Equal

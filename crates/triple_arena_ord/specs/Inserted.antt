@@ -131,7 +131,7 @@ module _ {I T : Type 0} (number : I → ℕ) where
     module _ {P : Type 0} (index generation : P → ℕ) (allows : Option OrdInsertionError → Type 0) where
       -- an insertion by key: an item with an equal key is replaced, whether or not there is room; else there is one more entry,
       -- where the room allows it
-      pub record IsInserted (t : T) (result : Result (P × Option T) OrdInsertionError) (old new : Ordered I T) : Type 0 where
+      pub record IsKeyInserted (t : T) (result : Result (P × Option T) OrdInsertionError) (old new : Ordered I T) : Type 0 where
         pub replaced : (p : P) (u : T) → result ≡ Ok (p, Some u) → (cmp (key t) (key u) ≡ Equal) × IsReplaced (index p) (generation p) t u old new
         pub added : (p : P) → result ≡ Ok (p, None) → IsPlacedByKey (key t) (index p) old new × IsAdded (index p) (generation p) t old new
         pub fits : (p : P) → result ≡ Ok (p, None) → allows None

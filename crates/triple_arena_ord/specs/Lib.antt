@@ -17,4 +17,4 @@ pub mod Ascending
 pub mod OrderedWalks
 pub mod OrderedDrains
 pub mod Indexed
-pub mod IndexedDrains
+pub mod IndexDrains

@@ -59,8 +59,8 @@ module _ {I T : Type 0} where
   asked_at cmp key k o i = asked_of cmp key k (entry_in o i)
 
   -- the entries at these indexes, each beside its index
-  abbrev pub listed_at : Ordered I T → List ℕ → List (ℕ × (ℕ × T))
-  listed_at o w = entries_along (entry_in o) w
+  abbrev pub entries_at : Ordered I T → List ℕ → List (ℕ × (ℕ × T))
+  entries_at o w = entries_along (entry_in o) w
 
   -- how many entries
   abbrev pub size_in : Ordered I T → ℕ
@@ -84,8 +84,8 @@ module _ {I T : Type 0} (number : I → ℕ) where
   order_in o = walk (tree_in o)
 
   -- the index, generation and item of each entry, in order
-  abbrev pub listed : Ordered I T → List (ℕ × (ℕ × T))
-  listed o = listed_at o (order_in o)
+  abbrev pub ordered_entries : Ordered I T → List (ℕ × (ℕ × T))
+  ordered_entries o = entries_at o (order_in o)
 
   -- the tree keeps the rank rules and has each live index once; its walk is the one chain
   pub record IsOrdered (o : Ordered I T) : Type 0 where

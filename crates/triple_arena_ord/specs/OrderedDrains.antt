@@ -8,8 +8,8 @@ use Rattle.triple_arena_ptr.specs.InvalidationOption.{value_of, overflowed}
 use Rattle.triple_arena_ptr.specs.declared.invalidation.InvalidationOption.{InvalidationOption}
 use Rattle.triple_arena.specs.Content.{emptied, with_counter}
 use Rattle.triple_arena.specs.Drains.{removals, removal_of}
-use Rattle.triple_arena_ord.specs.Ordered.{Ordered, listed}
-use Rattle.triple_arena_ord.specs.Removal.{IsRemoved}
+use Rattle.triple_arena_ord.specs.Ordered.{Ordered, ordered_entries}
+use Rattle.triple_arena_ord.specs.Removal.{IsEntryRemoved}
 use Rattle.triple_arena_ord.specs.declared.ord_arena.drain.OrderedDrain.{OrderedDrain}
 
 -- no entry and no slot, after so many steps of the counter
@@ -27,13 +27,13 @@ steps_made (Some item) = 1
 module _ {P I T : Type 0} (number : I → ℕ) (last : Option ℕ) (index generation : P → ℕ) where
   -- an item is the removal of the first entry of the list, and whether its step started the generations again
   pub record IsFirstTaken (item : InvalidationOption (P × T)) (old new : Ordered I T) : Type 0 where
-    pub first : listed number old ≡ (index (value_of item).0, (generation (value_of item).0, (value_of item).1)) ∷ listed number new
+    pub first : ordered_entries number old ≡ (index (value_of item).0, (generation (value_of item).0, (value_of item).1)) ∷ ordered_entries number new
     pub overflow : overflowed item ≡ next_wraps last old.chains.counter
-    pub removed : IsRemoved number last (index (value_of item).0) old new
+    pub removed : IsEntryRemoved number last (index (value_of item).0) old new
 
   -- the first entry left, if there was one
   abbrev pub TakesFirst : Option (InvalidationOption (P × T)) → Ordered I T → Ordered I T → Type 0
-  TakesFirst None old new = (listed number old ≡ []) × (new ≡ old)
+  TakesFirst None old new = (ordered_entries number old ≡ []) × (new ≡ old)
   TakesFirst (Some item) old new = IsFirstTaken item old new
 
 module _ {P T S Inx Gen Alloc : Type 0} where
@@ -58,7 +58,7 @@ module _ {P T S Inx Gen Alloc : Type 0} where
     module _ (number : Inx → ℕ) where
       -- the removals that are still to come
       abbrev pub drain_rest : OrderedDrain P T S Inx Gen Alloc → List ((ℕ × (ℕ × T)) × Bool)
-      drain_rest d = removals last (drain_arena d).chains.counter (listed number (drain_arena d))
+      drain_rest d = removals last (drain_arena d).chains.counter (ordered_entries number (drain_arena d))
 
       module _ (index generation : P → ℕ) where
         -- a step gives the first removal that is still to come, which it has made, or nothing where there is none

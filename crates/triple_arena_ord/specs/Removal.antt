@@ -30,7 +30,7 @@ pub record IsUprooted {I T : Type 0} (number : I → ℕ) (old new : Ordered I T
 
 -- one entry less: the list is without its index, every other pointer finds the item that it found, the counter steps, and the
 -- slot is popped where it is the last one, and else is the next one to be taken
-pub record IsRemoved {I T : Type 0} (number : I → ℕ) (last : Option ℕ) (h : ℕ) (old new : Ordered I T) : Type 0 where
+pub record IsEntryRemoved {I T : Type 0} (number : I → ℕ) (last : Option ℕ) (h : ℕ) (old new : Ordered I T) : Type 0 where
   pub order : Loses (order_in number old) (order_in number new) h
   pub entries : (k : ℕ) → entry_in new k ≡ without (entry_in old) h k
   pub size : size_in new + 1 ≡ size_in old
@@ -42,4 +42,4 @@ pub record IsRemoved {I T : Type 0} (number : I → ℕ) (last : Option ℕ) (h 
 -- the entry of this item, under its pointer, is removed; nothing is where there is no item
 abbrev pub Removes : {P I T : Type 0} → (I → ℕ) → Option ℕ → (P → ℕ) → Option (InvalidationOption (P × T)) → Ordered I T → Ordered I T → Type 0
 Removes number last index None old new = new ≡ old
-Removes number last index (Some item) old new = IsRemoved number last (index (value_of item).0) old new
+Removes number last index (Some item) old new = IsEntryRemoved number last (index (value_of item).0) old new

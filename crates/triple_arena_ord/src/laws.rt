@@ -1,5 +1,5 @@
 //! What follows from the calls of an ordered arena.
-ghost use Rattle.std.specs.Prelude.{◌≡◌, ◌≢◌, ◌+◌, ◌*◌, ◌^◌, ◌<◌, ◌≤◌, ℕ, Bool, List, ◌∷◌, ◌++◌, Option, Some, None, IsSome, Result};
+ghost use Rattle.std.specs.Prelude.{◌≡◌, ◌≢◌, ◌+◌, ◌*◌, ◌^◌, ◌<◌, ◌≤◌, ℕ, Bool, List, ◌∷◌, ◌++◌, length, Option, Some, None, IsSome, Result};
 ghost use Rattle.std.specs.List.{AllByRecursion};
 ghost use Rattle.std.specs.Option.{option_map};
 ghost use Rattle.std.specs.declared.cmp.Ordering.{Ordering as Way};
@@ -8,9 +8,9 @@ ghost use Rattle.triple_arena_chain.specs.Chains.{On};
 ghost use Rattle.triple_arena_ord.specs.Asked.{IsWay};
 ghost use Rattle.triple_arena_ord.specs.AskedLaws.{IsCutAt, last_greater, last_less};
 ghost use Rattle.triple_arena_ord.specs.Inserted.{IsInsertedAt, IsReplaced, either_room};
-ghost use Rattle.triple_arena_ord.specs.Ordered.{Ordered, IsOrdered, IsAscending, tree_in, order_in, entry_in, size_in, asked_at};
+ghost use Rattle.triple_arena_ord.specs.Ordered.{Ordered, IsOrdered, IsAscending, tree_in, order_in, ordered_entries, entry_in, size_in, asked_at};
 ghost use Rattle.triple_arena_ord.specs.Placing.{IsPlaceByKey, IsPlaceBeforeEqual};
-ghost use Rattle.triple_arena_ord.specs.Removal.{IsRemoved};
+ghost use Rattle.triple_arena_ord.specs.Removal.{IsEntryRemoved};
 ghost use Rattle.rank_tree.specs.Search.{AllIn};
 ghost use Rattle.triple_arena_ord.specs.States.{with_item};
 ghost use Rattle.rank_tree.specs.Tree.{height, rank_of};
@@ -22,6 +22,11 @@ use triple_arena::PtrCore;
 pub fn entries_stand_in_the_list<P: PtrCore, T>()
     ensures { (o : Ordered P.Inx T) (i : ℕ) → IsOrdered P.Inx.number o → IsSome (entry_in o i)
         → On (order_in P.Inx.number o) i }
+{}
+
+/// The list has as many entries as are live.
+pub fn the_list_has_as_many_entries_as_are_live<P: PtrCore, T>()
+    ensures { (o : Ordered P.Inx T) → IsOrdered P.Inx.number o → length (ordered_entries P.Inx.number o) ≡ size_in o }
 {}
 
 /// No path in the tree has more nodes than the rank r of the root, and among n entries, where there is one, `2^(r+1) <= (n+1)^2`.
@@ -56,7 +61,7 @@ pub fn keys_that_stay_ascend<P: PtrCore, T: SimpleOrdItem>()
 
 /// A list whose keys ascend still does after a removal.
 pub fn removals_keep_keys_ascending<P: PtrCore, T: SimpleOrdItem>()
-    ensures { (last : Option ℕ) (i : ℕ) (old new : Ordered P.Inx T) → IsRemoved P.Inx.number last i old new
+    ensures { (last : Option ℕ) (i : ℕ) (old new : Ordered P.Inx T) → IsEntryRemoved P.Inx.number last i old new
         → IsAscending P.Inx.number T.Key.cmp T.key_of old → IsAscending P.Inx.number T.Key.cmp T.key_of new }
 {}
 

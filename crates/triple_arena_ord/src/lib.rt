@@ -5,21 +5,21 @@
 mod ascends;
 mod asks;
 mod edges;
-mod inserted;
+mod insertion_repair;
 mod item;
 mod kind;
 mod knots;
 pub mod laws;
 mod leaf;
+mod list_searches;
 mod looks;
 mod node;
 mod ord_arena;
 mod pair;
-mod removed;
+mod removal_repair;
 mod slots;
-mod taken;
 mod turn;
-mod walks;
+mod uprooting;
 
 /// The advancers, the iterators and the drains of `SimpleOrdArena`.
 pub mod ord_iterators {
@@ -42,8 +42,8 @@ pub mod ord_iterators {
 pub use item::SimpleOrdItem;
 pub use kind::{InsertKind, OrdEntryKind, OrdInsertKind};
 pub use node::{IndexNode, SimpleOrdArenaNode};
-pub use ord_arena::SimpleOrdArena;
 pub use ord_arena::entry::SimpleOrdArenaInsertEntry;
+pub use ord_arena::{ArrayOrdArena, BoxedOrdArena, HeapOrdArena, LimitedOrdArena, SimpleOrdArena};
 pub use pair::OrdPair;
 pub use slots::OrdSlots;
 pub use triple_arena_ptr::{OrdInsertionError, Probes};

@@ -43,8 +43,11 @@ use crate::leaf::{insert_leaf, moved};
 use crate::{IndexNode, OrdSlots, SimpleOrdArenaNode};
 use rank_tree::Side;
 use std::marker::Model;
-use triple_arena::{ArenaTrait, NotWithinCapacityError, PtrCore};
-use triple_arena_chain::ChainArena;
+use triple_arena::{
+    ArenaSlot, ArenaTrait, NonZeroInxArray, NonZeroInxBoxedSlice, NonZeroInxLimitedVec,
+    NonZeroInxVec, NotWithinCapacityError, PtrCore,
+};
+use triple_arena_chain::{ChainArena, LinkNoGen};
 
 /// Items in one list, each with a pointer, and a search tree over them. An insertion that searches puts an item where its key
 /// belongs.
@@ -55,6 +58,34 @@ pub struct SimpleOrdArena<P: PtrCore, T: Drop, S: OrdSlots<P, T>> {
     pub(crate) first: Option<P::Inx>,
     pub(crate) last: Option<P::Inx>,
 }
+
+/// An ordered arena in a vector, which grows without a limit of its own.
+pub type HeapOrdArena<P, T, A> = SimpleOrdArena<
+    P,
+    T,
+    NonZeroInxVec<ArenaSlot<P, LinkNoGen<P, SimpleOrdArenaNode<P, T>>>, A>,
+>;
+
+/// An ordered arena in a vector, which grows up to a limit that can be set.
+pub type LimitedOrdArena<P, T, A> = SimpleOrdArena<
+    P,
+    T,
+    NonZeroInxLimitedVec<ArenaSlot<P, LinkNoGen<P, SimpleOrdArenaNode<P, T>>>, A>,
+>;
+
+/// An ordered arena in a boxed slice, which keeps the capacity that it is made with.
+pub type BoxedOrdArena<P, T, A> = SimpleOrdArena<
+    P,
+    T,
+    NonZeroInxBoxedSlice<ArenaSlot<P, LinkNoGen<P, SimpleOrdArenaNode<P, T>>>, A>,
+>;
+
+/// An ordered arena in an array, which takes no memory.
+pub type ArrayOrdArena<P, T, const LIMIT: usize> = SimpleOrdArena<
+    P,
+    T,
+    NonZeroInxArray<ArenaSlot<P, LinkNoGen<P, SimpleOrdArenaNode<P, T>>>, LIMIT>,
+>;
 
 impl<P: PtrCore, T: Drop, S: OrdSlots<P, T>> Model for SimpleOrdArena<P, T, S> {
     ghost use Rattle.std.specs.Prelude.{◌≡◌, None};

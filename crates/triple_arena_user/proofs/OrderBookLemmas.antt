@@ -11,10 +11,10 @@ use Rattle.triple_arena_ptr.specs.declared.errors.OrdInsertionError.{OrdInsertio
 use Rattle.triple_arena_ptr.specs.declared.errors.OrdInsertionError.TheVariants.{NotWithinCapacity}
 use Rattle.triple_arena_chain.specs.Chains.{On, Apart, first_or}
 use Rattle.triple_arena_ord.specs.declared.pair.OrdPair.{OrdPair}
-use Rattle.triple_arena_ord.specs.Inserted.{IsInserted, IsPlacedByKey, within_room}
-use Rattle.triple_arena_ord.specs.Ordered.{Ordered, IsOrdered, IsAscending, order_in, entry_in, listed, asked_at, size_in}
+use Rattle.triple_arena_ord.specs.Inserted.{IsKeyInserted, IsPlacedByKey, within_room}
+use Rattle.triple_arena_ord.specs.Ordered.{Ordered, IsOrdered, IsAscending, order_in, entry_in, asked_at, size_in}
 use Rattle.triple_arena_ord.specs.OrderedWalks.{OrderedWalk, OrderedSteps, left_over}
-use Rattle.triple_arena_ord.specs.Removal.{IsRemoved}
+use Rattle.triple_arena_ord.specs.Removal.{IsEntryRemoved}
 use Rattle.rank_tree.specs.Search.{AllIn}
 use Rattle.triple_arena_user.specs.OrderBooks.{orders_in, price_in, IsFreePrice, IsNewOrder, IsBook, IsNextPrice, IsLastPrice, as_order}
 
@@ -152,7 +152,7 @@ module _ {I V : Type 0} where
         at_of Q on.front j on.back (subst (AllIn Q) (sym placed.was ∙ on.is) (joined Q placed.before placed.after low high)) (asked_price old price j is)
 
     -- the book without an order
-    pub removed_book : (last : Option ℕ) (i : ℕ) → IsBook number old → IsRemoved number last i old new
+    pub removed_book : (last : Option ℕ) (i : ℕ) → IsBook number old → IsEntryRemoved number last i old new
         → (IsAscending number nat_cmp price_of old → IsAscending number nat_cmp price_of new) → IsBook number new
     removed_book last i book removed ascending = record {
       ascending = ascending book.ascending;
@@ -161,7 +161,7 @@ module _ {I V : Type 0} where
           (sym (ap (option_map (λ (e : ℕ × OrdPair ℕ V). e.1.k)) (removed.entries k)) ∙ second);
     }
 
-    pub removed_orders : (last : Option ℕ) (i : ℕ) → IsRemoved number last i old new
+    pub removed_orders : (last : Option ℕ) (i : ℕ) → IsEntryRemoved number last i old new
         → (k : ℕ) → orders_in new k ≡ without (orders_in old) i k
     removed_orders last i removed k = ap (option_map (λ (e : ℕ × OrdPair ℕ V). (let order : ℕ × (ℕ × V) = (e.0, (e.1.k, e.1.v)) in order))) (removed.entries k)
         ∙ orders-without (entry_in old) i k
@@ -174,7 +174,7 @@ module _ {I V : Type 0} where
         pub taken : IsFreePrice old t.k → ⊥
         pub book : IsBook number new
 
-      pub replaced : IsInserted number nat_cmp price_of index generation (within_room (size_in old) old.chains.room) t result old new
+      pub replaced : IsKeyInserted number nat_cmp price_of index generation (within_room (size_in old) old.chains.room) t result old new
           → (IsAscending number nat_cmp price_of old → IsAscending number nat_cmp price_of new) → IsBook number old
           → (p : P) (u : OrdPair ℕ V) → result ≡ Ok (p, Some u) → Replaced p u
       replaced inserted ascending book p u is =
@@ -202,7 +202,7 @@ module _ {I V : Type 0} where
         pub fits : arena_capacity old.chains ≤ live_count old.chains → ⊥
         pub book : IsBook number new
 
-      pub grown : IsInserted number nat_cmp price_of index generation (within_room (size_in old) old.chains.room) t result old new
+      pub grown : IsKeyInserted number nat_cmp price_of index generation (within_room (size_in old) old.chains.room) t result old new
           → ((j : ℕ) → IsSome (entry_in old j) → On (order_in number old) j)
           → (IsAscending number nat_cmp price_of old → IsAscending number nat_cmp price_of new) → IsBook number old
           → (p : P) → result ≡ Ok (p, None) → Grown p
@@ -233,7 +233,7 @@ module _ {I V : Type 0} where
         pub full : arena_capacity old.chains ≤ live_count old.chains
         pub same : new ≡ old
 
-      pub refused : IsInserted number nat_cmp price_of index generation (within_room (size_in old) old.chains.room) t result old new → IsBook number old
+      pub refused : IsKeyInserted number nat_cmp price_of index generation (within_room (size_in old) old.chains.room) t result old new → IsBook number old
           → (error : OrdInsertionError) → result ≡ Err error → Full error
       refused inserted book error is =
           let why = inserted.refused error is in
@@ -261,7 +261,7 @@ pub record Answered {P I V : Type 0} (index generation : P → ℕ) (number : I 
   pub err : OnErr answer (new ≡ old)
 
 module _ {P I V : Type 0} (index generation : P → ℕ) (number : I → ℕ) (old new : Ordered I (OrdPair ℕ V)) (t : OrdPair ℕ V) where
-  answered_ok : (p : P) (o : Option (OrdPair ℕ V)) → IsInserted number nat_cmp price_of index generation (within_room (size_in old) old.chains.room) t (Ok (p, o)) old new
+  answered_ok : (p : P) (o : Option (OrdPair ℕ V)) → IsKeyInserted number nat_cmp price_of index generation (within_room (size_in old) old.chains.room) t (Ok (p, o)) old new
       → ((j : ℕ) → IsSome (entry_in old j) → On (order_in number old) j)
       → (IsAscending number nat_cmp price_of old → IsAscending number nat_cmp price_of new) → IsBook number old
       → Answered index generation number old new t.k t.v (Ok (p, option_map (λ (pair : OrdPair ℕ V). pair.v) o))
@@ -290,7 +290,7 @@ module _ {P I V : Type 0} (index generation : P → ℕ) (number : I → ℕ) (o
         err = tt;
       }
 
-  answered : (r : Result (P × Option (OrdPair ℕ V)) OrdInsertionError) → IsInserted number nat_cmp price_of index generation (within_room (size_in old) old.chains.room) t r old new
+  answered : (r : Result (P × Option (OrdPair ℕ V)) OrdInsertionError) → IsKeyInserted number nat_cmp price_of index generation (within_room (size_in old) old.chains.room) t r old new
       → ((j : ℕ) → IsSome (entry_in old j) → On (order_in number old) j)
       → (IsAscending number nat_cmp price_of old → IsAscending number nat_cmp price_of new) → IsBook number old
       → Answered index generation number old new t.k t.v (as_order r)
@@ -310,7 +310,7 @@ module _ {P I V : Type 0} (index generation : P → ℕ) (number : I → ℕ) (o
   -- the same, of an order at a price
   pub answered_as : (price : ℕ) (order : V) (answer : Result (P × Option V) OrdInsertionError) (r : Result (P × Option (OrdPair ℕ V)) OrdInsertionError)
       → t.k ≡ price → t.v ≡ order → answer ≡ as_order r
-      → IsInserted number nat_cmp price_of index generation (within_room (size_in old) old.chains.room) t r old new
+      → IsKeyInserted number nat_cmp price_of index generation (within_room (size_in old) old.chains.room) t r old new
       → ((j : ℕ) → IsSome (entry_in old j) → On (order_in number old) j)
       → (IsAscending number nat_cmp price_of old → IsAscending number nat_cmp price_of new) → IsBook number old
       → Answered index generation number old new price order answer

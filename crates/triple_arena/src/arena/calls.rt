@@ -104,7 +104,7 @@ impl<P: PtrCore, T: Drop, S: ArenaSlots<P, T>> ArenaTrait<P, T> for Arena<P, T, 
     fn reallocate_min_capacity(&mut self, min: usize) -> Result<(), ReallocationError> {
         let made = self.reallocate(min);
         // The arena is well-formed after.
-        let _ = self.live();
+        self.recall_formed();
         made
     }
 
@@ -181,7 +181,7 @@ impl<P: PtrCore, T: Drop, S: ArenaSlots<P, T>> ArenaTrait<P, T> for Arena<P, T, 
 
     fn remove(&mut self, p: P) -> InvalidationResult<T> {
         // The arena is well-formed before.
-        let _ = self.live();
+        self.recall_formed();
         match self.live_index(p) {
             Some(i) => match self.remove_at(i) {
                 InvalidationOption::Success((_, t)) => InvalidationResult::Success(t),
@@ -195,7 +195,7 @@ impl<P: PtrCore, T: Drop, S: ArenaSlots<P, T>> ArenaTrait<P, T> for Arena<P, T, 
 
     fn remove_inx(&mut self, i: P::Inx) -> InvalidationResult<(P::Gen, T)> {
         // The arena is well-formed before.
-        let _ = self.live();
+        self.recall_formed();
         match self.live_inx(i) {
             Some(i) => match self.remove_at(i) {
                 InvalidationOption::Success(entry) => InvalidationResult::Success(entry),
@@ -209,14 +209,14 @@ impl<P: PtrCore, T: Drop, S: ArenaSlots<P, T>> ArenaTrait<P, T> for Arena<P, T, 
 
     fn invalidate(&mut self, p: P) -> InvalidationResult<P> {
         // The arena is well-formed before.
-        let _ = self.live();
+        self.recall_formed();
         match self.live_index(p) {
             Some(i) => {
                 let wrapped = self.step();
                 let renewed = self.renew_at(i);
                 equal_uncounted(renewed, p);
                 // And after.
-                let _ = self.live();
+                self.recall_formed();
                 if wrapped {
                     InvalidationResult::GenerationOverflow(renewed)
                 } else {
@@ -231,7 +231,7 @@ impl<P: PtrCore, T: Drop, S: ArenaSlots<P, T>> ArenaTrait<P, T> for Arena<P, T, 
         self.empty();
         let wrapped = self.step();
         // The arena is well-formed after.
-        let _ = self.live();
+        self.recall_formed();
         if wrapped {
             InvalidationOption::GenerationOverflow(())
         } else {
@@ -251,7 +251,7 @@ impl<P: PtrCore, T: Drop, S: ArenaSlots<P, T>> ArenaTrait<P, T> for Arena<P, T, 
         self.counter = generation;
         self.head = None;
         // The arena is well-formed after.
-        let _ = self.live();
+        self.recall_formed();
         if wrapped {
             InvalidationOption::GenerationOverflow(())
         } else {

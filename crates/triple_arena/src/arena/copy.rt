@@ -39,7 +39,7 @@ impl<P: PtrCore, T: Drop, S: ArenaSlots<P, T>> ArenaCloneFromWith<P, T> for Aren
         F: FnMut(P, &U) -> Result<T, AllocError>,
     {
         // The arena is well-formed before.
-        let _ = self.live();
+        self.recall_formed();
         let slots = up_to_last::<P, U, A::Slot>(source.lent_slots());
         let counter = source.singular_generation();
         self.reallocate(slots.len())?;
@@ -140,14 +140,14 @@ impl<P: PtrCore, T: Drop, S: ArenaSlots<P, T>> Arena<P, T, S> {
                 self.len = live;
                 self.counter = counter;
                 // The arena is well-formed after.
-                let _ = self.live();
+                self.recall_formed();
                 Ok(())
             }
             Err(refused) => {
                 self.slots.clear();
                 let _ = self.step();
                 // The arena is well-formed after.
-                let _ = self.live();
+                self.recall_formed();
                 Err(refused)
             }
         }

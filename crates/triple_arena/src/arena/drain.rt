@@ -73,7 +73,7 @@ impl<P: PtrCore, T: Drop, S: ArenaSlots<P, T>> Arena<P, T, S> {
         }
         self.empty();
         // The arena is well-formed after.
-        let _ = self.live();
+        self.recall_formed();
     }
 }
 

@@ -16,7 +16,7 @@ impl<P: PtrCore, T: Drop, S: ArenaSlots<P, T>> DisjointableArenaTrait<P, T> for 
 
     fn swap_inx(&mut self, i: P::Inx, j: P::Inx) {
         // The arena is well-formed before.
-        let _ = self.live();
+        self.recall_formed();
         match (self.live_inx(i), self.live_inx(j)) {
             (Some(i), Some(j)) => {
                 if i != j {
@@ -29,7 +29,7 @@ impl<P: PtrCore, T: Drop, S: ArenaSlots<P, T>> DisjointableArenaTrait<P, T> for 
 
     fn swap(&mut self, p: P, q: P) -> Result<(), GetDisjointMutError> {
         // The arena is well-formed before.
-        let _ = self.live();
+        self.recall_formed();
         let (Some(i), Some(j)) = (self.live_index(p), self.live_index(q)) else {
             return Err(GetDisjointMutError::IndexOutOfBounds);
         };
@@ -55,6 +55,6 @@ impl<P: PtrCore, T: Drop, S: ArenaSlots<P, T>> Arena<P, T, S> {
     {
         exchange_values(&mut self.slots, i, j);
         // The arena is well-formed after.
-        let _ = self.live();
+        self.recall_formed();
     }
 }

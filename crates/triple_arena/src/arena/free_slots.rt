@@ -33,7 +33,7 @@ impl<P: PtrCore, T: Drop, S: ArenaSlots<P, T>> Arena<P, T, S> {
         ensures formed { IsWellFormed self.new }
     {
         // The arena is well-formed before.
-        let _ = self.live();
+        self.recall_formed();
         let last = self.last_index();
         if last == self.slot_count() {
             return;
@@ -43,7 +43,7 @@ impl<P: PtrCore, T: Drop, S: ArenaSlots<P, T>> Arena<P, T, S> {
         self.head = turn_over(&mut self.slots, turned, last);
         keep_first(&mut self.slots, last);
         // The arena is well-formed after.
-        let _ = self.live();
+        self.recall_formed();
     }
 
     /// Orders the free indexes, so that insertions take the smallest one first.
@@ -53,7 +53,7 @@ impl<P: PtrCore, T: Drop, S: ArenaSlots<P, T>> Arena<P, T, S> {
     {
         self.head = link_rising(&mut self.slots);
         // The arena is well-formed after.
-        let _ = self.live();
+        self.recall_formed();
     }
 }
 

@@ -24,7 +24,7 @@ impl<P: PtrCore, T: Drop, S: ArenaSlots<P, T>> Arena<P, T, S> {
     {
         self.counter = generation;
         // The arena is well-formed after.
-        let _ = self.live();
+        self.recall_formed();
     }
 
     /// Steps the counter once, as a removal does, and says whether the generations started again.
@@ -37,7 +37,7 @@ impl<P: PtrCore, T: Drop, S: ArenaSlots<P, T>> Arena<P, T, S> {
     {
         let wrapped = self.step();
         // The arena is well-formed after.
-        let _ = self.live();
+        self.recall_formed();
         if wrapped {
             InvalidationOption::GenerationOverflow(())
         } else {

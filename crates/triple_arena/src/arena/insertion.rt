@@ -33,7 +33,7 @@ impl<P: PtrCore, T: Drop, S: ArenaSlots<P, T>> ArenaInsertTrait<P, T> for Arena<
     #[inline]
     fn insert_reallocating(&mut self, t: T) -> Result<P, ReallocationError> {
         // The arena is well-formed before.
-        let _ = self.live();
+        self.recall_formed();
         self.make_room()?;
         Ok(self.insert_entry(t))
     }
@@ -96,10 +96,10 @@ impl<P: PtrCore, T: Drop, S: ArenaSlots<P, T>> Arena<P, T, S> {
         ensures formed { IsWellFormed self.new }
     {
         // The arena is well-formed before.
-        let _ = self.live();
+        self.recall_formed();
         let p = self.insert_in_room(t);
         // And after.
-        let _ = self.live();
+        self.recall_formed();
         p
     }
 }

@@ -82,7 +82,7 @@ impl<P: PtrCore, T: Drop, S: ArenaSlots<P, T>> Arena<P, T, S> {
         self.counter = generation;
         self.head = None;
         // The arena is well-formed after.
-        let _ = self.live();
+        self.recall_formed();
     }
 }
 
@@ -123,5 +123,5 @@ where
     }
     keep_first(slots, live);
     // The map is well-formed, also where nothing was stored.
-    let _ = map.live();
+    map.recall_formed();
 }

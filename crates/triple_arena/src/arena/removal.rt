@@ -27,11 +27,11 @@ impl<P: PtrCore, T: Drop, S: ArenaSlots<P, T>> Arena<P, T, S> {
         ensures formed { IsWellFormed self.new }
     {
         // The arena is well-formed before.
-        let _ = self.live();
+        self.recall_formed();
         let entry = self.take_at(i);
         let wrapped = self.step();
         // And after.
-        let _ = self.live();
+        self.recall_formed();
         if wrapped {
             InvalidationOption::GenerationOverflow(entry)
         } else {

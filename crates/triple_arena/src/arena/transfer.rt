@@ -36,7 +36,7 @@ impl<Q: PtrCore, U: Drop, R: ArenaSlots<Q, U>> ArenaTransferSource<Q, U> for Are
         self.head = None;
         self.len = 0;
         // The arena is well-formed after.
-        let _ = self.live();
+        self.recall_formed();
     }
 }
 
@@ -94,6 +94,6 @@ impl<P: PtrCore, T: Drop, S: ArenaSlots<P, T>> Arena<P, T, S> {
         self.head = None;
         self.len = len;
         // The arena is well-formed after.
-        let _ = self.live();
+        self.recall_formed();
     }
 }

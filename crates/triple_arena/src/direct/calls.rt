@@ -99,7 +99,7 @@ impl<P: PtrCore, T: Drop, S: DirectSlots<P, T>> ArenaTrait<P, T> for DirectArena
     fn reallocate_min_capacity(&mut self, min: usize) -> Result<(), ReallocationError> {
         let made = self.reallocate(min);
         // The arena is well-formed after.
-        let _ = self.live();
+        self.recall_formed();
         made
     }
 
@@ -176,7 +176,7 @@ impl<P: PtrCore, T: Drop, S: DirectSlots<P, T>> ArenaTrait<P, T> for DirectArena
 
     fn remove(&mut self, p: P) -> InvalidationResult<T> {
         // The arena is well-formed before.
-        let _ = self.live();
+        self.recall_formed();
         match self.live_index(p) {
             Some(i) => InvalidationResult::Success(self.remove_at(i).1),
             None => InvalidationResult::InvalidPtr,
@@ -185,7 +185,7 @@ impl<P: PtrCore, T: Drop, S: DirectSlots<P, T>> ArenaTrait<P, T> for DirectArena
 
     fn remove_inx(&mut self, i: P::Inx) -> InvalidationResult<(P::Gen, T)> {
         // The arena is well-formed before.
-        let _ = self.live();
+        self.recall_formed();
         match self.live_inx(i) {
             Some(i) => InvalidationResult::Success(self.remove_at(i)),
             None => InvalidationResult::InvalidPtr,
@@ -194,14 +194,14 @@ impl<P: PtrCore, T: Drop, S: DirectSlots<P, T>> ArenaTrait<P, T> for DirectArena
 
     fn invalidate(&mut self, p: P) -> InvalidationResult<P> {
         // The arena is well-formed before.
-        let _ = self.live();
+        self.recall_formed();
         match self.live_index(p) {
             Some(i) => {
                 let (generation, wrapped) = p.generation().generational_inc();
                 let renewed = self.renew_at(i, generation);
                 equal_uncounted(renewed, p);
                 // And after.
-                let _ = self.live();
+                self.recall_formed();
                 if wrapped {
                     InvalidationResult::GenerationOverflow(renewed)
                 } else {
@@ -215,7 +215,7 @@ impl<P: PtrCore, T: Drop, S: DirectSlots<P, T>> ArenaTrait<P, T> for DirectArena
     fn clear(&mut self) -> InvalidationOption<()> {
         self.empty();
         // The arena is well-formed after.
-        let _ = self.live();
+        self.recall_formed();
         InvalidationOption::Success(())
     }
 
@@ -228,7 +228,7 @@ impl<P: PtrCore, T: Drop, S: DirectSlots<P, T>> ArenaTrait<P, T> for DirectArena
         let _ = self.own_capacity();
         let wrapped = compact(&mut self.slots, None, reset, map);
         // The arena is well-formed after.
-        let _ = self.live();
+        self.recall_formed();
         if wrapped {
             InvalidationOption::GenerationOverflow(())
         } else {

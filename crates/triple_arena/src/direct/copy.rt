@@ -32,7 +32,7 @@ impl<P: PtrCore, T: Drop, S: DirectSlots<P, T>> ArenaCloneFromWith<P, T> for Dir
         F: FnMut(P, &U) -> Result<T, AllocError>,
     {
         // The arena is well-formed before.
-        let _ = self.live();
+        self.recall_formed();
         let slots = up_to_last::<P, U, A::Slot>(source.lent_slots());
         self.reallocate(slots.len())?;
         match self.become_copy::<U, A::Slot, F>(slots, map) {
@@ -122,13 +122,13 @@ impl<P: PtrCore, T: Drop, S: DirectSlots<P, T>> DirectArena<P, T, S> {
             Ok(live) => {
                 self.len = live;
                 // The arena is well-formed after.
-                let _ = self.live();
+                self.recall_formed();
                 Ok(())
             }
             Err(refused) => {
                 self.slots.clear();
                 // The arena is well-formed after.
-                let _ = self.live();
+                self.recall_formed();
                 Err(refused)
             }
         }

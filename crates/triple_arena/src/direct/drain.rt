@@ -62,7 +62,7 @@ impl<'a, P: PtrCore, T: Drop, S: DirectSlots<P, T>> Drop for Drain<'a, P, T, S> 
         let Drain { arena, passed: _ } = self;
         arena.empty();
         // The arena is well-formed after.
-        let _ = arena.live();
+        arena.recall_formed();
     }
 }
 

@@ -18,7 +18,7 @@ impl<P: PtrCore, T: Drop, S: DirectSlots<P, T>> DisjointableArenaTrait<P, T>
     #[tactic(auto, using(crate::specs::DirectExchangeLaws::one_exchanged))]
     fn swap_inx(&mut self, i: P::Inx, j: P::Inx) {
         // The arena is well-formed before.
-        let _ = self.live();
+        self.recall_formed();
         match (self.live_inx(i), self.live_inx(j)) {
             (Some(i), Some(j)) => {
                 if i != j {
@@ -31,7 +31,7 @@ impl<P: PtrCore, T: Drop, S: DirectSlots<P, T>> DisjointableArenaTrait<P, T>
 
     fn swap(&mut self, p: P, q: P) -> Result<(), GetDisjointMutError> {
         // The arena is well-formed before.
-        let _ = self.live();
+        self.recall_formed();
         let (Some(i), Some(j)) = (self.live_index(p), self.live_index(q)) else {
             return Err(GetDisjointMutError::IndexOutOfBounds);
         };
@@ -57,6 +57,6 @@ impl<P: PtrCore, T: Drop, S: DirectSlots<P, T>> DirectArena<P, T, S> {
     {
         exchange_values(&mut self.slots, i, j);
         // The arena is well-formed after.
-        let _ = self.live();
+        self.recall_formed();
     }
 }

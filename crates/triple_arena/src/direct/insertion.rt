@@ -72,9 +72,9 @@ impl<P: PtrCore, T: Drop, S: DirectSlots<P, T>> DirectArena<P, T, S> {
         ensures formed { IsWellFormed self.new }
     {
         // The arena is well-formed before.
-        let _ = self.live();
+        self.recall_formed();
         self.put_at(i, generation, t);
         // And after.
-        let _ = self.live();
+        self.recall_formed();
     }
 }

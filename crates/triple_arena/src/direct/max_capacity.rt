@@ -20,7 +20,7 @@ impl<P: PtrCore, T: Drop, S: DirectSlots<P, T>> DirectArena<P, T, S> {
         let last = self.last_index();
         keep_first(&mut self.slots, last);
         // The arena is well-formed after.
-        let _ = self.live();
+        self.recall_formed();
     }
 }
 

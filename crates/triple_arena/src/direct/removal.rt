@@ -24,7 +24,7 @@ impl<P: PtrCore, T: Drop, S: DirectSlots<P, T>> DirectArena<P, T, S> {
     {
         let entry = self.take_at(i);
         // The arena is well-formed after.
-        let _ = self.live();
+        self.recall_formed();
         entry
     }
 

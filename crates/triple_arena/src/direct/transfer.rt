@@ -29,7 +29,7 @@ impl<Q: PtrCore, U: Drop, R: DirectSlots<Q, U>> ArenaTransferSource<Q, U> for Di
         move_entries(&mut self.slots, None, slots, generation, map);
         self.len = 0;
         // The arena is well-formed after.
-        let _ = self.live();
+        self.recall_formed();
     }
 }
 
@@ -85,6 +85,6 @@ impl<P: PtrCore, T: Drop, S: DirectSlots<P, T>> DirectArena<P, T, S> {
         source.give_up(&mut self.slots, generation, map);
         self.len = len;
         // The arena is well-formed after.
-        let _ = self.live();
+        self.recall_formed();
     }
 }

@@ -50,7 +50,7 @@ impl<P: PtrCore, T: Drop, S: ChainSlots<P, T>> ChainArenaTrait<P, T> for ChainAr
 
     fn get_link(&self, p: P) -> Option<Link<P, &T>> {
         // The interlinks agree.
-        let _ = self.has_room();
+        self.recall_chained();
         match self.arena.get(p) {
             Some(link) => Some(Link::new(
                 (self.ptr_at(link.prev), self.ptr_at(link.next)),
@@ -80,7 +80,7 @@ impl<P: PtrCore, T: Drop, S: ChainSlots<P, T>> ChainArenaTrait<P, T> for ChainAr
 
     fn advancer_chain(&self, p: P) -> Option<ChainPtrAdvancer<P>> {
         // The interlinks agree.
-        let _ = self.has_room();
+        self.recall_chained();
         if self.arena.contains(p) {
             Some(ChainPtrAdvancer::from(p))
         } else {
@@ -95,7 +95,7 @@ impl<P: PtrCore, T: Drop, S: ChainSlots<P, T>> ChainArenaTrait<P, T> for ChainAr
         t: T,
     ) -> Result<P, ChainInsertionError> {
         // The interlinks agree.
-        let _ = self.has_room();
+        self.recall_chained();
         let Some(place) = self.place(*kind) else {
             return Err(ChainInsertionError::FailedLinkRequirement);
         };
@@ -118,7 +118,7 @@ impl<P: PtrCore, T: Drop, S: ChainSlots<P, T>> ChainArenaTrait<P, T> for ChainAr
 
     fn connect(&mut self, p: P, q: P) -> Option<()> {
         // The interlinks agree.
-        let _ = self.has_room();
+        self.recall_chained();
         self.place(LinkInsertKind::Bridge(p, q))?;
         let i = p.inx();
         let j = q.inx();
@@ -129,7 +129,7 @@ impl<P: PtrCore, T: Drop, S: ChainSlots<P, T>> ChainArenaTrait<P, T> for ChainAr
 
     fn break_next(&mut self, p: P) -> Option<()> {
         // The interlinks agree.
-        let _ = self.has_room();
+        self.recall_chained();
         let next = self.ends_of(p)?.1?;
         set_next(&mut self.arena, Some(p.inx()), None);
         set_prev(&mut self.arena, Some(next), None);
@@ -138,7 +138,7 @@ impl<P: PtrCore, T: Drop, S: ChainSlots<P, T>> ChainArenaTrait<P, T> for ChainAr
 
     fn break_prev(&mut self, p: P) -> Option<()> {
         // The interlinks agree.
-        let _ = self.has_room();
+        self.recall_chained();
         let prev = self.ends_of(p)?.0?;
         set_next(&mut self.arena, Some(prev), None);
         set_prev(&mut self.arena, Some(p.inx()), None);
@@ -147,7 +147,7 @@ impl<P: PtrCore, T: Drop, S: ChainSlots<P, T>> ChainArenaTrait<P, T> for ChainAr
 
     fn exchange_next(&mut self, p: P, q: P) -> Option<()> {
         // The interlinks agree.
-        let _ = self.has_room();
+        self.recall_chained();
         let next_of_p = self.ends_of(p)?.1?;
         let next_of_q = self.ends_of(q)?.1?;
         let i = p.inx();
@@ -161,7 +161,7 @@ impl<P: PtrCore, T: Drop, S: ChainSlots<P, T>> ChainArenaTrait<P, T> for ChainAr
 
     fn remove_link_no_gen(&mut self, p: P) -> InvalidationResult<LinkNoGen<P, T>> {
         // The interlinks agree.
-        let _ = self.has_room();
+        self.recall_chained();
         match self.arena.get(p) {
             Some(link) => {
                 let prev = link.prev;
@@ -179,7 +179,7 @@ impl<P: PtrCore, T: Drop, S: ChainSlots<P, T>> ChainArenaTrait<P, T> for ChainAr
         i: P::Inx,
     ) -> InvalidationResult<(P::Gen, LinkNoGen<P, T>)> {
         // The interlinks agree.
-        let _ = self.has_room();
+        self.recall_chained();
         match self.arena.get_inx(i) {
             Some((_, link)) => {
                 let before = link.prev;

@@ -11,7 +11,7 @@ ghost use Rattle.triple_arena_chain.specs.Listed.{listed_values};
 ghost use Rattle.triple_arena_chain.specs.Renaming.{numbered, prev_of, forwarded, IsCompacted};
 ghost use Rattle.triple_arena_chain.specs.Values.{room_in};
 
-use crate::chain_arena::interlinks::{set_next, set_prev};
+use crate::chain_arena::interlinks::{recall_formed, set_next, set_prev};
 use crate::chain_arena::mapping::compact_links;
 use crate::{ChainSlots, LinkNoGen};
 use std::num::NonZeroUsize;
@@ -28,7 +28,7 @@ where
     ensures formed { IsWellFormed arena.new }
 {
     // The arena is well-formed, and each live index is one of the pointers'.
-    let _ = arena.len();
+    recall_formed(arena);
     let _ = arena.capacity();
     let mut count = 0;
     let mut advancer = arena.advancer();
@@ -83,7 +83,7 @@ where
     ensures formed { IsWellFormed arena.new }
 {
     // The arena is well-formed.
-    let _ = arena.len();
+    recall_formed(arena);
     let mut advancer = arena.advancer();
     while let Some(p) = advancer.advance(arena) {
         let i = p.inx();
@@ -112,7 +112,7 @@ where
     ensures formed { IsWellFormed arena.new }
 {
     // The arena is well-formed.
-    let _ = arena.len();
+    recall_formed(arena);
     let mut advancer = arena.advancer();
     while let Some(p) = advancer.advance(arena) {
         let i = p.inx();

@@ -11,7 +11,7 @@ ghost use Rattle.triple_arena_chain.specs.Listed.{listed_values};
 ghost use Rattle.triple_arena_chain.specs.Lists.{Chain, IsChainOf};
 ghost use Rattle.triple_arena_chain.specs.Values.{room_in};
 
-use crate::chain_arena::copying::copy_links;
+use crate::chain_arena::link_copies::copy_links;
 use crate::{ChainArena, ChainSlots, LinkNoGen};
 use triple_arena::{AllocError, Arena, ArenaCloneFromWith, PtrCore, ReallocationError};
 

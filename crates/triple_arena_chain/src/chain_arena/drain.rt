@@ -58,7 +58,7 @@ impl<P: PtrCore, T: Drop, S: ChainSlots<P, T>> ChainArena<P, T, S> {
             S.NonZeroInxGenericStack) self.entry drain_lender result (λ a. a ≡ self.old)) }
     {
         // The interlinks agree.
-        let _ = self.has_room();
+        self.recall_chained();
         if self.ends_of(p).is_none() {
             return None;
         }
@@ -79,7 +79,7 @@ impl<P: PtrCore, T: Drop, S: ChainSlots<P, T>> ChainArena<P, T, S> {
         ensures none { IfNone result (self.new ≡ self.old) }
     {
         // The interlinks agree.
-        let _ = self.has_room();
+        self.recall_chained();
         let ((generation, link), wrapped) = self.remove_inx_link_no_gen(i).overflowing()?;
         let next = onward(i, link.prev_next());
         let item = (P::_from_raw(i, generation), link);
@@ -113,7 +113,7 @@ impl<'a, P: PtrCore, T: Drop, S: ChainSlots<P, T>> Drop for ChainDrain<'a, P, T,
         let ChainDrain { chains, at } = self;
         chains.take_rest(at);
         // The interlinks agree.
-        let _ = chains.has_room();
+        chains.recall_chained();
     }
 }
 

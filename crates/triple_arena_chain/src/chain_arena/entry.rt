@@ -82,7 +82,7 @@ impl<P: PtrCore, T: Drop, S: ChainSlots<P, T>> ChainArena<P, T, S> {
             S.NonZeroInxGenericStack) self.entry entry_lender result (λ a. a ≡ self.old)) }
     {
         // The interlinks agree.
-        let _ = self.has_room();
+        self.recall_chained();
         let Some(place) = self.place(kind) else {
             return Err(ChainInsertionError::FailedLinkRequirement);
         };

@@ -4,6 +4,7 @@ ghost use Rattle.std.specs.Option.{option_map};
 ghost use Rattle.triple_arena_chain.specs.Chains.{IsAgreed, next_at, prev_at};
 ghost use Rattle.triple_arena_chain.specs.Links.{ends_in};
 
+use crate::chain_arena::interlinks::recall_formed;
 use crate::{ChainArena, ChainSlots, LinkNoGen};
 use std::mem;
 use triple_arena::{Advancer, Arena, ArenaTrait, PtrCore};
@@ -76,7 +77,7 @@ impl<P: PtrCore, T: Drop, S: ChainSlots<P, T>> ChainArena<P, T, S> {
         ensures err { IfErr result (λ refused. refused ≡ arena) }
     {
         // The arena is well-formed.
-        let _ = arena.len();
+        recall_formed(&arena);
         if Self::interlinks_agree(&arena) {
             Ok(ChainArena { arena })
         } else {
@@ -92,7 +93,8 @@ impl<P: PtrCore, T: Drop, S: ChainSlots<P, T>> ChainArena<P, T, S> {
         ensures none { IfNone result ((self.new ≡ self.old) × (arena.new ≡ arena.old)) }
     {
         // Both are well-formed.
-        let _ = (self.has_room(), arena.len());
+        self.recall_chained();
+        recall_formed(arena);
         if !Self::interlinks_agree(arena) {
             return None;
         }

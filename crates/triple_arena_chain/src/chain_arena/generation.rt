@@ -22,7 +22,7 @@ impl<P: PtrCore, T: Drop, S: ChainSlots<P, T>> ChainArena<P, T, S> {
         ensures formed { IsChained P.Inx.number self.new }
     {
         // The interlinks agree.
-        let _ = self.has_room();
+        self.recall_chained();
         self.arena.set_generation(generation);
     }
 
@@ -33,7 +33,7 @@ impl<P: PtrCore, T: Drop, S: ChainSlots<P, T>> ChainArena<P, T, S> {
         ensures formed { IsChained P.Inx.number self.new }
     {
         // The interlinks agree.
-        let _ = self.has_room();
+        self.recall_chained();
         self.arena.inc_generation()
     }
 }

@@ -26,7 +26,7 @@ impl<P: PtrCore, T: Drop, S: ChainSlots<P, T>> ChainArena<P, T, S> {
         ensures err { OnErr result (self.new ≡ self.old) }
     {
         // The interlinks agree.
-        let _ = self.has_room();
+        self.recall_chained();
         let entry = self.arena.entry_insert_reallocating()?;
         Ok(entry.ptr())
     }
@@ -51,7 +51,7 @@ impl<P: PtrCore, T: Drop, S: ChainSlots<P, T>> ChainArena<P, T, S> {
         ensures err { OnErr result (self.new ≡ self.old) }
     {
         // The interlinks agree.
-        let _ = self.has_room();
+        self.recall_chained();
         let Some(place) = self.place(kind) else {
             return Err(ChainInsertionError::FailedLinkRequirement);
         };

@@ -11,6 +11,7 @@ ghost use Rattle.triple_arena_chain.specs.IndexDrains.{drain_links, drain_lender
 ghost use Rattle.triple_arena_chain.specs.Links.{values_in, IsChained};
 ghost use Rattle.triple_arena_chain.specs.Values.{room_in};
 
+use crate::chain_arena::interlinks::recall_formed;
 use crate::{ChainArena, ChainArenaTrait, ChainSlots};
 use std::iter::FusedIterator;
 use triple_arena::arena_iterators::PtrAdvancer;
@@ -71,7 +72,7 @@ impl<P: PtrCore, T: Drop, S: ChainSlots<P, T>> ChainArena<P, T, S> {
             let _drain = self.arena.drain();
         }
         // The arena is well-formed after.
-        let _ = self.arena.len();
+        recall_formed(&self.arena);
     }
 }
 

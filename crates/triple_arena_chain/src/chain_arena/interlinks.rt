@@ -1,11 +1,21 @@
 //! Interlinks, written where the links lie.
 ghost use Rattle.std.specs.Prelude.{◌≡◌, IsSome, IfSome};
-ghost use Rattle.triple_arena.specs.Content.{entry_at};
+ghost use Rattle.triple_arena.specs.Content.{entry_at, IsWellFormed};
 ghost use Rattle.triple_arena_chain.specs.Links.{with_next_of, with_prev_of, joined_to, AreNeighborsLive};
 
 use crate::place::Place;
 use crate::{ChainSlots, LinkNoGen};
 use triple_arena::{Arena, ArenaTrait, PtrCore};
+
+// Tells the proof that an arena is well-formed, as each one is. It does nothing.
+#[inline(always)]
+pub(crate) fn recall_formed<P: PtrCore, T: Drop, S: ChainSlots<P, T>>(
+    arena: &Arena<P, LinkNoGen<P, T>, S>,
+)
+    ensures { IsWellFormed arena.now }
+{
+    let _len = arena.len();
+}
 
 // Gives the link at `at`, which is live if it is an index, another next.
 pub(crate) fn set_next<P: PtrCore, T: Drop, S: ChainSlots<P, T>>(

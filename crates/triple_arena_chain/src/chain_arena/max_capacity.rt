@@ -1,6 +1,7 @@
 //! The greatest capacity of a chain arena, where it can be set.
 ghost use Rattle.triple_arena.specs.Content.{last_index as last_index_of, with_limit as with_limit_of};
 
+use crate::chain_arena::interlinks::recall_formed;
 use crate::{ChainArena, LinkNoGen};
 use triple_arena::{
     ArenaSlot, ArenaTrait, MaxCapacityReductionError, NonZeroInxLimitedStack, PtrCore,
@@ -20,10 +21,10 @@ impl<
     /// live index is past `max`. Where there are slots past `max`, the free slots at the end are popped first.
     fn set_max_capacity(&mut self, max: usize) -> Result<(), MaxCapacityReductionError> {
         // The interlinks agree.
-        let _ = self.has_room();
+        self.recall_chained();
         let answer = self.arena.set_max_capacity(max);
         // The arena is well-formed after.
-        let _ = self.arena.len();
+        recall_formed(&self.arena);
         answer
     }
 }

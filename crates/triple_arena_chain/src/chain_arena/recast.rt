@@ -3,6 +3,7 @@ ghost use Rattle.triple_arena.specs.Recasting.{content_items, content_recasted};
 ghost use Rattle.triple_arena.specs.RecastingLaws.{items-recasted};
 ghost use Rattle.triple_arena_chain.specs.LinkRecasting.{link_items, link_recasted};
 
+use crate::chain_arena::interlinks::recall_formed;
 use crate::{ChainArena, ChainSlots, IndexLink};
 use triple_arena::{ArenaTrait, PtrCore, PtrInxCore, Recast, Recaster};
 
@@ -30,10 +31,10 @@ impl<N, P: PtrCore, T: Recast<N> + Drop, S: ChainSlots<P, T>> Recast<N> for Chai
 
     fn recast<R: Recaster<Item = N>>(&mut self, recaster: &R) -> Result<(), N> {
         // The interlinks agree.
-        let _ = self.has_room();
+        self.recall_chained();
         let answer = self.arena.recast(recaster);
         // The arena is well-formed after.
-        let _ = self.arena.len();
+        recall_formed(&self.arena);
         answer
     }
 }

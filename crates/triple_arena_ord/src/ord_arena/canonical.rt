@@ -1,7 +1,7 @@
 //! Comparisons of two ordered arenas by their items in order, whatever their pointers and their room.
 ghost use Rattle.std.specs.Prelude.{◌≡◌};
 ghost use Rattle.std.specs.Cmp.Lexicographic.{pointwise, slice_cmp, slice_partial_cmp};
-ghost use Rattle.triple_arena_ord.specs.Ordered.{listed};
+ghost use Rattle.triple_arena_ord.specs.Ordered.{ordered_entries};
 ghost use Rattle.triple_arena_ord.specs.Canonical.{by_item};
 
 use crate::ord_iterators::Iter;
@@ -93,7 +93,7 @@ impl<P: PtrCore, T: Drop, S: OrdSlots<P, T>> SimpleOrdArena<P, T, S> {
     ) -> bool
     where
         T: PartialEq,
-        ensures { result ≡ pointwise (by_item T.eq) (listed P.Inx.number self.now) (listed Q.Inx.number other.now) }
+        ensures { result ≡ pointwise (by_item T.eq) (ordered_entries P.Inx.number self.now) (ordered_entries Q.Inx.number other.now) }
     {
         same(self.iter_ordered(), other.iter_ordered())
     }
@@ -106,7 +106,7 @@ impl<P: PtrCore, T: Drop, S: OrdSlots<P, T>> SimpleOrdArena<P, T, S> {
     ) -> Option<Ordering>
     where
         T: PartialOrd,
-        ensures { result ≡ slice_partial_cmp (by_item T.partial_cmp) (listed P.Inx.number self.now) (listed Q.Inx.number other.now) }
+        ensures { result ≡ slice_partial_cmp (by_item T.partial_cmp) (ordered_entries P.Inx.number self.now) (ordered_entries Q.Inx.number other.now) }
     {
         partial_order(self.iter_ordered(), other.iter_ordered())
     }
@@ -118,7 +118,7 @@ impl<P: PtrCore, T: Drop, S: OrdSlots<P, T>> SimpleOrdArena<P, T, S> {
     ) -> Ordering
     where
         T: Ord,
-        ensures { result ≡ slice_cmp (by_item T.cmp) (listed P.Inx.number self.now) (listed Q.Inx.number other.now) }
+        ensures { result ≡ slice_cmp (by_item T.cmp) (ordered_entries P.Inx.number self.now) (ordered_entries Q.Inx.number other.now) }
     {
         order(self.iter_ordered(), other.iter_ordered())
     }

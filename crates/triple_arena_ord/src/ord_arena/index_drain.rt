@@ -7,10 +7,10 @@ ghost use Rattle.triple_arena_ptr.specs.InvalidationOption.{value_of, overflowed
 ghost use Rattle.triple_arena.specs.Entries.{value_if};
 ghost use Rattle.triple_arena.specs.Walk.{Steps};
 ghost use Rattle.triple_arena_chain.specs.Links.{values_in};
-ghost use Rattle.triple_arena_ord.specs.IndexedDrains.{drain_arena, drain_lender, drain_rest, drain_leaves, DrainCanStep, DrainSteps, DrainKeepsAlong};
+ghost use Rattle.triple_arena_ord.specs.IndexDrains.{drain_arena, drain_lender, drain_rest, drain_leaves, DrainCanStep, DrainSteps, DrainKeepsAlong};
 ghost use Rattle.triple_arena_ord.specs.Ordered.{IsOrdered, entry_in, size_in};
 ghost use Rattle.triple_arena_ord.specs.OrderedDrains.{emptied_after};
-ghost use Rattle.triple_arena_ord.specs.Removal.{IsRemoved};
+ghost use Rattle.triple_arena_ord.specs.Removal.{IsEntryRemoved};
 
 use crate::{OrdSlots, SimpleOrdArena};
 use std::iter::FusedIterator;
@@ -48,7 +48,7 @@ impl<P: PtrCore, T: Drop, S: OrdSlots<P, T>> SimpleOrdArena<P, T, S> {
         ensures pointer { IfSome result (λ item. (value_of item).0 ≡ p) }
         ensures value { IfSome result (λ item. Some (value_of item).1 ≡ value_if (P.generation p) (entry_in self.old (P.index p))) }
         ensures overflow { IfSome result (λ item. overflowed item ≡ next_wraps P.Gen.last self.old.chains.counter) }
-        ensures removed { IfSome result (λ item. IsRemoved P.Inx.number P.Gen.last (P.index p) self.old self.new) }
+        ensures removed { IfSome result (λ item. IsEntryRemoved P.Inx.number P.Gen.last (P.index p) self.old self.new) }
     {
         match self.remove(p) {
             InvalidationResult::Success(t) => Some(InvalidationOption::Success((p, t))),

@@ -4,7 +4,7 @@ ghost use Rattle.std.specs.Option.{option_map};
 ghost use Rattle.triple_arena_ord.specs.Node.{knots_in};
 ghost use Rattle.rank_tree.specs.Search.{IsFreeAt};
 ghost use Rattle.triple_arena_ord.specs.Ordered.{IsOrdered, IsAscending, size_in};
-ghost use Rattle.triple_arena_ord.specs.Inserted.{IsRenewed, IsReplaced, IsInsertedAt, IsInserted, Replaces, within_room, growing_room, room_made};
+ghost use Rattle.triple_arena_ord.specs.Inserted.{IsRenewed, IsReplaced, IsInsertedAt, IsKeyInserted, Replaces, within_room, growing_room, room_made};
 
 use crate::{OrdSlots, SimpleOrdArena, SimpleOrdArenaNode, SimpleOrdItem};
 use rank_tree::Side;
@@ -139,7 +139,7 @@ impl<P: PtrCore, T: SimpleOrdItem + Drop, S: OrdSlots<P, T>> SimpleOrdArena<P, T
     /// whether or not there is room. Else there is a new entry; `NotWithinCapacity`, where there is no room for it, changes
     /// nothing. A list whose keys ascend still does.
     pub fn insert_within_capacity(&mut self, t: T) -> Result<(P, Option<T>), OrdInsertionError>
-        ensures inserted { IsInserted P.Inx.number T.Key.cmp T.key_of P.index P.generation
+        ensures inserted { IsKeyInserted P.Inx.number T.Key.cmp T.key_of P.index P.generation
             (within_room (size_in self.old) self.old.chains.room) t result self.old self.new }
         ensures ascending { IsAscending P.Inx.number T.Key.cmp T.key_of self.old → IsAscending P.Inx.number T.Key.cmp T.key_of self.new }
         ensures counter { self.new.chains.counter ≡ self.old.chains.counter }
@@ -154,7 +154,7 @@ impl<P: PtrCore, T: SimpleOrdItem + Drop, S: OrdSlots<P, T>> SimpleOrdArena<P, T
     /// never past its greatest capacity. `BeyondMaxCapacity`, where as many entries are live as the greatest capacity, and
     /// `AllocError`, where the memory was refused, change nothing.
     pub fn insert_reallocating(&mut self, t: T) -> Result<(P, Option<T>), OrdInsertionError>
-        ensures inserted { IsInserted P.Inx.number T.Key.cmp T.key_of P.index P.generation
+        ensures inserted { IsKeyInserted P.Inx.number T.Key.cmp T.key_of P.index P.generation
             (growing_room S.takes_memory (size_in self.old) self.old.chains.room) t result self.old self.new }
         ensures ascending { IsAscending P.Inx.number T.Key.cmp T.key_of self.old → IsAscending P.Inx.number T.Key.cmp T.key_of self.new }
         ensures counter { self.new.chains.counter ≡ self.old.chains.counter }
@@ -167,7 +167,7 @@ impl<P: PtrCore, T: SimpleOrdItem + Drop, S: OrdSlots<P, T>> SimpleOrdArena<P, T
 
     /// The same as `insert_reallocating`.
     pub fn insert(&mut self, t: T) -> Result<(P, Option<T>), OrdInsertionError>
-        ensures inserted { IsInserted P.Inx.number T.Key.cmp T.key_of P.index P.generation
+        ensures inserted { IsKeyInserted P.Inx.number T.Key.cmp T.key_of P.index P.generation
             (growing_room S.takes_memory (size_in self.old) self.old.chains.room) t result self.old self.new }
         ensures ascending { IsAscending P.Inx.number T.Key.cmp T.key_of self.old → IsAscending P.Inx.number T.Key.cmp T.key_of self.new }
         ensures counter { self.new.chains.counter ≡ self.old.chains.counter }

@@ -1,7 +1,7 @@
 //! Going over the entries of an arena that is given away, along the list.
 ghost use Rattle.std.specs.Prelude.{◌≡◌};
 ghost use Rattle.std.specs.Iterator.{YieldsFirstBy, item_count};
-ghost use Rattle.triple_arena_ord.specs.Ordered.{listed};
+ghost use Rattle.triple_arena_ord.specs.Ordered.{ordered_entries};
 
 use crate::{OrdSlots, SimpleOrdArena};
 use std::iter::FusedIterator;
@@ -17,11 +17,11 @@ pub struct CapacityDrain<P: PtrCore, T: Drop, S: OrdSlots<P, T>> {
 
 impl<P: PtrCore, T: Drop, S: OrdSlots<P, T>> Model for CapacityDrain<P, T, S> {
     ghost use Rattle.std.specs.Prelude.{ℕ, List};
-    ghost use Rattle.triple_arena_ord.specs.Ordered.{listed};
+    ghost use Rattle.triple_arena_ord.specs.Ordered.{ordered_entries};
 
     ghost Value = { List (ℕ × (ℕ × T)) };
 
-    ghost view = { λ it. listed P.Inx.number it.arena };
+    ghost view = { λ it. ordered_entries P.Inx.number it.arena };
 }
 
 impl<P: PtrCore, T: Drop, S: OrdSlots<P, T>> Iterator for CapacityDrain<P, T, S> {
@@ -49,7 +49,7 @@ impl<P: PtrCore, T: Drop, S: OrdSlots<P, T>> IntoIterator for SimpleOrdArena<P, 
 
     type IntoIter = CapacityDrain<P, T, S>;
 
-    ghost into_iter_gives = { λ arena it. it ≡ listed P.Inx.number arena };
+    ghost into_iter_gives = { λ arena it. it ≡ ordered_entries P.Inx.number arena };
 
     fn into_iter(self) -> CapacityDrain<P, T, S> {
         CapacityDrain { arena: self }

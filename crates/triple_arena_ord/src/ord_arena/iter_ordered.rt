@@ -1,7 +1,7 @@
 //! Going over the entries of an arena that is lent for reading, along the list.
 ghost use Rattle.std.specs.Prelude.{◌≡◌};
 ghost use Rattle.std.specs.Iterator.{YieldsFirstBy, item_count};
-ghost use Rattle.triple_arena_ord.specs.Ordered.{listed};
+ghost use Rattle.triple_arena_ord.specs.Ordered.{ordered_entries};
 
 use crate::ord_arena::walk::OrderedPtrAdvancer;
 use crate::{OrdSlots, SimpleOrdArena};
@@ -25,11 +25,11 @@ where
 {
     ghost use Rattle.std.specs.Prelude.{ℕ, List};
     ghost use Rattle.triple_arena_ord.specs.OrderedWalks.{left_over};
-    ghost use Rattle.triple_arena_ord.specs.Ordered.{listed_at};
+    ghost use Rattle.triple_arena_ord.specs.Ordered.{entries_at};
 
     ghost Value = { List (ℕ × (ℕ × T)) };
 
-    ghost view = { λ it. listed_at it.arena.now (left_over P.Inx.number it.arena.now it.advancer) };
+    ghost view = { λ it. entries_at it.arena.now (left_over P.Inx.number it.arena.now it.advancer) };
 }
 
 impl<'a, P: PtrCore, T: Drop, S: OrdSlots<P, T>> Iterator for Iter<'a, P, T, S>
@@ -51,7 +51,7 @@ where
 impl<P: PtrCore, T: Drop, S: OrdSlots<P, T>> SimpleOrdArena<P, T, S> {
     /// The pointers and the items of the entries, from the first of the list to the last.
     pub fn iter_ordered(&self) -> Iter<'_, P, T, S>
-        ensures { result ≡ listed P.Inx.number self.now }
+        ensures { result ≡ ordered_entries P.Inx.number self.now }
     {
         Iter {
             advancer: OrderedPtrAdvancer::from(self.first_index(), false),
@@ -68,7 +68,7 @@ where
 
     type IntoIter = Iter<'a, P, T, S>;
 
-    ghost into_iter_gives = { λ arena it. it ≡ listed P.Inx.number arena.now };
+    ghost into_iter_gives = { λ arena it. it ≡ ordered_entries P.Inx.number arena.now };
 
     fn into_iter(self) -> Iter<'a, P, T, S> {
         self.iter_ordered()

@@ -8,11 +8,11 @@ ghost use Rattle.triple_arena.specs.Entries.{value_if};
 ghost use Rattle.triple_arena_chain.specs.Links.{ends_in};
 ghost use Rattle.triple_arena_ord.specs.Node.{knots_in};
 ghost use Rattle.triple_arena_ord.specs.Ordered.{IsOrdered, entry_in};
-ghost use Rattle.triple_arena_ord.specs.Removal.{IsRemoved, ended};
+ghost use Rattle.triple_arena_ord.specs.Removal.{IsEntryRemoved, ended};
 ghost use Rattle.triple_arena_chain.specs.declared.link.IndexLink.{IndexLink};
 ghost use Rattle.triple_arena_ord.specs.declared.node.IndexNode.{IndexNode};
 
-use crate::taken::take_entry;
+use crate::uprooting::take_entry;
 use crate::{OrdSlots, SimpleOrdArena, SimpleOrdArenaNode};
 use triple_arena::{ArenaTrait, InvalidationResult, PtrCore, PtrInxCore};
 use triple_arena_chain::{ChainArena, ChainArenaTrait, LinkNoGen};
@@ -67,7 +67,7 @@ impl<P: PtrCore, T: Drop, S: OrdSlots<P, T>> SimpleOrdArena<P, T, S> {
     #[inline(always)]
     pub(crate) fn remove_live(&mut self, gone: P::Inx) -> InvalidationResult<(P::Gen, T)>
         requires { IsSome (knots_in P.Inx.number self.old.chains (P.Inx.number gone)) }
-        ensures removed { IsRemoved P.Inx.number P.Gen.last (P.Inx.number gone) self.old self.new }
+        ensures removed { IsEntryRemoved P.Inx.number P.Gen.last (P.Inx.number gone) self.old self.new }
         ensures value { option_map (λ a. (P.Gen.number (value_of a).0, (value_of a).1)) (answer_of result) ≡ entry_in self.old (P.Inx.number gone) }
         ensures overflow { option_map overflowed (answer_of result) ≡ Some (next_wraps P.Gen.last self.old.chains.counter) }
         ensures ordered { IsOrdered P.Inx.number self.new }
@@ -86,7 +86,7 @@ impl<P: PtrCore, T: Drop, S: OrdSlots<P, T>> SimpleOrdArena<P, T, S> {
     pub fn remove(&mut self, p: P) -> InvalidationResult<T>
         ensures value { option_map value_of (answer_of result) ≡ value_if (P.generation p) (entry_in self.old (P.index p)) }
         ensures overflow { IfSome (answer_of result) (λ a. overflowed a ≡ next_wraps P.Gen.last self.old.chains.counter) }
-        ensures removed { OnSome (answer_of result) (IsRemoved P.Inx.number P.Gen.last (P.index p) self.old self.new) }
+        ensures removed { OnSome (answer_of result) (IsEntryRemoved P.Inx.number P.Gen.last (P.index p) self.old self.new) }
         ensures invalid { IfNone (answer_of result) (self.new ≡ self.old) }
         ensures ordered { IsOrdered P.Inx.number self.new }
     {
@@ -107,7 +107,7 @@ impl<P: PtrCore, T: Drop, S: OrdSlots<P, T>> SimpleOrdArena<P, T, S> {
     pub fn remove_inx(&mut self, i: P::Inx) -> InvalidationResult<(P::Gen, T)>
         ensures value { option_map (λ a. (P.Gen.number (value_of a).0, (value_of a).1)) (answer_of result) ≡ entry_in self.old (P.Inx.number i) }
         ensures overflow { IfSome (answer_of result) (λ a. overflowed a ≡ next_wraps P.Gen.last self.old.chains.counter) }
-        ensures removed { OnSome (answer_of result) (IsRemoved P.Inx.number P.Gen.last (P.Inx.number i) self.old self.new) }
+        ensures removed { OnSome (answer_of result) (IsEntryRemoved P.Inx.number P.Gen.last (P.Inx.number i) self.old self.new) }
         ensures invalid { IfNone (answer_of result) (self.new ≡ self.old) }
         ensures ordered { IsOrdered P.Inx.number self.new }
     {

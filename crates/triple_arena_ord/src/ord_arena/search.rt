@@ -1,7 +1,7 @@
 //! Searches by key.
 ghost use Rattle.std.specs.Prelude.{◌≡◌, ◌+◌, ◌≤◌, IfSome};
 ghost use Rattle.std.specs.Option.{option_map};
-ghost use Rattle.counted_search.specs.Searches.{fair};
+ghost use Rattle.counted_search.specs.Searches.{most_comparisons};
 ghost use Rattle.rank_tree.specs.Tree.{rank_of};
 ghost use Rattle.triple_arena_ord.specs.Node.{knots_in};
 ghost use Rattle.rank_tree.specs.Search.{IsAnswer, IsFreeAt, asked_down};
@@ -50,7 +50,7 @@ impl<P: PtrCore, T: SimpleOrdItem + Drop, S: OrdSlots<P, T>> SimpleOrdArena<P, T
         ensures found { IsFound P.index P.generation (asked_at T.Key.cmp T.key_of k.now self.now)
             (IsAscending P.Inx.number T.Key.cmp T.key_of self.now) result self.now }
         ensures ticks { probes.new ≡ probes.old + asked_down (asked_at T.Key.cmp T.key_of k.now self.now) (tree_in P.Inx.number self.now) }
-        ensures bound { probes.new ≤ probes.old + fair (size_in self.now) }
+        ensures bound { probes.new ≤ probes.old + most_comparisons (size_in self.now) }
     {
         let place = self.seek(k, probes);
         found_at(&self.chains, place)
@@ -71,7 +71,7 @@ impl<P: PtrCore, T: SimpleOrdItem + Drop, S: OrdSlots<P, T>> SimpleOrdArena<P, T
         ensures similar { IsSimilar P.index P.generation P.Inx.number (asked_at T.Key.cmp T.key_of k.now self.now)
             (IsAscending P.Inx.number T.Key.cmp T.key_of self.now) result self.now }
         ensures ticks { probes.new ≡ probes.old + asked_down (asked_at T.Key.cmp T.key_of k.now self.now) (tree_in P.Inx.number self.now) }
-        ensures bound { probes.new ≤ probes.old + fair (size_in self.now) }
+        ensures bound { probes.new ≤ probes.old + most_comparisons (size_in self.now) }
     {
         let place = self.seek(k, probes);
         similar_at(&self.chains, place)

@@ -1,7 +1,7 @@
 //! Searches by key that go along the list first.
 ghost use Rattle.std.specs.Prelude.{◌≡◌, ◌+◌, ◌≤◌, None, IsSome};
 ghost use Rattle.std.specs.Option.{option_map};
-ghost use Rattle.counted_search.specs.Searches.{fair};
+ghost use Rattle.counted_search.specs.Searches.{most_comparisons};
 ghost use Rattle.triple_arena.specs.Entries.{value_if};
 ghost use Rattle.rank_tree.specs.Tree.{rank_of};
 ghost use Rattle.rank_tree.specs.Search.{IsParted, IsAnswer, asked_down};
@@ -10,8 +10,8 @@ ghost use Rattle.triple_arena_ord.specs.Near.{IsEndNear, IsAtHand, IsPlaceCounte
 ghost use Rattle.triple_arena_ord.specs.Found.{IsFound, IsSimilar};
 ghost use Rattle.triple_arena_ord.specs.Ordered.{IsOrdered, IsAscending, tree_in, order_in, entry_in, size_in, asked_at};
 
+use crate::list_searches::walk_from;
 use crate::ord_arena::found::{found_at, similar_at};
-use crate::walks::walk_from;
 use crate::{OrdSlots, SimpleOrdArena, SimpleOrdArenaNode, SimpleOrdItem};
 use std::cmp::Ordering;
 use triple_arena::{ArenaTrait, PtrCore};
@@ -72,7 +72,7 @@ impl<P: PtrCore, T: SimpleOrdItem + Drop, S: OrdSlots<P, T>> SimpleOrdArena<P, T
         ensures found { IsFound P.index P.generation (asked_at T.Key.cmp T.key_of k.now self.now)
             (IsAscending P.Inx.number T.Key.cmp T.key_of self.now) result self.now }
         ensures rises { probes.old ≤ probes.new }
-        ensures bound { probes.new ≤ probes.old + (num + fair (size_in self.now)) }
+        ensures bound { probes.new ≤ probes.old + (num + most_comparisons (size_in self.now)) }
         ensures gone { value_if (P.generation p_init) (entry_in self.now (P.index p_init)) ≡ None
             → probes.new ≡ probes.old + asked_down (asked_at T.Key.cmp T.key_of k.now self.now) (tree_in P.Inx.number self.now) }
         ensures counted { IsSome (value_if (P.generation p_init) (entry_in self.now (P.index p_init))) → (on : On (order_in P.Inx.number self.now) (P.index p_init))
@@ -122,7 +122,7 @@ impl<P: PtrCore, T: SimpleOrdItem + Drop, S: OrdSlots<P, T>> SimpleOrdArena<P, T
         ensures similar { IsSimilar P.index P.generation P.Inx.number (asked_at T.Key.cmp T.key_of k.now self.now)
             (IsAscending P.Inx.number T.Key.cmp T.key_of self.now) result self.now }
         ensures rises { probes.old ≤ probes.new }
-        ensures bound { probes.new ≤ probes.old + (num + fair (size_in self.now)) }
+        ensures bound { probes.new ≤ probes.old + (num + most_comparisons (size_in self.now)) }
         ensures gone { entry_in self.now (P.Inx.number p_init) ≡ None
             → probes.new ≡ probes.old + asked_down (asked_at T.Key.cmp T.key_of k.now self.now) (tree_in P.Inx.number self.now) }
         ensures counted { IsSome (entry_in self.now (P.Inx.number p_init)) → (on : On (order_in P.Inx.number self.now) (P.Inx.number p_init))

@@ -1,7 +1,7 @@
 //! Searches by a closure.
 ghost use Rattle.std.specs.Prelude.{◌≡◌, ◌+◌, ◌≤◌, ℕ, Option};
 ghost use Rattle.std.specs.declared.cmp.Ordering.{Ordering as Way};
-ghost use Rattle.counted_search.specs.Searches.{fair};
+ghost use Rattle.counted_search.specs.Searches.{most_comparisons};
 ghost use Rattle.rank_tree.specs.Search.{IsParted};
 ghost use Rattle.rank_tree.specs.Tree.{rank_of};
 ghost use Rattle.triple_arena_ord.specs.Found.{IsFound, IsSimilar};
@@ -32,7 +32,7 @@ impl<P: PtrCore, T: Drop, S: OrdSlots<P, T>> SimpleOrdArena<P, T, S> {
             → IsSimilar P.index P.generation P.Inx.number (answer_at side self.now)
             (IsParted (answer_at side self.now) (order_in P.Inx.number self.now)) result self.now }
         ensures rank { probes.new ≤ probes.old + rank_of (tree_in P.Inx.number self.now) }
-        ensures bound { probes.new ≤ probes.old + fair (size_in self.now) }
+        ensures bound { probes.new ≤ probes.old + most_comparisons (size_in self.now) }
         ensures ordered { IsOrdered P.Inx.number self.now }
     {
         ask_down(&self.chains, self.root, f, probes)
@@ -44,7 +44,7 @@ impl<P: PtrCore, T: Drop, S: OrdSlots<P, T>> SimpleOrdArena<P, T, S> {
         F: FnMut(P, &T) -> Ordering,
         requires { F.IsAlwaysCallable f }
         ensures asked { (ticks : ℕ) × IsAsked P.index P.generation F.step (entry_in self.now) (order_in P.Inx.number self.now)
-            f result 0 ticks × (ticks ≤ rank_of (tree_in P.Inx.number self.now)) × (ticks ≤ fair (size_in self.now)) }
+            f result 0 ticks × (ticks ≤ rank_of (tree_in P.Inx.number self.now)) × (ticks ≤ most_comparisons (size_in self.now)) }
         ensures similar { (side : ℕ → ℕ × T → Way) → AnswersBy P.index P.generation F.step side
             → IsSimilar P.index P.generation P.Inx.number (answer_at side self.now)
             (IsParted (answer_at side self.now) (order_in P.Inx.number self.now)) result self.now }
@@ -64,7 +64,7 @@ impl<P: PtrCore, T: Drop, S: OrdSlots<P, T>> SimpleOrdArena<P, T, S> {
             → IsFound P.index P.generation (answer_at side self.now)
             (IsParted (answer_at side self.now) (order_in P.Inx.number self.now)) result self.now }
         ensures rank { probes.new ≤ probes.old + rank_of (tree_in P.Inx.number self.now) }
-        ensures bound { probes.new ≤ probes.old + fair (size_in self.now) }
+        ensures bound { probes.new ≤ probes.old + most_comparisons (size_in self.now) }
     {
         match self.find_similar_with_counted(f, probes) {
             Some(last) => match last.1 {
@@ -82,7 +82,7 @@ impl<P: PtrCore, T: Drop, S: OrdSlots<P, T>> SimpleOrdArena<P, T, S> {
         requires { F.IsAlwaysCallable f }
         ensures asked { (ticks : ℕ) × (last : Option (P × Way)) × IsAsked P.index P.generation F.step (entry_in self.now)
             (order_in P.Inx.number self.now) f last 0 ticks × (result ≡ found_by last)
-            × (ticks ≤ rank_of (tree_in P.Inx.number self.now)) × (ticks ≤ fair (size_in self.now)) }
+            × (ticks ≤ rank_of (tree_in P.Inx.number self.now)) × (ticks ≤ most_comparisons (size_in self.now)) }
         ensures found { (side : ℕ → ℕ × T → Way) → AnswersBy P.index P.generation F.step side
             → IsFound P.index P.generation (answer_at side self.now)
             (IsParted (answer_at side self.now) (order_in P.Inx.number self.now)) result self.now }

@@ -1,5 +1,5 @@
 use Rattle.std.proofs.Common.{◌-◌, ℕ, ◌+◌, ◌<◌, ◌≤◌, ◌*◌, ◌^◌}
-use Rattle.counted_search.specs.Searches.{fair}
+use Rattle.counted_search.specs.Searches.{most_comparisons}
 use Rattle.counted_search.proofs.halving.search.Given as goal
 
 abbrev pub invariant-loop-low : goal.invariant-loop-low
@@ -10,7 +10,7 @@ invariant-loop-low g l = record {
   behind : l.high < l.len → (n : ℕ) × (l.wanted < n) × goal.F-post g l.number_at l.high n;
   rises : l.initial.probes ≤ l.probes;
   halved : 2 ^ (l.probes - l.initial.probes) * (l.high - l.low) ≤ l.len;
-  bound : l.probes ≤ l.initial.probes + fair l.len;
+  bound : l.probes ≤ l.initial.probes + most_comparisons l.len;
 }
 
 abbrev pub decreases-loop-low : goal.decreases-loop-low

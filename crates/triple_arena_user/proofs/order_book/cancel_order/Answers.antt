@@ -1,7 +1,7 @@
 use Rattle.std.proofs.Common.{sym, ◌∙◌}
 use Rattle.triple_arena_ptr.specs.InvalidationOption.{value_of}
 use Rattle.triple_arena_ptr.specs.InvalidationResult.{answer_of}
-use Rattle.triple_arena_ord.specs.Removal.{IsRemoved}
+use Rattle.triple_arena_ord.specs.Removal.{IsEntryRemoved}
 use Rattle.triple_arena_user.proofs.OrderBookLemmas.{removed_book, where_some}
 use Rattle.triple_arena_user.proofs.order_book.cancel_order.Goals as goal
 
@@ -12,6 +12,6 @@ returns-clause-book g c =
     let i = g.P.PtrCore.index c.args.p in
     let old = c.args.book.now in
     let new = c.remove.new.self in
-    let removed : IsRemoved number last i old new =
+    let removed : IsEntryRemoved number last i old new =
     where_some value_of (answer_of c.remove.result) c.in_ok-pair.pair (sym c.allow.ensures ∙ c.in_ok-pair.was) c.remove.ensures.removed in
     removed_book number old new last i c.requires removed (λ ascending. c.removals_keep_keys_ascending.ensures last i old new removed ascending)

@@ -8,7 +8,7 @@ use Rattle.triple_arena.proofs.arena.Arena.remove_free_end_slots.Goals as goal
 pub returns-then-last-slot_count-clause-value : goal.returns-then-last-slot_count-clause-value
 returns-then-last-slot_count-clause-value g c =
     let last = sym c.last_index-last.ensures ∙ c.if-last-slot_count.true ∙ c.slot_count.ensures in
-    sym (no_free_end c.args.self.now c.live.ensures.formed last)
+    sym (no_free_end c.args.self.now c.recall_formed.ensures last)
 
 pub turn_over-self-inside-requires : goal.turn_over-self-inside-requires
 turn_over-self-inside-requires g c =

@@ -14,7 +14,7 @@ returns-in-Some-next_ptr g c =
     let place = place_by number c.in-Some.place in
     let is : place_among g.P.PtrCore.index g.P.PtrCore.generation number old c.args.kind ≡ Some place = search rules in
     let there : IsPlace (ends_in number old) place =
-    placeable g.P.PtrCore.index g.P.PtrCore.generation number old c.args.kind place c.has_room.ensures.chained is in
+    placeable g.P.PtrCore.index g.P.PtrCore.generation number old c.args.kind place c.recall_chained.ensures is in
     let room = c.in-Some-next_ptr.ensures.variant.0 refl in (
       (refl, λ w. refl, tt),
       record {

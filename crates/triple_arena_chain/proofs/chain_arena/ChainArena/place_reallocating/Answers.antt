@@ -14,5 +14,5 @@ returns-in-Ok-clause-is_place g c =
     let is : place_among g.P.PtrCore.index g.P.PtrCore.generation number old c.args.kind ≡ Some place = search rules in
     let grown : c.make_room.new.self ≡ grown_if_full old = search rules in
     let there : IsPlace (ends_in number (grown_if_full old)) place =
-    placeable g.P.PtrCore.index g.P.PtrCore.generation number old c.args.kind place c.has_room.ensures.chained is in
+    placeable g.P.PtrCore.index g.P.PtrCore.generation number old c.args.kind place c.recall_chained.ensures is in
     rw grown there

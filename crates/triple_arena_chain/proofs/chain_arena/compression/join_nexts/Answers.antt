@@ -10,7 +10,7 @@ loop-p-init g c =
     record {
       rises = c.advancer-advancer.ensures.rises;
       reaches = c.advancer-advancer.ensures.high;
-      joined = joined_none g.P.Inx.PtrInxCore.number c.args.arena.now _ c.advancer-advancer.ensures.low c.requires.alone c.len.ensures.formed;
+      joined = joined_none g.P.Inx.PtrInxCore.number c.args.arena.now _ c.advancer-advancer.ensures.low c.requires.alone c.recall_formed.ensures;
     }
 
 pub set_prev-requires : goal.set_prev-requires

@@ -3,7 +3,7 @@ use Rattle.triple_arena_ptr.specs.Index.{max_index_of}
 use Rattle.triple_arena.specs.Content.{entry_at}
 use Rattle.triple_arena.specs.Walk.{past}
 use Rattle.triple_arena_chain.specs.Links.{ends_in}
-use Rattle.triple_arena_chain.specs.Renaming.{rank, numbered}
+use Rattle.triple_arena_chain.specs.Renaming.{live_below, numbered}
 use Rattle.triple_arena_chain.proofs.PassLemmas.{IsPassed, found_live, passed_by, unchanged, live_as, begun, free_numbered, IsCounted, counted, numbered_one}
 use Rattle.triple_arena_chain.proofs.chain_arena.compression.number_links.Goals as goal
 
@@ -14,8 +14,8 @@ loop-p-init g c =
       rises = c.advancer-advancer.ensures.rises;
       reaches = c.advancer-advancer.ensures.high;
       indexes = λ j some. let within = c.capacity.ensures.indexes j some in let bound = c.capacity.ensures.bounded in omega (arith, within, bound);
-      count = ap (rank (ends_in g.P.Inx.PtrInxCore.number c.args.arena.now)) (sym low);
-      passed = begun g.P.Inx.PtrInxCore.number _ c.args.arena.now (free_numbered g.P.Inx.PtrInxCore.number c.args.arena.now) _ low c.len.ensures.formed;
+      count = ap (live_below (ends_in g.P.Inx.PtrInxCore.number c.args.arena.now)) (sym low);
+      passed = begun g.P.Inx.PtrInxCore.number _ c.args.arena.now (free_numbered g.P.Inx.PtrInxCore.number c.args.arena.now) _ low c.recall_formed.ensures;
     }
 
 is_counted : (g : _) (c : goal.After-set_prev g) → IsCounted g.P.Inx.PtrInxCore.number c.args.arena.now c.loop-p.arena c.loop-p.advancer (g.P.PtrCore.index c.in-Some.p) c.loop-p.count
@@ -44,7 +44,7 @@ loop-p-preserved g c =
       rises = next.rises;
       reaches = λ j some. subst (λ h. j ≤ h) (sym next.high) (c.loop-p.invariant.reaches j (sym (same j) ∙ some));
       indexes = λ j some. c.loop-p.invariant.indexes j (sym (same j) ∙ some);
-      count = (is_counted g c).after ∙ ap (rank (ends_in g.P.Inx.PtrInxCore.number c.args.arena.now)) (sym next.low);
+      count = (is_counted g c).after ∙ ap (live_below (ends_in g.P.Inx.PtrInxCore.number c.args.arena.now)) (sym next.low);
       passed =
           subst (λ n. IsPassed g.P.Inx.PtrInxCore.number (numbered (ends_in g.P.Inx.PtrInxCore.number c.args.arena.now)) n c.args.arena.now c.set_prev.new.arena) (sym next.low)
           (numbered_one g.P.Inx.PtrInxCore.number c.args.arena.now c.loop-p.arena c.set_prev.new.arena c.loop-p.advancer (g.P.PtrCore.index c.in-Some.p)

@@ -2,7 +2,7 @@ use Rattle.std.specs.Prelude.{◌≡◌, ℕ, ◌+◌, ◌-◌, ◌≤◌, false
 use Rattle.triple_arena_ptr.specs.Index.{max_index_of}
 use Rattle.triple_arena.specs.Content.{entry_at}
 use Rattle.triple_arena_chain.specs.Links.{ends_in}
-use Rattle.triple_arena_chain.specs.Renaming.{rank, numbered}
+use Rattle.triple_arena_chain.specs.Renaming.{live_below, numbered}
 use Rattle.triple_arena_chain.proofs.PassLemmas.{IsPassed}
 use Rattle.triple_arena_chain.proofs.chain_arena.compression.number_links.Given as goal
 
@@ -13,7 +13,7 @@ invariant-loop-p g l =
       rises : l.advancer.falls ≡ false;
       reaches : (j : ℕ) → IsSome (entry_at l.arena j) → j ≤ l.advancer.high;
       indexes : (j : ℕ) → IsSome (entry_at l.arena j) → j ≤ max_index_of g.P.Inx.PtrInxCore.greatest;
-      count : l.count ≡ rank (ends_in g.P.Inx.PtrInxCore.number l.fn.arena) l.advancer.low;
+      count : l.count ≡ live_below (ends_in g.P.Inx.PtrInxCore.number l.fn.arena) l.advancer.low;
       passed : IsPassed g.P.Inx.PtrInxCore.number (numbered (ends_in g.P.Inx.PtrInxCore.number l.fn.arena)) l.advancer.low l.fn.arena l.arena;
     }
 

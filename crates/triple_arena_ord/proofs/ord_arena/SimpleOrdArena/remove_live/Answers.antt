@@ -5,9 +5,9 @@ use Rattle.triple_arena_ptr.specs.InvalidationOption.{overflowed}
 use Rattle.triple_arena_ptr.specs.InvalidationResult.{answer_of}
 use Rattle.triple_arena_chain.specs.Chains.{next_in}
 use Rattle.triple_arena_ord.specs.Ordered.{Ordered}
-use Rattle.triple_arena_ord.specs.Removal.{IsRemoved}
+use Rattle.triple_arena_ord.specs.Removal.{IsEntryRemoved}
 use Rattle.triple_arena_ord.proofs.LostEnds.{first_lost, last_lost}
-use Rattle.triple_arena_ord.proofs.TakenLemmas.{mapped_if, removed}
+use Rattle.triple_arena_ord.proofs.UprootingLemmas.{mapped_if, removed}
 use Rattle.triple_arena_ord.proofs.ord_arena.SimpleOrdArena.remove_live.Goals as goal
 
 pub take_entry-taken-requires-clause-next : goal.take_entry-taken-requires-clause-next
@@ -34,7 +34,7 @@ returns-clause-removed g c =
     let h = number c.args.gone in
     let last = g.P.Gen.PtrGenCore.last in
     let done = c.take_entry-taken.ensures in
-    subst (λ z. IsRemoved number last h z p) c.self.view_is
+    subst (λ z. IsEntryRemoved number last h z p) c.self.view_is
     (removed number last o p h c.self.invariant.0 done.ordered done.order done.entries done.counter done.free done.slots done.room)
 
 pub returns-clause-overflow : goal.returns-clause-overflow

@@ -6,5 +6,5 @@ use Rattle.triple_arena_chain.proofs.chain_arena.chain_calls.ChainArenaChainAren
 pub returns-then-contains-clause-along : goal.returns-then-contains-clause-along
 returns-then-contains-clause-along g c =
     let live : IsSome (get c.args.self.now (g.P.PtrCore.index c.args.p) (g.P.PtrCore.generation c.args.p)) = search rules in
-    walk_along g.P.Inx.PtrInxCore.number c.args.self.now (g.P.PtrCore.index c.args.p) (g.P.PtrCore.generation c.args.p) _ c.has_room.ensures.chained live
+    walk_along g.P.Inx.PtrInxCore.number c.args.self.now (g.P.PtrCore.index c.args.p) (g.P.PtrCore.generation c.args.p) _ c.recall_chained.ensures live
     c.from.ensures

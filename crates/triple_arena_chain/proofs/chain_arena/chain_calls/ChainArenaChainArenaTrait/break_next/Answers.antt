@@ -21,7 +21,7 @@ set_prev-requires g c =
     let number = g.P.Inx.PtrInxCore.number in
     let k = known g c in
     next_live_after number c.args.self.now c.set_next.new.arena (Some c.inx.result) None (g.P.PtrCore.index c.args.p) (g.P.PtrCore.generation c.args.p)
-    (number c.in_ok-next.next) (option_map number c.in_ok-ends_of.field-0.0) c.has_room.ensures.chained k.0 k.1
+    (number c.in_ok-next.next) (option_map number c.in_ok-ends_of.field-0.0) c.recall_chained.ensures k.0 k.1
 
 done : (g : Over) (c : goal.After-set_prev g) (q : ℕ) → next_at (ends_in g.P.Inx.PtrInxCore.number c.args.self.now) (g.P.PtrCore.index c.args.p) ≡ Some q
     → Relinked g.P.Inx.PtrInxCore.number (unlinked (ends_in g.P.Inx.PtrInxCore.number c.args.self.now) (g.P.PtrCore.index c.args.p) q) c.args.self.now c.set_prev.new.arena
@@ -29,7 +29,7 @@ done g c =
     let number = g.P.Inx.PtrInxCore.number in
     let first : c.set_next.new.arena ≡ with_next_of number c.args.self.now (Some c.inx.result) None = search rules in
     parted_next number c.args.self.now c.set_next.new.arena c.set_prev.new.arena c.inx.result c.in_ok-next.next (g.P.PtrCore.index c.args.p)
-    (g.P.PtrCore.generation c.args.p) (option_map number c.in_ok-ends_of.field-0.0) c.has_room.ensures.chained c.inx.ensures
+    (g.P.PtrCore.generation c.args.p) (option_map number c.in_ok-ends_of.field-0.0) c.recall_chained.ensures c.inx.ensures
     (sym c.in_ok-ends_of.ensures.numbers ∙ ap (λ o. Some (option_map number c.in_ok-ends_of.field-0.0, option_map number o)) c.in_ok-next.was)
     first c.set_prev.ensures
 
@@ -49,7 +49,7 @@ returns-clause-formed g c = chained g c
 pub returns-clause-lists : goal.returns-clause-lists
 returns-clause-lists g c q next =
     let number = g.P.Inx.PtrInxCore.number in
-    is_split (ends_in number c.args.self.now) (ends_in number c.set_prev.new.arena) (g.P.PtrCore.index c.args.p) q c.has_room.ensures.chained.agreed
+    is_split (ends_in number c.args.self.now) (ends_in number c.set_prev.new.arena) (g.P.PtrCore.index c.args.p) q c.recall_chained.ensures.agreed
     (chained g c).agreed next (done g c q next).relinked.ends
 
 pub returns-clause-relinked : goal.returns-clause-relinked

@@ -13,7 +13,7 @@ set_next-requires g c =
     let is = sym c.in_ok-ends_of.ensures.numbers ∙ ap (λ o. Some (option_map number o, option_map number c.in_ok-ends_of.field-0.1)) c.in_ok-prev.was in
     let live : IsSome (entry_at c.args.self.now (number c.in_ok-prev.prev)) =
     prev_live number c.args.self.now (g.P.PtrCore.index c.args.p) (g.P.PtrCore.generation c.args.p) (number c.in_ok-prev.prev)
-    (option_map number c.in_ok-ends_of.field-0.1) c.has_room.ensures.chained is in
+    (option_map number c.in_ok-ends_of.field-0.1) c.recall_chained.ensures is in
     search rules
 
 pub set_prev-requires : goal.set_prev-requires
@@ -31,7 +31,7 @@ done g c =
     let is = sym c.in_ok-ends_of.ensures.numbers ∙ ap (λ o. Some (option_map number o, option_map number c.in_ok-ends_of.field-0.1)) c.in_ok-prev.was in
     let first : c.set_next.new.arena ≡ with_next_of number c.args.self.now (Some c.in_ok-prev.prev) None = search rules in
     parted_prev number c.args.self.now c.set_next.new.arena c.set_prev.new.arena c.in_ok-prev.prev c.inx.result (g.P.PtrCore.index c.args.p)
-    (g.P.PtrCore.generation c.args.p) (option_map number c.in_ok-ends_of.field-0.1) c.has_room.ensures.chained c.inx.ensures is first c.set_prev.ensures
+    (g.P.PtrCore.generation c.args.p) (option_map number c.in_ok-ends_of.field-0.1) c.recall_chained.ensures c.inx.ensures is first c.set_prev.ensures
 
 chained : (g : Over) (c : goal.After-set_prev g) → IsChained g.P.Inx.PtrInxCore.number c.set_prev.new.arena
 chained g c =
@@ -50,7 +50,7 @@ returns-clause-formed g c = chained g c
 pub returns-clause-lists : goal.returns-clause-lists
 returns-clause-lists g c q prev =
     let number = g.P.Inx.PtrInxCore.number in
-    let agreed = c.has_room.ensures.chained.agreed in
+    let agreed = c.recall_chained.ensures.agreed in
     is_split (ends_in number c.args.self.now) (ends_in number c.set_prev.new.arena) q (g.P.PtrCore.index c.args.p) agreed
     (chained g c).agreed (agreed.backward q (g.P.PtrCore.index c.args.p) prev) (done g c q prev).relinked.ends
 

@@ -20,7 +20,7 @@ done g c =
     let place = place_by number c.in_ok-place.field-0 in
     let bridge : at_bridge p q (ends_found number old p gp) (ends_found number old q gq) ≡ Some place = search rules in
     let first : c.set_next.new.arena ≡ with_next_of number old (Some c.inx-i.result) (Some c.inx-j.result) = search rules in
-    connected number old c.set_next.new.arena c.set_prev.new.arena c.inx-i.result c.inx-j.result p gp q gq place c.has_room.ensures.chained c.inx-i.ensures
+    connected number old c.set_next.new.arena c.set_prev.new.arena c.inx-i.result c.inx-j.result p gp q gq place c.recall_chained.ensures c.inx-i.ensures
     c.inx-j.ensures bridge first c.set_prev.ensures
 
 pub invariant_of-self : goal.invariant_of-self

@@ -14,7 +14,7 @@ set_prev-requires g c =
     let first : c.set_next.new.arena ≡ with_next_of number c.args.self.now (Some c.inx-i.result) (Some c.in_ok-next_of_q.next_of_q) = search rules in
     next_live_after_two number c.args.self.now c.set_next.new.arena c.set_next-2.new.arena (Some c.inx-i.result) (Some c.in_ok-next_of_q.next_of_q)
     (Some c.inx-j.result) (Some c.in_ok-next_of_p.next_of_p) (g.P.PtrCore.index c.args.q) (g.P.PtrCore.generation c.args.q)
-    (number c.in_ok-next_of_q.next_of_q) (option_map number c.in_ok-ends_of-2.field-0.0) c.has_room.ensures.chained at_q first c.set_next-2.ensures
+    (number c.in_ok-next_of_q.next_of_q) (option_map number c.in_ok-ends_of-2.field-0.0) c.recall_chained.ensures at_q first c.set_next-2.ensures
 
 pub set_prev-requires-2 : goal.set_prev-requires-2
 set_prev-requires-2 g c =
@@ -25,7 +25,7 @@ set_prev-requires-2 g c =
     next_live_after_three number c.args.self.now c.set_next.new.arena c.set_next-2.new.arena c.set_prev.new.arena (Some c.inx-i.result)
     (Some c.in_ok-next_of_q.next_of_q) (Some c.inx-j.result) (Some c.in_ok-next_of_p.next_of_p) (Some c.inx-i.result) c.in_ok-next_of_q.next_of_q
     (g.P.PtrCore.index c.args.p) (g.P.PtrCore.generation c.args.p) (number c.in_ok-next_of_p.next_of_p) (option_map number c.in_ok-ends_of.field-0.0)
-    c.has_room.ensures.chained at_p first c.set_next-2.ensures c.set_prev.ensures
+    c.recall_chained.ensures at_p first c.set_next-2.ensures c.set_prev.ensures
 
 done : (g : Over) (c : goal.After-set_prev-2 g) (s t : ℕ) → next_at (ends_in g.P.Inx.PtrInxCore.number c.args.self.now) (g.P.PtrCore.index c.args.p) ≡ Some s
     → next_at (ends_in g.P.Inx.PtrInxCore.number c.args.self.now) (g.P.PtrCore.index c.args.q) ≡ Some t
@@ -42,7 +42,7 @@ done g c =
     exchanged_at number c.args.self.now c.set_next.new.arena c.set_next-2.new.arena c.set_prev.new.arena c.set_prev-2.new.arena c.inx-i.result c.inx-j.result
     c.in_ok-next_of_p.next_of_p c.in_ok-next_of_q.next_of_q (g.P.PtrCore.index c.args.p) (g.P.PtrCore.generation c.args.p) (g.P.PtrCore.index c.args.q)
     (g.P.PtrCore.generation c.args.q) (option_map number c.in_ok-ends_of.field-0.0) (option_map number c.in_ok-ends_of-2.field-0.0)
-    c.has_room.ensures.chained c.inx-i.ensures c.inx-j.ensures at_p at_q first c.set_next-2.ensures c.set_prev.ensures c.set_prev-2.ensures
+    c.recall_chained.ensures c.inx-i.ensures c.inx-j.ensures at_p at_q first c.set_next-2.ensures c.set_prev.ensures c.set_prev-2.ensures
 
 -- the nexts that were there
 both : (g : Over) (c : goal.After-set_prev-2 g)
@@ -82,7 +82,7 @@ returns-clause-lists g c =
     let nexts = both g c in
     let one = all g c in
     is_exchanged (ends_in number c.args.self.now) (ends_in number c.set_prev-2.new.arena) (g.P.PtrCore.index c.args.p) (g.P.PtrCore.index c.args.q)
-    (number c.in_ok-next_of_p.next_of_p) (number c.in_ok-next_of_q.next_of_q) c.has_room.ensures.chained.agreed one.chained.agreed nexts.0 nexts.1
+    (number c.in_ok-next_of_p.next_of_p) (number c.in_ok-next_of_q.next_of_q) c.recall_chained.ensures.agreed one.chained.agreed nexts.0 nexts.1
     one.relinked.ends
 
 pub returns-clause-relinked : goal.returns-clause-relinked

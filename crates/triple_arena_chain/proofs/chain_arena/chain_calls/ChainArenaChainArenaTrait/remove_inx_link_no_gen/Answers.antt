@@ -11,7 +11,7 @@ pub set_next-requires : goal.set_next-requires
 set_next-requires g c =
     let number = g.P.Inx.PtrInxCore.number in
     let at : entry_at c.args.self.now (number c.args.i) ≡ Some (g.P.Gen.PtrGenCore.number c.in-Some.field-0-0, c.in-Some.link.now) = search rules in
-    let live = (neighbors_live number c.args.self.now (number c.args.i) (g.P.Gen.PtrGenCore.number c.in-Some.field-0-0) c.in-Some.link.now c.has_room.ensures.chained at).0 in
+    let live = (neighbors_live number c.args.self.now (number c.args.i) (g.P.Gen.PtrGenCore.number c.in-Some.field-0-0) c.in-Some.link.now c.recall_chained.ensures at).0 in
     search rules
 
 pub set_prev-requires : goal.set_prev-requires
@@ -20,7 +20,7 @@ set_prev-requires g c =
     let at : entry_at c.args.self.now (number c.args.i) ≡ Some (g.P.Gen.PtrGenCore.number c.in-Some.field-0-0, c.in-Some.link.now) = search rules in
     let first : c.set_next.new.arena ≡ with_next_of number c.args.self.now c.in-Some.link.now.prev c.in-Some.link.now.next = search rules in
     neighbor_live_after number c.args.self.now c.set_next.new.arena (number c.args.i) (g.P.Gen.PtrGenCore.number c.in-Some.field-0-0) c.in-Some.link.now
-    c.has_room.ensures.chained at first
+    c.recall_chained.ensures at first
 
 done : (g : Over) (c : goal.After-remove_inx g)
     → Removed g.P.Inx.PtrInxCore.number (λ a. (g.P.Gen.PtrGenCore.number (value_of a).0, (value_of a).1)) (answer_of c.remove_inx.result) (λ a. (value_of a).1) (λ o. o) g.P.Gen.PtrGenCore.last
@@ -31,7 +31,7 @@ done g c =
     let first : c.set_next.new.arena ≡ with_next_of number c.args.self.now c.in-Some.link.now.prev c.in-Some.link.now.next = search rules in
     removed_by number (λ a. (g.P.Gen.PtrGenCore.number (value_of a).0, (value_of a).1)) (answer_of c.remove_inx.result) (λ a. (value_of a).1) (λ o. o) g.P.Gen.PtrGenCore.last c.args.self.now
     c.set_next.new.arena c.set_prev.new.arena c.remove_inx.new.self (number c.args.i) (g.P.Gen.PtrGenCore.number c.in-Some.field-0-0) c.in-Some.link.now
-    (g.P.Gen.PtrGenCore.number c.in-Some.field-0-0, c.in-Some.link.now) c.has_room.ensures.chained at refl first c.set_prev.ensures
+    (g.P.Gen.PtrGenCore.number c.in-Some.field-0-0, c.in-Some.link.now) c.recall_chained.ensures at refl first c.set_prev.ensures
     c.remove_inx.ensures.value c.remove_inx.ensures.exact (λ a is. ap (λ v. v.1) is)
 
 pub invariant_of-self : goal.invariant_of-self

@@ -1,5 +1,5 @@
 use Rattle.std.proofs.Common.{◌∙◌}
-use Rattle.triple_arena_ord.specs.IndexedDrains.{drain_arena}
+use Rattle.triple_arena_ord.specs.IndexDrains.{drain_arena}
 use Rattle.triple_arena_ord.proofs.IndexedLemmas.{removals_counted}
 use Rattle.triple_arena_ord.proofs.ord_arena.index_drain.DrainExactSizeIterator.len.Goals as goal
 

@@ -1,0 +1,31 @@
+use Rattle.rank_tree.proofs.Spots.{write-lives, reparent-lives}
+use Rattle.triple_arena_ord.specs.Node.{knots_in}
+use Rattle.triple_arena_ord.proofs.NameLemmas.{if_live}
+use Rattle.rank_tree.proofs.ChangeLemmas.{exchange_lives, exchange_links, exchange_works}
+use Rattle.triple_arena_ord.proofs.uprooting.exchange.Goals as goal
+
+pub read-knot-requires : goal.read-knot-requires
+read-knot-requires g c = exchange_lives _ _ _ _ c.requires.place
+
+pub reparent-requires : goal.reparent-requires
+reparent-requires g c =
+    let links = exchange_links _ _ _ _ c.requires.place _ c.read-knot.ensures in
+    if_live g.P.Inx.PtrInxCore.number (knots_in g.P.Inx.PtrInxCore.number c.write.new.chains) c.read-knot.result.left
+    (λ i e. write-lives _ _ _ _ c.write.ensures.written i (links.left i e))
+
+pub reparent-requires-2 : goal.reparent-requires-2
+reparent-requires-2 g c =
+    let links = exchange_links _ _ _ _ c.requires.place _ c.read-knot.ensures in
+    if_live g.P.Inx.PtrInxCore.number (knots_in g.P.Inx.PtrInxCore.number c.reparent.new.chains) c.read-knot.result.right
+    (λ i e. reparent-lives _ _ _ _ c.reparent.ensures.does i (write-lives _ _ _ _ c.write.ensures.written i (links.right i e)))
+
+pub relink-requires : goal.relink-requires
+relink-requires g c =
+    let links = exchange_links _ _ _ _ c.requires.place _ c.read-knot.ensures in
+    if_live g.P.Inx.PtrInxCore.number (knots_in g.P.Inx.PtrInxCore.number c.reparent-2.new.chains) c.read-knot.result.parent
+    (λ i e. reparent-lives _ _ _ _ c.reparent-2.ensures.does i
+    (reparent-lives _ _ _ _ c.reparent.ensures.does i (write-lives _ _ _ _ c.write.ensures.written i (links.parent i e))))
+
+pub returns-clause-does : goal.returns-clause-does
+returns-clause-does g c = λ place.
+    exchange_works _ _ _ _ _ _ _ _ _ _ c.read-knot.ensures c.write.ensures.written c.reparent.ensures.does c.reparent-2.ensures.does c.relink.ensures.does place
