@@ -1,67 +1,37 @@
-//! The operations that are counted, as `bench/plain/ordered.rs` has them.
+//! The operations on an ordered arena, as `bench/plain/ordered.rs` has them.
+use crate::sequence::with;
 use std::alloc::Global;
-use triple_arena::{ArenaSlot, InvalidationResult, NonZeroInxVec, P0};
-use triple_arena_chain::LinkNoGen;
-use triple_arena_ord::{OrdPair, SimpleOrdArena, SimpleOrdArenaNode};
-use triple_arena_ptr::{OrdInsertionError, Probes};
+use triple_arena::{InvalidationResult, P0};
+use triple_arena_ord::{HeapOrdArena, OrdInsertionError, OrdPair, Probes};
 
 type Item = OrdPair<u64, u64>;
 
-type Slot = ArenaSlot<P0, LinkNoGen<P0, SimpleOrdArenaNode<P0, Item>>>;
+type Ordered = HeapOrdArena<P0, Item, Global>;
 
-type Ordered = SimpleOrdArena<P0, Item, NonZeroInxVec<Slot, Global>>;
-
-/// What is counted.
-#[derive(Clone, Copy)]
-pub enum Operation {
-    /// Insertions of shuffled keys into an arena that grows.
-    Insert,
-    /// Look-ups of keys that are there.
-    Find,
-    /// Removals of keys that are looked up.
-    Remove,
-    /// Removals by pointers.
-    Cancel,
-    /// A walk over the entries in their order, again and again.
-    Walk,
-    /// No step: the most comparisons that the search for a key takes.
-    Most,
-    /// No step: the comparisons that the searches for all keys take together.
-    All,
-}
-
-impl Operation {
-    /// The operation with this name.
-    pub(crate) fn named(name: &str) -> Option<Self> {
-        match name {
-            "insert" => Some(Operation::Insert),
-            "find" => Some(Operation::Find),
-            "remove" => Some(Operation::Remove),
-            "cancel" => Some(Operation::Cancel),
-            "walk" => Some(Operation::Walk),
-            "most" => Some(Operation::Most),
-            "all" => Some(Operation::All),
-            _ => None,
-        }
-    }
-
-    /// Runs this many steps over so many entries, and answers a checksum.
-    pub(crate) fn run(
-        self,
-        alloc: Global,
-        len: usize,
-        steps: usize,
-    ) -> Result<u64, OrdInsertionError> {
-        let (mut arena, pointers) = filled(alloc, len)?;
-        match self {
-            Operation::Insert => Ok(arena.len() as u64),
-            Operation::Find => Ok(find(&arena, len, steps)),
-            Operation::Remove => Ok(remove(&mut arena, steps)),
-            Operation::Cancel => Ok(cancel(&mut arena, &pointers, steps)),
-            Operation::Walk => Ok(walk(&arena, steps)),
-            Operation::Most => Ok(comparisons(&arena, len).0),
-            Operation::All => Ok(comparisons(&arena, len).1),
-        }
+/// Fills an arena with so many entries under shuffled keys, runs so many steps of an operation, and answers a checksum.
+///
+/// `insert` is the filling alone. `find` looks up keys that are there, `remove` removes them, `cancel` removes by pointers, and
+/// `walk` goes over the entries in their order again and again. `most` and `all` take no steps: the most comparisons that the
+/// search for a key takes, and those of the searches for all keys together.
+pub fn run(
+    operation: &str,
+    alloc: Global,
+    len: usize,
+    steps: usize,
+) -> Option<Result<u64, OrdInsertionError>> {
+    let (mut arena, pointers) = match filled(alloc, len) {
+        Ok(filled) => filled,
+        Err(refused) => return Some(Err(refused)),
+    };
+    match operation {
+        "insert" => Some(Ok(arena.len() as u64)),
+        "find" => Some(Ok(find(&arena, len, steps))),
+        "remove" => Some(Ok(remove(&mut arena, steps))),
+        "cancel" => Some(Ok(cancel(&mut arena, &pointers, steps))),
+        "walk" => Some(Ok(walk(&arena, steps))),
+        "most" => Some(Ok(comparisons(&arena, len).0)),
+        "all" => Some(Ok(comparisons(&arena, len).1)),
+        _ => None,
     }
 }
 
@@ -71,11 +41,6 @@ fn key(n: usize) -> u64 {
     let z = (z ^ (z >> 30)).wrapping_mul(0xbf58_476d_1ce4_e5b9);
     let z = (z ^ (z >> 27)).wrapping_mul(0x94d0_49bb_1331_11eb);
     z ^ (z >> 31)
-}
-
-// A checksum with a number more.
-fn with(sum: u64, number: u64) -> u64 {
-    sum.wrapping_mul(31).wrapping_add(number)
 }
 
 // So many entries, and their pointers.

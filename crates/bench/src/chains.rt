@@ -1,39 +1,29 @@
-//! `chain_bench OPERATION STEPS` runs an operation on links in chains, and prints a checksum, which the plain lists of
-//! `bench/plain/chains.rs` give too. `bench/chains` counts the instructions of both.
-#![tactic(auto)]
-
+//! The operations on links in chains, as `bench/plain/chains.rs` has them.
+use crate::sequence::{Sequence, with};
 use std::alloc::Global;
-use std::process::ExitCode;
-use std::{env, io};
-use triple_arena::{Advancer, ArenaSlot, ArenaTrait, P0, PtrCore};
-use triple_arena_chain::{ChainArena, ChainArenaTrait, LinkInsertKind, LinkNoGen};
-use triple_arena_ptr::ChainInsertionError;
-use triple_arena_stack::NonZeroInxVec;
+use triple_arena::{Advancer, ArenaTrait, P0, PtrCore};
+use triple_arena_chain::{ChainArenaTrait, ChainInsertionError, HeapChainArena, LinkInsertKind};
 
-type Chains = ChainArena<P0, u64, NonZeroInxVec<ArenaSlot<P0, LinkNoGen<P0, u64>>, Global>>;
+type Chains = HeapChainArena<P0, u64, Global>;
+
+/// Runs so many steps of an operation, and answers a checksum.
+pub fn run(
+    operation: &str,
+    alloc: Global,
+    steps: usize,
+) -> Option<Result<u64, ChainInsertionError>> {
+    match operation {
+        "queue" => Some(queue(alloc, steps)),
+        "turn" => Some(turn(alloc, steps)),
+        "rotate" => Some(rotate(alloc, steps)),
+        "walk" => Some(walk(alloc, steps)),
+        "iterate" => Some(iterate(alloc, steps)),
+        _ => None,
+    }
+}
 
 // How many links there are before the steps.
 const LEN: usize = 4096;
-
-// A linear congruential generator; its upper bits are the sequence.
-#[derive(Drop)]
-struct Sequence {
-    state: u64,
-}
-
-impl Sequence {
-    fn new() -> Self {
-        Sequence { state: 1 }
-    }
-
-    fn number(&mut self) -> u64 {
-        self.state = self
-            .state
-            .wrapping_mul(6364136223846793005)
-            .wrapping_add(1442695040888963407);
-        self.state
-    }
-}
 
 // A linear chain, with its first and its last link.
 fn filled(alloc: Global, sequence: &mut Sequence) -> Result<(Chains, P0, P0), ChainInsertionError> {
@@ -65,7 +55,7 @@ fn queue(alloc: Global, steps: usize) -> Result<u64, ChainInsertionError> {
             break;
         };
         first = next;
-        sum = sum.wrapping_mul(31).wrapping_add(link.t);
+        sum = with(sum, link.t);
     }
     Ok(sum)
 }
@@ -85,7 +75,7 @@ fn rotate(alloc: Global, steps: usize) -> Result<u64, ChainInsertionError> {
             break;
         };
         at = next;
-        sum = sum.wrapping_mul(31).wrapping_add(link.t);
+        sum = with(sum, link.t);
     }
     Ok(sum)
 }
@@ -101,7 +91,7 @@ fn walk(alloc: Global, steps: usize) -> Result<u64, ChainInsertionError> {
     for _ in 0..steps {
         if let Some(p) = links.advance(&chains) {
             if let Some(number) = chains.get(p) {
-                sum = sum.wrapping_mul(31).wrapping_add(*number);
+                sum = with(sum, *number);
             }
             continue;
         }
@@ -112,7 +102,7 @@ fn walk(alloc: Global, steps: usize) -> Result<u64, ChainInsertionError> {
         links = again;
         if let Some(p) = links.advance(&chains) {
             if let Some(number) = chains.get(p) {
-                sum = sum.wrapping_mul(31).wrapping_add(*number);
+                sum = with(sum, *number);
             }
         }
     }
@@ -141,7 +131,7 @@ fn iterate(alloc: Global, steps: usize) -> Result<u64, ChainInsertionError> {
                 link
             }
         };
-        sum = sum.wrapping_mul(31).wrapping_add(link.t);
+        sum = with(sum, link.t);
     }
     Ok(sum)
 }
@@ -161,46 +151,10 @@ fn turn(alloc: Global, steps: usize) -> Result<u64, ChainInsertionError> {
             break;
         };
         first = next;
-        sum = sum.wrapping_mul(31).wrapping_add(link.t);
+        sum = with(sum, link.t);
         last = chains
             .insert_reallocating(LinkInsertKind::NextToInx(last), link.t)?
             .inx();
     }
     Ok(sum)
-}
-
-fn run(operation: &str, alloc: Global, steps: usize) -> Option<Result<u64, ChainInsertionError>> {
-    match operation {
-        "queue" => Some(queue(alloc, steps)),
-        "turn" => Some(turn(alloc, steps)),
-        "rotate" => Some(rotate(alloc, steps)),
-        "walk" => Some(walk(alloc, steps)),
-        "iterate" => Some(iterate(alloc, steps)),
-        _ => None,
-    }
-}
-
-fn main(rt: HostRuntime) -> io::Result<ExitCode> {
-    let mut args = env::args(&rt)?;
-    args.next();
-    let operation = args.next();
-    let steps = args.next().and_then(|word| word.parse::<usize>().ok());
-    let sum = match (operation, steps) {
-        (Some(operation), Some(steps)) => run(operation.as_str(), rt.alloc(), steps),
-        _ => None,
-    };
-    match sum {
-        Some(Ok(sum)) => {
-            println!(rt; "{sum}")?;
-            Ok(ExitCode::SUCCESS)
-        }
-        Some(Err(refused)) => {
-            eprintln!(rt; "{refused}")?;
-            Ok(ExitCode::FAILURE)
-        }
-        None => {
-            eprintln!(rt; "usage: chain_bench queue|turn|rotate|walk|iterate STEPS")?;
-            Ok(ExitCode::from(2))
-        }
-    }
 }

@@ -1,77 +1,34 @@
-//! The operations that are counted, as `bench/plain/arena.rs` has them.
-ghost use Rattle.std.specs.Prelude.{◌<◌};
-
+//! The operations on an arena, as `bench/plain/main.rs` has them.
+use crate::sequence::{Sequence, with};
 use std::alloc::Global;
-use triple_arena::{Arena, ArenaInsertTrait, ArenaSlot, ArenaTrait};
+use triple_arena::{ArenaInsertTrait, ArenaTrait, HeapArena};
 use triple_arena_ptr::{Advancer, InvalidationResult, P0, PtrCore, ReallocationError};
-use triple_arena_stack::NonZeroInxVec;
 
 // `bench/run` also builds the program over `P3`.
 type Pointer = P0;
 
-type Numbers = Arena<Pointer, u64, NonZeroInxVec<ArenaSlot<Pointer, u64>, Global>>;
+type Numbers = HeapArena<Pointer, u64, Global>;
 
-/// What is counted.
-#[derive(Clone, Copy)]
-pub enum Operation {
-    /// Insertions into an arena that grows.
-    Insert,
-    /// As many insertions, and then the removal of all in another order.
-    Remove,
-    /// The same by their indexes.
-    RemoveInx,
-    /// Reads by pointers of which a quarter are no longer valid.
-    Get,
-    /// Writes in place of those reads.
-    Write,
-    /// A walk over the arena of those reads, again and again, by an advancer and a read of each entry.
-    Advance,
-    /// The same walk by an iterator.
-    Iterate,
-    /// A clone of an arena with so many entries.
-    Clone,
-    /// The removal of that many entries by a drain.
-    Drain,
-    /// Each step reads one entry, and removes another or inserts one where it is gone.
-    Churn,
-    /// The loop of `Get` without its reads.
-    Loop,
-}
-
-impl Operation {
-    /// The operation with this name.
-    pub(crate) fn named(name: &str) -> Option<Self> {
-        match name {
-            "insert" => Some(Operation::Insert),
-            "remove" => Some(Operation::Remove),
-            "remove_inx" => Some(Operation::RemoveInx),
-            "get" => Some(Operation::Get),
-            "write" => Some(Operation::Write),
-            "advance" => Some(Operation::Advance),
-            "iterate" => Some(Operation::Iterate),
-            "clone" => Some(Operation::Clone),
-            "drain" => Some(Operation::Drain),
-            "churn" => Some(Operation::Churn),
-            "loop" => Some(Operation::Loop),
-            _ => None,
-        }
-    }
-
-    /// Runs this many steps, and answers a checksum.
-    pub(crate) fn run(self, alloc: Global, steps: usize) -> Result<u64, ReallocationError> {
-        match self {
-            Operation::Insert => Ok(filled(alloc, steps)?.1.len() as u64),
-            Operation::Remove => remove(alloc, steps),
-            Operation::RemoveInx => remove_inx(alloc, steps),
-            Operation::Get => get(alloc, steps),
-            Operation::Write => write(alloc, steps),
-            Operation::Advance => advance(alloc, steps),
-            Operation::Iterate => iterate(alloc, steps),
-            Operation::Clone => clone(alloc, steps),
-            Operation::Drain => drain(alloc, steps),
-            Operation::Churn => churn(alloc, steps),
-            Operation::Loop => read_table(alloc, steps),
-        }
+/// Runs so many steps of an operation, and answers a checksum.
+///
+/// `insert` is the insertion into an arena that grows; `remove` and `remove_inx` are as many insertions, and then the removal of
+/// all in another order. `get` reads by pointers of which a quarter are no longer valid, `write` writes in place of those reads,
+/// and `loop` is their loop alone. `advance` and `iterate` walk over that arena again and again. `clone` copies an arena with so
+/// many entries, `drain` empties it. A step of `churn` reads one entry, and removes another or inserts one where it is gone.
+pub fn run(operation: &str, alloc: Global, steps: usize) -> Option<Result<u64, ReallocationError>> {
+    match operation {
+        "insert" => Some(insert(alloc, steps)),
+        "remove" => Some(remove(alloc, steps)),
+        "remove_inx" => Some(remove_inx(alloc, steps)),
+        "get" => Some(get(alloc, steps)),
+        "write" => Some(write(alloc, steps)),
+        "advance" => Some(advance(alloc, steps)),
+        "iterate" => Some(iterate(alloc, steps)),
+        "clone" => Some(clone(alloc, steps)),
+        "drain" => Some(drain(alloc, steps)),
+        "churn" => Some(churn(alloc, steps)),
+        "loop" => Some(read_table(alloc, steps)),
+        _ => None,
     }
 }
 
@@ -80,33 +37,6 @@ const TABLE: usize = 4096;
 
 // How many of them find an entry where each fourth one is removed.
 const THINNED: usize = 3072;
-
-// A linear congruential generator; its upper bits are the sequence.
-#[derive(Drop)]
-struct Sequence {
-    state: u64,
-}
-
-impl Sequence {
-    fn new() -> Self {
-        Sequence { state: 1 }
-    }
-
-    fn number(&mut self) -> u64 {
-        self.state = self
-            .state
-            .wrapping_mul(6364136223846793005)
-            .wrapping_add(1442695040888963407);
-        self.state
-    }
-
-    // A place of a table.
-    fn place(&mut self) -> usize
-        ensures { result < 4096 }
-    {
-        (self.number() >> 52) as usize
-    }
-}
 
 // An arena with this many entries, and their pointers.
 fn filled(alloc: Global, len: usize) -> Result<(Numbers, Vec<Pointer>), ReallocationError> {
@@ -133,6 +63,10 @@ fn filled_table(alloc: Global) -> Result<(Numbers, [Pointer; TABLE]), Reallocati
     Ok((arena, table))
 }
 
+fn insert(alloc: Global, steps: usize) -> Result<u64, ReallocationError> {
+    Ok(filled(alloc, steps)?.1.len() as u64)
+}
+
 fn remove(alloc: Global, steps: usize) -> Result<u64, ReallocationError> {
     let (mut arena, mut pointers) = filled(alloc, steps)?;
     let mut sequence = Sequence::new();
@@ -144,7 +78,7 @@ fn remove(alloc: Global, steps: usize) -> Result<u64, ReallocationError> {
         }
         let place = (sequence.number() >> 33) as usize % len;
         if let InvalidationResult::Success(value) = arena.remove(pointers.swap_remove(place)) {
-            sum = sum.wrapping_mul(31).wrapping_add(value);
+            sum = with(sum, value);
         }
     }
     Ok(sum)
@@ -162,7 +96,7 @@ fn remove_inx(alloc: Global, steps: usize) -> Result<u64, ReallocationError> {
         let place = (sequence.number() >> 33) as usize % len;
         let index = pointers.swap_remove(place).inx();
         if let InvalidationResult::Success((_, value)) = arena.remove_inx(index) {
-            sum = sum.wrapping_mul(31).wrapping_add(value);
+            sum = with(sum, value);
         }
     }
     Ok(sum)
@@ -210,7 +144,7 @@ fn advance(alloc: Global, steps: usize) -> Result<u64, ReallocationError> {
         match advancer.advance(&arena) {
             Some(pointer) => {
                 if let Some(value) = arena.get(pointer) {
-                    sum = sum.wrapping_mul(31).wrapping_add(*value);
+                    sum = with(sum, *value);
                 }
             }
             None => advancer = arena.advancer(),
@@ -229,7 +163,7 @@ fn iterate(alloc: Global, steps: usize) -> Result<u64, ReallocationError> {
                 break;
             }
             left -= 1;
-            sum = sum.wrapping_mul(31).wrapping_add(*value);
+            sum = with(sum, *value);
         }
     }
     Ok(sum)
@@ -248,7 +182,7 @@ fn drain(alloc: Global, steps: usize) -> Result<u64, ReallocationError> {
     let (mut arena, _pointers) = filled(alloc, steps)?;
     let mut sum = 0u64;
     for item in arena.drain() {
-        sum = sum.wrapping_mul(31).wrapping_add(item.allow().1);
+        sum = with(sum, item.allow().1);
     }
     Ok(sum)
 }
@@ -264,7 +198,7 @@ fn churn(alloc: Global, steps: usize) -> Result<u64, ReallocationError> {
         let place = sequence.place();
         match arena.remove(table[place]) {
             InvalidationResult::Success(value) | InvalidationResult::GenerationOverflow(value) => {
-                sum = sum.wrapping_mul(31).wrapping_add(value);
+                sum = with(sum, value);
             }
             InvalidationResult::InvalidPtr => table[place] = arena.insert(sum)?,
         }

@@ -1,5 +1,5 @@
 use Rattle.std.proofs.Common.{◌≡◌, length}
-use Rattle.arena_bench.proofs.operations.churn.Given as goal
+use Rattle.bench.proofs.arenas.churn.Given as goal
 
 -- the table keeps its length
 abbrev pub invariant-loop : goal.invariant-loop

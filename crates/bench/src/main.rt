@@ -1,0 +1,63 @@
+//! `bench LAYER OPERATION ..` runs an operation of a layer over a pseudo-random sequence, and prints a checksum, which the plain
+//! programs of `bench/plain` give too. `bench/run` counts the instructions of both.
+#![tactic(auto)]
+
+mod arenas;
+mod chains;
+mod ordered;
+mod sequence;
+
+use std::alloc::Global;
+use std::env;
+use std::process::ExitCode;
+
+fn main(rt: HostRuntime) -> anyhow::Result<ExitCode> {
+    let mut args = env::args(&rt)?;
+    args.next();
+    let layer = args.next();
+    let operation = args.next();
+    let first = args.next().and_then(|word| word.parse::<usize>().ok());
+    let second = args.next().and_then(|word| word.parse::<usize>().ok());
+    let sum = match (layer, operation, first) {
+        (Some(layer), Some(operation), Some(first)) => {
+            run(
+                rt.alloc(),
+                layer.as_str(),
+                operation.as_str(),
+                first,
+                second,
+            )?
+        }
+        _ => None,
+    };
+    match sum {
+        Some(sum) => {
+            println!(rt; "{sum}")?;
+            Ok(ExitCode::SUCCESS)
+        }
+        None => {
+            eprintln!(rt;
+                "usage: bench arena insert|remove|remove_inx|get|write|advance|iterate|clone|drain|churn|loop STEPS\n       \
+                bench chains queue|turn|rotate|walk|iterate STEPS\n       \
+                bench ord insert|find|remove|cancel|walk|most|all LEN STEPS"
+            )?;
+            Ok(ExitCode::from(2))
+        }
+    }
+}
+
+// The checksum of an operation, if there is one of that name: after so many steps, or over so many entries and then so many steps.
+fn run(
+    alloc: Global,
+    layer: &str,
+    operation: &str,
+    first: usize,
+    second: Option<usize>,
+) -> anyhow::Result<Option<u64>> {
+    match (layer, second) {
+        ("arena", None) => Ok(arenas::run(operation, alloc, first).transpose()?),
+        ("chains", None) => Ok(chains::run(operation, alloc, first).transpose()?),
+        ("ord", Some(steps)) => Ok(ordered::run(operation, alloc, first, steps).transpose()?),
+        _ => Ok(None),
+    }
+}
