@@ -1,4 +1,4 @@
-//! usage: chains slab|list queue|turn|rotate|walk|iterate STEPS, with the operations of the Rattle program `chain_bench`, over a
+//! usage: chains slab|list queue|turn|rotate|walk|iterate STEPS, with the operations of the Rattle program `bench`, over a
 //! doubly linked list in a slab by hand, or over std's `LinkedList`.
 use std::collections::LinkedList;
 use std::env;

@@ -1,5 +1,5 @@
 //! usage: plain insert|remove|remove_inx|get|write|advance|iterate|clone|drain|churn|loop STEPS, with the operations of the Rattle program
-//! `arena_bench`, over the plain arena, or over that of `slotmap` where it is built with `--cfg slotmap`.
+//! `bench`, over the plain arena, or over that of `slotmap` where it is built with `--cfg slotmap`.
 #[cfg_attr(slotmap, path = "slotmap.rs")]
 mod arena;
 

@@ -1,4 +1,4 @@
-//! usage: ordered map|slab insert|find|remove|cancel|walk LEN STEPS, with the operations of the Rattle program `ord_bench`, over
+//! usage: ordered map|slab insert|find|remove|cancel|walk LEN STEPS, with the operations of the Rattle program `bench`, over
 //! std's `BTreeMap` from keys to values, or over one from keys to the indexes of a slab that holds the entries.
 use std::collections::BTreeMap;
 use std::env;
