@@ -35,21 +35,21 @@ fn trades<S: NonZeroInxGenericStack<Item = OrderSlot<P0, u64>> + Drop>(
     lists(rt, &book, &[]);
     let (dear, _) = add_order(&mut book, 30, 7)?;
     let (cheap, _) = add_order(&mut book, 10, 5)?;
-    let (most_comparisons, none) = add_order(&mut book, 20, 6)?;
+    let (fair, none) = add_order(&mut book, 20, 6)?;
     assert!(rt; none.is_none());
-    lists(rt, &book, &[cheap, most_comparisons, dear]);
+    lists(rt, &book, &[cheap, fair, dear]);
     // There is no room for one more price, but for another order at a price that is there.
     assert!(rt; add_order(&mut book, 15, 1) == Err(OrdInsertionError::NotWithinCapacity));
-    assert!(rt; add_order(&mut book, 20, 8) == Ok((most_comparisons, Some(6))));
+    assert!(rt; add_order(&mut book, 20, 8) == Ok((fair, Some(6))));
     assert!(rt; cancel_order(&mut book, cheap) == Some((10, 5)));
-    lists(rt, &book, &[most_comparisons, dear]);
+    lists(rt, &book, &[fair, dear]);
     // Another order takes the slot of the one that is cancelled, whose pointer is refused.
     let (last, _) = add_order(&mut book, 40, 9)?;
     assert!(rt; last.inx() == cheap.inx());
     assert!(rt; cancel_order(&mut book, cheap).is_none());
     assert!(rt; next_order(&book, cheap).is_none());
-    lists(rt, &book, &[most_comparisons, dear, last]);
-    assert!(rt; cancel_order(&mut book, most_comparisons) == Some((20, 8)));
+    lists(rt, &book, &[fair, dear, last]);
+    assert!(rt; cancel_order(&mut book, fair) == Some((20, 8)));
     lists(rt, &book, &[dear, last]);
     Ok(())
 }
