@@ -100,7 +100,7 @@ impl<P: PtrCore, T: Drop, S: DirectSlots<P, T>> DirectArena<P, T, S> {
     pub(crate) fn recall_formed(&self)
         ensures { IsWellFormed self.now }
     {
-        let _len = self.len;
+        let _live = self.live();
     }
 
     /// The stack that the slots are kept in.

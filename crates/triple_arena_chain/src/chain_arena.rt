@@ -100,6 +100,6 @@ impl<P: PtrCore, T: Drop, S: ChainSlots<P, T>> ChainArena<P, T, S> {
     pub(crate) fn recall_chained(&self)
         ensures { IsChained P.Inx.number self.now }
     {
-        let _len = self.arena.len();
+        let _has_room = self.has_room();
     }
 }
