@@ -1,23 +1,27 @@
 //! An ordered arena by value.
-ghost use Rattle.std.specs.Prelude.{◌≡◌, ℕ, ◌≤◌, ◌<◌, ◌%◌, ◌^◌, [], All, Contains, IfNone, IfOk, IfSome, length, map as list_map};
+ghost use Rattle.std.specs.Prelude.{◌≡◌, ℕ, ◌≤◌, ◌<◌, ◌%◌, ◌^◌, [], All, Contains, IfNone, IfOk, IfSome, map as list_map};
 ghost use Rattle.std.specs.Int.NonZero.{non_zero_usize_get};
 ghost use Rattle.std.specs.List.{sum as sum_of};
 ghost use Rattle.std.specs.List.Sorted.{IsSorted};
 ghost use Rattle.triple_arena.specs.Compression.{value_of};
-ghost use Rattle.triple_arena_ord.specs.Ordered.{IsAscending, ordered_entries};
+ghost use Rattle.triple_arena_ord.specs.Ordered.{IsAscending, ordered_entries, size_in};
 
 use std::alloc::{AllocError, Allocator, Global};
 use triple_arena::{P0, PtrCore};
+use triple_arena_ord::laws::the_list_has_as_many_entries_as_are_live;
 use triple_arena_ord::{HeapOrdArena, OrdSlots, SimpleOrdArena, SimpleOrdItem};
 
-/// How many entries come. Past the greatest number it goes on from 0.
-pub fn count<P: PtrCore, T: Drop, S: OrdSlots<P, T>>(arena: SimpleOrdArena<P, T, S>) -> u64
-    ensures { result ≡ length (ordered_entries P.Inx.number arena) % 2 ^ 64 }
+/// How many entries come: as many as are live.
+pub fn count<P: PtrCore, T: Drop, S: OrdSlots<P, T>>(arena: SimpleOrdArena<P, T, S>) -> usize
+    ensures { result ≡ size_in arena }
 {
-    let mut count = 0u64;
+    the_list_has_as_many_entries_as_are_live::<P, T>();
+    let len = arena.len();
+    let mut count = 0;
     for _entry in arena {
-        count = count.wrapping_add(1);
+        count += 1;
     }
+    prove!(count == len);
     count
 }
 
