@@ -1,0 +1,829 @@
+#!/usr/bin/env python3
+"""The rules of the arenas in plain Python, which play the sections of the program `arena_script`.
+
+usage: arena.py SEED LINES >stdin 2>stdout     random sections with so many calls each, and what must be answered
+       arena.py answer <stdin >stdout          what must be answered to these sections
+
+It is written from the rules and not from the library: an arena is a dict from an index to a generation and a value.
+`crates/arena_script/src/main.rt` says how a section is written.
+"""
+import random
+import sys
+
+SLOTS_OF_AN_ARRAY = 5
+NAMES_OF_AN_ARRAY = 4
+GREATEST_USIZE = 2**64 - 1
+
+
+class Pointers:
+    """A pointer type: its name, its greatest index, and its greatest generation, or None where generations do not count."""
+
+    def __init__(self, name, greatest_index, last_generation):
+        self.name, self.last = name, last_generation
+        self.max_index = min(greatest_index, GREATEST_USIZE)
+
+    def index(self, number):
+        """A number that is no index stands for the greatest one."""
+        return number if 1 <= number <= self.max_index else self.max_index
+
+    def generation(self, number):
+        """The generation that a line names: 1, or so many steps from 2."""
+        if self.last is None:
+            return 1
+        return number if number == 1 else 2 + (max(number, 2) - 2) % (self.last - 1)
+
+    def second(self):
+        return 1 if self.last is None else 2
+
+    def step(self, generation):
+        """The generation after this one, and whether it started again at 2."""
+        if self.last is None:
+            return generation, False
+        return (2, True) if generation == self.last else (generation + 1, False)
+
+    def text(self, index, generation):
+        return f'{self.name}[{index:x}]' + ('' if self.last is None else f'({generation:x})')
+
+    def generation_text(self, generation):
+        if self.name == 'N3':
+            return f'Gen3 {{ number: {generation} }}'
+        return '()' if self.last is None else str(generation)
+
+
+POINTERS = {kind.name: kind for kind in (
+    Pointers('P0', GREATEST_USIZE, 2**64 - 1), Pointers('P1', 255, 255), Pointers('P2', 2**16 - 1, 2**16 - 1),
+    Pointers('P3', 2**32 - 1, 2**32 - 1), Pointers('P4', 2**64 - 1, 2**128 - 1), Pointers('P5', GREATEST_USIZE, None),
+    Pointers('Q2', GREATEST_USIZE, 2**64 - 1), Pointers('N3', 255, 3))}
+
+
+class Refused(Exception):
+    """A call is refused, with this error."""
+
+
+class Heap:
+    """Gives memory, and refuses one request. Request 0 never comes."""
+
+    def __init__(self, refused_request):
+        self.refused_request, self.requests = refused_request, 0
+
+    def ask(self):
+        self.requests += 1
+        if self.requests == self.refused_request:
+            raise Refused('AllocError')
+
+    def has_refused(self):
+        return 0 < self.refused_request <= self.requests
+
+
+class Room:
+    """How many entries fit: the slots that are reserved, and the greatest capacity, if there is one."""
+
+    def __init__(self, pointers, stack, heap, least, slots_of_an_array=SLOTS_OF_AN_ARRAY):
+        self.pointers, self.stack, self.heap = pointers, stack, heap
+        self.own_limit = {'heap': None, 'limited': None, 'boxed': least, 'array': slots_of_an_array}[stack]
+        if self.limit() is not None and self.limit() < least:
+            raise Refused('BeyondMaxCapacity')
+        if stack != 'array' and 0 < least:
+            heap.ask()
+        self.reserved = slots_of_an_array if stack == 'array' else least
+
+    def limit(self):
+        if self.own_limit is not None:
+            return min(self.own_limit, self.pointers.max_index)
+        return self.pointers.max_index if self.pointers.max_index < GREATEST_USIZE else None
+
+    def within_limit(self, number):
+        return number if self.limit() is None else min(number, self.limit())
+
+    def capacity(self):
+        return self.within_limit(self.reserved)
+
+    def grow_to(self, number):
+        """Makes the room this great, where it is less."""
+        if number <= self.capacity():
+            return
+        if self.limit() is not None and self.limit() < number:
+            raise Refused('BeyondMaxCapacity')
+        self.heap.ask()
+        self.reserved = number
+
+    def grow(self):
+        """The growth of an insertion: to 4 at first, then to the double, never past the limit."""
+        if self.capacity() == self.limit():
+            raise Refused('BeyondMaxCapacity')
+        self.grow_to(self.within_limit(max(4, 2 * self.reserved)))
+
+
+class AnyArena:
+    """What an arena and a direct arena do alike. `entries` has a generation and a value at each live index."""
+
+    def __init__(self, pointers, room):
+        self.pointers, self.room = pointers, room
+        self.entries, self.slots = {}, 0
+
+    # What an arena with a counter does in its own way.
+    def step_counter(self):
+        """Steps the counter, where there is one, and says whether it started again."""
+        return False
+
+    def set_counter(self, generation):
+        pass
+
+    def source_counter(self):
+        return None
+
+    def set_free(self, indexes):
+        pass
+
+    def indexes(self):
+        return sorted(self.entries)
+
+    def last_index(self):
+        return max(self.entries, default=0)
+
+    def is_live(self, index, generation):
+        return index in self.entries and self.entries[index][0] == generation
+
+    def value(self, index, generation):
+        return self.entries[index][1] if self.is_live(index, generation) else None
+
+    def pointer_text(self, index):
+        return self.pointers.text(index, self.entries[index][0])
+
+    def show(self, text=str):
+        return '{' + ', '.join(f'{self.pointer_text(i)}: {text(self.entries[i][1])}' for i in self.indexes()) + '}'
+
+    def empty(self):
+        self.entries, self.slots = {}, 0
+        self.set_free([])
+
+    def clear(self):
+        self.empty()
+        return told(self.step_counter(), '()')
+
+    def drain(self, count):
+        """Each item is taken by a step, also those that are left when the drain is let go after so many."""
+        answers = []
+        left = self.indexes()
+        for _ in range(count):
+            if left:
+                i = left.pop(0)
+                item = f'({self.pointer_text(i)}, {self.entries[i][1]})'
+                answers.append(some(told(self.step_counter(), item)))
+            else:
+                answers.append('None')
+        for _ in left:
+            self.step_counter()
+        self.empty()
+        return answers + [str(len(left))]
+
+    def swap(self, i, g, j, h):
+        if not (self.is_live(i, g) and self.is_live(j, h)):
+            return 'Err(IndexOutOfBounds)'
+        if i == j:
+            return 'Err(OverlappingIndices)'
+        self.exchange(i, j)
+        return 'Ok(())'
+
+    def swap_inx(self, i, j):
+        both = i in self.entries and j in self.entries
+        if both and i != j:
+            self.exchange(i, j)
+        return str(both).lower()
+
+    def exchange(self, i, j):
+        """The values change places, and the generations stay."""
+        (g, v), (h, w) = self.entries[i], self.entries[j]
+        self.entries[i], self.entries[j] = (g, w), (h, v)
+
+    def compress(self, reset, maps):
+        """The live entries go to the first indexes, in their order. A map tells what it gets, and adds 1."""
+        wrapped = False
+        if reset:
+            self.set_counter(self.pointers.second())
+        else:
+            wrapped = self.step_counter()
+        answers, moved = [], {}
+        for new, old in enumerate(self.indexes(), 1):
+            own, value = self.entries[old]
+            generation, own_wrapped = (self.pointers.second(), False) if reset else self.renewed(own)
+            wrapped = wrapped or own_wrapped
+            moved[new] = (generation, (value + 1) % 2**64 if maps else value)
+            if maps:
+                answers.append(f'({self.pointers.text(old, own)}, {value}, {self.pointers.text(new, generation)})')
+        self.entries, self.slots = moved, len(moved)
+        self.set_free([])
+        return answers + [told(wrapped, '()')]
+
+    def copy(self, source, refused_call, maps):
+        """Becomes a copy with the source's pointers. A map tells what it gets, adds 1, and may refuse a call."""
+        self.room.grow_to(source.last_index())
+        answers, copied = [], {}
+        for call, i in enumerate(source.indexes(), 1):
+            generation, value = source.entries[i]
+            if maps:
+                answers.append(f'({self.pointers.text(i, generation)}, {value})')
+            if call == refused_call:
+                self.clear()
+                return answers + ['Err(AllocError)']
+            copied[i] = (generation, (value + 1) % 2**64 if maps else value)
+        self.entries, self.slots = copied, source.last_index()
+        self.set_free([i for i in range(1, self.slots) if i not in copied])
+        if source.source_counter() is not None:
+            self.set_counter(source.source_counter())
+        return answers + ['Ok(())']
+
+    def transfer(self, generation, source):
+        """Takes all entries of the source, which steps for each. The map tells what it gets, and adds 1."""
+        self.room.grow_to(len(source.entries))
+        answers, moved = [], {}
+        for new, old in enumerate(source.indexes(), 1):
+            own, value = source.entries[old]
+            item = told(source.step_counter(), str(value))
+            answers.append(f'({source.pointers.text(old, own)}, {item}, {self.pointers.text(new, generation)})')
+            moved[new] = (generation, (value + 1) % 2**64)
+        source.empty()
+        self.entries, self.slots = moved, len(moved)
+        self.set_free([])
+        self.set_counter(generation)
+        return answers + ['Ok(())']
+
+    def set_max_capacity(self, limit):
+        if limit < self.last_index():
+            return 'Err(MaxCapacityReductionError)'
+        if limit < self.slots:
+            self.pop_free_end()
+        self.room.own_limit = limit
+        return 'Ok(())'
+
+    def pop_free_end(self):
+        self.slots = self.last_index()
+
+
+class Arena(AnyArena):
+    """An arena gives the pointers: the index at the head of the free list, or a new one, and the counter."""
+
+    def __init__(self, pointers, room):
+        super().__init__(pointers, room)
+        self.free, self.counter = [], pointers.second()
+
+    def step_counter(self):
+        self.counter, wrapped = self.pointers.step(self.counter)
+        return wrapped
+
+    def set_counter(self, generation):
+        self.counter = generation
+
+    def source_counter(self):
+        return self.counter
+
+    def set_free(self, indexes):
+        self.free = indexes
+
+    def pop_free_end(self):
+        super().pop_free_end()
+        self.free = [i for i in self.free if i <= self.slots]
+
+    def renewed(self, _own):
+        return self.counter, False
+
+    def next_index(self):
+        return self.free[0] if self.free else self.slots + 1
+
+    def make_room(self, grows):
+        if len(self.entries) == self.room.capacity():
+            if not grows:
+                raise Refused('NotWithinCapacityError')
+            self.room.grow()
+
+    def insert(self, value, grows=True):
+        self.make_room(grows)
+        i = self.next_index()
+        if self.free:
+            self.free.pop(0)
+        else:
+            self.slots = i
+        self.entries[i] = (self.counter, value)
+        return self.pointers.text(i, self.counter)
+
+    def entry_insert(self, value, unused, grows):
+        """The entry tells its pointer before it is used."""
+        self.make_room(grows)
+        pointer = self.pointers.text(self.next_index(), self.counter)
+        return [pointer] if unused else [pointer, self.insert(value)]
+
+    def take(self, i):
+        """The last slot is popped. Another one becomes the head of the free list."""
+        entry = self.entries.pop(i)
+        if i == self.slots:
+            self.slots -= 1
+        else:
+            self.free.insert(0, i)
+        return entry
+
+    def invalidate(self, i):
+        wrapped = self.step_counter()
+        self.entries[i] = (self.counter, self.entries[i][1])
+        return told(wrapped, self.pointer_text(i))
+
+
+class Direct(AnyArena):
+    """To a direct arena the script gives the pointers. It has no counter, and a removal leaves the slot."""
+
+    def insert(self, i, g, value):
+        if self.room.capacity() < i:
+            raise Refused('NotWithinCapacity')
+        if i in self.entries:
+            raise Refused('ExistingElementAtIndex')
+        if value:
+            self.entries[i] = (g, value)
+            self.slots = max(self.slots, i)
+        return '()'
+
+    def take(self, i):
+        return self.entries.pop(i)
+
+    def renewed(self, own):
+        return self.pointers.step(own)
+
+    def invalidate(self, i):
+        generation, wrapped = self.pointers.step(self.entries[i][0])
+        self.entries[i] = (generation, self.entries[i][1])
+        return told(wrapped, self.pointer_text(i))
+
+
+def told(wrapped, text):
+    return f"{'GenerationOverflow' if wrapped else 'Success'}({text})"
+
+
+def some(text):
+    return f'Some({text})'
+
+
+def option(text):
+    return 'None' if text is None else f'Some({text})'
+
+
+def result(call):
+    """`Ok` of what the call answers, or `Err` of why it is refused."""
+    try:
+        return f'Ok({call()})'
+    except Refused as refusal:
+        return f'Err({refusal})'
+
+
+def either(call):
+    """What the call answers, or why it is refused."""
+    try:
+        return call()
+    except Refused as refusal:
+        return [str(refusal)]
+
+
+def reads(arena, verb, x, y):
+    """The answers of a call that every arena has and that changes nothing, or None."""
+    pointers, i, g = arena.pointers, arena.pointers.index(x), arena.pointers.generation(y)
+    entry = arena.entries.get(i)
+    live = arena.indexes()
+    lists = {
+        'walk': lambda: live, 'walk_nowhere': lambda: [], 'walk_from': lambda: [j for j in live if i <= j],
+        'walk_back_from': lambda: [j for j in reversed(live) if j <= i]}
+    if verb in lists:
+        return [arena.pointer_text(j) for j in lists[verb]()] + ['None']
+    texts = {
+        'ptrs': arena.pointer_text, 'vals': lambda j: str(arena.entries[j][1]),
+        'iter': lambda j: f'({arena.pointer_text(j)}, {arena.entries[j][1]})'}
+    if verb in texts:
+        return [texts[verb](j) for j in live]
+    counter = arena.source_counter()
+    one = {
+        'capacity': lambda: str(arena.room.capacity()), 'max_capacity': lambda: option(arena.room.limit()),
+        'len': lambda: str(len(live)), 'is_empty': lambda: str(not live).lower(), 'slots': lambda: str(arena.slots),
+        'show': arena.show,
+        'singular_generation': lambda: option(None if counter is None else pointers.generation_text(counter)),
+        'get': lambda: option(arena.value(i, g)), 'contains': lambda: str(arena.is_live(i, g)).lower(),
+        'get_inx': lambda: option(entry and f'({pointers.generation_text(entry[0])}, {entry[1]})'),
+        'get_inx_unwrap': lambda: option(entry and entry[1]),
+        'find_first_inx_ptr': lambda: option(arena.pointer_text(live[0]) if live else None),
+        'find_last_inx_ptr': lambda: option(arena.pointer_text(live[-1]) if live else None)}
+    return [one[verb]()] if verb in one else None
+
+
+def changes(arena, verb, x, y, z, w):
+    """The answers of a call that every arena has and that can change it, or None."""
+    pointers, i, g = arena.pointers, arena.pointers.index(x), arena.pointers.generation(y)
+    if verb == 'reallocate_min_capacity':
+        return [result(lambda: arena.room.grow_to(x) or '()')]
+    if verb in ('set', 'set_inx', 'set_inx_unwrap'):
+        is_live = arena.is_live(i, g) if verb == 'set' else i in arena.entries
+        was = arena.entries[i][1] if is_live else None
+        if is_live:
+            arena.entries[i] = (arena.entries[i][0], z if verb == 'set' else y)
+        return [str(is_live).lower() if verb == 'set_inx_unwrap' else option(was)]
+    if verb == 'remove':
+        return [remove(arena, i) if arena.is_live(i, g) else 'InvalidPtr']
+    if verb == 'remove_inx':
+        if i not in arena.entries:
+            return ['InvalidPtr']
+        own, value = arena.take(i)
+        return [told(arena.step_counter(), f'({pointers.generation_text(own)}, {value})')]
+    if verb == 'invalidate':
+        return [arena.invalidate(i) if arena.is_live(i, g) else 'InvalidPtr']
+    if verb == 'walk_and_remove':
+        return [remove(arena, j) for j in arena.indexes()]
+    simple = {
+        'clear': lambda: [arena.clear()], 'compress': lambda: arena.compress(x == 1, False),
+        'compress_with': lambda: arena.compress(x == 1, True), 'drain': lambda: arena.drain(x),
+        'swap': lambda: [arena.swap(i, g, pointers.index(z), pointers.generation(w))],
+        'swap_inx': lambda: [arena.swap_inx(i, pointers.index(y))]}
+    return simple[verb]() if verb in simple else None
+
+
+def remove(arena, i):
+    _, value = arena.take(i)
+    return told(arena.step_counter(), str(value))
+
+
+def fill(arena, count):
+    """Stores so many values, 0 and on, up to the first that is refused, and answers how many entries there are."""
+    for value in range(count):
+        try:
+            arena.insert(value)
+        except Refused:
+            break
+    return str(len(arena.entries))
+
+
+def walk_and_insert(arena, value, i):
+    """A walk goes on over an arena that changes after its first step, and gives nothing more once it has ended."""
+    live = arena.indexes()
+    answers = [option(arena.pointer_text(live[0]) if live else None)]
+    last = arena.last_index()
+    answers.append(result(lambda: arena.insert(value)))
+    if i in arena.entries:
+        remove(arena, i)
+    if live:
+        if last < arena.last_index():
+            raise NotImplementedError('whether a walk comes to an entry behind its end is left open')
+        answers += [arena.pointer_text(j) for j in arena.indexes() if live[0] < j]
+    return answers + [result(lambda: arena.insert(value)), 'None']
+
+
+def of_arena(arena, verb, x, y):
+    """The answers of a call that an arena has alone. None in them: the line stands without an answer."""
+    if verb in ('insert', 'insert_reallocating', 'insert_within_capacity'):
+        return [result(lambda: arena.insert(x, verb != 'insert_within_capacity'))]
+    if verb in ('entry_insert', 'entry_insert_reallocating', 'entry_insert_within_capacity'):
+        return either(lambda: arena.entry_insert(x, y == 1, verb != 'entry_insert_within_capacity'))
+    if verb == 'fill':
+        return [fill(arena, x)]
+    if verb == 'walk_and_insert':
+        return walk_and_insert(arena, x, arena.pointers.index(y))
+    if verb == 'generation':
+        return [arena.pointers.generation_text(arena.counter)]
+    if verb == 'set_generation':
+        return [arena.set_counter(arena.pointers.generation(x))]
+    if verb == 'inc_generation':
+        return [told(arena.step_counter(), '()')]
+    if verb == 'freelist_root':
+        return [option(arena.free[0] if arena.free else None)]
+    if verb == 'canonicalize_freelist':
+        return [arena.free.sort()]
+    if verb == 'remove_free_end_slots':
+        return [arena.pop_free_end()]
+    return ['"no such call"']
+
+
+def of_direct(arena, verb, x, y, z):
+    """The answers of a call that a direct arena has alone."""
+    if verb == 'direct_insert':
+        i, g = arena.pointers.index(x), arena.pointers.generation(y)
+        return either(lambda: [arena.insert(i, g, z)])
+    if verb == 'pop_free_end_slots':
+        return [arena.pop_free_end()]
+    return ['"no such call"']
+
+
+class Section:
+    """The arenas of a section over a stack for numbers, and the calls at them."""
+
+    def __init__(self, pointers, stack, heap, room, more):
+        made = []
+        refusal = None
+        # All four are made before the first refusal is told.
+        for kind, least in ((Arena, room), (Arena, room + more), (Direct, room), (Direct, room + more)):
+            try:
+                made.append(kind(pointers, Room(pointers, stack, heap, least)))
+            except Refused as error:
+                refusal = refusal or error
+                made.append(None)
+        if refusal:
+            raise refusal
+        self.pointers, self.stack, self.heap = pointers, stack, heap
+        self.arenas = dict(zip('abde', made))
+
+    def answers(self, whom, verb, words):
+        """The answers to a line, or None where it is written as it is."""
+        x, y, z, w, _ = words
+        if whom in self.arenas:
+            arena = self.arenas[whom]
+            for found in (reads(arena, verb, x, y), changes(arena, verb, x, y, z, w)):
+                if found is not None:
+                    return found
+            return of_arena(arena, verb, x, y) if whom in 'ab' else of_direct(arena, verb, x, y, z)
+        if whom in ('a|', 'd|') and self.stack == 'limited':
+            return [self.arenas[whom[0]].set_max_capacity(x)]
+        if whom in ('a=b', 'a=d', 'd=a', 'd=e', 'a~b', 'd~e', 'a<b', 'a<d', 'd<a', 'd<e'):
+            target, source = self.arenas[whom[0]], self.arenas[whom[2]]
+            return self.of_two(target, whom[1], source, x)
+        return None
+
+    def of_two(self, target, sign, source, x):
+        try:
+            if sign == '<':
+                return target.transfer(self.pointers.generation(x), source)
+            return target.copy(source, x, True) if sign == '=' else target.copy(source, 0, False)
+        except Refused as refusal:
+            return [f'Err({refusal})']
+
+    def end(self):
+        """Clones, and arenas that are gone over by value."""
+        lines = []
+        for whom in 'ad':
+            arena = self.arenas[whom]
+            clone = result(lambda: Room(self.pointers, self.stack, self.heap, arena.last_index()) and arena.show())
+            lines.append(f'{whom} clone -> {clone}')
+        for whom in 'be':
+            arena = self.arenas[whom]
+            lines += [f'{whom} into_iter -> ({arena.pointer_text(i)}, {arena.entries[i][1]})' for i in arena.indexes()]
+        return lines
+
+
+class Renaming:
+    """The arenas `h` and `k`, whose values are numbers with a pointer or none, and the names `n` and `m`."""
+
+    def __init__(self, pointers, stack, heap, room, _more):
+        self.pointers, self.stack, self.heap = pointers, stack, heap
+        made, refusal = [], None
+        for kind, slots in ((Arena, SLOTS_OF_AN_ARRAY), (Direct, SLOTS_OF_AN_ARRAY), (Direct, NAMES_OF_AN_ARRAY),
+                            (Arena, NAMES_OF_AN_ARRAY)):
+            try:
+                made.append(kind(pointers, Room(pointers, stack, heap, room, slots)))
+            except Refused as error:
+                refusal = refusal or error
+                made.append(None)
+        if refusal:
+            raise refusal
+        self.arenas = dict(zip('hknm', made))
+
+    def held(self, value):
+        return f'({value[0]}, {option(value[1] and self.pointers.text(*value[1]))})'
+
+    def pointer(self, i, g):
+        return self.pointers.index(i), self.pointers.generation(g)
+
+    def answers(self, whom, verb, words):
+        x, y, z, w, v = words
+        if verb == 'compress_recaster':
+            return self.compress_recaster(x == 1)
+        if verb == 'recast':
+            target = self.arenas[whom[0] if whom in ('h=n', 'h=m', 'k=n', 'k=m') else 'k']
+            return [self.recast(target, self.arenas[whom[2] if whom in ('h=n', 'h=m', 'k=n') else 'm'])]
+        if whom not in self.arenas:
+            return None
+        arena = self.arenas[whom]
+        text = self.held if whom in 'hk' else lambda p: self.pointers.text(*p)
+        i, g = self.pointer(x, y)
+        if verb == 'recast_item' and whom in 'nm':
+            image = arena.value(i, g)
+            return [f'Err({self.pointers.text(i, g)})' if image is None else 'Ok(())', self.pointers.text(*(image or (i, g)))]
+        if verb == 'remove' and whom in 'hnm':
+            if not arena.is_live(i, g):
+                return ['InvalidPtr']
+            value = arena.take(i)[1]
+            return [told(arena.step_counter(), text(value))]
+        puts = {('h', 'hold'): (x, None), ('h', 'point'): (x, self.pointer(y, z)), ('m', 'name'): (i, g)}
+        if (whom, verb) in puts:
+            return [result(lambda: arena.insert(puts[whom, verb]))]
+        direct = {('k', 'hold'): (z, None), ('k', 'point'): (z, self.pointer(w, v)), ('n', 'name'): self.pointer(z, w)}
+        if (whom, verb) in direct:
+            return either(lambda: [arena.insert(i, g, direct[whom, verb])])
+        if whom == 'h' and verb in ('set_generation', 'generation'):
+            return of_arena(arena, verb, x, y)
+        return [arena.show(text)]
+
+    def recast(self, arena, names, image=None):
+        """Renames in index order, up to the first pointer that has no name."""
+        image = image or (lambda p: names.value(*p))
+        for i in arena.indexes():
+            generation, (number, held) = arena.entries[i]
+            if held is not None:
+                if image(held) is None:
+                    return f'Err({self.pointers.text(*held)})'
+                arena.entries[i] = (generation, (number, image(held)))
+        return 'Ok(())'
+
+    def compress_recaster(self, reset):
+        h = self.arenas['h']
+        try:
+            room = Room(self.pointers, self.stack, self.heap, h.last_index(), NAMES_OF_AN_ARRAY)
+        except Refused as refusal:
+            return [str(refusal)]
+        old = {i: h.entries[i][0] for i in h.indexes()}
+        h.compress(reset, False)
+        names = Direct(self.pointers, room)
+        for new, (i, g) in enumerate(old.items(), 1):
+            names.insert(i, g, (new, h.entries[new][0]))
+        shown = names.show(lambda p: self.pointers.text(*p))
+        return [shown, str(room.capacity()), self.recast(h, names), self.recast(self.arenas['k'], names)]
+
+
+def words_of(line):
+    """The first two words of a line and up to five numbers, which are 0 where the line has none."""
+    words = line.split(' ')
+    numbers = [int(word) if word.isdigit() and int(word) < 2**64 else 0 for word in words[2:7]]
+    return words[0], words[1] if len(words) > 1 else '', numbers + [0] * (5 - len(numbers))
+
+
+def run(kind, stack, refused_request, header, calls):
+    """The lines of one run of a section."""
+    _, _, (room, _, _, more, end) = words_of(header)
+    heap = Heap(refused_request)
+    lines = [f'over -> ("{kind}", "{stack}", {refused_request})']
+    try:
+        arenas = make(kind, stack, heap, room, more)
+        for line in calls:
+            answers = arenas.answers(*words_of(line))
+            if answers is None:
+                lines.append(line)
+            else:
+                lines += [line if answer is None else f'{line} -> {answer}' for answer in answers]
+        if end == 1 and isinstance(arenas, Section):
+            lines += arenas.end()
+    except Refused as refusal:
+        lines.append(f'made -> {refusal}')
+    return lines + [f'was refused -> {str(heap.has_refused()).lower()}']
+
+
+def make(kind, stack, heap, room, more):
+    renames = stack.startswith('renaming')
+    if stack == 'renaming_array' and kind not in ('P0', 'P1', 'P5'):
+        raise Refused('BeyondMaxCapacity')
+    stack = {'renaming': 'heap', 'renaming_array': 'array'}.get(stack, stack)
+    if kind not in POINTERS or stack not in ('heap', 'limited', 'boxed', 'array'):
+        raise Refused('BeyondMaxCapacity')
+    return (Renaming if renames else Section)(POINTERS[kind], stack, heap, room, more)
+
+
+def play(section):
+    """The lines of a section: over each pointer type and stack, and for each request that is refused."""
+    header, _, calls = section.partition('\n')
+    kinds, stacks, (_, first, last, _, _) = words_of(header)
+    lines = [header]
+    for kind in kinds.split(','):
+        for stack in stacks.split(','):
+            for refused_request in range(first, last + 1):
+                lines += run(kind, stack, refused_request, header, calls.splitlines())
+    return lines
+
+
+VERBS_OF_ALL = ['remove'] * 3 + ['remove_inx'] * 4 + [
+    'invalidate', 'invalidate', 'set', 'set_inx', 'set_inx_unwrap', 'swap', 'swap', 'swap_inx', 'compress_with', 'get', 'get', 'get_inx', 'get_inx_unwrap',
+    'contains', 'walk', 'walk_from', 'walk_back_from', 'walk_nowhere', 'find_first_inx_ptr', 'find_last_inx_ptr', 'show', 'show', 'len',
+    'is_empty', 'capacity', 'max_capacity', 'singular_generation', 'slots', 'slots', 'ptrs', 'vals', 'iter', 'reallocate_min_capacity']
+VERBS_OF_ARENAS = ['insert'] * 10 + ['insert_within_capacity', 'insert_reallocating'] * 3 + [
+    'entry_insert', 'entry_insert_reallocating', 'entry_insert_within_capacity'] * 2 + [
+    'walk_and_insert', 'inc_generation', 'generation', 'set_generation', 'freelist_root', 'freelist_root', 'freelist_root',
+    'canonicalize_freelist', 'remove_free_end_slots']
+VERBS_OF_DIRECT = ['direct_insert'] * 14 + ['pop_free_end_slots'] * 2
+SELDOM = ['clear', 'compress', 'drain', 'walk_and_remove']
+POINTS = {'remove', 'invalidate', 'set', 'get', 'contains', 'swap'}
+AT_INDEX = {'remove_inx', 'get_inx', 'get_inx_unwrap', 'walk_from', 'walk_back_from', 'reallocate_min_capacity', 'drain'}
+
+
+class Random:
+    """Writes sections. It knows the arenas as they stand, so that most calls find something."""
+
+    def __init__(self, seed):
+        self.random = random.Random(seed)
+
+    def index(self, top):
+        return self.random.randrange(1, top + 1) if 0.02 < self.random.random() else self.random.choice([0, 256, 70000])
+
+    def generation(self, pointers):
+        return self.random.randrange(1, 12 if pointers.last is None else min(12, pointers.last + 1))
+
+    def pointer(self, arena, top):
+        live = arena.indexes()
+        if live and self.random.random() < 0.7:
+            i = self.random.choice(live)
+            return [i, arena.entries[i][0]]
+        return [self.index(top), self.generation(arena.pointers)]
+
+    def call(self, arenas, whom, top, limits):
+        """A call at one arena."""
+        arena, choose = arenas.arenas[whom], self.random.choice
+        verb = choose(VERBS_OF_ALL + 2 * (VERBS_OF_ARENAS if whom in 'ab' else VERBS_OF_DIRECT))
+        if self.random.random() < 0.03:
+            verb = choose(SELDOM)
+        if verb == 'walk_and_insert' and not self.is_told(arena, limits):
+            verb = 'insert'
+        if verb in POINTS:
+            words = self.pointer(arena, top) + (self.pointer(arena, top) if verb == 'swap' else [self.random.randrange(1000)])
+            words = words if verb in ('set', 'swap') else words[:2]
+        elif verb in AT_INDEX:
+            words = [self.index(top)]
+        elif verb == 'swap_inx':
+            words = [self.index(top), self.index(top)]
+        elif verb in ('set_inx', 'set_inx_unwrap', 'walk_and_insert'):
+            words = [self.index(top), self.random.randrange(1000)]
+            words = words[::-1] if verb == 'walk_and_insert' else words
+        elif verb.startswith('entry_insert'):
+            words = [self.random.randrange(1000), int(self.random.random() < 0.2)]
+        elif verb.startswith('insert'):
+            words = [self.random.randrange(1000)]
+        elif verb == 'direct_insert':
+            words = [self.index(top), self.generation(arena.pointers), choose([0] + list(range(1, 10)))]
+        elif verb == 'set_generation':
+            last = arena.pointers.last or 2
+            words = [choose([2, 3, min(last, 250), max(2, min(last, 300) - 1), min(last, 300)])]
+        elif verb in ('compress', 'compress_with'):
+            words = [self.random.randrange(2)]
+        else:
+            words = []
+        return whom, verb, words
+
+    def is_told(self, arena, limits):
+        """Whether the rules say what a walk gives that goes on after an insertion."""
+        free_before_last = arena.free and arena.free[0] < arena.last_index()
+        return not limits and (not arena.entries or free_before_last)
+
+    def call_of_two(self, arenas, top, limited):
+        """A copy, a clone or a transfer, or a limit."""
+        if limited and self.random.random() < 0.4:
+            return self.random.choice(['a|', 'd|']), 'set_max_capacity', [self.index(top)]
+        sign = self.random.choice('==~<')
+        pairs = ['ab', 'de'] if sign == '~' else ['ab', 'ad', 'da', 'de']
+        pair = self.random.choice(pairs)
+        verb = {'=': 'copy', '~': 'clone_from', '<': 'transfer'}[sign]
+        words = {'=': [self.random.choice([0, 0, 0, 1, 2, 3])], '~': [], '<': [self.generation(arenas.pointers)]}[sign]
+        return pair[0] + sign + pair[1], verb, words
+
+    def call_of_renaming(self, arenas, top):
+        pointers = arenas.pointers
+        whom = self.random.choice('hhhhkknnmm=')
+        two = [self.index(top), self.generation(pointers)]
+        if whom == '=':
+            return self.random.choice(['h=n', 'h=m', 'k=n', 'k=m']), 'recast', []
+        arena = arenas.arenas[whom]
+        other = self.pointer(arenas.arenas[self.random.choice('hknm')], top)
+        value = self.random.randrange(1000)
+        return whom, *self.random.choice({
+            'h': [('hold', [value]), ('point', [value, *other]), ('point', [value, *other]), ('remove', self.pointer(arena, top)),
+                  ('show', []), ('generation', []), ('set_generation', [2]), ('compress_recaster', [value % 2])],
+            'k': [('hold', [*two, value]), ('point', [*two, value, *other]), ('point', [*two, value, *other]), ('show', [])],
+            'n': [('name', other + two), ('name', other + two), ('remove', self.pointer(arena, top)), ('recast_item', other), ('show', [])],
+            'm': [('name', other), ('name', two), ('remove', self.pointer(arena, top)), ('recast_item', other), ('show', [])]}[whom])
+
+    def section(self, kind, stack, count):
+        """A section, which may refuse some of the requests for memory that its calls make."""
+        top = self.random.choice([4, 7, 20])
+        room = {'array': 0, 'renaming_array': 0, 'boxed': self.random.choice([1, 3, 6])}.get(stack, self.random.choice([0, 1, 2, 5]))
+        more, end = self.random.choice([0, 0, 2]) * (stack != 'array'), self.random.randrange(2)
+        refuses = stack in ('heap', 'limited', 'boxed', 'renaming') and self.random.random() < 0.5
+        heap = Heap(0)
+        arenas = make(kind, stack, heap, room, more)
+        calls = []
+        for _ in range(count):
+            if isinstance(arenas, Renaming):
+                whom, verb, words = self.call_of_renaming(arenas, top)
+            elif self.random.random() < 0.1:
+                whom, verb, words = self.call_of_two(arenas, top, stack == 'limited')
+            else:
+                whom, verb, words = self.call(arenas, self.random.choice('aaaabddde'), top, refuses)
+            calls.append(' '.join([whom, verb, *map(str, words)]))
+            arenas.answers(*words_of(calls[-1]))
+        first = self.random.randrange(1, heap.requests + 2) if refuses else 0
+        last = first + 2 if refuses else 0
+        return '\n'.join([f'{kind} {stack} {room} {first} {last} {more} {end}'] + calls)
+
+
+def random_sections(seed, count):
+    writer = Random(seed)
+    return [writer.section(kind, stack, count) for kind in POINTERS
+            for stack in ('heap', 'limited', 'boxed', 'array', 'renaming', 'renaming_array')
+            if stack != 'renaming_array' or kind in ('P0', 'P1', 'P5')]
+
+
+def main(words):
+    if words == ['answer']:
+        for section in sys.stdin.read().rstrip('\n').split('\n\n'):
+            print('\n'.join(play(section)))
+        return
+    sections = random_sections(int(words[0]), int(words[1]))
+    print('\n\n'.join(sections))
+    print('\n'.join('\n'.join(play(section)) for section in sections), file=sys.stderr)
+
+
+if __name__ == '__main__':
+    main(sys.argv[1:])
