@@ -1,4 +1,4 @@
-//! Every clause that the calls of an `Arena` had before.
+//! The facts of each call of an `Arena`.
 ghost use Rattle.std.specs.Prelude.{◌≡◌, ◌≢◌, ℕ, ◌+◌, ◌<◌, ◌≤◌, ◌↔◌, [], Some, None, IsOk, IsSome, IfSome, IfNone, IfOk, OnOk, OnErr, IsErrOf, map as list_map, slice_get};
 ghost use Rattle.std.specs.Option.{option_map};
 ghost use Rattle.triple_arena_ptr.specs.Generation.{second_generation, next_generation, next_wraps};

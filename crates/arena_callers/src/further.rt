@@ -1,4 +1,4 @@
-//! What callers can use now.
+//! Facts that follow from those of the calls: of the next index, of generations, and of memory.
 ghost use Rattle.std.specs.Prelude.{◌≡◌, ◌≤◌, Some, None, IsTrue, IfSome, IsErrOf, false};
 ghost use Rattle.triple_arena_ptr.specs.InvalidationOption.{value_of};
 ghost use Rattle.triple_arena_ptr.specs.InvalidationResult.{answer_of};

@@ -1,4 +1,4 @@
-//! Every clause that the calls had before, from bounds alone.
+//! The facts of each call of every arena, from bounds alone.
 ghost use Rattle.std.specs.Prelude.{◌≡◌, ◌≢◌, ℕ, ◌+◌, ◌<◌, ◌≤◌, ◌↔◌, Some, None, IsOk, IsSome, IfSome, IfNone, IfOk, OnOk, OnErr, IsErrOf, unwrap_or, map as list_map, slice_get};
 ghost use Rattle.std.specs.Option.{option_map};
 ghost use Rattle.triple_arena_ptr.specs.Generation.{second_generation, next_generation, next_wraps};
