@@ -92,7 +92,7 @@ impl Drop for Counted<'_> {
 }
 
 // Stores three values that are counted.
-fn counted<'a, A: ArenaInsertTrait<P0, Counted<'a>>>(
+fn three_counted<'a, A: ArenaInsertTrait<P0, Counted<'a>>>(
     arena: &mut A,
     dropped: &'a Cell<u64>,
 ) -> Result<(), ReallocationError> {
@@ -110,7 +110,7 @@ fn counted<'a, A: ArenaInsertTrait<P0, Counted<'a>>>(
 fn an_arena_by_value_let_go_half_way(rt: HostRuntime) -> Result<(), Fail> {
     let dropped = Cell::new(0);
     let mut arena = HeapArena::<P0, Counted<'_>, Global>::new(rt.alloc());
-    counted(&mut arena, &dropped)?;
+    three_counted(&mut arena, &dropped)?;
     let mut entries = arena.into_iter();
     let first = entries.next();
     assert!(rt; first.is_some());
@@ -127,13 +127,13 @@ fn an_arena_by_value_let_go_half_way(rt: HostRuntime) -> Result<(), Fail> {
 fn values_are_dropped_once(rt: HostRuntime) -> Result<(), Fail> {
     let dropped = Cell::new(0);
     let mut arena = HeapArena::<P0, Counted<'_>, Global>::new(rt.alloc());
-    counted(&mut arena, &dropped)?;
+    three_counted(&mut arena, &dropped)?;
     drop(arena.drain());
     assert_eq!(rt; dropped.get(), 321);
-    counted(&mut arena, &dropped)?;
+    three_counted(&mut arena, &dropped)?;
     arena.clear();
     assert_eq!(rt; dropped.get(), 642);
-    counted(&mut arena, &dropped)?;
+    three_counted(&mut arena, &dropped)?;
     drop(arena);
     assert_eq!(rt; dropped.get(), 963);
     Ok(())
@@ -384,7 +384,7 @@ impl Clone for Scarce<'_> {
 }
 
 // Two such numbers.
-fn scarce<'a, A: ArenaInsertTrait<P0, Scarce<'a>>>(
+fn two_scarce<'a, A: ArenaInsertTrait<P0, Scarce<'a>>>(
     arena: &mut A,
     left: &'a Cell<u8>,
 ) -> Result<(), ReallocationError> {
@@ -397,11 +397,11 @@ fn scarce<'a, A: ArenaInsertTrait<P0, Scarce<'a>>>(
 fn clones(rt: &impl Abort, alloc: Global, calls: u8) -> Result<(), ReallocationError> {
     let left = Cell::new(calls);
     let mut source = HeapArena::<P0, Scarce<'_>, Global>::new(alloc);
-    scarce(&mut source, &left)?;
+    two_scarce(&mut source, &left)?;
     assert!(rt; source.clone(alloc).is_ok() == (2 <= calls));
     left.set(calls);
     let mut copy = HeapArena::<P0, Scarce<'_>, Global>::new(alloc);
-    scarce(&mut copy, &left)?;
+    two_scarce(&mut copy, &left)?;
     assert!(rt; copy.clone_from(&source).is_ok() == (2 <= calls));
     assert!(rt; copy.len() == (if 2 <= calls { 2 } else { 0 }));
     Ok(())
@@ -411,7 +411,7 @@ fn clones(rt: &impl Abort, alloc: Global, calls: u8) -> Result<(), ReallocationE
 fn clones_directly(rt: &impl Abort, alloc: Global, calls: u8) -> Result<(), ReallocationError> {
     let left = Cell::new(2);
     let mut source = HeapArena::<P0, Scarce<'_>, Global>::new(alloc);
-    scarce(&mut source, &left)?;
+    two_scarce(&mut source, &left)?;
     let mut mirror = HeapDirectArena::<P0, Scarce<'_>, Global>::new(alloc);
     mirror.clone_from_with(&source, |_, item| item.clone())?;
     left.set(calls);
