@@ -15,6 +15,8 @@ from arena_rules import (
     Arena, Direct, Heap, POINTERS, Refused, Room, SLOTS_OF_AN_ARRAY, done, either, option, result, told)
 
 NAMES_OF_AN_ARRAY = 4
+# The pointer types that the program has arrays for.
+IN_ARRAYS = {'array': ('P0', 'P1', 'P5', 'N3'), 'renaming_array': ('P0', 'P1', 'P5')}
 
 
 def reads(arena, verb, x, y):
@@ -145,17 +147,8 @@ class Section:
     """The arenas of a section over a stack for numbers, and the calls at them."""
 
     def __init__(self, pointers, stack, heap, room, more):
-        made = []
-        refusal = None
-        # All four are made before the first refusal is told.
-        for kind, least in ((Arena, room), (Arena, room + more), (Direct, room), (Direct, room + more)):
-            try:
-                made.append(kind(pointers, Room(pointers, stack, heap, least)))
-            except Refused as error:
-                refusal = refusal or error
-                made.append(None)
-        if refusal:
-            raise refusal
+        made = [kind(pointers, Room(pointers, stack, heap, least)) for kind, least in (
+            (Arena, room), (Arena, room + more), (Direct, room), (Direct, room + more))]
         self.pointers, self.stack, self.heap = pointers, stack, heap
         self.arenas = dict(zip('abde', made))
 
@@ -201,16 +194,9 @@ class Renaming:
 
     def __init__(self, pointers, stack, heap, room, _more):
         self.pointers, self.stack, self.heap = pointers, stack, heap
-        made, refusal = [], None
-        for kind, slots in ((Arena, SLOTS_OF_AN_ARRAY), (Direct, SLOTS_OF_AN_ARRAY), (Direct, NAMES_OF_AN_ARRAY),
-                            (Arena, NAMES_OF_AN_ARRAY)):
-            try:
-                made.append(kind(pointers, Room(pointers, stack, heap, room, slots)))
-            except Refused as error:
-                refusal = refusal or error
-                made.append(None)
-        if refusal:
-            raise refusal
+        made = [kind(pointers, Room(pointers, stack, heap, room, slots)) for kind, slots in (
+            (Arena, SLOTS_OF_AN_ARRAY), (Direct, SLOTS_OF_AN_ARRAY), (Direct, NAMES_OF_AN_ARRAY),
+            (Arena, NAMES_OF_AN_ARRAY))]
         self.arenas = dict(zip('hknm', made))
 
     def held(self, value):
@@ -223,9 +209,10 @@ class Renaming:
         x, y, z, w, v = words
         if verb == 'compress_recaster':
             return self.compress_recaster(x == 1)
-        if verb == 'recast':
-            target = self.arenas[whom[0] if whom in ('h=n', 'h=m', 'k=n', 'k=m') else 'k']
-            return [self.recast(target, self.arenas[whom[2] if whom in ('h=n', 'h=m', 'k=n') else 'm'])]
+        if whom in ('h=n', 'h=m', 'k=n', 'k=m'):
+            return [self.recast(self.arenas[whom[0]], self.arenas[whom[2]])]
+        if whom == 'h|':
+            return of_arena(self.arenas['h'], 'set_generation', x, y)
         if whom not in self.arenas:
             return None
         arena = self.arenas[whom]
@@ -246,8 +233,8 @@ class Renaming:
         direct = {('k', 'hold'): (z, None), ('k', 'point'): (z, self.pointer(w, v)), ('n', 'name'): self.pointer(z, w)}
         if (whom, verb) in direct:
             return either(lambda: [arena.insert(i, g, direct[whom, verb])])
-        if whom == 'h' and verb in ('set_generation', 'generation'):
-            return of_arena(arena, verb, x, y)
+        if whom == 'h' and verb == 'generation':
+            return [option(self.pointers.generation_text(arena.counter))]
         return [arena.show(text)]
 
     def recast(self, arena, names, image=None):
@@ -305,7 +292,7 @@ def run(kind, stack, refused_request, header, calls):
 
 def make(kind, stack, heap, room, more):
     renames = stack.startswith('renaming')
-    if stack == 'renaming_array' and kind not in ('P0', 'P1', 'P5'):
+    if kind not in IN_ARRAYS.get(stack, POINTERS):
         raise Refused('BeyondMaxCapacity')
     stack = {'renaming': 'heap', 'renaming_array': 'array'}.get(stack, stack)
     if kind not in POINTERS or stack not in ('heap', 'limited', 'boxed', 'array'):
@@ -417,6 +404,8 @@ class Random:
     def call_of_renaming(self, arenas, top):
         pointers = arenas.pointers
         whom = self.random.choice('hhhhkknnmm=')
+        if self.random.random() < 0.03:
+            return 'h|', 'set_generation', [2]
         two = [self.index(top), self.generation(pointers)]
         if whom == '=':
             return self.random.choice(['h=n', 'h=m', 'k=n', 'k=m']), 'recast', []
@@ -426,7 +415,7 @@ class Random:
         gone = ('remove', self.pointer(arena, top))
         calls = {
             'h': [('hold', [value]), ('point', [value, *other]), ('point', [value, *other]), gone, ('show', []),
-                  ('generation', []), ('set_generation', [2]), ('compress_recaster', [value % 2])],
+                  ('generation', []), ('compress_recaster', [value % 2])],
             'k': [('hold', [*two, value]), ('point', [*two, value, *other]), ('point', [*two, value, *other]),
                   ('show', [])],
             'n': [('name', other + two), ('name', other + two), gone, ('recast_item', other), ('show', [])],
@@ -460,7 +449,7 @@ def random_sections(seed, count):
     writer = Random(seed)
     return [writer.section(kind, stack, count) for kind in POINTERS
             for stack in ('heap', 'limited', 'boxed', 'array', 'renaming', 'renaming_array')
-            if stack != 'renaming_array' or kind in ('P0', 'P1', 'P5')]
+            if kind in IN_ARRAYS.get(stack, POINTERS)]
 
 
 def main(words):

@@ -3,8 +3,19 @@ use script::{Call, Transcript, index};
 use std::fmt::Debug;
 use triple_arena::{Advancer, ArenaInsertTrait, ArenaTrait, DisjointableArenaTrait, Ptr, PtrCore};
 
-/// Makes a call that changes nothing, and says whether there is one of that name.
-pub fn reads<P: Ptr, A: ArenaTrait<P, u64>>(
+/// Makes a call that every arena has, and says whether there is one of that name.
+pub fn call<P: Ptr, A: ArenaTrait<P, u64>>(
+    arena: &mut A,
+    transcript: &mut Transcript,
+    call: &Call<'_>,
+) -> bool {
+    reads(arena, transcript, call)
+        || walks(arena, transcript, call)
+        || writes(arena, transcript, call)
+        || removes(arena, transcript, call)
+}
+
+fn reads<P: Ptr, A: ArenaTrait<P, u64>>(
     arena: &A,
     transcript: &mut Transcript,
     call: &Call<'_>,
@@ -36,8 +47,8 @@ fn get_inx_unwrap<P: PtrCore, A: ArenaTrait<P, u64>>(arena: &A, i: P::Inx) -> Op
     }
 }
 
-/// Goes over the arena by an advancer, and says whether there is a walk of that name.
-pub fn walks<P: PtrCore + Debug, A: ArenaTrait<P, u64>>(
+// Goes over the arena by an advancer, and says whether there is a walk of that name.
+fn walks<P: PtrCore + Debug, A: ArenaTrait<P, u64>>(
     arena: &A,
     transcript: &mut Transcript,
     call: &Call<'_>,
@@ -80,8 +91,7 @@ fn walk<P: PtrCore + Debug, A: ArenaTrait<P, u64>>(
     transcript.answer(line, &advancer.advance(arena));
 }
 
-/// Makes a call that can change the arena, and says whether there is one of that name.
-pub fn changes<P: Ptr, A: ArenaTrait<P, u64>>(
+fn writes<P: Ptr, A: ArenaTrait<P, u64>>(
     arena: &mut A,
     transcript: &mut Transcript,
     call: &Call<'_>,
@@ -96,13 +106,25 @@ pub fn changes<P: Ptr, A: ArenaTrait<P, u64>>(
         "set_inx_unwrap" => {
             transcript.answer(line, &set_inx_unwrap(arena, call.index(), call.second))
         }
+        "walk_and_remove" => walk_and_remove(arena, transcript, line),
+        _ => return false,
+    }
+    true
+}
+
+fn removes<P: Ptr, A: ArenaTrait<P, u64>>(
+    arena: &mut A,
+    transcript: &mut Transcript,
+    call: &Call<'_>,
+) -> bool {
+    let line = call.line;
+    match call.verb {
         "remove" => transcript.answer(line, &arena.remove(call.pointer())),
         "remove_inx" => transcript.answer(line, &arena.remove_inx(call.index())),
         "invalidate" => transcript.answer(line, &arena.invalidate(call.pointer())),
         "clear" => transcript.answer(line, &arena.clear()),
         "compress" => transcript.answer(line, &arena.compress(call.first == 1)),
         "compress_with" => compress_with(arena, transcript, line, call.first == 1),
-        "walk_and_remove" => walk_and_remove(arena, transcript, line),
         _ => return false,
     }
     true

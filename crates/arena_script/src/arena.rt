@@ -12,9 +12,7 @@ pub fn call<P: Ptr, S: ArenaSlots<P, u64>>(
     transcript: &mut Transcript,
     call: &Call<'_>,
 ) {
-    if !(any_arena::reads(arena, transcript, call)
-        || any_arena::walks(arena, transcript, call)
-        || any_arena::changes(arena, transcript, call)
+    if !(any_arena::call(arena, transcript, call)
         || any_arena::inserts(arena, transcript, call)
         || reads(arena, transcript, call)
         || enters(arena, transcript, call)

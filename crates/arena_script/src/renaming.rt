@@ -3,7 +3,8 @@
 //! `h` and `k` hold numbers, each with a pointer or none: `h hold V`, `h point V I G`; and `k`, to which the script gives
 //! the pointers, `k hold I G V`, `k point I G V J H`. `n` and `m` rename pointers: `n name I G J H` gives (I, G) the name
 //! (J, H), and `m name J H` gives that name to the pointer that it answers. `h=n recast` renames what `h` holds by `n`.
-//! `h compress_recaster RESET` compresses `h`, and renames by the map of that what `h` and `k` hold.
+//! `h compress_recaster RESET` compresses `h`, and renames by the map of that what `h` and `k` hold. `h| set_generation G`
+//! sets the counter of `h`.
 use crate::stacks::Heap;
 use script::{Call, Transcript, generation, pointer};
 use std::fmt::Debug;
@@ -91,17 +92,16 @@ fn over<
     calls: &str,
 ) -> Result<(), ReallocationError> {
     let room = header.first as usize;
-    let h = Arena::<P, Held<P>, S>::with_min_capacity(alloc, room);
-    let k = DirectArena::<P, Held<P>, D>::with_min_capacity(alloc, room);
-    let n = DirectArena::<P, P, N>::with_min_capacity(alloc, room);
-    let m = Arena::<P, P, M>::with_min_capacity(alloc, room);
-    let (mut h, mut k, mut n, mut m) = (h?, k?, n?, m?);
+    let mut h = Arena::<P, Held<P>, S>::with_min_capacity(alloc, room)?;
+    let mut k = DirectArena::<P, Held<P>, D>::with_min_capacity(alloc, room)?;
+    let mut n = DirectArena::<P, P, N>::with_min_capacity(alloc, room)?;
+    let mut m = Arena::<P, P, M>::with_min_capacity(alloc, room)?;
     for line in calls.lines() {
         let call = Call::new(line);
-        match call.verb {
-            "compress_recaster" => compress::<P, S, D, N>(&mut h, &mut k, alloc, transcript, &call),
-            "recast" => rename(&mut h, &mut k, &n, &m, transcript, &call),
-            _ => play_line(&mut h, &mut k, &mut n, &mut m, transcript, &call),
+        if call.verb == "compress_recaster" {
+            compress::<P, S, D, N>(&mut h, &mut k, alloc, transcript, &call);
+        } else {
+            play_line(&mut h, &mut k, &mut n, &mut m, transcript, &call);
         }
     }
     Ok(())
@@ -132,25 +132,16 @@ fn compress<
 }
 
 // Renames what an arena holds.
-fn rename<
-    P: Ptr + Recast<P>,
-    S: ArenaSlots<P, Held<P>>,
-    D: DirectSlots<P, Held<P>>,
-    N: DirectSlots<P, P>,
-    M: ArenaSlots<P, P>,
->(
-    h: &mut Arena<P, Held<P>, S>,
-    k: &mut DirectArena<P, Held<P>, D>,
-    n: &DirectArena<P, P, N>,
-    m: &Arena<P, P, M>,
+fn rename<P: PtrCore + Debug, A: Recast<P>, R: Recaster<Item = P>, Q: Recaster<Item = P>>(
+    holder: &mut A,
+    n: &R,
+    m: &Q,
     transcript: &mut Transcript,
     call: &Call<'_>,
 ) {
     match call.whom {
-        "h=n" => transcript.answer(call.line, &recast(h, n)),
-        "h=m" => transcript.answer(call.line, &recast(h, m)),
-        "k=n" => transcript.answer(call.line, &recast(k, n)),
-        _ => transcript.answer(call.line, &recast(k, m)),
+        "h=n" | "k=n" => transcript.answer(call.line, &recast(holder, n)),
+        _ => transcript.answer(call.line, &recast(holder, m)),
     }
 }
 
@@ -174,7 +165,7 @@ fn recast_item<P: PtrCore + Debug, R: Recaster<Item = P>>(
 }
 
 fn play_line<
-    P: Ptr,
+    P: Ptr + Recast<P>,
     S: ArenaSlots<P, Held<P>>,
     D: DirectSlots<P, Held<P>>,
     N: DirectSlots<P, P>,
@@ -188,7 +179,10 @@ fn play_line<
     call: &Call<'_>,
 ) {
     match call.whom {
+        "h=n" | "h=m" => rename(h, n, m, transcript, call),
+        "k=n" | "k=m" => rename(k, n, m, transcript, call),
         "h" => of_holder(h, transcript, call),
+        "h|" => set_generation(h, transcript, call),
         "k" => of_direct_holder(k, transcript, call),
         "n" => of_names(n, transcript, call),
         "m" => of_own_names(m, transcript, call),
@@ -196,8 +190,17 @@ fn play_line<
     }
 }
 
-fn of_holder<P: Ptr, S: ArenaSlots<P, Held<P>>>(
+fn set_generation<P: PtrCore, S: ArenaSlots<P, Held<P>>>(
     h: &mut Arena<P, Held<P>, S>,
+    transcript: &mut Transcript,
+    call: &Call<'_>,
+) {
+    h.set_generation(generation(call.first));
+    transcript.line(call.line);
+}
+
+fn of_holder<P: Ptr, A: ArenaInsertTrait<P, Held<P>> + Debug>(
+    h: &mut A,
     transcript: &mut Transcript,
     call: &Call<'_>,
 ) {
@@ -209,11 +212,7 @@ fn of_holder<P: Ptr, S: ArenaSlots<P, Held<P>>>(
             transcript.answer(line, &h.insert(held))
         }
         "remove" => transcript.answer(line, &h.remove(call.pointer())),
-        "set_generation" => {
-            h.set_generation(generation(call.first));
-            transcript.line(line);
-        }
-        "generation" => transcript.answer(line, &h.generation()),
+        "generation" => transcript.answer(line, &h.singular_generation()),
         _ => transcript.answer(line, h),
     }
 }
@@ -240,22 +239,30 @@ fn of_names<P: Ptr, N: DirectSlots<P, P>>(
 ) {
     match call.verb {
         "name" => put(n, pointer(call.third, call.fourth), transcript, call),
-        "remove" => transcript.answer(call.line, &n.remove(call.pointer())),
-        "recast_item" => recast_item(n, transcript, call),
-        _ => transcript.answer(call.line, n),
+        _ => of_any_names(n, transcript, call),
     }
 }
 
-fn of_own_names<P: Ptr, M: ArenaSlots<P, P>>(
-    m: &mut Arena<P, P, M>,
+fn of_own_names<P: PtrCore + Debug, A: ArenaInsertTrait<P, P> + Recaster<Item = P> + Debug>(
+    m: &mut A,
     transcript: &mut Transcript,
     call: &Call<'_>,
 ) {
     match call.verb {
         "name" => transcript.answer(call.line, &m.insert(call.pointer())),
-        "remove" => transcript.answer(call.line, &m.remove(call.pointer())),
-        "recast_item" => recast_item(m, transcript, call),
-        _ => transcript.answer(call.line, m),
+        _ => of_any_names(m, transcript, call),
+    }
+}
+
+fn of_any_names<P: PtrCore + Debug, A: ArenaTrait<P, P> + Recaster<Item = P> + Debug>(
+    names: &mut A,
+    transcript: &mut Transcript,
+    call: &Call<'_>,
+) {
+    match call.verb {
+        "remove" => transcript.answer(call.line, &names.remove(call.pointer())),
+        "recast_item" => recast_item(names, transcript, call),
+        _ => transcript.answer(call.line, names),
     }
 }
 

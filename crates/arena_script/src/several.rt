@@ -7,41 +7,23 @@ use triple_arena::{
     ArenaTransferTrait, DirectArena, DirectSlots, Ptr, PtrCore,
 };
 
-/// Copies or moves what another arena has to the arena `a`.
-pub fn into_arena<P: PtrCore + Debug, S: ArenaSlots<P, u64>, D: DirectSlots<P, u64>>(
-    a: &mut Arena<P, u64, S>,
-    b: &mut Arena<P, u64, S>,
-    d: &mut DirectArena<P, u64, D>,
-    transcript: &mut Transcript,
-    call: &Call<'_>,
-) {
+/// Makes the target a copy of the one or the other arena, or moves to it what that has.
+pub fn into<
+    P: PtrCore + Debug,
+    A: ArenaCloneFromWith<P, u64> + ArenaTransferTrait<P, u64>,
+    B: ArenaCloneSource<P, u64> + ArenaTransferSource<P, u64>,
+    C: ArenaCloneSource<P, u64> + ArenaTransferSource<P, u64>,
+>(target: &mut A, one: &mut B, other: &mut C, transcript: &mut Transcript, call: &Call<'_>) {
     match call.whom {
-        "a=b" => copy(a, b, transcript, call),
-        "a=d" => copy(a, d, transcript, call),
-        "a<b" => transfer(a, b, transcript, call),
-        "a<d" => transfer(a, d, transcript, call),
-        _ => clone_arena(a, b, transcript, call),
+        "a=b" | "d=a" => copy(target, one, transcript, call),
+        "a=d" | "d=e" => copy(target, other, transcript, call),
+        "a<b" | "d<a" => transfer(target, one, transcript, call),
+        _ => transfer(target, other, transcript, call),
     }
 }
 
-/// Copies or moves what another arena has to the direct arena `d`.
-pub fn into_direct<P: PtrCore + Debug, S: ArenaSlots<P, u64>, D: DirectSlots<P, u64>>(
-    d: &mut DirectArena<P, u64, D>,
-    a: &mut Arena<P, u64, S>,
-    e: &mut DirectArena<P, u64, D>,
-    transcript: &mut Transcript,
-    call: &Call<'_>,
-) {
-    match call.whom {
-        "d=a" => copy(d, a, transcript, call),
-        "d=e" => copy(d, e, transcript, call),
-        "d<a" => transfer(d, a, transcript, call),
-        "d<e" => transfer(d, e, transcript, call),
-        _ => clone_direct(d, e, transcript, call),
-    }
-}
-
-fn clone_arena<P: PtrCore, S: ArenaSlots<P, u64>>(
+/// Makes an arena a clone of another one.
+pub fn clone_arena<P: PtrCore, S: ArenaSlots<P, u64>>(
     target: &mut Arena<P, u64, S>,
     source: &Arena<P, u64, S>,
     transcript: &mut Transcript,
@@ -50,7 +32,8 @@ fn clone_arena<P: PtrCore, S: ArenaSlots<P, u64>>(
     transcript.answer(call.line, &target.clone_from(source));
 }
 
-fn clone_direct<P: PtrCore, D: DirectSlots<P, u64>>(
+/// Makes a direct arena a clone of another one.
+pub fn clone_direct<P: PtrCore, D: DirectSlots<P, u64>>(
     target: &mut DirectArena<P, u64, D>,
     source: &DirectArena<P, u64, D>,
     transcript: &mut Transcript,

@@ -7,7 +7,7 @@ use std::alloc::Global;
 use triple_arena::{
     Arena, ArenaSlot, ArenaSlots, ArenaTrait, DirectArena, DirectSlot, DirectSlots,
     NonZeroInxArray, NonZeroInxBoxedSlice, NonZeroInxLimitedStack, NonZeroInxLimitedVec,
-    NonZeroInxVec, P0, P1, P2, P3, P4, P5, Ptr, Q2, ReallocationError, Recast, SetMaxCapacity,
+    NonZeroInxVec, P0, P1, P5, Ptr, PtrCore, ReallocationError, Recast, SetMaxCapacity,
 };
 
 /// What stacks on the heap take their memory from. It can refuse one request.
@@ -65,11 +65,7 @@ pub fn over_array(
     match kind {
         "P0" => over::<P0, (), InArray<P0>, DirectInArray<P0>>((), transcript, header, calls),
         "P1" => over::<P1, (), InArray<P1>, DirectInArray<P1>>((), transcript, header, calls),
-        "P2" => over::<P2, (), InArray<P2>, DirectInArray<P2>>((), transcript, header, calls),
-        "P3" => over::<P3, (), InArray<P3>, DirectInArray<P3>>((), transcript, header, calls),
-        "P4" => over::<P4, (), InArray<P4>, DirectInArray<P4>>((), transcript, header, calls),
         "P5" => over::<P5, (), InArray<P5>, DirectInArray<P5>>((), transcript, header, calls),
-        "Q2" => over::<Q2, (), InArray<Q2>, DirectInArray<Q2>>((), transcript, header, calls),
         "N3" => over::<N3, (), InArray<N3>, DirectInArray<N3>>((), transcript, header, calls),
         _ => Err(ReallocationError::BeyondMaxCapacity),
     }
@@ -86,13 +82,8 @@ fn over<
     header: &Call<'_>,
     calls: &str,
 ) -> Result<(), ReallocationError> {
-    let room = header.first as usize;
-    let more = room.saturating_add(header.fourth as usize);
-    let a = Arena::<P, u64, S>::with_min_capacity(alloc, room);
-    let b = Arena::<P, u64, S>::with_min_capacity(alloc, more);
-    let d = DirectArena::<P, u64, D>::with_min_capacity(alloc, room);
-    let e = DirectArena::<P, u64, D>::with_min_capacity(alloc, more);
-    let (mut a, mut b, mut d, mut e) = (a?, b?, d?, e?);
+    let (mut a, mut b) = make_two::<P, H, Arena<P, u64, S>>(alloc, header)?;
+    let (mut d, mut e) = make_two::<P, H, DirectArena<P, u64, D>>(alloc, header)?;
     for line in calls.lines() {
         play_line(&mut a, &mut b, &mut d, &mut e, transcript, &Call::new(line));
     }
@@ -102,6 +93,17 @@ fn over<
         direct::into_iter(e, transcript);
     }
     Ok(())
+}
+
+// Two arenas, of which the other one has the more room that the header says.
+fn make_two<P: PtrCore, H: Copy + Drop, A: ArenaTrait<P, u64, Alloc = H> + Drop>(
+    alloc: H,
+    header: &Call<'_>,
+) -> Result<(A, A), ReallocationError> {
+    let room = header.first as usize;
+    let one = A::with_min_capacity(alloc, room)?;
+    let other = A::with_min_capacity(alloc, room.saturating_add(header.fourth as usize))?;
+    Ok((one, other))
 }
 
 // Over stacks that take a limit.
@@ -116,13 +118,8 @@ fn over_limited<
     header: &Call<'_>,
     calls: &str,
 ) -> Result<(), ReallocationError> {
-    let room = header.first as usize;
-    let more = room.saturating_add(header.fourth as usize);
-    let a = Arena::<P, u64, S>::with_min_capacity(alloc, room);
-    let b = Arena::<P, u64, S>::with_min_capacity(alloc, more);
-    let d = DirectArena::<P, u64, D>::with_min_capacity(alloc, room);
-    let e = DirectArena::<P, u64, D>::with_min_capacity(alloc, more);
-    let (mut a, mut b, mut d, mut e) = (a?, b?, d?, e?);
+    let (mut a, mut b) = make_two::<P, H, Arena<P, u64, S>>(alloc, header)?;
+    let (mut d, mut e) = make_two::<P, H, DirectArena<P, u64, D>>(alloc, header)?;
     for line in calls.lines() {
         let call = Call::new(line);
         match call.whom {
@@ -156,8 +153,10 @@ fn play_line<P: Ptr, S: ArenaSlots<P, u64>, D: DirectSlots<P, u64>>(
         "b" => arena::call(b, transcript, call),
         "d" => direct::call(d, transcript, call),
         "e" => direct::call(e, transcript, call),
-        "a=b" | "a=d" | "a<b" | "a<d" | "a~b" => several::into_arena(a, b, d, transcript, call),
-        "d=a" | "d=e" | "d<a" | "d<e" | "d~e" => several::into_direct(d, a, e, transcript, call),
+        "a=b" | "a=d" | "a<b" | "a<d" => several::into(a, b, d, transcript, call),
+        "d=a" | "d=e" | "d<a" | "d<e" => several::into(d, a, e, transcript, call),
+        "a~b" => several::clone_arena(a, b, transcript, call),
+        "d~e" => several::clone_direct(d, e, transcript, call),
         _ => transcript.line(call.line),
     }
 }
