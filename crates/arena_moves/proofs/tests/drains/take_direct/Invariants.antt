@@ -1,5 +1,0 @@
-use Rattle.triple_arena.specs.DirectDrains.{DrainCanStep}
-use Rattle.arena_moves.proofs.tests.drains.take_direct.Given as goal
-
-abbrev pub invariant-loop-item : goal.invariant-loop-item
-invariant-loop-item g l = DrainCanStep l.drain

@@ -1,0 +1,105 @@
+//! What users rely on most in an arena, said once more of functions whose body is the call alone. That each is proved
+//! shows that the arena's contract says so much, and `must-fail/` has a wrong body for each promise, which its clause
+//! refuses. A wrong body here makes the calls that are public; those of the arena's own files are in its
+//! `wrong-bodies/`.
+#![tactic(auto)]
+
+ghost use Rattle.std.specs.Prelude.{◌≡◌, ℕ, ◌<◌, ◌↔◌, None, Some, IsOk, IfOk, IfSome, IfNone, OnOk, OnSome, OnErr, option_copied};
+ghost use Rattle.std.specs.Fn.{iterate};
+ghost use Rattle.std.specs.Option.{option_map};
+ghost use Rattle.triple_arena_ptr.specs.Generation.{next_generation};
+ghost use Rattle.triple_arena_ptr.specs.InvalidationOption.{value_of, overflowed};
+ghost use Rattle.triple_arena_ptr.specs.InvalidationResult.{answer_of};
+ghost use Rattle.triple_arena_stack.specs.Room.{capacity as capacity_of};
+ghost use Rattle.triple_arena.specs.Changes.{IsInserted, IsRemoved};
+ghost use Rattle.triple_arena.specs.Content.{entry_at, live_count, arena_capacity, next_index, inserted};
+ghost use Rattle.triple_arena.specs.Drains.{drained};
+ghost use Rattle.triple_arena.specs.Entries.{value_if, counter_wraps, generation_at};
+
+use triple_arena::{
+    Arena, ArenaCloneFromWith, ArenaInsertTrait, ArenaSlots, ArenaTrait, InvalidationOption,
+    InvalidationResult, NotWithinCapacityError, PtrCore, ReallocationError,
+};
+
+/// Stores a value exactly where there is room, under a pointer that finds it.
+pub fn insert_within_capacity<P: PtrCore, A: ArenaInsertTrait<P, u64>>(
+    arena: &mut A,
+    t: u64,
+) -> Result<P, NotWithinCapacityError>
+    ensures variant { IsOk result ↔ (A.live_count arena.old < capacity_of (A.room arena.old)) }
+    ensures inserted { IfOk result (λ p. IsInserted A.entry_at A.live_count A.counter
+        (A.next_index arena.old) (P.index p) (P.generation p) t arena.old arena.new) }
+    ensures exact { OnOk result (arena.new ≡ A.inserted arena.old t) }
+    ensures err { OnErr result (arena.new ≡ arena.old) }
+{
+    let inserted = arena.insert_within_capacity(t);
+    inserted
+}
+
+/// Stores a value at the index that was left last, and only then in a new slot.
+pub fn insert_at_the_next_index<P: PtrCore, S: ArenaSlots<P, u64>>(
+    arena: &mut Arena<P, u64, S>,
+    t: u64,
+) -> Result<P, NotWithinCapacityError>
+    ensures variant { IsOk result ↔ (live_count arena.old < arena_capacity arena.old) }
+    ensures index { IfOk result (λ p. P.index p ≡ next_index arena.old) }
+    ensures exact { OnOk result (arena.new ≡ inserted arena.old t) }
+    ensures err { OnErr result (arena.new ≡ arena.old) }
+{
+    let stored = arena.insert_within_capacity(t);
+    stored
+}
+
+/// Finds the value that a pointer was given for, and nothing by the pointer of an entry that has gone.
+pub fn get<P: PtrCore, T: Drop, A: ArenaTrait<P, T>>(arena: &A, p: P) -> Option<&T>
+    ensures { option_copied result
+        ≡ value_if (P.generation p) (A.entry_at arena.now (P.index p)) }
+{
+    let found = arena.get(p);
+    found
+}
+
+/// Removes a value, and tells where the step of the counter started the generations again.
+pub fn remove<P: PtrCore, T: Drop, A: ArenaTrait<P, T>>(
+    arena: &mut A,
+    p: P,
+) -> InvalidationResult<T>
+    ensures value { option_map value_of (answer_of result)
+        ≡ value_if (P.generation p) (A.entry_at arena.old (P.index p)) }
+    ensures overflow { IfSome (answer_of result)
+        (λ a. overflowed a ≡ counter_wraps P.Gen.last (A.counter arena.old)) }
+    ensures removed { OnSome (answer_of result) (IsRemoved A.entry_at A.live_count A.counter A.room
+        P.Gen.last (P.index p) arena.old arena.new) }
+    ensures invalid { IfNone (answer_of result) (arena.new ≡ arena.old) }
+{
+    let removed = arena.remove(p);
+    removed
+}
+
+/// Takes the first entry out by a drain, which takes the rest where it is let go, each by a step of the counter.
+#[tactic(auto, using(triple_arena::specs::TransferLaws::drains))]
+pub fn take_first_by_drain<P: PtrCore, T: Drop, S: ArenaSlots<P, T>>(
+    arena: &mut Arena<P, T, S>,
+) -> Option<InvalidationOption<(P, T)>>
+    ensures exact { arena.new ≡ drained P.Gen.last arena.old }
+    ensures entries { (j : ℕ) → entry_at arena.new j ≡ None }
+    ensures counter { arena.new.counter
+        ≡ iterate (next_generation P.Gen.last) (live_count arena.old) arena.old.counter }
+{
+    let mut drain = arena.drain();
+    let first = drain.next();
+    first
+}
+
+/// Makes an arena a copy of another one, with its pointers and its counter.
+pub fn copy<P: PtrCore, S: ArenaSlots<P, u64>, R: ArenaSlots<P, u64>>(
+    arena: &mut Arena<P, u64, S>,
+    source: &Arena<P, u64, R>,
+) -> Result<(), ReallocationError>
+    ensures pointers { OnOk result ((j : ℕ) → generation_at (entry_at arena.new) j
+        ≡ generation_at (entry_at source.now) j) }
+    ensures counter { OnOk result (arena.new.counter ≡ source.now.counter) }
+{
+    let copied = arena.clone_from_with(source, |_, value| Ok(*value));
+    copied
+}

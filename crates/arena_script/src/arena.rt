@@ -1,0 +1,173 @@
+//! The calls of an `Arena`.
+ghost use Rattle.std.specs.Prelude.{IfOk};
+
+use crate::any_arena;
+use script::{Call, Transcript, generation};
+use std::fmt::Debug;
+use triple_arena::{Arena, ArenaInsertEntries, ArenaInsertEntryTrait, ArenaSlots, Ptr, PtrCore};
+
+/// Makes the call that a line names.
+pub fn call<P: Ptr, S: ArenaSlots<P, u64>>(
+    arena: &mut Arena<P, u64, S>,
+    transcript: &mut Transcript,
+    call: &Call<'_>,
+) {
+    if !(any_arena::call(arena, transcript, call)
+        || any_arena::inserts(arena, transcript, call)
+        || reads(arena, transcript, call)
+        || enters(arena, transcript, call)
+        || changes(arena, transcript, call))
+    {
+        transcript.answer(call.line, &"no such call");
+    }
+}
+
+fn reads<P: Ptr, S: ArenaSlots<P, u64>>(
+    arena: &Arena<P, u64, S>,
+    transcript: &mut Transcript,
+    call: &Call<'_>,
+) -> bool {
+    let line = call.line;
+    match call.verb {
+        "generation" => transcript.answer(line, &arena.generation()),
+        "freelist_root" => transcript.answer(line, &arena.freelist_root()),
+        "slots" => transcript.answer(line, &arena.backing().len()),
+        "show" => transcript.answer(line, arena),
+        "ptrs" => ptrs(arena, transcript, line),
+        "vals" => vals(arena, transcript, line),
+        "iter" => iter(arena, transcript, line),
+        _ => return false,
+    }
+    true
+}
+
+fn ptrs<P: PtrCore + Debug, S: ArenaSlots<P, u64>>(
+    arena: &Arena<P, u64, S>,
+    transcript: &mut Transcript,
+    line: &str,
+) {
+    for p in arena.ptrs() {
+        transcript.answer(line, &p);
+    }
+}
+
+fn vals<P: PtrCore, S: ArenaSlots<P, u64>>(
+    arena: &Arena<P, u64, S>,
+    transcript: &mut Transcript,
+    line: &str,
+) {
+    for value in arena.vals() {
+        transcript.answer(line, value);
+    }
+}
+
+fn iter<P: PtrCore + Debug, S: ArenaSlots<P, u64>>(
+    arena: &Arena<P, u64, S>,
+    transcript: &mut Transcript,
+    line: &str,
+) {
+    for entry in arena {
+        transcript.answer(line, &entry);
+    }
+}
+
+fn changes<P: PtrCore + Debug, S: ArenaSlots<P, u64>>(
+    arena: &mut Arena<P, u64, S>,
+    transcript: &mut Transcript,
+    call: &Call<'_>,
+) -> bool {
+    let line = call.line;
+    match call.verb {
+        "set_generation" => {
+            arena.set_generation(generation(call.first));
+            transcript.line(line);
+        }
+        "inc_generation" => transcript.answer(line, &arena.inc_generation()),
+        "canonicalize_freelist" => {
+            arena.canonicalize_freelist();
+            transcript.line(line);
+        }
+        "remove_free_end_slots" => {
+            arena.remove_free_end_slots();
+            transcript.line(line);
+        }
+        "swap" => any_arena::swap(arena, transcript, call),
+        "swap_inx" => any_arena::swap_inx(arena, transcript, call),
+        "drain" => drain(arena, transcript, call),
+        _ => return false,
+    }
+    true
+}
+
+// Makes an insertion by an entry, and says whether there is one of that name.
+fn enters<P: PtrCore + Debug, S: ArenaSlots<P, u64>>(
+    arena: &mut Arena<P, u64, S>,
+    transcript: &mut Transcript,
+    call: &Call<'_>,
+) -> bool {
+    match call.verb {
+        "entry_insert" => enter(arena.entry_insert(), transcript, call),
+        "entry_insert_reallocating" => enter_reallocating(arena, transcript, call),
+        "entry_insert_within_capacity" => enter_within_capacity(arena, transcript, call),
+        _ => return false,
+    }
+    true
+}
+
+fn enter_reallocating<P: PtrCore + Debug, S: ArenaSlots<P, u64>>(
+    arena: &mut Arena<P, u64, S>,
+    transcript: &mut Transcript,
+    call: &Call<'_>,
+) {
+    enter(arena.entry_insert_reallocating(), transcript, call)
+}
+
+fn enter_within_capacity<P: PtrCore + Debug, S: ArenaSlots<P, u64>>(
+    arena: &mut Arena<P, u64, S>,
+    transcript: &mut Transcript,
+    call: &Call<'_>,
+) {
+    enter(arena.entry_insert_within_capacity(), transcript, call)
+}
+
+// Tells an entry's pointer, and stores the first number by it, unless the second one is 1.
+fn enter<P: PtrCore + Debug, E: ArenaInsertEntryTrait<P, u64> + Drop, Refusal: Debug + Drop>(
+    entry: Result<E, Refusal>,
+    transcript: &mut Transcript,
+    call: &Call<'_>,
+)
+    requires { IfOk entry (λ e. E.has_room e) }
+{
+    match entry {
+        Ok(entry) => {
+            transcript.answer(call.line, &entry.ptr());
+            if call.second != 1 {
+                transcript.answer(call.line, &entry.insert(call.first));
+            }
+        }
+        Err(refusal) => transcript.answer(call.line, &refusal),
+    }
+}
+
+// Takes so many items of a drain, and tells how many are left when it is let go.
+fn drain<P: PtrCore + Debug, S: ArenaSlots<P, u64>>(
+    arena: &mut Arena<P, u64, S>,
+    transcript: &mut Transcript,
+    call: &Call<'_>,
+) {
+    let mut drain = arena.drain();
+    for _ in 0..call.first {
+        transcript.answer(call.line, &drain.next());
+    }
+    transcript.answer(call.line, &drain.len());
+}
+
+/// Goes over an arena by value.
+pub fn into_iter<P: PtrCore + Debug, S: ArenaSlots<P, u64>>(
+    arena: Arena<P, u64, S>,
+    transcript: &mut Transcript,
+) {
+    for entry in arena {
+        transcript.answer("b into_iter", &entry);
+    }
+}

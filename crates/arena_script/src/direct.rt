@@ -1,0 +1,128 @@
+//! The calls of a `DirectArena`.
+use crate::any_arena;
+use script::{Call, Transcript};
+use std::fmt::Debug;
+use triple_arena::{
+    ArenaDirectInsertEntryTrait, ArenaDirectInsertTrait, DirectArena, DirectSlots, Ptr, PtrCore,
+};
+
+/// Makes the call that a line names.
+pub fn call<P: Ptr, S: DirectSlots<P, u64>>(
+    arena: &mut DirectArena<P, u64, S>,
+    transcript: &mut Transcript,
+    call: &Call<'_>,
+) {
+    if !(any_arena::call(arena, transcript, call)
+        || reads(arena, transcript, call)
+        || changes(arena, transcript, call))
+    {
+        transcript.answer(call.line, &"no such call");
+    }
+}
+
+fn reads<P: Ptr, S: DirectSlots<P, u64>>(
+    arena: &DirectArena<P, u64, S>,
+    transcript: &mut Transcript,
+    call: &Call<'_>,
+) -> bool {
+    let line = call.line;
+    match call.verb {
+        "slots" => transcript.answer(line, &arena.backing().len()),
+        "show" => transcript.answer(line, arena),
+        "ptrs" => ptrs(arena, transcript, line),
+        "vals" => vals(arena, transcript, line),
+        "iter" => iter(arena, transcript, line),
+        _ => return false,
+    }
+    true
+}
+
+fn ptrs<P: PtrCore + Debug, S: DirectSlots<P, u64>>(
+    arena: &DirectArena<P, u64, S>,
+    transcript: &mut Transcript,
+    line: &str,
+) {
+    for p in arena.ptrs() {
+        transcript.answer(line, &p);
+    }
+}
+
+fn vals<P: PtrCore, S: DirectSlots<P, u64>>(
+    arena: &DirectArena<P, u64, S>,
+    transcript: &mut Transcript,
+    line: &str,
+) {
+    for value in arena.vals() {
+        transcript.answer(line, value);
+    }
+}
+
+fn iter<P: PtrCore + Debug, S: DirectSlots<P, u64>>(
+    arena: &DirectArena<P, u64, S>,
+    transcript: &mut Transcript,
+    line: &str,
+) {
+    for entry in arena {
+        transcript.answer(line, &entry);
+    }
+}
+
+fn changes<P: PtrCore + Debug, S: DirectSlots<P, u64>>(
+    arena: &mut DirectArena<P, u64, S>,
+    transcript: &mut Transcript,
+    call: &Call<'_>,
+) -> bool {
+    let line = call.line;
+    match call.verb {
+        "direct_insert" => direct_insert(arena, transcript, call),
+        "pop_free_end_slots" => {
+            arena.pop_free_end_slots();
+            transcript.line(line);
+        }
+        "swap" => any_arena::swap(arena, transcript, call),
+        "swap_inx" => any_arena::swap_inx(arena, transcript, call),
+        "drain" => drain(arena, transcript, call),
+        _ => return false,
+    }
+    true
+}
+
+// Makes a place, and stores the third number there, unless it is 0.
+fn direct_insert<P: PtrCore, S: DirectSlots<P, u64>>(
+    arena: &mut DirectArena<P, u64, S>,
+    transcript: &mut Transcript,
+    call: &Call<'_>,
+) {
+    match arena.direct_insert_within_capacity(call.pointer()) {
+        Ok(place) => {
+            if call.third != 0 {
+                place.insert(call.third);
+            }
+            transcript.answer(call.line, &());
+        }
+        Err(refusal) => transcript.answer(call.line, &refusal),
+    }
+}
+
+// Takes so many items of a drain, and tells how many are left when it is let go.
+fn drain<P: PtrCore + Debug, S: DirectSlots<P, u64>>(
+    arena: &mut DirectArena<P, u64, S>,
+    transcript: &mut Transcript,
+    call: &Call<'_>,
+) {
+    let mut drain = arena.drain();
+    for _ in 0..call.first {
+        transcript.answer(call.line, &drain.next());
+    }
+    transcript.answer(call.line, &drain.len());
+}
+
+/// Goes over a direct arena by value.
+pub fn into_iter<P: PtrCore + Debug, S: DirectSlots<P, u64>>(
+    arena: DirectArena<P, u64, S>,
+    transcript: &mut Transcript,
+) {
+    for entry in arena {
+        transcript.answer("e into_iter", &entry);
+    }
+}
