@@ -14,6 +14,7 @@ mod further;
 mod generic;
 mod moves;
 mod one_crate;
+mod pointers;
 mod reading;
 mod recasts;
 mod rules;
