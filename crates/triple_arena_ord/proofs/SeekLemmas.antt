@@ -131,7 +131,7 @@ module _ {I K T : Type 0} (number : I → ℕ) (cmp : K → K → Ordering) (key
   -- a sorted list parts at a key
   pub parts_at : IsTotalOrder cmp → (o : Ordered I T) → IsOrdered number o → IsAscending number cmp key o → IsParted (asked_at cmp key k o) (order_in number o)
   parts_at total o is ascending =
-      parted_from total key (entry_in o) k (order_in number o) (counted-all (λ i. IsSome (entry_in o i)) (tree_in number o) (λ j h. counted_entry o is j h)) ascending
+      parted_from total key (entry_in o) k (order_in number o) (counted-all (λ i. IsSome (entry_in o i)) (tree_in number o) (λ j h. counted_entry number o is j h)) ascending
 
   pub absent : IsTotalOrder cmp → (o : Ordered I T) → IsOrdered number o → (a : Option (ℕ × Ordering)) → IsAnswer (asked_at cmp key k o) (tree_in number o) a → ((i : ℕ) (d : Ordering) → a ≡ Some (i, d) → d ≢ Equal)
       → IsAscending number cmp key o → (j : ℕ) → option_map (λ e. cmp k (key e.1)) (entry_in o j) ≢ Some Equal
