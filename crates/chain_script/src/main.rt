@@ -33,9 +33,9 @@ type Holding<P> = ArenaSlot<P, LinkNoGen<P, P>>;
 
 type Name<P> = DirectSlot<P, P>;
 
-type InArray<P> = NonZeroInxArray<Slot<P>, 5>;
+type InArray<P> = NonZeroInxArray<Slot<P>, 8>;
 
-type ValuesInArray<P> = NonZeroInxArray<Value<P>, 5>;
+type ValuesInArray<P> = NonZeroInxArray<Value<P>, 8>;
 
 fn main(rt: HostRuntime) -> io::Result<()> {
     let script = io::read_to_string(rt.alloc(), rt.reader())?;
