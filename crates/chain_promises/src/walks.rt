@@ -8,7 +8,7 @@ ghost use Rattle.triple_arena_chain.specs.Walks.{IsWalkFrom, ChainSteps};
 
 use triple_arena::{Advancer, PtrCore};
 use triple_arena_chain::chain_iterators::{ChainPtrAdvancer, IterChain};
-use triple_arena_chain::{ChainArena, ChainArenaTrait, ChainSlots};
+use triple_arena_chain::{ChainArena, ChainSlots};
 
 /// The links of the chain of `p`, in the order of a walk from `p`.
 pub fn iter_chain<P: PtrCore, T: Drop, S: ChainSlots<P, T>>(
