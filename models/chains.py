@@ -463,13 +463,14 @@ class Chains(Arena):
 class Section:
     """The arenas of a section, and the transcript."""
 
-    def __init__(self, header, nth):
-        words = header.split(' ')
-        self.kind, self.stack, room = words[0], words[1], int(words[2])
-        self.heap = Heap(nth)
+    def __init__(self, kind, stack, room, nth):
+        self.kind, self.stack, self.heap = kind, stack, Heap(nth)
         made = [self.new(it, room) for it in (Chains, Chains, Links, Arena)]
-        self.error = next((it for it in made if isinstance(it, str)), None)
+        self.error = next((('made', it) for it in made if isinstance(it, str)), None)
         self.a, self.b, self.l, self.v = made
+
+    def end(self):
+        return []
 
     def new(self, which, room):
         limit = {'boxed': room, 'array': ARRAY}.get(self.stack)
@@ -593,12 +594,11 @@ class Section:
 class Renaming:
     """Chains `x` of pointers, the arena `t` of what they point to, and names `n` for pointers."""
 
-    def __init__(self, header, nth):
-        self.kind, self.heap = header.split(' ')[0], Heap(nth)
+    def __init__(self, kind, nth):
+        self.kind, self.heap = kind, Heap(nth)
         self.x, self.t = (it(self.kind, 'heap', self.heap, 0, None) for it in (Chains, Arena))
         self.names = {}
-        self.error = None
-        self.has_names = self.heap.gives()
+        self.error = None if self.heap.gives() else ('names', 'AllocError')
 
     def pointer(self, i, g):
         return i, None if LAST[self.kind] is None else g
@@ -663,7 +663,7 @@ class Renaming:
         """The targets are compressed, and the chains recast by the map of that, twice."""
         k = sorted(self.t.entries)
         if k and not self.heap.gives():
-            return []
+            return ['made -> AllocError']
         old = {i: self.pointer(i, self.t.entries[i][0]) for i in k}
         self.t.step('')
         names = {old[i]: self.pointer(n + 1, self.t.counter) for n, i in enumerate(k)}
@@ -680,31 +680,24 @@ def told(line, answers):
 def answers_to(section):
     """The transcript of a section that is given."""
     header, *lines = section.split('\n')
+    kinds, stacks, room, first, last = [*header.split(' '), '0', '0', '0'][:5]
     out = [header]
-    words = header.split(' ')
-    for nth in range(int(words[3]), int(words[4]) + 1):
-        out.append(f'refused request -> {nth}')
-        if words[1] == 'renaming':
-            out += renaming(header, nth, lines)
-            continue
-        s = Section(header, nth or WORD)
-        if s.error:
-            out.append(f'{header} -> {s.error}')
-        else:
-            for line in lines:
-                out += told(line, s.answer(line))
-        out.append(f'was refused -> {str(s.heap.has_refused).lower()}')
+    for kind in kinds.split(','):
+        for stack in stacks.split(','):
+            for nth in range(int(first), int(last) + 1):
+                out += answers_over(kind, stack, int(room), nth, lines)
     return out
 
 
-def renaming(header, nth, lines):
-    s = Renaming(header, nth or WORD)
-    out = [] if s.has_names else ['names -> AllocError']
-    if s.has_names:
+def answers_over(kind, stack, room, nth, lines):
+    out = [f'over -> ("{kind}", "{stack}", {nth})']
+    s = Renaming(kind, nth or WORD) if stack == 'renaming' else Section(kind, stack, room, nth or WORD)
+    if s.error:
+        out.append(f'{s.error[0]} -> {s.error[1]}')
+    else:
         for line in lines:
             out += told(line, s.answer(line))
-    end = s.end()
-    return out + (end or [f'{header} -> AllocError']) + [f'was refused -> {str(s.heap.has_refused).lower()}']
+    return out + s.end() + [f'was refused -> {str(s.heap.has_refused).lower()}']
 
 
 # random sections
@@ -712,10 +705,10 @@ def renaming(header, nth, lines):
 
 def section(r, kind, stack, lines):
     room = 0 if stack == 'array' else r.choice([1, 3, 6, 12] if stack == 'boxed' else [0, 2, 5])
-    header = f'{kind} {stack} {room} 0 0'
-    s = Section(header, WORD)
+    header = f'{kind} {stack} {room}'
+    s = Section(kind, stack, room, WORD)
     writer = Writer(r, s, KINDS)
-    asked, answers = [header], [header, 'refused request -> 0']
+    asked, answers = [header], [header, f'over -> ("{kind}", "{stack}", 0)']
     for _ in range(lines):
         line = writer.line()
         asked.append(line)

@@ -58,10 +58,7 @@ pub fn connect<P: PtrCore, T: Drop, C: ChainArenaTrait<P, T>>(
 }
 
 /// Parts `p` from its next.
-pub fn break_next<P: PtrCore, T: Drop, C: ChainArenaTrait<P, T>>(
-    chains: &mut C,
-    p: P,
-) -> Option<()>
+pub fn break_next<P: PtrCore, T: Drop, C: ChainArenaTrait<P, T>>(chains: &mut C, p: P) -> Option<()>
     ensures variant { IsSome result
         ↔ IsSome (next_in (ends_found P.Inx.number (C.links chains.old) (P.index p) (P.generation p))) }
     ensures relinked { OnSome result ((q : ℕ)
@@ -79,10 +76,7 @@ pub fn break_next<P: PtrCore, T: Drop, C: ChainArenaTrait<P, T>>(
 }
 
 /// Parts `p` from its previous link.
-pub fn break_prev<P: PtrCore, T: Drop, C: ChainArenaTrait<P, T>>(
-    chains: &mut C,
-    p: P,
-) -> Option<()>
+pub fn break_prev<P: PtrCore, T: Drop, C: ChainArenaTrait<P, T>>(chains: &mut C, p: P) -> Option<()>
     ensures variant { IsSome result
         ↔ IsSome (prev_in (ends_found P.Inx.number (C.links chains.old) (P.index p) (P.generation p))) }
     ensures relinked { OnSome result ((q : ℕ)

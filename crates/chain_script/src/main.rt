@@ -1,5 +1,20 @@
 //! `chain_script` reads sections of calls from the standard input, makes each call at an arena of chains, and writes each
-//! line again with the call's answer behind it.
+//! line again with the call's answer behind it. An empty line ends a section.
+//!
+//! A section begins with its header, `POINTERS STACKS ROOM FIRST LAST`:
+//!
+//! - POINTERS are pointer types, with `,` between them: `P0`, `P1`, `P3`, `P5`, or `N3`, whose generations end at 3;
+//! - STACKS are kinds of stack: `heap`, `limited`, `boxed`, or `array`, which has eight slots;
+//! - ROOM is the capacity that the arenas are made with;
+//! - each time the calls are made once for each request for memory from FIRST to LAST, which is refused. Request 0 is none.
+//!
+//! There are the chain arenas `a` and `b`, the arena `l` of links, which can become a chain arena, and the arena `v` of
+//! values. A line names whose call it is, the call, and its numbers. A call with a kind is written as
+//! `a insert:Bridge 7 1 2 3 2`: the value, and the pointers or, by `BridgeInx`, the indexes. By an entry the value 0 is not
+//! stored. `a=b clone_from` makes `a` a clone of `b`, `v=a clone_to_arena` copies its values to `v`, `a=l exchange_arena`
+//! takes the links of `l`; `a| set_max_capacity 3` limits a limited arena. Over the stack `renaming` the links hold
+//! pointers, and `renaming.rt` says what they are. A line of no arena is written as it is, so that `#` begins a comment. A
+//! number that a line lacks is 0. A pointer is two numbers, index and generation.
 #![tactic(auto)]
 
 ghost use Rattle.std.specs.Prelude.{◌<◌};
@@ -9,33 +24,16 @@ mod kind;
 mod links;
 mod renaming;
 mod several;
+mod stacks;
 mod values;
 
 use narrow_ptr::N3;
 use refusing_allocator::RefusingAllocator;
 use script::{Call, Transcript};
+use stacks::{Heap, over_array, over_stack};
 use std::alloc::Global;
 use std::io;
-use triple_arena::{
-    Arena, ArenaSlot, ArenaSlots, ArenaTrait, DirectSlot, NonZeroInxArray, NonZeroInxBoxedSlice,
-    NonZeroInxGenericStack, NonZeroInxLimitedStack, NonZeroInxLimitedVec, NonZeroInxVec, P0, P1,
-    P3, P5, Ptr, ReallocationError, Recast, SetMaxCapacity,
-};
-use triple_arena_chain::{ChainArena, ChainSlots, LinkNoGen};
-
-type Heap<'a> = &'a RefusingAllocator<Global>;
-
-type Slot<P> = ArenaSlot<P, LinkNoGen<P, u64>>;
-
-type Value<P> = ArenaSlot<P, u64>;
-
-type Holding<P> = ArenaSlot<P, LinkNoGen<P, P>>;
-
-type Name<P> = DirectSlot<P, P>;
-
-type InArray<P> = NonZeroInxArray<Slot<P>, 8>;
-
-type ValuesInArray<P> = NonZeroInxArray<Value<P>, 8>;
+use triple_arena::{P0, P1, P3, P5, ReallocationError};
 
 fn main(rt: HostRuntime) -> io::Result<()> {
     let script = io::read_to_string(rt.alloc(), rt.reader())?;
@@ -47,39 +45,42 @@ fn main(rt: HostRuntime) -> io::Result<()> {
     Ok(())
 }
 
-// Makes the calls of a section, whose first line is `POINTER STACK ROOM FIRST LAST`: over arenas of that pointer and
-// stack with that room; once, or once for each request for memory from the first to the last, which is refused.
+// Makes the calls of a section over each of its pointer types and stacks, once, or once for each request for memory that
+// is refused.
 fn play(alloc: Global, transcript: &mut Transcript, section: &str) {
     let (header, calls) = section.split_once('\n').unwrap_or((section, ""));
     transcript.line(header);
     let header = Call::new(header);
-    for nth in header.second..=header.third {
-        transcript.answer("refused request", &nth);
-        let heap = RefusingAllocator::new(alloc, refused(nth));
-        if let Err(refused) = play_over(&heap, transcript, &header, calls) {
-            transcript.answer(header.line, &refused);
+    for kind in header.whom.split(',') {
+        for stack in header.verb.split(',') {
+            for nth in header.second..=header.third {
+                play_once(alloc, transcript, &Run { kind, stack, nth }, &header, calls);
+            }
         }
-        transcript.answer("was refused", &heap.has_refused());
     }
 }
 
-fn play_over(
-    heap: Heap<'_>,
+// Over which pointer type and stack a section is played, and the request for memory that is refused.
+#[derive(Clone, Copy)]
+struct Run<'a> {
+    kind: &'a str,
+    stack: &'a str,
+    nth: u64,
+}
+
+fn play_once(
+    alloc: Global,
     transcript: &mut Transcript,
+    run: &Run<'_>,
     header: &Call<'_>,
     calls: &str,
-) -> Result<(), ReallocationError> {
-    if header.verb == "array" {
-        return over_array(transcript, header, calls);
+) {
+    transcript.answer("over", &(run.kind, run.stack, run.nth));
+    let heap = RefusingAllocator::new(alloc, refused(run.nth));
+    if let Err(refused) = play_over(&heap, transcript, run, header, calls) {
+        transcript.answer("made", &refused);
     }
-    match header.whom {
-        "P0" => over_stack::<P0>(heap, transcript, header, calls),
-        "P1" => over_stack::<P1>(heap, transcript, header, calls),
-        "P3" => over_stack::<P3>(heap, transcript, header, calls),
-        "P5" => over_stack::<P5>(heap, transcript, header, calls),
-        "N3" => over_stack::<N3>(heap, transcript, header, calls),
-        _ => Err(ReallocationError::BeyondMaxCapacity),
-    }
+    transcript.answer("was refused", &heap.has_refused());
 }
 
 fn refused(nth: u64) -> u64
@@ -88,137 +89,22 @@ fn refused(nth: u64) -> u64
     if nth == 0 { u64::MAX } else { nth }
 }
 
-// Over arrays, whose size is known only where the pointer type is.
-fn over_array(
-    transcript: &mut Transcript,
-    header: &Call<'_>,
-    calls: &str,
-) -> Result<(), ReallocationError> {
-    match header.whom {
-        "P0" => over::<P0, (), InArray<P0>, ValuesInArray<P0>>((), (), transcript, header, calls),
-        "P1" => over::<P1, (), InArray<P1>, ValuesInArray<P1>>((), (), transcript, header, calls),
-        "P3" => over::<P3, (), InArray<P3>, ValuesInArray<P3>>((), (), transcript, header, calls),
-        "P5" => over::<P5, (), InArray<P5>, ValuesInArray<P5>>((), (), transcript, header, calls),
-        "N3" => over::<N3, (), InArray<N3>, ValuesInArray<N3>>((), (), transcript, header, calls),
-        _ => Err(ReallocationError::BeyondMaxCapacity),
-    }
-}
-
-fn over_stack<P: Ptr + Recast<P>>(
+fn play_over(
     heap: Heap<'_>,
     transcript: &mut Transcript,
+    run: &Run<'_>,
     header: &Call<'_>,
     calls: &str,
 ) -> Result<(), ReallocationError> {
-    match header.verb {
-        "heap" => over::<
-            P,
-            Heap<'_>,
-            NonZeroInxVec<Slot<P>, Heap<'_>>,
-            NonZeroInxVec<Value<P>, Heap<'_>>,
-        >(heap, heap, transcript, header, calls),
-        "limited" => over_limited::<
-            P,
-            Heap<'_>,
-            NonZeroInxLimitedVec<Slot<P>, Heap<'_>>,
-            NonZeroInxLimitedVec<Value<P>, Heap<'_>>,
-        >(heap, heap, transcript, header, calls),
-        "boxed" => over::<
-            P,
-            Heap<'_>,
-            NonZeroInxBoxedSlice<Slot<P>, Heap<'_>>,
-            NonZeroInxBoxedSlice<Value<P>, Heap<'_>>,
-        >(heap, heap, transcript, header, calls),
-        "renaming" => {
-            renaming::over::<
-                P,
-                NonZeroInxVec<Holding<P>, Heap<'_>>,
-                NonZeroInxVec<Value<P>, Heap<'_>>,
-                NonZeroInxVec<Name<P>, Heap<'_>>,
-            >(heap, heap, heap, heap, transcript, calls)
-        }
+    if run.stack == "array" {
+        return over_array(run.kind, transcript, header, calls);
+    }
+    match run.kind {
+        "P0" => over_stack::<P0>(heap, run.stack, transcript, header, calls),
+        "P1" => over_stack::<P1>(heap, run.stack, transcript, header, calls),
+        "P3" => over_stack::<P3>(heap, run.stack, transcript, header, calls),
+        "P5" => over_stack::<P5>(heap, run.stack, transcript, header, calls),
+        "N3" => over_stack::<N3>(heap, run.stack, transcript, header, calls),
         _ => Err(ReallocationError::BeyondMaxCapacity),
-    }
-}
-
-fn over<P: Ptr, H: Copy, S: ChainSlots<P, u64, Alloc = H>, V: ArenaSlots<P, u64>>(
-    alloc: H,
-    values: V::Alloc,
-    transcript: &mut Transcript,
-    header: &Call<'_>,
-    calls: &str,
-) -> Result<(), ReallocationError> {
-    let room = header.first as usize;
-    let a = ChainArena::<P, u64, S>::with_min_capacity(alloc, room);
-    let b = ChainArena::<P, u64, S>::with_min_capacity(alloc, room);
-    let l = Arena::<P, LinkNoGen<P, u64>, S>::with_min_capacity(alloc, room);
-    let v = Arena::<P, u64, V>::with_min_capacity(values, room);
-    let (mut a, mut b, mut l, mut v) = (a?, b?, l?, v?);
-    for line in calls.lines() {
-        play_line(
-            &mut a,
-            &mut b,
-            &mut l,
-            &mut v,
-            alloc,
-            transcript,
-            &Call::new(line),
-        );
-    }
-    Ok(())
-}
-
-// Over stacks that take a limit.
-fn over_limited<
-    P: Ptr,
-    H: Copy,
-    S: NonZeroInxLimitedStack<Item = Slot<P>, Alloc = H> + Drop,
-    V: ArenaSlots<P, u64>,
->(
-    alloc: H,
-    values: V::Alloc,
-    transcript: &mut Transcript,
-    header: &Call<'_>,
-    calls: &str,
-) -> Result<(), ReallocationError> {
-    let room = header.first as usize;
-    let a = ChainArena::<P, u64, S>::with_min_capacity(alloc, room);
-    let b = ChainArena::<P, u64, S>::with_min_capacity(alloc, room);
-    let l = Arena::<P, LinkNoGen<P, u64>, S>::with_min_capacity(alloc, room);
-    let v = Arena::<P, u64, V>::with_min_capacity(values, room);
-    let (mut a, mut b, mut l, mut v) = (a?, b?, l?, v?);
-    for line in calls.lines() {
-        let call = Call::new(line);
-        if call.whom == "a|" {
-            limit(&mut a, transcript, &call);
-        } else {
-            play_line(&mut a, &mut b, &mut l, &mut v, alloc, transcript, &call);
-        }
-    }
-    Ok(())
-}
-
-fn limit<A: SetMaxCapacity>(chains: &mut A, transcript: &mut Transcript, call: &Call<'_>) {
-    transcript.answer(call.line, &chains.set_max_capacity(call.first as usize));
-}
-
-fn play_line<P: Ptr, H: Copy, S: ChainSlots<P, u64, Alloc = H>, V: ArenaSlots<P, u64>>(
-    a: &mut ChainArena<P, u64, S>,
-    b: &mut ChainArena<P, u64, S>,
-    l: &mut Arena<P, LinkNoGen<P, u64>, S>,
-    v: &mut Arena<P, u64, V>,
-    alloc: H,
-    transcript: &mut Transcript,
-    call: &Call<'_>,
-) {
-    match call.whom {
-        "a" => chain::call(a, transcript, call),
-        "b" => chain::call(b, transcript, call),
-        "l" => several::link(l, transcript, call),
-        "v" => transcript.answer(call.line, v),
-        "a=b" => several::copies(a, b, alloc, transcript, call),
-        "a=l" => several::becomes(a, l, alloc, transcript, call),
-        "v=a" => several::clone_to_arena(v, a, transcript, call),
-        _ => transcript.line(call.line),
     }
 }

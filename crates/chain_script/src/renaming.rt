@@ -11,12 +11,7 @@ use triple_arena_chain::{ChainArena, ChainArenaTrait, ChainSlots};
 
 /// Makes the calls of a section, and then compresses the arena of targets and recasts the chains by the map of that,
 /// twice.
-pub fn over<
-    P: Ptr + Recast<P>,
-    S: ChainSlots<P, P>,
-    V: ArenaSlots<P, u64>,
-    R: DirectSlots<P, P>,
->(
+pub fn over<P: Ptr + Recast<P>, S: ChainSlots<P, P>, V: ArenaSlots<P, u64>, R: DirectSlots<P, P>>(
     first: S::Alloc,
     second: V::Alloc,
     third: R::Alloc,
