@@ -175,11 +175,11 @@ class Chains(Arena):
 
     def link(self, i):
         prev, next = self.ends(i)
-        return f'IndexLink {{ prev: {some(prev)}, next: {some(next)}, t: {self.entries[i][1]} }}'
+        return f'IndexLink {{ prev: {some(prev)}, next: {some(next)}, t: {self.text(self.entries[i][1])} }}'
 
     def whole_link(self, i):
         prev, next = (None if it is None else self.at(it) for it in self.ends(i))
-        return f'Link {{ prev: {some(prev)}, next: {some(next)}, t: {self.entries[i][1]} }}'
+        return f'Link {{ prev: {some(prev)}, next: {some(next)}, t: {self.text(self.entries[i][1])} }}'
 
     # what changes the lists
 
@@ -187,7 +187,9 @@ class Chains(Arena):
         self.lists = [it for it in self.lists if not any(it is gone for gone in old)] + new
 
     def meets(self, kind, w):
-        """Whether the kind's requirement is met. The numbers are a value, and then pointers or, by `Inx`, indexes."""
+        """The place that the kind asks for, or None where its requirement is not met.
+
+        The numbers are a value, and then pointers or, by `Inx`, indexes."""
         by_index = kind.endswith('Inx')
         kind = kind[:-3] if by_index else kind
         named = (w[1:3] if by_index else w[1:5:2])[:KINDS[kind]]
@@ -597,6 +599,7 @@ class Renaming:
     def __init__(self, kind, nth):
         self.kind, self.heap = kind, Heap(nth)
         self.x, self.t = (it(self.kind, 'heap', self.heap, 0, None) for it in (Chains, Arena))
+        self.x.text = self.text
         self.names = {}
         self.error = None if self.heap.gives() else ('names', 'AllocError')
 
@@ -608,10 +611,6 @@ class Renaming:
 
     def shown(self, names):
         return '{' + ', '.join(f'{self.text(p)}: {self.text(names[p])}' for p in sorted(names)) + '}'
-
-    def show(self):
-        x = self.x
-        return '{' + ', '.join(f'{x.at(i)}: {self.text(x.entries[i][1])}' for i in sorted(x.entries)) + '}'
 
     def recast(self, names):
         for i in sorted(self.x.entries):
@@ -650,9 +649,9 @@ class Renaming:
     def hold(self, verb, w):
         x = self.x
         if verb == 'show':
-            return [self.show()]
+            return [x.show()]
         if verb == 'get_link':
-            return [some(x.whole_link(w[0]).replace(str(x.entries[w[0]][1]), self.text(x.entries[w[0]][1])) if x.live(*w[:2]) else None)]
+            return [some(x.whole_link(w[0]) if x.live(*w[:2]) else None)]
         if verb == 'remove_inx':
             return [x.step(f'({x.generation(x.entries[w[0]][0])}, {self.text(x.take_out(w[0])[1])})') if w[0] in x.entries else 'InvalidPtr']
         place = x.meets(verb, [0, *w[2:], 0])
@@ -669,7 +668,7 @@ class Renaming:
         names = {old[i]: self.pointer(n + 1, self.t.counter) for n, i in enumerate(k)}
         out = [f'compress_recaster -> {self.shown(names)}']
         for line in ('recast', 'recast again'):
-            out += [f'{line} -> {self.recast(names)}', f'show -> {self.show()}']
+            out += [f'{line} -> {self.recast(names)}', f'show -> {self.x.show()}']
         return out
 
 
