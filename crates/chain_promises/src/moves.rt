@@ -1,0 +1,117 @@
+//! Calls on all links at once: compressions, copies, and arenas of links that become chains.
+ghost use Rattle.std.specs.Prelude.{◌≡◌, ◌≤◌, ◌↔◌, ℕ, IsSome, IsOk, IfNone, IsErrOf, OnOk, OnSome, map as list_map};
+ghost use Rattle.triple_arena_ptr.specs.InvalidationOption.{overflowed};
+ghost use Rattle.triple_arena_stack.specs.Room.{capacity as capacity_of, IsBeyond};
+ghost use Rattle.triple_arena.specs.Compression.{renewal_wraps, value_of, IsMapped};
+ghost use Rattle.triple_arena.specs.Content.{live_count, some_counter, reallocated, cleared};
+ghost use Rattle.triple_arena.specs.Copy.{last_listed, copied, MayRefuse, NeverRefuses, IsMappedCopy, IsRefusedCopy, IsCopy, IsUnmadeCopy};
+ghost use Rattle.triple_arena.specs.LiveEntries.{live_entries};
+ghost use Rattle.triple_arena_chain.specs.Chains.{IsAgreed};
+ghost use Rattle.triple_arena_chain.specs.Links.{ends_in, values_in, IsChained};
+ghost use Rattle.triple_arena_chain.specs.Listed.{listed_values};
+ghost use Rattle.triple_arena_chain.specs.Lists.{Chain, IsChainOf};
+ghost use Rattle.triple_arena_chain.specs.Renaming.{IsCompacted};
+ghost use Rattle.triple_arena_chain.specs.Values.{room_in};
+
+use std::alloc::AllocError;
+use triple_arena::{Arena, ArenaTrait, InvalidationOption, PtrCore, ReallocationError};
+use triple_arena_chain::{ChainArena, ChainSlots, LinkNoGen};
+
+/// Moves the links to the first indexes, in their order, each with what `map` makes of its value.
+pub fn compress_with<P: PtrCore, T: Drop, S: ChainSlots<P, T>, F: FnMut(P, T, P) -> T>(
+    chains: &mut ChainArena<P, T, S>,
+    reset: bool,
+    map: F,
+) -> InvalidationOption<()>
+    requires { F.IsAlwaysCallable map }
+    ensures mapped { IsMapped P.index P.generation F.step map (listed_values chains.old)
+        (listed_values chains.new) }
+    ensures overflow { overflowed result ≡ renewal_wraps P.Gen.last reset chains.old.counter }
+    ensures exact { IsCompacted P.Inx.number P.Gen.last reset
+        (list_map value_of (listed_values chains.new)) chains.old chains.new }
+    ensures formed { IsChained P.Inx.number chains.new }
+{
+    let answer = chains.compress_with(reset, map);
+    answer
+}
+
+/// Makes the first arena a copy of the second, each value what `map` makes of the link there.
+pub fn clone_from_with<P, T, S, U, R, F>(
+    target: &mut ChainArena<P, T, S>,
+    source: &ChainArena<P, U, R>,
+    map: F,
+) -> Result<(), ReallocationError>
+where
+    P: PtrCore,
+    T: Drop,
+    S: ChainSlots<P, T>,
+    U: Drop,
+    R: ChainSlots<P, U>,
+    F: FnMut(P, &LinkNoGen<P, U>) -> Result<T, AllocError>,
+    requires { F.IsAlwaysCallable map }
+    ensures mapped { OnOk result (IsMappedCopy P.index P.generation F.step map
+        (live_entries source.now) (listed_values target.new)) }
+    ensures linked { OnOk result ((k : ℕ)
+        → ends_in P.Inx.number target.new k ≡ ends_in P.Inx.number source.now k) }
+    ensures lists { OnOk result ((chain : Chain) → IsChainOf (ends_in P.Inx.number source.now) chain
+        → IsChainOf (ends_in P.Inx.number target.new) chain) }
+    ensures copied { OnOk result (IsCopy values_in live_count some_counter room_in
+        (values_in source.now) (live_count source.now) (last_listed (live_entries source.now))
+        (some_counter source.now) target.old target.new) }
+    ensures exact { OnOk result (target.new
+        ≡ copied target.old (some_counter source.now) (live_entries target.new)) }
+    ensures succeeds { last_listed (live_entries source.now) ≤ capacity_of (room_in target.old)
+        → NeverRefuses F.step → IsOk result }
+    ensures beyond { IsErrOf result ReallocationError.BeyondMaxCapacity
+        ↔ IsBeyond (room_in target.old).limit (last_listed (live_entries source.now)) }
+    ensures kept { IsErrOf result ReallocationError.BeyondMaxCapacity → target.new ≡ target.old }
+    ensures unmade { IsErrOf result ReallocationError.AllocError
+        → IsUnmadeCopy values_in live_count some_counter room_in S.takes_memory
+        P.Gen.last (last_listed (live_entries source.now))
+        (λ c. cleared P.Gen.last (reallocated c (last_listed (live_entries source.now))))
+        (IsRefusedCopy P.index P.generation F.step map (live_entries source.now))
+        target.old target.new }
+    ensures formed { IsChained P.Inx.number target.new }
+{
+    let copied = target.clone_from_with(source, map);
+    copied
+}
+
+/// Makes the first arena a clone of the second.
+pub fn clone_from<P: PtrCore, T: Clone, S: ChainSlots<P, T>>(
+    target: &mut ChainArena<P, T, S>,
+    source: &ChainArena<P, T, S>,
+) -> Result<(), ReallocationError>
+    requires { (x y : T) → T.is_clone x y → y ≡ x }
+    ensures exact { OnOk result (target.new ≡ copied target.old (some_counter source.now)
+        (live_entries source.now)) }
+    ensures succeeds { last_listed (live_entries source.now) ≤ capacity_of (room_in target.old)
+        → ((x : T) → T.is_infallible x) → IsOk result }
+    ensures beyond { IsErrOf result ReallocationError.BeyondMaxCapacity
+        ↔ IsBeyond (room_in target.old).limit (last_listed (live_entries source.now)) }
+    ensures kept { IsErrOf result ReallocationError.BeyondMaxCapacity → target.new ≡ target.old }
+    ensures unmade { IsErrOf result ReallocationError.AllocError
+        → IsUnmadeCopy values_in live_count some_counter room_in S.takes_memory P.Gen.last
+        (last_listed (live_entries source.now))
+        (λ c. cleared P.Gen.last (reallocated c (last_listed (live_entries source.now))))
+        (MayRefuse T.is_infallible (listed_values source.now)) target.old target.new }
+    ensures lists { OnOk result ((chain : Chain) → IsChainOf (ends_in P.Inx.number source.now) chain
+        → IsChainOf (ends_in P.Inx.number target.new) chain) }
+    ensures formed { IsChained P.Inx.number target.new }
+{
+    let cloned = target.clone_from(source);
+    cloned
+}
+
+/// Exchanges the links of the two, where the interlinks of the second agree.
+pub fn exchange_arena<P: PtrCore, T: Drop, S: ChainSlots<P, T>>(
+    chains: &mut ChainArena<P, T, S>,
+    arena: &mut Arena<P, LinkNoGen<P, T>, S>,
+) -> Option<()>
+    ensures variant { IsSome result ↔ IsAgreed (ends_in P.Inx.number arena.old) }
+    ensures some { OnSome result ((chains.new ≡ arena.old) × (arena.new ≡ chains.old)) }
+    ensures none { IfNone result ((chains.new ≡ chains.old) × (arena.new ≡ arena.old)) }
+{
+    let taken = chains.exchange_arena(arena);
+    taken
+}

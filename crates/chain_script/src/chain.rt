@@ -1,0 +1,265 @@
+//! The calls of a `ChainArena`.
+ghost use Rattle.std.specs.Prelude.{IfOk};
+
+use crate::kind::kind;
+use crate::{links, values};
+use script::{Call, Transcript, generation};
+use std::fmt::Debug;
+use triple_arena::{ArenaInsertEntryTrait, ArenaTrait, Ptr};
+use triple_arena_chain::{ChainArena, ChainArenaTrait, ChainSlots, LinkInsertKind};
+
+/// Makes the call that a line names.
+pub fn call<P: Ptr, S: ChainSlots<P, u64>>(
+    chains: &mut ChainArena<P, u64, S>,
+    transcript: &mut Transcript,
+    call: &Call<'_>,
+) {
+    if !(values::reads(chains, transcript, call)
+        || values::changes(chains, transcript, call)
+        || links::reads(chains, transcript, call)
+        || links::changes(chains, transcript, call)
+        || links::inserts(chains, transcript, call)
+        || reads(chains, transcript, call)
+        || changes(chains, transcript, call)
+        || enters(chains, transcript, call))
+    {
+        transcript.answer(call.line, &"no such call");
+    }
+}
+
+fn reads<P: Ptr, S: ChainSlots<P, u64>>(
+    chains: &ChainArena<P, u64, S>,
+    transcript: &mut Transcript,
+    call: &Call<'_>,
+) -> bool {
+    let line = call.line;
+    match call.verb {
+        "generation" => transcript.answer(line, &chains.generation()),
+        "slots" => transcript.answer(line, &chains.backing().len()),
+        "show" => transcript.answer(line, chains),
+        "ptrs" => ptrs(chains, transcript, line),
+        "vals" => vals(chains, transcript, line),
+        "iter" => iter(chains, transcript, line),
+        "iter_link_no_gen" => iter_link_no_gen(chains, transcript, line),
+        "iter_chain" => iter_chain(chains, transcript, call),
+        "at" => at(chains, transcript, call),
+        _ => return false,
+    }
+    true
+}
+
+fn ptrs<P: Ptr, S: ChainSlots<P, u64>>(
+    chains: &ChainArena<P, u64, S>,
+    transcript: &mut Transcript,
+    line: &str,
+) {
+    for p in chains.ptrs() {
+        transcript.answer(line, &p);
+    }
+}
+
+fn vals<P: Ptr, S: ChainSlots<P, u64>>(
+    chains: &ChainArena<P, u64, S>,
+    transcript: &mut Transcript,
+    line: &str,
+) {
+    for value in chains.vals() {
+        transcript.answer(line, value);
+    }
+}
+
+fn iter<P: Ptr, S: ChainSlots<P, u64>>(
+    chains: &ChainArena<P, u64, S>,
+    transcript: &mut Transcript,
+    line: &str,
+) {
+    for entry in chains {
+        transcript.answer(line, &entry);
+    }
+}
+
+fn iter_link_no_gen<P: Ptr, S: ChainSlots<P, u64>>(
+    chains: &ChainArena<P, u64, S>,
+    transcript: &mut Transcript,
+    line: &str,
+) {
+    for entry in chains.iter_link_no_gen() {
+        transcript.answer(line, &entry);
+    }
+}
+
+fn iter_chain<P: Ptr, S: ChainSlots<P, u64>>(
+    chains: &ChainArena<P, u64, S>,
+    transcript: &mut Transcript,
+    call: &Call<'_>,
+) {
+    match chains.iter_chain(call.pointer()) {
+        Some(links) => {
+            for entry in links {
+                transcript.answer(call.line, &entry);
+            }
+        }
+        None => transcript.answer(call.line, &"no chain"),
+    }
+}
+
+// Reads by `chains[p]`.
+fn at<P: Ptr, S: ChainSlots<P, u64>>(
+    chains: &ChainArena<P, u64, S>,
+    transcript: &mut Transcript,
+    call: &Call<'_>,
+) {
+    let p = call.pointer();
+    if chains.contains(p) {
+        transcript.answer(call.line, &chains[p]);
+    } else {
+        transcript.answer(call.line, &"not live");
+    }
+}
+
+fn changes<P: Ptr, S: ChainSlots<P, u64>>(
+    chains: &mut ChainArena<P, u64, S>,
+    transcript: &mut Transcript,
+    call: &Call<'_>,
+) -> bool {
+    let line = call.line;
+    match call.verb {
+        "set_generation" => {
+            chains.set_generation(generation(call.first));
+            transcript.line(line);
+        }
+        "inc_generation" => transcript.answer(line, &chains.inc_generation()),
+        "next_ptr" => transcript.answer(line, &chains.next_ptr()),
+        "make_room" => transcript.answer(line, &chains.make_room()),
+        "insert_in_gap_within_capacity" => transcript.answer(
+            line,
+            &chains.insert_in_gap_within_capacity(None, None, call.first),
+        ),
+        "insert_in_gap_reallocating" => transcript.answer(
+            line,
+            &chains.insert_in_gap_reallocating(None, None, call.first),
+        ),
+        "put" => put(chains, transcript, call),
+        "drain" => drain(chains, transcript, call),
+        "drain_chain" => drain_chain(chains, transcript, call),
+        _ => return false,
+    }
+    true
+}
+
+// Writes by `chains[p]`.
+fn put<P: Ptr, S: ChainSlots<P, u64>>(
+    chains: &mut ChainArena<P, u64, S>,
+    transcript: &mut Transcript,
+    call: &Call<'_>,
+) {
+    let p = call.pointer();
+    if chains.contains(p) {
+        chains[p] = call.third;
+        transcript.line(call.line);
+    } else {
+        transcript.answer(call.line, &"not live");
+    }
+}
+
+// Takes so many items of a drain, and tells how many are left when it is let go.
+fn drain<P: Ptr, S: ChainSlots<P, u64>>(
+    chains: &mut ChainArena<P, u64, S>,
+    transcript: &mut Transcript,
+    call: &Call<'_>,
+) {
+    let mut drain = chains.drain();
+    for _ in 0..call.first {
+        transcript.answer(call.line, &drain.next());
+    }
+    transcript.answer(call.line, &drain.len());
+}
+
+// Takes so many items of the drain of a chain, and lets it go.
+fn drain_chain<P: Ptr, S: ChainSlots<P, u64>>(
+    chains: &mut ChainArena<P, u64, S>,
+    transcript: &mut Transcript,
+    call: &Call<'_>,
+) {
+    match chains.drain_chain(call.pointer()) {
+        Some(drain) => {
+            let mut drain = drain;
+            for _ in 0..call.third {
+                transcript.answer(call.line, &drain.next());
+            }
+        }
+        None => transcript.answer(call.line, &"no chain"),
+    }
+}
+
+// Makes a place for a link, and says whether there is such a call.
+fn enters<P: Ptr, S: ChainSlots<P, u64>>(
+    chains: &mut ChainArena<P, u64, S>,
+    transcript: &mut Transcript,
+    call: &Call<'_>,
+) -> bool {
+    let (form, name) = call.verb.split_once(':').unwrap_or((call.verb, ""));
+    match kind(name, call) {
+        Some(kind) => enter_by(chains, transcript, call, form, kind),
+        None => false,
+    }
+}
+
+fn enter_by<P: Ptr, S: ChainSlots<P, u64>>(
+    chains: &mut ChainArena<P, u64, S>,
+    transcript: &mut Transcript,
+    call: &Call<'_>,
+    form: &str,
+    kind: LinkInsertKind<P>,
+) -> bool {
+    match form {
+        "entry_insert" => enter_where_met(chains, transcript, call, kind),
+        "entry_insert_reallocating" => enter_growing(chains, transcript, call, kind),
+        "entry_insert_within_capacity" => {
+            enter(chains.entry_insert_within_capacity(kind), transcript, call)
+        }
+        _ => return false,
+    }
+    true
+}
+
+fn enter_growing<P: Ptr, S: ChainSlots<P, u64>>(
+    chains: &mut ChainArena<P, u64, S>,
+    transcript: &mut Transcript,
+    call: &Call<'_>,
+    kind: LinkInsertKind<P>,
+) {
+    enter(chains.entry_insert_reallocating(kind), transcript, call);
+}
+
+fn enter_where_met<P: Ptr, S: ChainSlots<P, u64>>(
+    chains: &mut ChainArena<P, u64, S>,
+    transcript: &mut Transcript,
+    call: &Call<'_>,
+    kind: LinkInsertKind<P>,
+) {
+    if chains.meets(&kind) {
+        enter(chains.entry_insert(kind), transcript, call);
+    } else {
+        transcript.answer(call.line, &"not met");
+    }
+}
+
+// Tells an entry's pointer, and stores the first number by it, unless that is 0.
+fn enter<P: Ptr, E: ArenaInsertEntryTrait<P, u64> + Drop, Refusal: Debug + Drop>(
+    entry: Result<E, Refusal>,
+    transcript: &mut Transcript,
+    call: &Call<'_>,
+)
+    requires { IfOk entry (λ e. E.has_room e) }
+{
+    match entry {
+        Ok(entry) => {
+            transcript.answer(call.line, &entry.ptr());
+            if call.first != 0 {
+                transcript.answer(call.line, &entry.insert(call.first));
+            }
+        }
+        Err(refusal) => transcript.answer(call.line, &refusal),
+    }
+}

@@ -1,0 +1,171 @@
+//! Calls among several arenas over stacks of one kind: the chain arenas `a` and `b`, the arena `l` of links, which can
+//! become a chain arena, and the arena `v` of values.
+use script::{Call, Transcript, index};
+use std::alloc::AllocError;
+use std::mem;
+use std::num::NonZeroUsize;
+use triple_arena::{Arena, ArenaCloneFromWith, ArenaInsertTrait, ArenaTrait, Ptr, PtrInxCore};
+use triple_arena_chain::{ChainArena, ChainSlots, IndexLink, LinkNoGen};
+
+/// Makes the chain arena `a` a copy of `b`.
+pub fn copies<P: Ptr, H: Copy, S: ChainSlots<P, u64, Alloc = H>>(
+    a: &mut ChainArena<P, u64, S>,
+    b: &ChainArena<P, u64, S>,
+    alloc: H,
+    transcript: &mut Transcript,
+    call: &Call<'_>,
+) {
+    match call.verb {
+        "clone_from_with" => clone_from_with(a, b, transcript, call),
+        "clone_from" => clone_from(a, b, transcript, call),
+        "clone" => clone(a, b, alloc, transcript, call),
+        _ => transcript.answer(call.line, &"no such call"),
+    }
+}
+
+// By a map that tells what it gets, adds 1, and refuses at the call of the first number.
+fn clone_from_with<P: Ptr, S: ChainSlots<P, u64>>(
+    target: &mut ChainArena<P, u64, S>,
+    source: &ChainArena<P, u64, S>,
+    transcript: &mut Transcript,
+    call: &Call<'_>,
+) {
+    let line = call.line;
+    let mut left = call.first;
+    let answer = target.clone_from_with(source, |p, link| {
+        transcript.answer(line, &(p, link));
+        left = left.wrapping_sub(1);
+        if left == 0 {
+            Err(AllocError)
+        } else {
+            Ok(link.t.wrapping_add(1))
+        }
+    });
+    transcript.answer(line, &answer);
+}
+
+fn clone_from<P: Ptr, S: ChainSlots<P, u64>>(
+    target: &mut ChainArena<P, u64, S>,
+    source: &ChainArena<P, u64, S>,
+    transcript: &mut Transcript,
+    call: &Call<'_>,
+) {
+    transcript.answer(call.line, &target.clone_from(source));
+}
+
+// The target becomes the clone, if that is made.
+fn clone<P: Ptr, H: Copy, S: ChainSlots<P, u64, Alloc = H>>(
+    target: &mut ChainArena<P, u64, S>,
+    source: &ChainArena<P, u64, S>,
+    alloc: H,
+    transcript: &mut Transcript,
+    call: &Call<'_>,
+) {
+    match source.clone(alloc) {
+        Ok(made) => {
+            *target = made;
+            transcript.line(call.line);
+        }
+        Err(refused) => transcript.answer(call.line, &refused),
+    }
+}
+
+/// Makes the arena of values a copy of the chain arena, by the same map.
+pub fn clone_to_arena<P: Ptr, S: ChainSlots<P, u64>, A: ArenaCloneFromWith<P, u64>>(
+    target: &mut A,
+    source: &ChainArena<P, u64, S>,
+    transcript: &mut Transcript,
+    call: &Call<'_>,
+) {
+    let line = call.line;
+    let mut left = call.first;
+    let answer = source.clone_to_arena(target, |p, link| {
+        transcript.answer(line, &(p, link));
+        left = left.wrapping_sub(1);
+        if left == 0 {
+            Err(AllocError)
+        } else {
+            Ok(link.t.wrapping_add(1))
+        }
+    });
+    transcript.answer(line, &answer);
+}
+
+/// Makes the links of the arena the chain arena's.
+pub fn becomes<P: Ptr, H: Copy, S: ChainSlots<P, u64, Alloc = H>>(
+    chains: &mut ChainArena<P, u64, S>,
+    links: &mut Arena<P, LinkNoGen<P, u64>, S>,
+    alloc: H,
+    transcript: &mut Transcript,
+    call: &Call<'_>,
+) {
+    match call.verb {
+        "exchange_arena" => transcript.answer(call.line, &chains.exchange_arena(links)),
+        "from_arena" => from_arena(chains, links, alloc, transcript, call),
+        _ => transcript.answer(call.line, &"no such call"),
+    }
+}
+
+// The arena is new where its links are taken, and is handed back where they are not.
+fn from_arena<P: Ptr, H: Copy, S: ChainSlots<P, u64, Alloc = H>>(
+    chains: &mut ChainArena<P, u64, S>,
+    links: &mut Arena<P, LinkNoGen<P, u64>, S>,
+    alloc: H,
+    transcript: &mut Transcript,
+    call: &Call<'_>,
+) {
+    let taken = mem::replace(links, Arena::new(alloc));
+    match ChainArena::from_arena(taken) {
+        Ok(made) => {
+            *chains = made;
+            transcript.line(call.line);
+        }
+        Err(back) => {
+            *links = back;
+            transcript.answer(call.line, &"handed back");
+        }
+    }
+}
+
+/// Makes a call at the arena of links.
+pub fn link<P: Ptr, S: ChainSlots<P, u64>>(
+    links: &mut Arena<P, LinkNoGen<P, u64>, S>,
+    transcript: &mut Transcript,
+    call: &Call<'_>,
+) {
+    let line = call.line;
+    match call.verb {
+        "interlinks_agree" => {
+            transcript.answer(line, &ChainArena::<P, u64, S>::interlinks_agree(links))
+        }
+        "show" => transcript.answer(line, links),
+        _ => link_by_link(links, transcript, call),
+    }
+}
+
+// Inserts a link with the value of the first number between the indexes of the next two, or removes one.
+fn link_by_link<P: Ptr, A: ArenaInsertTrait<P, LinkNoGen<P, u64>>>(
+    links: &mut A,
+    transcript: &mut Transcript,
+    call: &Call<'_>,
+) {
+    let line = call.line;
+    match call.verb {
+        "insert" => {
+            let prev_next = (neighbor(call.second), neighbor(call.third));
+            let link = IndexLink::new(prev_next, call.first);
+            transcript.answer(line, &links.insert(link))
+        }
+        "remove" => transcript.answer(line, &links.remove(call.pointer())),
+        "clear" => transcript.answer(line, &links.clear()),
+        _ => transcript.answer(line, &"no such call"),
+    }
+}
+
+// No index for 0.
+fn neighbor<I: PtrInxCore>(number: u64) -> Option<I> {
+    match NonZeroUsize::new(number as usize) {
+        Some(_) => Some(index(number)),
+        None => None,
+    }
+}
