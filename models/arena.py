@@ -16,7 +16,7 @@ from arena_rules import (
 
 NAMES_OF_AN_ARRAY = 4
 # The pointer types that the program has arrays for.
-IN_ARRAYS = {'array': ('P0', 'P1', 'P5', 'N3'), 'renaming_array': ('P0', 'P1', 'P5')}
+IN_ARRAYS = {'array': ('P0', 'P1', 'P5', 'N3'), 'renaming_array': ('P0',)}
 
 
 def reads(arena, verb, x, y):

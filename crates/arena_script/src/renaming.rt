@@ -11,7 +11,7 @@ use std::fmt::Debug;
 use triple_arena::{
     Arena, ArenaDirectInsertEntryTrait, ArenaDirectInsertTrait, ArenaInsertTrait, ArenaSlot,
     ArenaSlots, ArenaTrait, DirectArena, DirectSlot, DirectSlots, NonZeroInxArray, NonZeroInxVec,
-    P0, P1, P5, Ptr, PtrCore, ReallocationError, Recast, Recaster, compress_recaster,
+    P0, Ptr, PtrCore, ReallocationError, Recast, Recaster, compress_recaster,
 };
 
 // A number, and the pointer beside it.
@@ -42,40 +42,24 @@ pub fn over_heap<P: Ptr + Recast<P>>(
     >(heap, transcript, header, calls)
 }
 
-/// Over arrays, whose size is known only where the pointer type is.
+/// Over arrays: five slots for numbers, and four for names.
 pub fn over_array(
     kind: &str,
     transcript: &mut Transcript,
     header: &Call<'_>,
     calls: &str,
 ) -> Result<(), ReallocationError> {
-    match kind {
-        "P0" => over::<
-            P0,
-            (),
-            NonZeroInxArray<Holding<P0>, 5>,
-            NonZeroInxArray<DirectHolding<P0>, 5>,
-            NonZeroInxArray<Name<P0>, 4>,
-            NonZeroInxArray<OwnName<P0>, 4>,
-        >((), transcript, header, calls),
-        "P1" => over::<
-            P1,
-            (),
-            NonZeroInxArray<Holding<P1>, 5>,
-            NonZeroInxArray<DirectHolding<P1>, 5>,
-            NonZeroInxArray<Name<P1>, 4>,
-            NonZeroInxArray<OwnName<P1>, 4>,
-        >((), transcript, header, calls),
-        "P5" => over::<
-            P5,
-            (),
-            NonZeroInxArray<Holding<P5>, 5>,
-            NonZeroInxArray<DirectHolding<P5>, 5>,
-            NonZeroInxArray<Name<P5>, 4>,
-            NonZeroInxArray<OwnName<P5>, 4>,
-        >((), transcript, header, calls),
-        _ => Err(ReallocationError::BeyondMaxCapacity),
+    if kind != "P0" {
+        return Err(ReallocationError::BeyondMaxCapacity);
     }
+    over::<
+        P0,
+        (),
+        NonZeroInxArray<Holding<P0>, 5>,
+        NonZeroInxArray<DirectHolding<P0>, 5>,
+        NonZeroInxArray<Name<P0>, 4>,
+        NonZeroInxArray<OwnName<P0>, 4>,
+    >((), transcript, header, calls)
 }
 
 fn over<
