@@ -3,7 +3,7 @@ PLAIN = ['show', 'len', 'is_empty', 'capacity', 'max_capacity', 'slots', 'genera
          'ptrs', 'vals', 'iter', 'iter_link_no_gen', 'walk', 'find_first_inx_ptr', 'find_last_inx_ptr', 'inc_generation', 'make_room']
 AT_POINTER = ['get', 'contains', 'at', 'get_link', 'get_link_no_gen', 'break_next', 'break_prev'] + ['iter_chain', 'walk_chain'] * 4
 REMOVE = ['remove', 'remove_link_no_gen', 'invalidate']
-AT_INDEX = ['get_inx', 'get_inx_link_no_gen', 'walk_from', 'walk_back_from', 'remove_inx', 'remove_inx_link_no_gen']
+AT_INDEX = ['get_inx', 'get_inx_unwrap', 'get_inx_link_no_gen', 'walk_from', 'walk_back_from', 'remove_inx', 'remove_inx_link_no_gen']
 AT_TWO = ['are_neighbors', 'connect', 'connect', 'exchange_next', 'exchange_next', 'exchange_next']
 FORMS = ['insert', 'insert_reallocating', 'insert_within_capacity', 'entry_insert', 'entry_insert_reallocating',
          'entry_insert_within_capacity', 'meets']

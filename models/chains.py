@@ -311,6 +311,7 @@ class Chains(Arena):
         value = {
             'get': lambda: some(e[x][1] if self.live(x, y) else None),
             'get_inx': lambda: some(f'({self.generation(e[x][0])}, {e[x][1]})' if x in e else None),
+            'get_inx_unwrap': lambda: some(e[x][1] if x in e else None),
             'contains': lambda: str(self.live(x, y)).lower(),
             'at': lambda: str(e[x][1]) if self.live(x, y) else '"not live"',
             'find_first_inx_ptr': lambda: some(self.at(k[0]) if k else None),

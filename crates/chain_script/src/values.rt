@@ -17,6 +17,7 @@ pub fn reads<P: Ptr, A: ArenaTrait<P, u64>>(
         "singular_generation" => transcript.answer(line, &arena.singular_generation()),
         "get" => transcript.answer(line, &arena.get(call.pointer())),
         "get_inx" => transcript.answer(line, &arena.get_inx(call.index())),
+        "get_inx_unwrap" => transcript.answer(line, &get_inx_unwrap(arena, call.index())),
         "contains" => transcript.answer(line, &arena.contains(call.pointer())),
         "find_first_inx_ptr" => transcript.answer(line, &arena.find_first_inx_ptr()),
         "find_last_inx_ptr" => transcript.answer(line, &arena.find_last_inx_ptr()),
@@ -36,6 +37,15 @@ pub fn reads<P: Ptr, A: ArenaTrait<P, u64>>(
         _ => return false,
     }
     true
+}
+
+// The value at an index, by the call on the caller's condition that there is one.
+fn get_inx_unwrap<P: Ptr, A: ArenaTrait<P, u64>>(arena: &A, i: P::Inx) -> Option<u64> {
+    if arena.get_inx(i).is_some() {
+        Some(*arena.get_inx_unwrap(i))
+    } else {
+        None
+    }
 }
 
 // The pointers that an advancer comes to, up to its end.
