@@ -1,26 +1,25 @@
 //! The calls that change an arena beside its insertions.
-use crate::items::{Item, Key, Pairs};
+use crate::items::{Counting, Item, Pairs};
 use crate::walks::{walk_and_remove, walk_over_a_change};
 use script::{Call, Transcript, generation};
-use std::cell::Cell;
 use triple_arena::Ptr;
 use triple_arena_ord::{OrdPair, OrdSlots};
 
 /// Makes such a call, and says whether there is one of that name.
-pub fn changes<'a, P: Ptr, S: OrdSlots<P, Item<'a>>>(
-    arena: &mut Pairs<'a, P, S>,
+pub fn changes<P: Ptr, K: Counting, S: OrdSlots<P, Item<K>>>(
+    arena: &mut Pairs<P, K, S>,
     transcript: &mut Transcript,
     call: &Call<'_>,
-    count: &'a Cell<u64>,
+    zero: K,
 ) -> bool {
     removes(arena, transcript, call)
-        || drains(arena, transcript, call, count)
+        || drains(arena, transcript, call, zero)
         || counts(arena, transcript, call)
-        || writes(arena, transcript, call, count)
+        || writes(arena, transcript, call, zero)
 }
 
-fn removes<'a, P: Ptr, S: OrdSlots<P, Item<'a>>>(
-    arena: &mut Pairs<'a, P, S>,
+fn removes<P: Ptr, K: Counting, S: OrdSlots<P, Item<K>>>(
+    arena: &mut Pairs<P, K, S>,
     transcript: &mut Transcript,
     call: &Call<'_>,
 ) -> bool {
@@ -35,26 +34,26 @@ fn removes<'a, P: Ptr, S: OrdSlots<P, Item<'a>>>(
     true
 }
 
-fn drains<'a, P: Ptr, S: OrdSlots<P, Item<'a>>>(
-    arena: &mut Pairs<'a, P, S>,
+fn drains<P: Ptr, K: Counting, S: OrdSlots<P, Item<K>>>(
+    arena: &mut Pairs<P, K, S>,
     transcript: &mut Transcript,
     call: &Call<'_>,
-    count: &'a Cell<u64>,
+    zero: K,
 ) -> bool {
     match call.verb {
         "drain" => drain(arena, transcript, call),
         "drain_ordered" => drain_ordered(arena, transcript, call),
         "walk_and_remove" => walk_and_remove(arena, transcript, call),
         "walk_over_a_change" => {
-            walk_over_a_change(arena, transcript, call, item(call.fifth, 0, count))
+            walk_over_a_change(arena, transcript, call, item(call.fifth, 0, zero))
         }
         _ => return false,
     }
     true
 }
 
-fn counts<'a, P: Ptr, S: OrdSlots<P, Item<'a>>>(
-    arena: &mut Pairs<'a, P, S>,
+fn counts<P: Ptr, K: Counting, S: OrdSlots<P, Item<K>>>(
+    arena: &mut Pairs<P, K, S>,
     transcript: &mut Transcript,
     call: &Call<'_>,
 ) -> bool {
@@ -73,28 +72,28 @@ fn counts<'a, P: Ptr, S: OrdSlots<P, Item<'a>>>(
     true
 }
 
-fn writes<'a, P: Ptr, S: OrdSlots<P, Item<'a>>>(
-    arena: &mut Pairs<'a, P, S>,
+fn writes<P: Ptr, K: Counting, S: OrdSlots<P, Item<K>>>(
+    arena: &mut Pairs<P, K, S>,
     transcript: &mut Transcript,
     call: &Call<'_>,
-    count: &'a Cell<u64>,
+    zero: K,
 ) -> bool {
     let line = call.line;
     match call.verb {
         "set" => {
-            let new = item(call.third, call.fourth, count);
+            let new = item(call.third, call.fourth, zero);
             transcript.answer(line, &set(arena, call.pointer(), new));
         }
         "set_inx" => {
-            let new = item(call.second, call.third, count);
+            let new = item(call.second, call.third, zero);
             transcript.answer(line, &set_inx(arena, call.index(), new));
         }
         "index_set" => {
-            let new = item(call.third, call.fourth, count);
+            let new = item(call.third, call.fourth, zero);
             transcript.answer(line, &index_set(arena, call.pointer(), new));
         }
         "set_inx_unwrap" => {
-            let new = item(call.second, call.third, count);
+            let new = item(call.second, call.third, zero);
             transcript.answer(line, &set_inx_unwrap(arena, call.index(), new));
         }
         "set_value" => transcript.answer(line, &set_value(arena, call.pointer(), call.third)),
@@ -104,16 +103,16 @@ fn writes<'a, P: Ptr, S: OrdSlots<P, Item<'a>>>(
 }
 
 /// The item of a key and a value.
-pub fn item<'a>(n: u64, v: u64, calls: &'a Cell<u64>) -> Item<'a> {
-    OrdPair::new(Key { n, calls }, v)
+pub fn item<K: Counting>(n: u64, v: u64, zero: K) -> Item<K> {
+    OrdPair::new(zero.with(n), v)
 }
 
 // Writes through `get_mut`, and answers what stood there.
-fn set<'a, P: Ptr, S: OrdSlots<P, Item<'a>>>(
-    arena: &mut Pairs<'a, P, S>,
+fn set<P: Ptr, K: Counting, S: OrdSlots<P, Item<K>>>(
+    arena: &mut Pairs<P, K, S>,
     p: P,
-    item: Item<'a>,
-) -> Option<Item<'a>> {
+    item: Item<K>,
+) -> Option<Item<K>> {
     match arena.get_mut(p) {
         Some(own) => {
             let was = *own;
@@ -125,11 +124,11 @@ fn set<'a, P: Ptr, S: OrdSlots<P, Item<'a>>>(
 }
 
 // Writes through `get_inx_mut`, and answers what stood there.
-fn set_inx<'a, P: Ptr, S: OrdSlots<P, Item<'a>>>(
-    arena: &mut Pairs<'a, P, S>,
+fn set_inx<P: Ptr, K: Counting, S: OrdSlots<P, Item<K>>>(
+    arena: &mut Pairs<P, K, S>,
     i: P::Inx,
-    item: Item<'a>,
-) -> Option<Item<'a>> {
+    item: Item<K>,
+) -> Option<Item<K>> {
     match arena.get_inx_mut(i) {
         Some(own) => {
             let was = *own;
@@ -141,10 +140,10 @@ fn set_inx<'a, P: Ptr, S: OrdSlots<P, Item<'a>>>(
 }
 
 // Writes by `arena[p]`, where the pointer is valid, and says whether it is.
-fn index_set<'a, P: Ptr, S: OrdSlots<P, Item<'a>>>(
-    arena: &mut Pairs<'a, P, S>,
+fn index_set<P: Ptr, K: Counting, S: OrdSlots<P, Item<K>>>(
+    arena: &mut Pairs<P, K, S>,
     p: P,
-    item: Item<'a>,
+    item: Item<K>,
 ) -> bool {
     if !arena.contains(p) {
         return false;
@@ -154,10 +153,10 @@ fn index_set<'a, P: Ptr, S: OrdSlots<P, Item<'a>>>(
 }
 
 // Writes at an index that is live, and says whether it is.
-fn set_inx_unwrap<'a, P: Ptr, S: OrdSlots<P, Item<'a>>>(
-    arena: &mut Pairs<'a, P, S>,
+fn set_inx_unwrap<P: Ptr, K: Counting, S: OrdSlots<P, Item<K>>>(
+    arena: &mut Pairs<P, K, S>,
     i: P::Inx,
-    item: Item<'a>,
+    item: Item<K>,
 ) -> bool {
     if arena.get_inx(i).is_none() {
         return false;
@@ -167,8 +166,8 @@ fn set_inx_unwrap<'a, P: Ptr, S: OrdSlots<P, Item<'a>>>(
 }
 
 // Writes the value of a pair alone, and answers the one that it had.
-fn set_value<'a, P: Ptr, S: OrdSlots<P, Item<'a>>>(
-    arena: &mut Pairs<'a, P, S>,
+fn set_value<P: Ptr, K: Counting, S: OrdSlots<P, Item<K>>>(
+    arena: &mut Pairs<P, K, S>,
     p: P,
     v: u64,
 ) -> Option<u64> {
@@ -183,8 +182,8 @@ fn set_value<'a, P: Ptr, S: OrdSlots<P, Item<'a>>>(
 }
 
 // Takes so many items of a drain by index, and tells how many are left when it is let go.
-fn drain<'a, P: Ptr, S: OrdSlots<P, Item<'a>>>(
-    arena: &mut Pairs<'a, P, S>,
+fn drain<P: Ptr, K: Counting, S: OrdSlots<P, Item<K>>>(
+    arena: &mut Pairs<P, K, S>,
     transcript: &mut Transcript,
     call: &Call<'_>,
 ) {
@@ -196,8 +195,8 @@ fn drain<'a, P: Ptr, S: OrdSlots<P, Item<'a>>>(
 }
 
 // Takes so many items of a drain along the list, and tells how many are left when it is let go.
-fn drain_ordered<'a, P: Ptr, S: OrdSlots<P, Item<'a>>>(
-    arena: &mut Pairs<'a, P, S>,
+fn drain_ordered<P: Ptr, K: Counting, S: OrdSlots<P, Item<K>>>(
+    arena: &mut Pairs<P, K, S>,
     transcript: &mut Transcript,
     call: &Call<'_>,
 ) {

@@ -1,35 +1,33 @@
 //! Insertions by an entry, of each kind, in each form.
 use crate::changes::item;
-use crate::items::{Item, Key, Pairs};
+use crate::items::{Counting, Item, Pairs};
 use crate::knots::Knots;
 use crate::searches::limit_from;
 use crate::work::{Limit, Since};
 use script::{Call, Transcript, index};
-use std::cell::Cell;
 use std::cmp::Ordering;
 use triple_arena::Ptr;
-use triple_arena_ord::{
-    InsertKind, OrdEntryKind, OrdInsertKind, OrdInsertionError, OrdSlots,
-};
+use triple_arena_ord::{InsertKind, OrdEntryKind, OrdInsertKind, OrdInsertionError, OrdSlots};
 
 /// What an entry told, and the item that it replaced.
-pub type Entered<'a, P> = Result<(OrdEntryKind<P>, Option<Item<'a>>), OrdInsertionError>;
+pub type Entered<P, K> = Result<(OrdEntryKind<P>, Option<Item<K>>), OrdInsertionError>;
 
 /// Makes such a call, and says whether there is one of that name.
-pub fn enters<'a, P: Ptr, S: OrdSlots<P, Item<'a>>>(
-    arena: &mut Pairs<'a, P, S>,
+pub fn enters<P: Ptr, K: Counting, S: OrdSlots<P, Item<K>>>(
+    arena: &mut Pairs<P, K, S>,
     transcript: &mut Transcript,
     call: &Call<'_>,
-    count: &'a Cell<u64>,
+    zero: K,
 ) -> bool {
     let (form, name) = call.verb.split_once(':').unwrap_or(("", ""));
-    let new = item(call.first, call.second, count);
+    let k = zero.with(call.first);
+    let new = item(call.first, call.second, zero);
     let start = index(call.third);
-    let Some(kind) = kind::<P>(name, new.k(), start, call.fourth) else {
+    let Some(kind) = kind::<P, K>(name, &k, start, call.fourth) else {
         return false;
     };
     let limit = limit_of(arena, name, start, call.fourth);
-    let since = Since::now(count);
+    let since = Since::now(zero);
     let told = if call.fifth == 1 {
         let_go(arena, form, kind)
     } else {
@@ -41,12 +39,12 @@ pub fn enters<'a, P: Ptr, S: OrdSlots<P, Item<'a>>>(
 }
 
 /// The kind of this name, if there is one: by a key, from an index with a number of comparisons, or at an index.
-pub fn kind<'k, 'a, P: Ptr>(
+pub fn kind<'k, P: Ptr, K: Counting>(
     name: &str,
-    k: &'k Key<'a>,
+    k: &'k K,
     i: P::Inx,
     num: u64,
-) -> Option<OrdInsertKind<P, &'k Key<'a>>> {
+) -> Option<OrdInsertKind<P, &'k K>> {
     let num = num as usize;
     match name {
         "empty" => Some(InsertKind::Empty),
@@ -80,12 +78,12 @@ pub fn limit_of<P: Ptr, A: Knots<P>>(arena: &A, name: &str, start: P::Inx, num: 
 }
 
 /// Puts an item in by an entry of this form.
-pub fn enter<'a, P: Ptr, S: OrdSlots<P, Item<'a>>>(
-    arena: &mut Pairs<'a, P, S>,
+pub fn enter<P: Ptr, K: Counting, S: OrdSlots<P, Item<K>>>(
+    arena: &mut Pairs<P, K, S>,
     form: &str,
-    kind: OrdInsertKind<P, &Key<'a>>,
-    item: Item<'a>,
-) -> Entered<'a, P> {
+    kind: OrdInsertKind<P, &K>,
+    item: Item<K>,
+) -> Entered<P, K> {
     match form {
         "entry_insert" => enter_growing(arena, kind, item),
         "entry_insert_reallocating" => enter_reallocating(arena, kind, item),
@@ -93,42 +91,42 @@ pub fn enter<'a, P: Ptr, S: OrdSlots<P, Item<'a>>>(
     }
 }
 
-fn enter_growing<'a, P: Ptr, S: OrdSlots<P, Item<'a>>>(
-    arena: &mut Pairs<'a, P, S>,
-    kind: OrdInsertKind<P, &Key<'a>>,
-    item: Item<'a>,
-) -> Entered<'a, P> {
+fn enter_growing<P: Ptr, K: Counting, S: OrdSlots<P, Item<K>>>(
+    arena: &mut Pairs<P, K, S>,
+    kind: OrdInsertKind<P, &K>,
+    item: Item<K>,
+) -> Entered<P, K> {
     let entry = arena.entry_insert(kind)?;
     let told = entry.ptr();
     Ok((told, entry.insert(item)))
 }
 
-fn enter_reallocating<'a, P: Ptr, S: OrdSlots<P, Item<'a>>>(
-    arena: &mut Pairs<'a, P, S>,
-    kind: OrdInsertKind<P, &Key<'a>>,
-    item: Item<'a>,
-) -> Entered<'a, P> {
+fn enter_reallocating<P: Ptr, K: Counting, S: OrdSlots<P, Item<K>>>(
+    arena: &mut Pairs<P, K, S>,
+    kind: OrdInsertKind<P, &K>,
+    item: Item<K>,
+) -> Entered<P, K> {
     let entry = arena.entry_insert_reallocating(kind)?;
     let told = entry.ptr();
     Ok((told, entry.insert(item)))
 }
 
-fn enter_within_capacity<'a, P: Ptr, S: OrdSlots<P, Item<'a>>>(
-    arena: &mut Pairs<'a, P, S>,
-    kind: OrdInsertKind<P, &Key<'a>>,
-    item: Item<'a>,
-) -> Entered<'a, P> {
+fn enter_within_capacity<P: Ptr, K: Counting, S: OrdSlots<P, Item<K>>>(
+    arena: &mut Pairs<P, K, S>,
+    kind: OrdInsertKind<P, &K>,
+    item: Item<K>,
+) -> Entered<P, K> {
     let entry = arena.entry_insert_within_capacity(kind)?;
     let told = entry.ptr();
     Ok((told, entry.insert(item)))
 }
 
 // What an entry of this form tells, which is let go then.
-fn let_go<'a, P: Ptr, S: OrdSlots<P, Item<'a>>>(
-    arena: &mut Pairs<'a, P, S>,
+fn let_go<P: Ptr, K: Counting, S: OrdSlots<P, Item<K>>>(
+    arena: &mut Pairs<P, K, S>,
     form: &str,
-    kind: OrdInsertKind<P, &Key<'a>>,
-) -> Entered<'a, P> {
+    kind: OrdInsertKind<P, &K>,
+) -> Entered<P, K> {
     match form {
         "entry_insert" => Ok((arena.entry_insert(kind)?.ptr(), None)),
         "entry_insert_reallocating" => Ok((arena.entry_insert_reallocating(kind)?.ptr(), None)),

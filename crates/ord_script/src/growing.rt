@@ -1,12 +1,11 @@
 //! Many calls in a row, of whose comparisons one answer tells the most.
 use crate::changes::item;
 use crate::entries::{enter, kind, limit_of};
-use crate::items::{Item, Key, Pairs};
+use crate::items::{Counting, Item, Pairs};
 use crate::knots::Knots;
 use crate::searches::{Place, place_of, search};
 use crate::work::{Limit, Since, Work};
 use script::{Call, Transcript, index, pointer};
-use std::cell::Cell;
 use triple_arena::{Ptr, PtrCore};
 use triple_arena_ord::OrdSlots;
 
@@ -15,24 +14,24 @@ use triple_arena_ord::OrdSlots;
 const PRIME: u64 = 1009;
 
 /// Makes such calls, and says whether there are some of that name.
-pub fn grows<'a, P: Ptr, S: OrdSlots<P, Item<'a>>>(
-    arena: &mut Pairs<'a, P, S>,
+pub fn grows<P: Ptr, K: Counting, S: OrdSlots<P, Item<K>>>(
+    arena: &mut Pairs<P, K, S>,
     transcript: &mut Transcript,
     call: &Call<'_>,
-    count: &'a Cell<u64>,
+    zero: K,
 ) -> bool {
     let (what, name) = call.verb.split_once(':').unwrap_or((call.verb, ""));
     match what {
         "grow" => {
-            let work = grow(arena, name, call, count);
+            let work = grow(arena, name, call, zero);
             transcript.answer(call.line, &(arena.len(), work));
         }
         "remove_odd" => {
-            remove_odd(arena, call, count);
+            remove_odd(arena, call, zero);
             transcript.answer(call.line, &arena.len());
         }
         "each" => {
-            let tally = each(arena, name, call, count);
+            let tally = each(arena, name, call, zero);
             transcript.answer(call.line, &tally);
         }
         _ => return false,
@@ -42,18 +41,24 @@ pub fn grows<'a, P: Ptr, S: OrdSlots<P, Item<'a>>>(
 
 // Puts the keys up to the second number in, in the order of their products with the first one: by `insert`, or by an entry of
 // a kind, whose search begins at an index, or at the entry that was put in before it where that is 0.
-fn grow<'a, P: Ptr, S: OrdSlots<P, Item<'a>>>(
-    arena: &mut Pairs<'a, P, S>,
+fn grow<P: Ptr, K: Counting, S: OrdSlots<P, Item<K>>>(
+    arena: &mut Pairs<P, K, S>,
     name: &str,
     call: &Call<'_>,
-    count: &'a Cell<u64>,
+    zero: K,
 ) -> Work {
     let mut worst = Work::Nothing;
     let mut start = index(call.fourth);
     for i in 1..PRIME {
         let n = i.wrapping_mul(call.first) % PRIME;
         if n <= call.second {
-            let (p, work) = put(arena, name, item(n, n.wrapping_mul(2), count), start, call.third);
+            let (p, work) = put(
+                arena,
+                name,
+                item(n, n.wrapping_mul(2), zero),
+                start,
+                call.third,
+            );
             worst = worse(worst, work);
             if call.fourth == 0 {
                 start = p;
@@ -64,16 +69,17 @@ fn grow<'a, P: Ptr, S: OrdSlots<P, Item<'a>>>(
 }
 
 // Puts one item in, and answers its index.
-fn put<'a, P: Ptr, S: OrdSlots<P, Item<'a>>>(
-    arena: &mut Pairs<'a, P, S>,
+fn put<P: Ptr, K: Counting, S: OrdSlots<P, Item<K>>>(
+    arena: &mut Pairs<P, K, S>,
     name: &str,
-    item: Item<'a>,
+    item: Item<K>,
     start: P::Inx,
     num: u64,
 ) -> (P::Inx, Work) {
     let limit = limit_of(arena, name, start, num);
-    let since = Since::now(item.k().calls);
-    let i = match kind::<P>(name, item.k(), start, num) {
+    let k = *item.k();
+    let since = Since::now(k);
+    let i = match kind::<P, K>(name, &k, start, num) {
         Some(kind) => match enter(arena, "entry_insert", kind, item) {
             Ok((told, _)) => told.any().inx(),
             Err(_) => start,
@@ -84,9 +90,9 @@ fn put<'a, P: Ptr, S: OrdSlots<P, Item<'a>>>(
     (i, limit.held(comparisons, comparisons))
 }
 
-fn insert<'a, P: Ptr, S: OrdSlots<P, Item<'a>>>(
-    arena: &mut Pairs<'a, P, S>,
-    item: Item<'a>,
+fn insert<P: Ptr, K: Counting, S: OrdSlots<P, Item<K>>>(
+    arena: &mut Pairs<P, K, S>,
+    item: Item<K>,
     start: P::Inx,
 ) -> P::Inx {
     match arena.insert(item) {
@@ -109,20 +115,20 @@ fn worse(first: Work, second: Work) -> Work {
 }
 
 // Removes each odd key up to the first number.
-fn remove_odd<'a, P: Ptr, S: OrdSlots<P, Item<'a>>>(
-    arena: &mut Pairs<'a, P, S>,
+fn remove_odd<P: Ptr, K: Counting, S: OrdSlots<P, Item<K>>>(
+    arena: &mut Pairs<P, K, S>,
     call: &Call<'_>,
-    count: &'a Cell<u64>,
+    zero: K,
 ) {
     for n in 0..call.first.saturating_add(1) {
         if n % 2 == 1 {
-            let k = Key { n, calls: count };
+            let k = zero.with(n);
             remove_key(arena, &k);
         }
     }
 }
 
-fn remove_key<'a, P: Ptr, S: OrdSlots<P, Item<'a>>>(arena: &mut Pairs<'a, P, S>, k: &Key<'a>) {
+fn remove_key<P: Ptr, K: Counting, S: OrdSlots<P, Item<K>>>(arena: &mut Pairs<P, K, S>, k: &K) {
     if let Some(p) = arena.find_key(k) {
         drop(arena.remove(p));
     }
@@ -139,11 +145,11 @@ struct Tally {
 }
 
 // The search of a name for each key from the first number to the second, with a start.
-fn each<'a, P: Ptr, S: OrdSlots<P, Item<'a>>>(
-    arena: &Pairs<'a, P, S>,
+fn each<P: Ptr, K: Counting, S: OrdSlots<P, Item<K>>>(
+    arena: &Pairs<P, K, S>,
     name: &str,
     call: &Call<'_>,
-    count: &'a Cell<u64>,
+    zero: K,
 ) -> Tally {
     let mut tally = Tally {
         equal: 0,
@@ -154,7 +160,7 @@ fn each<'a, P: Ptr, S: OrdSlots<P, Item<'a>>>(
     };
     let start = pointer(call.fourth, call.fifth);
     for n in call.first..call.second.saturating_add(1) {
-        let k = Key { n, calls: count };
+        let k = zero.with(n);
         if let Some(found) = search(arena, name, &k, call.third, start) {
             let work = found.work(arena, name, call.third, start);
             tally.work = worse(tally.work, work);

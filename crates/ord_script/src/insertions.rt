@@ -1,23 +1,22 @@
 //! The calls that put an item in where its key belongs, or at an entry.
 use crate::changes::item;
-use crate::items::{Item, Pairs};
+use crate::items::{Counting, Item, Pairs};
 use crate::knots::Knots;
 use crate::work::{Limit, Since};
 use script::{Call, Transcript};
-use std::cell::Cell;
 use std::cmp::Ordering;
 use std::fmt::Debug;
 use triple_arena::Ptr;
 use triple_arena_ord::OrdSlots;
 
 /// Makes such a call, and says whether there is one of that name.
-pub fn inserts<'a, P: Ptr, S: OrdSlots<P, Item<'a>>>(
-    arena: &mut Pairs<'a, P, S>,
+pub fn inserts<P: Ptr, K: Counting, S: OrdSlots<P, Item<K>>>(
+    arena: &mut Pairs<P, K, S>,
     transcript: &mut Transcript,
     call: &Call<'_>,
-    count: &'a Cell<u64>,
+    zero: K,
 ) -> bool {
-    let new = item(call.first, call.second, count);
+    let new = item(call.first, call.second, zero);
     match call.verb {
         "insert" => insert(arena, transcript, call, new),
         "insert_reallocating" => insert_reallocating(arena, transcript, call, new),
@@ -31,59 +30,59 @@ pub fn inserts<'a, P: Ptr, S: OrdSlots<P, Item<'a>>>(
 }
 
 // The answer of an insertion, and what is told of its comparisons.
-fn tell<A: Debug>(
+fn tell<A: Debug, K: Counting>(
     transcript: &mut Transcript,
     line: &str,
     answer: &A,
     limit: Limit,
-    since: &Since<'_>,
+    since: &Since<K>,
 ) {
     let comparisons = since.count();
     transcript.answer(line, &(answer, limit.held(comparisons, comparisons)));
 }
 
-fn insert<'a, P: Ptr, S: OrdSlots<P, Item<'a>>>(
-    arena: &mut Pairs<'a, P, S>,
+fn insert<P: Ptr, K: Counting, S: OrdSlots<P, Item<K>>>(
+    arena: &mut Pairs<P, K, S>,
     transcript: &mut Transcript,
     call: &Call<'_>,
-    item: Item<'a>,
+    item: Item<K>,
 ) {
     let limit = Limit::from_root(arena.size());
-    let since = Since::now(item.k().calls);
+    let since = Since::now(*item.k());
     let answer = arena.insert(item);
     tell(transcript, call.line, &answer, limit, &since);
 }
 
-fn insert_reallocating<'a, P: Ptr, S: OrdSlots<P, Item<'a>>>(
-    arena: &mut Pairs<'a, P, S>,
+fn insert_reallocating<P: Ptr, K: Counting, S: OrdSlots<P, Item<K>>>(
+    arena: &mut Pairs<P, K, S>,
     transcript: &mut Transcript,
     call: &Call<'_>,
-    item: Item<'a>,
+    item: Item<K>,
 ) {
     let limit = Limit::from_root(arena.size());
-    let since = Since::now(item.k().calls);
+    let since = Since::now(*item.k());
     let answer = arena.insert_reallocating(item);
     tell(transcript, call.line, &answer, limit, &since);
 }
 
-fn insert_within_capacity<'a, P: Ptr, S: OrdSlots<P, Item<'a>>>(
-    arena: &mut Pairs<'a, P, S>,
+fn insert_within_capacity<P: Ptr, K: Counting, S: OrdSlots<P, Item<K>>>(
+    arena: &mut Pairs<P, K, S>,
     transcript: &mut Transcript,
     call: &Call<'_>,
-    item: Item<'a>,
+    item: Item<K>,
 ) {
     let limit = Limit::from_root(arena.size());
-    let since = Since::now(item.k().calls);
+    let since = Since::now(*item.k());
     let answer = arena.insert_within_capacity(item);
     tell(transcript, call.line, &answer, limit, &since);
 }
 
 // Puts an item in at an index, if it is live. No key is compared.
-fn manual<'a, P: Ptr, S: OrdSlots<P, Item<'a>>>(
-    arena: &mut Pairs<'a, P, S>,
+fn manual<P: Ptr, K: Counting, S: OrdSlots<P, Item<K>>>(
+    arena: &mut Pairs<P, K, S>,
     transcript: &mut Transcript,
     call: &Call<'_>,
-    item: Item<'a>,
+    item: Item<K>,
     direction: Ordering,
 ) {
     let i = script::index(call.third);
@@ -91,7 +90,7 @@ fn manual<'a, P: Ptr, S: OrdSlots<P, Item<'a>>>(
         transcript.answer(call.line, &"not live");
         return;
     }
-    let since = Since::now(item.k().calls);
+    let since = Since::now(*item.k());
     let answer = arena.insert_inx_manual(i, direction, item);
     tell(transcript, call.line, &answer, Limit::none(), &since);
 }

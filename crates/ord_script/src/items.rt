@@ -12,11 +12,30 @@ use triple_arena::ArenaSlot;
 use triple_arena_chain::LinkNoGen;
 use triple_arena_ord::{OrdPair, SimpleOrdArena, SimpleOrdArenaNode};
 
+/// Numbers that count their comparisons, all in one place.
+pub trait Counting: Ord + Copy + fmt::Debug {
+    /// The number.
+    fn n(&self) -> u64;
+
+    /// Another number, which counts in the same place.
+    fn with(&self, n: u64) -> Self;
+
+    /// How many comparisons there were.
+    fn count(&self) -> u64;
+}
+
 /// A number that counts each comparison of it with another one.
 #[derive(Clone, Copy)]
 pub struct Key<'a> {
-    pub n: u64,
-    pub calls: &'a Cell<u64>,
+    n: u64,
+    calls: &'a Cell<u64>,
+}
+
+impl<'a> Key<'a> {
+    /// The number 0, which counts in this place.
+    pub fn zero(calls: &'a Cell<u64>) -> Self {
+        Key { n: 0, calls }
+    }
 }
 
 impl Ord for Key<'_> {
@@ -67,11 +86,28 @@ impl fmt::Debug for Key<'_> {
     }
 }
 
+impl Counting for Key<'_> {
+    fn n(&self) -> u64 {
+        self.n
+    }
+
+    fn with(&self, n: u64) -> Self {
+        Key {
+            n,
+            calls: self.calls,
+        }
+    }
+
+    fn count(&self) -> u64 {
+        self.calls.get()
+    }
+}
+
 /// A number with such a key.
-pub type Item<'a> = OrdPair<Key<'a>, u64>;
+pub type Item<K> = OrdPair<K, u64>;
 
 /// A slot of an arena of them.
-pub type Slot<'a, P> = ArenaSlot<P, LinkNoGen<P, SimpleOrdArenaNode<P, Item<'a>>>>;
+pub type Slot<P, K> = ArenaSlot<P, LinkNoGen<P, SimpleOrdArenaNode<P, Item<K>>>>;
 
 /// An arena of them.
-pub type Pairs<'a, P, S> = SimpleOrdArena<P, Item<'a>, S>;
+pub type Pairs<P, K, S> = SimpleOrdArena<P, Item<K>, S>;

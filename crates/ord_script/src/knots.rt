@@ -1,5 +1,5 @@
 //! Entries with their neighbors in the list and in the tree, as the checks of a script see them.
-use crate::items::{Item, Pairs};
+use crate::items::{Counting, Item, Pairs};
 use triple_arena::{Ptr, PtrCore, PtrInxCore};
 use triple_arena_ord::OrdSlots;
 
@@ -36,7 +36,7 @@ pub trait Knots<P: Ptr> {
     fn ascends(&self) -> bool;
 }
 
-impl<'a, P: Ptr, S: OrdSlots<P, Item<'a>>> Knots<P> for Pairs<'a, P, S> {
+impl<P: Ptr, K: Counting, S: OrdSlots<P, Item<K>>> Knots<P> for Pairs<P, K, S> {
     fn size(&self) -> u64 {
         self.len() as u64
     }
@@ -58,7 +58,7 @@ impl<'a, P: Ptr, S: OrdSlots<P, Item<'a>>> Knots<P> for Pairs<'a, P, S> {
     fn knot(&self, i: P::Inx) -> Option<Knot<P::Inx>> {
         match self.get_inx_node(i) {
             Some((_, link)) => Some(Knot {
-                key: link.t.t.k().n,
+                key: link.t.t.k().n(),
                 prev: link.prev(),
                 next: link.next(),
                 parent: link.t.p_back,
@@ -78,6 +78,6 @@ impl<'a, P: Ptr, S: OrdSlots<P, Item<'a>>> Knots<P> for Pairs<'a, P, S> {
     }
 
     fn ascends(&self) -> bool {
-        Pairs::<'a, P, S>::_check_invariants(self).is_ok()
+        Pairs::<P, K, S>::_check_invariants(self).is_ok()
     }
 }

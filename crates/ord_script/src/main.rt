@@ -22,7 +22,7 @@ mod several;
 mod walks;
 mod work;
 
-use items::{Item, Pairs, Slot};
+use items::{Counting, Item, Key, Pairs, Slot};
 use narrow_ptr::N3;
 use refusing_allocator::RefusingAllocator;
 use script::{Call, Transcript};
@@ -37,7 +37,10 @@ use triple_arena_ord::{OrdSlots, SimpleOrdArena};
 
 type Heap<'a> = &'a RefusingAllocator<Global>;
 
-type InArray<'a, P> = NonZeroInxArray<Slot<'a, P>, 8>;
+type InArray<'a, P> = NonZeroInxArray<Slot<P, Key<'a>>, 8>;
+
+// The stack of the arena `b`.
+type Other<'a> = NonZeroInxVec<Slot<P1, Key<'a>>, Heap<'a>>;
 
 fn main(rt: HostRuntime) -> io::Result<()> {
     let script = io::read_to_string(rt.alloc(), rt.reader())?;
@@ -60,9 +63,8 @@ fn play(alloc: Global, transcript: &mut Transcript, section: &str) {
         let script = Script {
             header,
             lines: calls,
-            count: &count,
         };
-        if let Err(refused) = play_over(&heap, transcript, script) {
+        if let Err(refused) = play_over(&heap, Key::zero(&count), transcript, script) {
             transcript.answer(header.line, &refused);
         }
     }
@@ -74,28 +76,28 @@ fn refused(nth: u64) -> u64
     if nth == 0 { u64::MAX } else { nth }
 }
 
-// The calls of a section, and what its keys count their comparisons in.
+// The calls of a section.
 #[derive(Clone, Copy)]
 struct Script<'a> {
     header: Call<'a>,
     lines: &'a str,
-    count: &'a Cell<u64>,
 }
 
 fn play_over<'a>(
     heap: Heap<'a>,
+    zero: Key<'a>,
     transcript: &mut Transcript,
-    script: Script<'a>,
+    script: Script<'_>,
 ) -> Result<(), ReallocationError> {
     if script.header.verb == "array" {
-        return over_array(heap, transcript, script);
+        return over_array(heap, zero, transcript, script);
     }
     match script.header.whom {
-        "P0" => over_stack::<P0>(heap, transcript, script),
-        "P1" => over_stack::<P1>(heap, transcript, script),
-        "P3" => over_stack::<P3>(heap, transcript, script),
-        "P5" => over_stack::<P5>(heap, transcript, script),
-        "N3" => over_stack::<N3>(heap, transcript, script),
+        "P0" => over_stack::<P0>(heap, zero, transcript, script),
+        "P1" => over_stack::<P1>(heap, zero, transcript, script),
+        "P3" => over_stack::<P3>(heap, zero, transcript, script),
+        "P5" => over_stack::<P5>(heap, zero, transcript, script),
+        "N3" => over_stack::<N3>(heap, zero, transcript, script),
         _ => Err(ReallocationError::BeyondMaxCapacity),
     }
 }
@@ -103,55 +105,95 @@ fn play_over<'a>(
 // Over arrays, whose size is known only where the pointer type is.
 fn over_array<'a>(
     heap: Heap<'a>,
+    zero: Key<'a>,
     transcript: &mut Transcript,
-    script: Script<'a>,
+    script: Script<'_>,
 ) -> Result<(), ReallocationError> {
     match script.header.whom {
-        "P0" => over::<P0, InArray<P0>>((), heap, transcript, script),
-        "P1" => over::<P1, InArray<P1>>((), heap, transcript, script),
-        "P3" => over::<P3, InArray<P3>>((), heap, transcript, script),
-        "P5" => over::<P5, InArray<P5>>((), heap, transcript, script),
-        "N3" => over::<N3, InArray<N3>>((), heap, transcript, script),
+        "P0" => over::<P0, P1, Key<'a>, InArray<'a, P0>, Other<'a>>(
+            (),
+            heap,
+            zero,
+            transcript,
+            script,
+        ),
+        "P1" => over::<P1, P1, Key<'a>, InArray<'a, P1>, Other<'a>>(
+            (),
+            heap,
+            zero,
+            transcript,
+            script,
+        ),
+        "P3" => over::<P3, P1, Key<'a>, InArray<'a, P3>, Other<'a>>(
+            (),
+            heap,
+            zero,
+            transcript,
+            script,
+        ),
+        "P5" => over::<P5, P1, Key<'a>, InArray<'a, P5>, Other<'a>>(
+            (),
+            heap,
+            zero,
+            transcript,
+            script,
+        ),
+        "N3" => over::<N3, P1, Key<'a>, InArray<'a, N3>, Other<'a>>(
+            (),
+            heap,
+            zero,
+            transcript,
+            script,
+        ),
         _ => Err(ReallocationError::BeyondMaxCapacity),
     }
 }
 
 fn over_stack<'a, P: Ptr>(
     heap: Heap<'a>,
+    zero: Key<'a>,
     transcript: &mut Transcript,
-    script: Script<'a>,
+    script: Script<'_>,
 ) -> Result<(), ReallocationError> {
     match script.header.verb {
-        "heap" => over::<P, NonZeroInxVec<Slot<'a, P>, Heap<'a>>>(heap, heap, transcript, script),
+        "heap" => over::<P, P1, Key<'a>, NonZeroInxVec<Slot<P, Key<'a>>, Heap<'a>>, Other<'a>>(
+            heap, heap, zero, transcript, script,
+        ),
         "limited" => {
-            over::<P, NonZeroInxLimitedVec<Slot<'a, P>, Heap<'a>>>(heap, heap, transcript, script)
+            over::<P, P1, Key<'a>, NonZeroInxLimitedVec<Slot<P, Key<'a>>, Heap<'a>>, Other<'a>>(
+                heap, heap, zero, transcript, script,
+            )
         }
         "boxed" => {
-            over::<P, NonZeroInxBoxedSlice<Slot<'a, P>, Heap<'a>>>(heap, heap, transcript, script)
+            over::<P, P1, Key<'a>, NonZeroInxBoxedSlice<Slot<P, Key<'a>>, Heap<'a>>, Other<'a>>(
+                heap, heap, zero, transcript, script,
+            )
         }
         _ => Err(ReallocationError::BeyondMaxCapacity),
     }
 }
 
-fn over<'a, P: Ptr, S: OrdSlots<P, Item<'a>>>(
+fn over<P: Ptr, Q: Ptr, K: Counting, S: OrdSlots<P, Item<K>>, R: OrdSlots<Q, Item<K>>>(
     first: S::Alloc,
-    heap: Heap<'a>,
+    second: R::Alloc,
+    zero: K,
     transcript: &mut Transcript,
-    script: Script<'a>,
+    script: Script<'_>,
 ) -> Result<(), ReallocationError> {
-    let mut a = arena::<P, S>(first, script.header.first as usize)?;
-    let mut b = SimpleOrdArena::<P1, Item<'a>, NonZeroInxVec<Slot<'a, P1>, Heap<'a>>>::new(heap);
+    let a = arena::<P, K, S>(first, script.header.first as usize);
+    let b = arena::<Q, K, R>(second, 0);
+    let (mut a, mut b) = (a?, b?);
     for line in script.lines.lines() {
-        play_line(&mut a, &mut b, transcript, &Call::new(line), script.count);
+        play_line(&mut a, &mut b, transcript, &Call::new(line), zero);
     }
     Ok(())
 }
 
 // An arena with so much room, which is asked for where it is not 0.
-fn arena<'a, P: Ptr, S: OrdSlots<P, Item<'a>>>(
+fn arena<P: Ptr, K: Counting, S: OrdSlots<P, Item<K>>>(
     alloc: S::Alloc,
     room: usize,
-) -> Result<Pairs<'a, P, S>, ReallocationError> {
+) -> Result<Pairs<P, K, S>, ReallocationError> {
     if room == 0 {
         Ok(SimpleOrdArena::new(alloc))
     } else {
@@ -159,16 +201,16 @@ fn arena<'a, P: Ptr, S: OrdSlots<P, Item<'a>>>(
     }
 }
 
-fn play_line<'a, P: Ptr, Q: Ptr, S: OrdSlots<P, Item<'a>>, R: OrdSlots<Q, Item<'a>>>(
-    a: &mut Pairs<'a, P, S>,
-    b: &mut Pairs<'a, Q, R>,
+fn play_line<P: Ptr, Q: Ptr, K: Counting, S: OrdSlots<P, Item<K>>, R: OrdSlots<Q, Item<K>>>(
+    a: &mut Pairs<P, K, S>,
+    b: &mut Pairs<Q, K, R>,
     transcript: &mut Transcript,
     call: &Call<'_>,
-    count: &'a Cell<u64>,
+    zero: K,
 ) {
     match call.whom {
-        "a" => play_at(a, transcript, call, count),
-        "b" => play_at(b, transcript, call, count),
+        "a" => play_at(a, transcript, call, zero),
+        "b" => play_at(b, transcript, call, zero),
         "ab" => several::compare(a, b, transcript, call),
         "ba" => several::compare(b, a, transcript, call),
         _ => transcript.line(call.line),
@@ -176,20 +218,20 @@ fn play_line<'a, P: Ptr, Q: Ptr, S: OrdSlots<P, Item<'a>>, R: OrdSlots<Q, Item<'
 }
 
 // Makes the call that a line names.
-fn play_at<'a, P: Ptr, S: OrdSlots<P, Item<'a>>>(
-    arena: &mut Pairs<'a, P, S>,
+fn play_at<P: Ptr, K: Counting, S: OrdSlots<P, Item<K>>>(
+    arena: &mut Pairs<P, K, S>,
     transcript: &mut Transcript,
     call: &Call<'_>,
-    count: &'a Cell<u64>,
+    zero: K,
 ) {
     if !(reads::reads(arena, transcript, call)
         || reads::asks(arena, transcript, call)
         || walks::walks(arena, transcript, call)
-        || searches::searches(arena, transcript, call, count)
-        || changes::changes(arena, transcript, call, count)
-        || insertions::inserts(arena, transcript, call, count)
-        || entries::enters(arena, transcript, call, count)
-        || growing::grows(arena, transcript, call, count))
+        || searches::searches(arena, transcript, call, zero)
+        || changes::changes(arena, transcript, call, zero)
+        || insertions::inserts(arena, transcript, call, zero)
+        || growing::grows(arena, transcript, call, zero)
+        || entries::enters(arena, transcript, call, zero))
     {
         transcript.answer(call.line, &"no such call");
     }

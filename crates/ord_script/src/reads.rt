@@ -1,13 +1,13 @@
 //! The calls that read an arena.
 use crate::check::check;
-use crate::items::{Item, Pairs};
+use crate::items::{Counting, Item, Pairs};
 use script::{Call, Transcript};
 use triple_arena::Ptr;
 use triple_arena_ord::OrdSlots;
 
 /// Makes a call that asks for a number or an end, and says whether there is one of that name.
-pub fn asks<'a, P: Ptr, S: OrdSlots<P, Item<'a>>>(
-    arena: &Pairs<'a, P, S>,
+pub fn asks<P: Ptr, K: Counting, S: OrdSlots<P, Item<K>>>(
+    arena: &Pairs<P, K, S>,
     transcript: &mut Transcript,
     call: &Call<'_>,
 ) -> bool {
@@ -29,8 +29,8 @@ pub fn asks<'a, P: Ptr, S: OrdSlots<P, Item<'a>>>(
 }
 
 /// Makes a call that reads an entry, or all of them, and says whether there is one of that name.
-pub fn reads<'a, P: Ptr, S: OrdSlots<P, Item<'a>>>(
-    arena: &Pairs<'a, P, S>,
+pub fn reads<P: Ptr, K: Counting, S: OrdSlots<P, Item<K>>>(
+    arena: &Pairs<P, K, S>,
     transcript: &mut Transcript,
     call: &Call<'_>,
 ) -> bool {
@@ -52,17 +52,17 @@ pub fn reads<'a, P: Ptr, S: OrdSlots<P, Item<'a>>>(
     true
 }
 
-fn check_invariants<'a, P: Ptr, S: OrdSlots<P, Item<'a>>>(
-    arena: &Pairs<'a, P, S>,
+fn check_invariants<P: Ptr, K: Counting, S: OrdSlots<P, Item<K>>>(
+    arena: &Pairs<P, K, S>,
     transcript: &mut Transcript,
     line: &str,
 ) {
-    transcript.answer(line, &Pairs::<'a, P, S>::_check_invariants(arena));
+    transcript.answer(line, &Pairs::<P, K, S>::_check_invariants(arena));
 }
 
 // Reads by `arena[p]`, where the pointer is valid.
-fn index<'a, P: Ptr, S: OrdSlots<P, Item<'a>>>(
-    arena: &Pairs<'a, P, S>,
+fn index<P: Ptr, K: Counting, S: OrdSlots<P, Item<K>>>(
+    arena: &Pairs<P, K, S>,
     transcript: &mut Transcript,
     call: &Call<'_>,
 ) {
@@ -74,8 +74,8 @@ fn index<'a, P: Ptr, S: OrdSlots<P, Item<'a>>>(
     }
 }
 
-fn get_inx_unwrap<'a, P: Ptr, S: OrdSlots<P, Item<'a>>>(
-    arena: &Pairs<'a, P, S>,
+fn get_inx_unwrap<P: Ptr, K: Counting, S: OrdSlots<P, Item<K>>>(
+    arena: &Pairs<P, K, S>,
     transcript: &mut Transcript,
     call: &Call<'_>,
 ) {
@@ -88,8 +88,8 @@ fn get_inx_unwrap<'a, P: Ptr, S: OrdSlots<P, Item<'a>>>(
 }
 
 // The generation, the neighbors and the item at an index.
-fn link<'a, P: Ptr, S: OrdSlots<P, Item<'a>>>(
-    arena: &Pairs<'a, P, S>,
+fn link<P: Ptr, K: Counting, S: OrdSlots<P, Item<K>>>(
+    arena: &Pairs<P, K, S>,
     transcript: &mut Transcript,
     call: &Call<'_>,
 ) {
@@ -102,8 +102,8 @@ fn link<'a, P: Ptr, S: OrdSlots<P, Item<'a>>>(
 }
 
 // The generation, the neighbors, the item, the parent and the children at an index.
-fn node<'a, P: Ptr, S: OrdSlots<P, Item<'a>>>(
-    arena: &Pairs<'a, P, S>,
+fn node<P: Ptr, K: Counting, S: OrdSlots<P, Item<K>>>(
+    arena: &Pairs<P, K, S>,
     transcript: &mut Transcript,
     call: &Call<'_>,
 ) {
@@ -117,8 +117,8 @@ fn node<'a, P: Ptr, S: OrdSlots<P, Item<'a>>>(
 }
 
 // The rank at an index.
-fn rank<'a, P: Ptr, S: OrdSlots<P, Item<'a>>>(
-    arena: &Pairs<'a, P, S>,
+fn rank<P: Ptr, K: Counting, S: OrdSlots<P, Item<K>>>(
+    arena: &Pairs<P, K, S>,
     transcript: &mut Transcript,
     call: &Call<'_>,
 ) {

@@ -1,5 +1,5 @@
 //! The six searches and their counted forms, from the root and along the list.
-use crate::items::{Item, Key, Pairs};
+use crate::items::{Counting, Item, Pairs};
 use crate::knots::Knots;
 use crate::work::{Limit, Since, Work, most};
 use script::{Call, Transcript, pointer};
@@ -63,16 +63,13 @@ pub enum Place<P> {
 }
 
 /// Makes a search, and says whether there is one of that name.
-pub fn searches<'a, P: Ptr, S: OrdSlots<P, Item<'a>>>(
-    arena: &Pairs<'a, P, S>,
+pub fn searches<P: Ptr, K: Counting, S: OrdSlots<P, Item<K>>>(
+    arena: &Pairs<P, K, S>,
     transcript: &mut Transcript,
     call: &Call<'_>,
-    count: &'a Cell<u64>,
+    zero: K,
 ) -> bool {
-    let k = Key {
-        n: call.first,
-        calls: count,
-    };
+    let k = zero.with(call.first);
     let start = pointer(call.third, call.fourth);
     match search(arena, call.verb, &k, call.second, start) {
         Some(found) => {
@@ -86,10 +83,10 @@ pub fn searches<'a, P: Ptr, S: OrdSlots<P, Item<'a>>>(
 }
 
 /// What a search finds, if there is one of that name.
-pub fn search<'a, P: Ptr, S: OrdSlots<P, Item<'a>>>(
-    arena: &Pairs<'a, P, S>,
+pub fn search<P: Ptr, K: Counting, S: OrdSlots<P, Item<K>>>(
+    arena: &Pairs<P, K, S>,
     verb: &str,
-    k: &Key<'a>,
+    k: &K,
     num: u64,
     start: P,
 ) -> Option<Found<P>> {
@@ -105,13 +102,13 @@ pub fn search<'a, P: Ptr, S: OrdSlots<P, Item<'a>>>(
         "find_similar_key_linear_counted" => {
             Some(find_similar_key_linear_counted(arena, k, num, start))
         }
-        _ => search_with(arena, verb, k.n, start),
+        _ => search_with(arena, verb, k.n(), start),
     }
 }
 
 // What a search by a closure finds, if there is one of that name.
-fn search_with<'a, P: Ptr, S: OrdSlots<P, Item<'a>>>(
-    arena: &Pairs<'a, P, S>,
+fn search_with<P: Ptr, K: Counting, S: OrdSlots<P, Item<K>>>(
+    arena: &Pairs<P, K, S>,
     verb: &str,
     n: u64,
     start: P,
@@ -126,101 +123,104 @@ fn search_with<'a, P: Ptr, S: OrdSlots<P, Item<'a>>>(
     }
 }
 
-fn find_key<'a, P: Ptr, S: OrdSlots<P, Item<'a>>>(
-    arena: &Pairs<'a, P, S>,
-    k: &Key<'a>,
+fn find_key<P: Ptr, K: Counting, S: OrdSlots<P, Item<K>>>(
+    arena: &Pairs<P, K, S>,
+    k: &K,
 ) -> Found<P> {
-    let since = Since::now(k.calls);
+    let since = Since::now(*k);
     let found = arena.find_key(k);
     Found::equal(found, since.count(), since.count())
 }
 
-fn find_key_counted<'a, P: Ptr, S: OrdSlots<P, Item<'a>>>(
-    arena: &Pairs<'a, P, S>,
-    k: &Key<'a>,
+fn find_key_counted<P: Ptr, K: Counting, S: OrdSlots<P, Item<K>>>(
+    arena: &Pairs<P, K, S>,
+    k: &K,
 ) -> Found<P> {
-    let since = Since::now(k.calls);
+    let since = Since::now(*k);
     let mut probes = Probes::new();
     let found = arena.find_key_counted(k, &mut probes);
     Found::equal(found, probes.count(), since.count())
 }
 
-fn find_similar_key<'a, P: Ptr, S: OrdSlots<P, Item<'a>>>(
-    arena: &Pairs<'a, P, S>,
-    k: &Key<'a>,
+fn find_similar_key<P: Ptr, K: Counting, S: OrdSlots<P, Item<K>>>(
+    arena: &Pairs<P, K, S>,
+    k: &K,
 ) -> Found<P> {
-    let since = Since::now(k.calls);
+    let since = Since::now(*k);
     let found = arena.find_similar_key(k);
     Found::similar(found, since.count(), since.count())
 }
 
-fn find_similar_key_counted<'a, P: Ptr, S: OrdSlots<P, Item<'a>>>(
-    arena: &Pairs<'a, P, S>,
-    k: &Key<'a>,
+fn find_similar_key_counted<P: Ptr, K: Counting, S: OrdSlots<P, Item<K>>>(
+    arena: &Pairs<P, K, S>,
+    k: &K,
 ) -> Found<P> {
-    let since = Since::now(k.calls);
+    let since = Since::now(*k);
     let mut probes = Probes::new();
     let found = arena.find_similar_key_counted(k, &mut probes);
     Found::similar(found, probes.count(), since.count())
 }
 
-fn find_key_linear<'a, P: Ptr, S: OrdSlots<P, Item<'a>>>(
-    arena: &Pairs<'a, P, S>,
-    k: &Key<'a>,
+fn find_key_linear<P: Ptr, K: Counting, S: OrdSlots<P, Item<K>>>(
+    arena: &Pairs<P, K, S>,
+    k: &K,
     num: usize,
     start: P,
 ) -> Found<P> {
-    let since = Since::now(k.calls);
+    let since = Since::now(*k);
     let found = arena.find_key_linear(start, num, k);
     Found::equal(found, since.count(), since.count())
 }
 
-fn find_key_linear_counted<'a, P: Ptr, S: OrdSlots<P, Item<'a>>>(
-    arena: &Pairs<'a, P, S>,
-    k: &Key<'a>,
+fn find_key_linear_counted<P: Ptr, K: Counting, S: OrdSlots<P, Item<K>>>(
+    arena: &Pairs<P, K, S>,
+    k: &K,
     num: usize,
     start: P,
 ) -> Found<P> {
-    let since = Since::now(k.calls);
+    let since = Since::now(*k);
     let mut probes = Probes::new();
     let found = arena.find_key_linear_counted(start, num, k, &mut probes);
     Found::equal(found, probes.count(), since.count())
 }
 
-fn find_similar_key_linear<'a, P: Ptr, S: OrdSlots<P, Item<'a>>>(
-    arena: &Pairs<'a, P, S>,
-    k: &Key<'a>,
+fn find_similar_key_linear<P: Ptr, K: Counting, S: OrdSlots<P, Item<K>>>(
+    arena: &Pairs<P, K, S>,
+    k: &K,
     num: usize,
     start: P,
 ) -> Found<P> {
-    let since = Since::now(k.calls);
+    let since = Since::now(*k);
     let found = arena.find_similar_key_linear(start.inx(), num, k);
     Found::similar(found, since.count(), since.count())
 }
 
-fn find_similar_key_linear_counted<'a, P: Ptr, S: OrdSlots<P, Item<'a>>>(
-    arena: &Pairs<'a, P, S>,
-    k: &Key<'a>,
+fn find_similar_key_linear_counted<P: Ptr, K: Counting, S: OrdSlots<P, Item<K>>>(
+    arena: &Pairs<P, K, S>,
+    k: &K,
     num: usize,
     start: P,
 ) -> Found<P> {
-    let since = Since::now(k.calls);
+    let since = Since::now(*k);
     let mut probes = Probes::new();
     let found = arena.find_similar_key_linear_counted(start.inx(), num, k, &mut probes);
     Found::similar(found, probes.count(), since.count())
 }
 
-fn find_with<'a, P: Ptr, S: OrdSlots<P, Item<'a>>>(arena: &Pairs<'a, P, S>, n: u64) -> Found<P> {
+fn find_with<P: Ptr, K: Counting, S: OrdSlots<P, Item<K>>>(
+    arena: &Pairs<P, K, S>,
+    n: u64,
+) -> Found<P> {
     let asked = Cell::new(0u64);
     let found = arena.find_with(|_, item| {
         asked.set(asked.get().wrapping_add(1));
-        n.cmp(&item.k().n)
+        n.cmp(&item.k().n())
     });
     Found::equal(found, asked.get(), asked.get())
 }
 
-fn find_with_counted<'a, P: Ptr, S: OrdSlots<P, Item<'a>>>(
-    arena: &Pairs<'a, P, S>,
+fn find_with_counted<P: Ptr, K: Counting, S: OrdSlots<P, Item<K>>>(
+    arena: &Pairs<P, K, S>,
     n: u64,
 ) -> Found<P> {
     let asked = Cell::new(0u64);
@@ -228,27 +228,27 @@ fn find_with_counted<'a, P: Ptr, S: OrdSlots<P, Item<'a>>>(
     let found = arena.find_with_counted(
         |_, item| {
             asked.set(asked.get().wrapping_add(1));
-            n.cmp(&item.k().n)
+            n.cmp(&item.k().n())
         },
         &mut probes,
     );
     Found::equal(found, probes.count(), asked.get())
 }
 
-fn find_similar_with<'a, P: Ptr, S: OrdSlots<P, Item<'a>>>(
-    arena: &Pairs<'a, P, S>,
+fn find_similar_with<P: Ptr, K: Counting, S: OrdSlots<P, Item<K>>>(
+    arena: &Pairs<P, K, S>,
     n: u64,
 ) -> Found<P> {
     let asked = Cell::new(0u64);
     let found = arena.find_similar_with(|_, item| {
         asked.set(asked.get().wrapping_add(1));
-        n.cmp(&item.k().n)
+        n.cmp(&item.k().n())
     });
     Found::similar(found, asked.get(), asked.get())
 }
 
-fn find_similar_with_counted<'a, P: Ptr, S: OrdSlots<P, Item<'a>>>(
-    arena: &Pairs<'a, P, S>,
+fn find_similar_with_counted<P: Ptr, K: Counting, S: OrdSlots<P, Item<K>>>(
+    arena: &Pairs<P, K, S>,
     n: u64,
 ) -> Found<P> {
     let asked = Cell::new(0u64);
@@ -256,7 +256,7 @@ fn find_similar_with_counted<'a, P: Ptr, S: OrdSlots<P, Item<'a>>>(
     let found = arena.find_similar_with_counted(
         |_, item| {
             asked.set(asked.get().wrapping_add(1));
-            n.cmp(&item.k().n)
+            n.cmp(&item.k().n())
         },
         &mut probes,
     );
@@ -264,14 +264,18 @@ fn find_similar_with_counted<'a, P: Ptr, S: OrdSlots<P, Item<'a>>>(
 }
 
 // Goes left at each entry but at that of the pointer: it finds the first one.
-fn find_with_the_pointer<'a, P: Ptr, S: OrdSlots<P, Item<'a>>>(
-    arena: &Pairs<'a, P, S>,
+fn find_with_the_pointer<P: Ptr, K: Counting, S: OrdSlots<P, Item<K>>>(
+    arena: &Pairs<P, K, S>,
     start: P,
 ) -> Found<P> {
     let asked = Cell::new(0u64);
     let found = arena.find_with(|p, _| {
         asked.set(asked.get().wrapping_add(1));
-        if p == start { Ordering::Equal } else { Ordering::Less }
+        if p == start {
+            Ordering::Equal
+        } else {
+            Ordering::Less
+        }
     });
     Found::equal(found, asked.get(), asked.get())
 }
@@ -328,7 +332,11 @@ pub fn place_of<P: Ptr, A: Knots<P>>(arena: &A, place: Option<(P, Ordering)>) ->
 
 fn anywhere<P: Ptr, A: Knots<P>>(arena: &A, place: Option<(P, Ordering)>) -> Place<P> {
     match place {
-        Some((p, _)) => if arena.ptr(p.inx()) == Some(p) { Place::Anywhere } else { Place::Dead(p) },
+        Some((p, _)) => if arena.ptr(p.inx()) == Some(p) {
+            Place::Anywhere
+        } else {
+            Place::Dead(p)
+        },
         None => Place::Anywhere,
     }
 }
@@ -339,7 +347,11 @@ fn at<P: Ptr, A: Knots<P>>(arena: &A, p: P) -> Place<P> {
         Some(knot) => {
             let is_one_of = key_at(arena, knot.prev) == Some(knot.key)
                 || key_at(arena, knot.next) == Some(knot.key);
-            if is_one_of { Place::OneOf(knot.key) } else { Place::At(p) }
+            if is_one_of {
+                Place::OneOf(knot.key)
+            } else {
+                Place::At(p)
+            }
         }
         None => Place::Dead(p),
     }

@@ -1,13 +1,13 @@
 //! Comparisons of two arenas by their lists.
-use crate::items::{Item, Pairs};
+use crate::items::{Counting, Item, Pairs};
 use script::{Call, Transcript};
 use triple_arena::Ptr;
 use triple_arena_ord::OrdSlots;
 
 /// Compares the lists of two arenas.
-pub fn compare<'a, P: Ptr, Q: Ptr, S: OrdSlots<P, Item<'a>>, R: OrdSlots<Q, Item<'a>>>(
-    left: &Pairs<'a, P, S>,
-    right: &Pairs<'a, Q, R>,
+pub fn compare<P: Ptr, Q: Ptr, K: Counting, S: OrdSlots<P, Item<K>>, R: OrdSlots<Q, Item<K>>>(
+    left: &Pairs<P, K, S>,
+    right: &Pairs<Q, K, R>,
     transcript: &mut Transcript,
     call: &Call<'_>,
 ) {

@@ -1,5 +1,5 @@
 //! Walks by indexes and along the list, by advancers and by iterators.
-use crate::items::{Item, Pairs};
+use crate::items::{Counting, Item, Pairs};
 use script::{Call, Transcript};
 use triple_arena::{Advancer, Ptr};
 use triple_arena_ord::OrdSlots;
@@ -9,8 +9,8 @@ use triple_arena_ord::ord_iterators::OrderedPtrAdvancer;
 const LONGEST: u64 = 4096;
 
 /// Makes a walk that changes nothing, and says whether there is one of that name.
-pub fn walks<'a, P: Ptr, S: OrdSlots<P, Item<'a>>>(
-    arena: &Pairs<'a, P, S>,
+pub fn walks<P: Ptr, K: Counting, S: OrdSlots<P, Item<K>>>(
+    arena: &Pairs<P, K, S>,
     transcript: &mut Transcript,
     call: &Call<'_>,
 ) -> bool {
@@ -51,8 +51,8 @@ fn walk<P: Ptr, C, W: Advancer<C, Item = P> + Drop>(
     transcript.answer(line, &advancer.advance(arena));
 }
 
-fn ordered<'a, P: Ptr, S: OrdSlots<P, Item<'a>>>(
-    arena: &Pairs<'a, P, S>,
+fn ordered<P: Ptr, K: Counting, S: OrdSlots<P, Item<K>>>(
+    arena: &Pairs<P, K, S>,
     transcript: &mut Transcript,
     call: &Call<'_>,
 ) {
@@ -62,8 +62,8 @@ fn ordered<'a, P: Ptr, S: OrdSlots<P, Item<'a>>>(
     }
 }
 
-fn ptrs<'a, P: Ptr, S: OrdSlots<P, Item<'a>>>(
-    arena: &Pairs<'a, P, S>,
+fn ptrs<P: Ptr, K: Counting, S: OrdSlots<P, Item<K>>>(
+    arena: &Pairs<P, K, S>,
     transcript: &mut Transcript,
     line: &str,
 ) {
@@ -72,8 +72,8 @@ fn ptrs<'a, P: Ptr, S: OrdSlots<P, Item<'a>>>(
     }
 }
 
-fn vals<'a, P: Ptr, S: OrdSlots<P, Item<'a>>>(
-    arena: &Pairs<'a, P, S>,
+fn vals<P: Ptr, K: Counting, S: OrdSlots<P, Item<K>>>(
+    arena: &Pairs<P, K, S>,
     transcript: &mut Transcript,
     line: &str,
 ) {
@@ -82,8 +82,8 @@ fn vals<'a, P: Ptr, S: OrdSlots<P, Item<'a>>>(
     }
 }
 
-fn iter<'a, P: Ptr, S: OrdSlots<P, Item<'a>>>(
-    arena: &Pairs<'a, P, S>,
+fn iter<P: Ptr, K: Counting, S: OrdSlots<P, Item<K>>>(
+    arena: &Pairs<P, K, S>,
     transcript: &mut Transcript,
     line: &str,
 ) {
@@ -92,8 +92,8 @@ fn iter<'a, P: Ptr, S: OrdSlots<P, Item<'a>>>(
     }
 }
 
-fn iter_ordered<'a, P: Ptr, S: OrdSlots<P, Item<'a>>>(
-    arena: &Pairs<'a, P, S>,
+fn iter_ordered<P: Ptr, K: Counting, S: OrdSlots<P, Item<K>>>(
+    arena: &Pairs<P, K, S>,
     transcript: &mut Transcript,
     line: &str,
 ) {
@@ -102,8 +102,8 @@ fn iter_ordered<'a, P: Ptr, S: OrdSlots<P, Item<'a>>>(
     }
 }
 
-fn into_iter<'a, P: Ptr, S: OrdSlots<P, Item<'a>>>(
-    arena: &Pairs<'a, P, S>,
+fn into_iter<P: Ptr, K: Counting, S: OrdSlots<P, Item<K>>>(
+    arena: &Pairs<P, K, S>,
     transcript: &mut Transcript,
     line: &str,
 ) {
@@ -113,8 +113,8 @@ fn into_iter<'a, P: Ptr, S: OrdSlots<P, Item<'a>>>(
 }
 
 /// Goes along the list from a pointer, and removes each entry that it comes to.
-pub fn walk_and_remove<'a, P: Ptr, S: OrdSlots<P, Item<'a>>>(
-    arena: &mut Pairs<'a, P, S>,
+pub fn walk_and_remove<P: Ptr, K: Counting, S: OrdSlots<P, Item<K>>>(
+    arena: &mut Pairs<P, K, S>,
     transcript: &mut Transcript,
     call: &Call<'_>,
 ) {
@@ -124,8 +124,8 @@ pub fn walk_and_remove<'a, P: Ptr, S: OrdSlots<P, Item<'a>>>(
     }
 }
 
-fn remove_along<'a, P: Ptr, S: OrdSlots<P, Item<'a>>>(
-    arena: &mut Pairs<'a, P, S>,
+fn remove_along<P: Ptr, K: Counting, S: OrdSlots<P, Item<K>>>(
+    arena: &mut Pairs<P, K, S>,
     transcript: &mut Transcript,
     line: &str,
     advancer: OrderedPtrAdvancer<P>,
@@ -141,11 +141,11 @@ fn remove_along<'a, P: Ptr, S: OrdSlots<P, Item<'a>>>(
 
 /// Goes along the list from a pointer over an arena that changes: after the first step the entry at an index is removed, and
 /// an item is put in.
-pub fn walk_over_a_change<'a, P: Ptr, S: OrdSlots<P, Item<'a>>>(
-    arena: &mut Pairs<'a, P, S>,
+pub fn walk_over_a_change<P: Ptr, K: Counting, S: OrdSlots<P, Item<K>>>(
+    arena: &mut Pairs<P, K, S>,
     transcript: &mut Transcript,
     call: &Call<'_>,
-    item: Item<'a>,
+    item: Item<K>,
 ) {
     match arena.advancer_ordered(call.pointer(), call.third == 1) {
         Some(mut advancer) => {

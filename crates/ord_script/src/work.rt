@@ -1,5 +1,5 @@
 //! How many comparisons a call made, held against how many it may make.
-use std::cell::Cell;
+use crate::items::Counting;
 
 /// What is told of the comparisons of a call. A number is told where the rules fix it, and where it is too great.
 #[derive(Clone, Copy, Debug, PartialEq, Eq)]
@@ -80,22 +80,24 @@ impl Limit {
     }
 }
 
-/// Counts the comparisons from now on.
+/// The comparisons from a moment on.
 #[derive(Clone, Copy)]
-pub struct Since<'a> {
-    calls: &'a Cell<u64>,
+pub struct Since<K> {
+    key: K,
     before: u64,
 }
 
-impl<'a> Since<'a> {
-    pub fn now(calls: &'a Cell<u64>) -> Self {
+impl<K: Counting> Since<K> {
+    /// From now on.
+    pub fn now(key: K) -> Self {
         Since {
-            calls,
-            before: calls.get(),
+            before: key.count(),
+            key,
         }
     }
 
+    /// How many they are.
     pub fn count(&self) -> u64 {
-        self.calls.get().wrapping_sub(self.before)
+        self.key.count().wrapping_sub(self.before)
     }
 }
