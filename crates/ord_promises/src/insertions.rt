@@ -1,0 +1,68 @@
+//! Insertions: where each puts its item, what it refuses, and that the tree keeps its rules and has the list as its walk.
+ghost use Rattle.std.specs.Prelude.{◌≡◌, ℕ, Some, IsSome, IfOk};
+ghost use Rattle.std.specs.Borrow.{sem, RestsIfErr};
+ghost use Rattle.triple_arena_ord.specs.Inserted.{IsInsertedAt, IsInserted, within_room, growing_room, room_made, under};
+ghost use Rattle.triple_arena_ord.specs.InsertEntry.{entry_arena, entry_lender, entry_place, IsReady, IsOrdAnswer};
+ghost use Rattle.triple_arena_ord.specs.Placing.{Meets, IsPlaceFor};
+ghost use Rattle.triple_arena_ord.specs.Ordered.{IsOrdered, IsAscending, entry_in, size_in};
+ghost use Rattle.triple_arena_ord.specs.contracts.ord_arena.SimpleOrdArena.{the_row};
+
+use std::cmp::Ordering;
+use triple_arena::PtrCore;
+use triple_arena_ord::{
+    OrdInsertKind, OrdInsertionError, OrdSlots, SimpleOrdArena, SimpleOrdArenaInsertEntry,
+    SimpleOrdItem,
+};
+
+/// Puts an item in where its key belongs, in the place of one with an equal key, which needs no room.
+pub fn insert_within_capacity<P: PtrCore, T: SimpleOrdItem + Drop, S: OrdSlots<P, T>>(
+    arena: &mut SimpleOrdArena<P, T, S>,
+    t: T,
+) -> Result<(P, Option<T>), OrdInsertionError>
+    ensures inserted { IsInserted P.Inx.number T.Key.cmp T.key_of P.index P.generation
+        (within_room (size_in arena.old) arena.old.chains.room) t result arena.old arena.new }
+    ensures ascending { IsAscending P.Inx.number T.Key.cmp T.key_of arena.old → IsAscending P.Inx.number T.Key.cmp T.key_of arena.new }
+    ensures counter { arena.new.chains.counter ≡ arena.old.chains.counter }
+    ensures room { arena.new.chains.room ≡ arena.old.chains.room }
+    ensures ordered { IsOrdered P.Inx.number arena.new }
+{
+    let inserted = arena.insert_within_capacity(t);
+    inserted
+}
+
+/// Puts an item in at an entry that is live: in its place, or directly before or after it.
+pub fn insert_inx_manual<P: PtrCore, T: Drop, S: OrdSlots<P, T>>(
+    arena: &mut SimpleOrdArena<P, T, S>,
+    p: P::Inx,
+    direction: Ordering,
+    t: T,
+) -> Result<Option<T>, OrdInsertionError>
+    requires { IsSome (entry_in arena.old (P.Inx.number p)) }
+    ensures inserted { (q : ℕ × ℕ) × IsInsertedAt P.Inx.number (λ (q : ℕ × ℕ). q.0) (λ (q : ℕ × ℕ). q.1)
+        (growing_room S.takes_memory (size_in arena.old) arena.old.chains.room)
+        (Some (P.Inx.number p, direction)) t (under q result) arena.old arena.new }
+    ensures counter { arena.new.chains.counter ≡ arena.old.chains.counter }
+    ensures room { IfOk result (λ replaced. arena.new.chains.room ≡ room_made replaced (size_in arena.old) arena.old.chains.room) }
+    ensures ordered { IsOrdered P.Inx.number arena.new }
+{
+    let inserted = arena.insert_inx_manual(p, direction, t);
+    inserted
+}
+
+/// A place for one item more, where the kind says.
+pub fn entry_insert_within_capacity<P: PtrCore, T: SimpleOrdItem + Drop, S: OrdSlots<P, T>>(
+    arena: &mut SimpleOrdArena<P, T, S>,
+    kind: OrdInsertKind<P, &T::Key>,
+) -> Result<SimpleOrdArenaInsertEntry<'_, P, T, S>, OrdInsertionError>
+    ensures answer { IsOrdAnswer (Meets P.Inx.number kind.entry arena.old)
+        (IsPlaceFor P.Inx.number T.Key.cmp T.key_of kind.entry arena.old) (entry_place P.Inx.number)
+        (within_room (size_in arena.old) arena.old.chains.room) result }
+    ensures ready { IfOk result (λ e. IsReady P.Inx.number P.index P.generation e) }
+    ensures same_reference { IfOk result (λ e. entry_lender e ≡ arena.entry.ghost_name) }
+    ensures arena { IfOk result (λ e. entry_arena e ≡ arena.old) }
+    ensures* err { sem 𝓛 (RestsIfErr
+        (the_row P.row T.row S.row P.Inx.row P.Gen.row S.Alloc.row P.PtrCore P.Inx.PtrInxCore.own P.Inx.PartialEq P.Gen.PtrGenCore.own P.Gen.PartialEq
+        S.NonZeroInxGenericStack) arena.entry entry_lender result (λ a. a ≡ arena.old)) }
+{
+    arena.entry_insert_within_capacity(kind)
+}

@@ -1,0 +1,208 @@
+//! The calls that change an arena beside its insertions.
+use crate::items::{Counting, Item, Pairs};
+use crate::walks::{walk_and_remove, walk_over_a_change};
+use script::{Call, Transcript, generation};
+use triple_arena::Ptr;
+use triple_arena_ord::{OrdPair, OrdSlots};
+
+/// Makes such a call, and says whether there is one of that name.
+pub fn changes<P: Ptr, K: Counting, S: OrdSlots<P, Item<K>>>(
+    arena: &mut Pairs<P, K, S>,
+    transcript: &mut Transcript,
+    call: &Call<'_>,
+    zero: K,
+) -> bool {
+    removes(arena, transcript, call)
+        || drains(arena, transcript, call, zero)
+        || counts(arena, transcript, call)
+        || writes(arena, transcript, call, zero)
+}
+
+fn removes<P: Ptr, K: Counting, S: OrdSlots<P, Item<K>>>(
+    arena: &mut Pairs<P, K, S>,
+    transcript: &mut Transcript,
+    call: &Call<'_>,
+) -> bool {
+    let line = call.line;
+    match call.verb {
+        "remove" => transcript.answer(line, &arena.remove(call.pointer())),
+        "remove_inx" => transcript.answer(line, &arena.remove_inx(call.index())),
+        "invalidate" => transcript.answer(line, &arena.invalidate(call.pointer())),
+        "clear" => transcript.answer(line, &arena.clear()),
+        _ => return false,
+    }
+    true
+}
+
+fn drains<P: Ptr, K: Counting, S: OrdSlots<P, Item<K>>>(
+    arena: &mut Pairs<P, K, S>,
+    transcript: &mut Transcript,
+    call: &Call<'_>,
+    zero: K,
+) -> bool {
+    match call.verb {
+        "drain" => drain(arena, transcript, call),
+        "drain_ordered" => drain_ordered(arena, transcript, call),
+        "walk_and_remove" => walk_and_remove(arena, transcript, call),
+        "walk_over_a_change" => {
+            walk_over_a_change(arena, transcript, call, item(call.fifth, 0, zero))
+        }
+        _ => return false,
+    }
+    true
+}
+
+fn counts<P: Ptr, K: Counting, S: OrdSlots<P, Item<K>>>(
+    arena: &mut Pairs<P, K, S>,
+    transcript: &mut Transcript,
+    call: &Call<'_>,
+) -> bool {
+    let line = call.line;
+    match call.verb {
+        "set_generation" => {
+            arena.set_generation(generation(call.first));
+            transcript.line(line);
+        }
+        "inc_generation" => transcript.answer(line, &arena.inc_generation()),
+        "reallocate_min_capacity" => {
+            transcript.answer(line, &arena.reallocate_min_capacity(call.first as usize))
+        }
+        _ => return false,
+    }
+    true
+}
+
+fn writes<P: Ptr, K: Counting, S: OrdSlots<P, Item<K>>>(
+    arena: &mut Pairs<P, K, S>,
+    transcript: &mut Transcript,
+    call: &Call<'_>,
+    zero: K,
+) -> bool {
+    let line = call.line;
+    match call.verb {
+        "set" => {
+            let new = item(call.third, call.fourth, zero);
+            transcript.answer(line, &set(arena, call.pointer(), new));
+        }
+        "set_inx" => {
+            let new = item(call.second, call.third, zero);
+            transcript.answer(line, &set_inx(arena, call.index(), new));
+        }
+        "index_set" => {
+            let new = item(call.third, call.fourth, zero);
+            transcript.answer(line, &index_set(arena, call.pointer(), new));
+        }
+        "set_inx_unwrap" => {
+            let new = item(call.second, call.third, zero);
+            transcript.answer(line, &set_inx_unwrap(arena, call.index(), new));
+        }
+        "set_value" => transcript.answer(line, &set_value(arena, call.pointer(), call.third)),
+        _ => return false,
+    }
+    true
+}
+
+/// The item of a key and a value.
+pub fn item<K: Counting>(n: u64, v: u64, zero: K) -> Item<K> {
+    OrdPair::new(zero.with(n), v)
+}
+
+// Writes through `get_mut`, and answers what stood there.
+fn set<P: Ptr, K: Counting, S: OrdSlots<P, Item<K>>>(
+    arena: &mut Pairs<P, K, S>,
+    p: P,
+    item: Item<K>,
+) -> Option<Item<K>> {
+    match arena.get_mut(p) {
+        Some(own) => {
+            let was = *own;
+            *own = item;
+            Some(was)
+        }
+        None => None,
+    }
+}
+
+// Writes through `get_inx_mut`, and answers what stood there.
+fn set_inx<P: Ptr, K: Counting, S: OrdSlots<P, Item<K>>>(
+    arena: &mut Pairs<P, K, S>,
+    i: P::Inx,
+    item: Item<K>,
+) -> Option<Item<K>> {
+    match arena.get_inx_mut(i) {
+        Some(own) => {
+            let was = *own;
+            *own = item;
+            Some(was)
+        }
+        None => None,
+    }
+}
+
+// Writes by `arena[p]`, where the pointer is valid, and says whether it is.
+fn index_set<P: Ptr, K: Counting, S: OrdSlots<P, Item<K>>>(
+    arena: &mut Pairs<P, K, S>,
+    p: P,
+    item: Item<K>,
+) -> bool {
+    if !arena.contains(p) {
+        return false;
+    }
+    arena[p] = item;
+    true
+}
+
+// Writes at an index that is live, and says whether it is.
+fn set_inx_unwrap<P: Ptr, K: Counting, S: OrdSlots<P, Item<K>>>(
+    arena: &mut Pairs<P, K, S>,
+    i: P::Inx,
+    item: Item<K>,
+) -> bool {
+    if arena.get_inx(i).is_none() {
+        return false;
+    }
+    *arena.get_inx_mut_unwrap(i) = item;
+    true
+}
+
+// Writes the value of a pair alone, and answers the one that it had.
+fn set_value<P: Ptr, K: Counting, S: OrdSlots<P, Item<K>>>(
+    arena: &mut Pairs<P, K, S>,
+    p: P,
+    v: u64,
+) -> Option<u64> {
+    match arena.get_mut(p) {
+        Some(own) => {
+            let was = *own.v();
+            *own.v_mut() = v;
+            Some(was)
+        }
+        None => None,
+    }
+}
+
+// Takes so many items of a drain by index, and tells how many are left when it is let go.
+fn drain<P: Ptr, K: Counting, S: OrdSlots<P, Item<K>>>(
+    arena: &mut Pairs<P, K, S>,
+    transcript: &mut Transcript,
+    call: &Call<'_>,
+) {
+    let mut drain = arena.drain();
+    for _ in 0..call.first {
+        transcript.answer(call.line, &drain.next());
+    }
+    transcript.answer(call.line, &drain.len());
+}
+
+// Takes so many items of a drain along the list, and tells how many are left when it is let go.
+fn drain_ordered<P: Ptr, K: Counting, S: OrdSlots<P, Item<K>>>(
+    arena: &mut Pairs<P, K, S>,
+    transcript: &mut Transcript,
+    call: &Call<'_>,
+) {
+    let mut drain = arena.drain_ordered();
+    for _ in 0..call.first {
+        transcript.answer(call.line, &drain.next());
+    }
+    transcript.answer(call.line, &drain.size_hint());
+}

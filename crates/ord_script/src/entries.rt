@@ -1,0 +1,135 @@
+//! Insertions by an entry, of each kind, in each form.
+use crate::changes::item;
+use crate::items::{Counting, Item, Pairs};
+use crate::knots::Knots;
+use crate::searches::limit_from;
+use crate::work::{Limit, Since};
+use script::{Call, Transcript, index};
+use std::cmp::Ordering;
+use triple_arena::Ptr;
+use triple_arena_ord::{InsertKind, OrdEntryKind, OrdInsertKind, OrdInsertionError, OrdSlots};
+
+/// What an entry told, and the item that it replaced.
+pub type Entered<P, K> = Result<(OrdEntryKind<P>, Option<Item<K>>), OrdInsertionError>;
+
+/// Makes such a call, and says whether there is one of that name.
+pub fn enters<P: Ptr, K: Counting, S: OrdSlots<P, Item<K>>>(
+    arena: &mut Pairs<P, K, S>,
+    transcript: &mut Transcript,
+    call: &Call<'_>,
+    zero: K,
+) -> bool {
+    let (form, name) = call.verb.split_once(':').unwrap_or(("", ""));
+    let k = zero.with(call.first);
+    let new = item(call.first, call.second, zero);
+    let start = index(call.third);
+    let Some(kind) = kind::<P, K>(name, &k, start, call.fourth) else {
+        return false;
+    };
+    let limit = limit_of(arena, name, start, call.fourth);
+    let since = Since::now(zero);
+    let told = if call.fifth == 1 {
+        let_go(arena, form, kind)
+    } else {
+        enter(arena, form, kind, new)
+    };
+    let comparisons = since.count();
+    transcript.answer(call.line, &(told, limit.held(comparisons, comparisons)));
+    true
+}
+
+/// The kind of this name, if there is one: by a key, from an index with a number of comparisons, or at an index.
+pub fn kind<'k, P: Ptr, K: Counting>(
+    name: &str,
+    k: &'k K,
+    i: P::Inx,
+    num: u64,
+) -> Option<OrdInsertKind<P, &'k K>> {
+    let num = num as usize;
+    match name {
+        "empty" => Some(InsertKind::Empty),
+        "normal" => Some(InsertKind::Normal(k)),
+        "nonhereditary" => Some(InsertKind::Nonhereditary(k)),
+        "linear" => Some(InsertKind::Linear { p_init: i, num, k }),
+        "nonhereditary_linear" => Some(InsertKind::NonhereditaryLinear { p_init: i, num, k }),
+        "manual_less" => Some(InsertKind::Manual {
+            p_target: i,
+            direction: Ordering::Less,
+        }),
+        "manual_equal" => Some(InsertKind::Manual {
+            p_target: i,
+            direction: Ordering::Equal,
+        }),
+        "manual_greater" => Some(InsertKind::Manual {
+            p_target: i,
+            direction: Ordering::Greater,
+        }),
+        _ => None,
+    }
+}
+
+/// How many comparisons an entry of a kind may make.
+pub fn limit_of<P: Ptr, A: Knots<P>>(arena: &A, name: &str, start: P::Inx, num: u64) -> Limit {
+    match name {
+        "insert" | "normal" | "nonhereditary" => Limit::from_root(arena.size()),
+        "linear" | "nonhereditary_linear" => limit_from(arena, start, num),
+        _ => Limit::none(),
+    }
+}
+
+/// Puts an item in by an entry of this form.
+pub fn enter<P: Ptr, K: Counting, S: OrdSlots<P, Item<K>>>(
+    arena: &mut Pairs<P, K, S>,
+    form: &str,
+    kind: OrdInsertKind<P, &K>,
+    item: Item<K>,
+) -> Entered<P, K> {
+    match form {
+        "entry_insert" => enter_growing(arena, kind, item),
+        "entry_insert_reallocating" => enter_reallocating(arena, kind, item),
+        _ => enter_within_capacity(arena, kind, item),
+    }
+}
+
+fn enter_growing<P: Ptr, K: Counting, S: OrdSlots<P, Item<K>>>(
+    arena: &mut Pairs<P, K, S>,
+    kind: OrdInsertKind<P, &K>,
+    item: Item<K>,
+) -> Entered<P, K> {
+    let entry = arena.entry_insert(kind)?;
+    let told = entry.ptr();
+    Ok((told, entry.insert(item)))
+}
+
+fn enter_reallocating<P: Ptr, K: Counting, S: OrdSlots<P, Item<K>>>(
+    arena: &mut Pairs<P, K, S>,
+    kind: OrdInsertKind<P, &K>,
+    item: Item<K>,
+) -> Entered<P, K> {
+    let entry = arena.entry_insert_reallocating(kind)?;
+    let told = entry.ptr();
+    Ok((told, entry.insert(item)))
+}
+
+fn enter_within_capacity<P: Ptr, K: Counting, S: OrdSlots<P, Item<K>>>(
+    arena: &mut Pairs<P, K, S>,
+    kind: OrdInsertKind<P, &K>,
+    item: Item<K>,
+) -> Entered<P, K> {
+    let entry = arena.entry_insert_within_capacity(kind)?;
+    let told = entry.ptr();
+    Ok((told, entry.insert(item)))
+}
+
+// What an entry of this form tells, which is let go then.
+fn let_go<P: Ptr, K: Counting, S: OrdSlots<P, Item<K>>>(
+    arena: &mut Pairs<P, K, S>,
+    form: &str,
+    kind: OrdInsertKind<P, &K>,
+) -> Entered<P, K> {
+    match form {
+        "entry_insert" => Ok((arena.entry_insert(kind)?.ptr(), None)),
+        "entry_insert_reallocating" => Ok((arena.entry_insert_reallocating(kind)?.ptr(), None)),
+        _ => Ok((arena.entry_insert_within_capacity(kind)?.ptr(), None)),
+    }
+}

@@ -1,0 +1,209 @@
+//! Many calls in a row, of whose comparisons one answer tells the most.
+use crate::changes::item;
+use crate::entries::{enter, kind, limit_of};
+use crate::items::{Counting, Item, Pairs};
+use crate::knots::Knots;
+use crate::searches::{Place, place_of, search};
+use crate::work::{Limit, Since, Work};
+use script::{Call, Transcript, index, pointer};
+use triple_arena::{Ptr, PtrCore};
+use triple_arena_ord::OrdSlots;
+
+// The keys of a script go up to this prime: the products of all lesser numbers with one of them, modulo the prime, are all
+// of them again in another order.
+const PRIME: u64 = 1009;
+
+/// Makes such calls, and says whether there are some of that name.
+pub fn grows<P: Ptr, K: Counting, S: OrdSlots<P, Item<K>>>(
+    arena: &mut Pairs<P, K, S>,
+    transcript: &mut Transcript,
+    call: &Call<'_>,
+    zero: K,
+) -> bool {
+    let (what, name) = call.verb.split_once(':').unwrap_or((call.verb, ""));
+    match what {
+        "grow" => {
+            let work = grow(arena, name, call, zero);
+            transcript.answer(call.line, &(arena.len(), work));
+        }
+        "remove_odd" => {
+            remove_odd(arena, call, zero);
+            transcript.answer(call.line, &arena.len());
+        }
+        "each" => {
+            let tally = each(arena, name, call, zero);
+            transcript.answer(call.line, &tally);
+        }
+        _ => return false,
+    }
+    true
+}
+
+// Puts the keys up to the second number in, in the order of their products with the first one: by `insert`, or by an entry of
+// a kind, whose search begins at an index, or at the entry that was put in before it where that is 0.
+fn grow<P: Ptr, K: Counting, S: OrdSlots<P, Item<K>>>(
+    arena: &mut Pairs<P, K, S>,
+    name: &str,
+    call: &Call<'_>,
+    zero: K,
+) -> Work {
+    let mut worst = Work::Nothing;
+    let mut start = index(call.fourth);
+    for i in 1..PRIME {
+        let n = i.wrapping_mul(call.first) % PRIME;
+        if n <= call.second {
+            let (p, work) = put(
+                arena,
+                name,
+                item(n, n.wrapping_mul(2), zero),
+                start,
+                call.third,
+            );
+            worst = worse(worst, work);
+            if call.fourth == 0 {
+                start = p;
+            }
+        }
+    }
+    worst
+}
+
+// Puts one item in, and answers its index.
+fn put<P: Ptr, K: Counting, S: OrdSlots<P, Item<K>>>(
+    arena: &mut Pairs<P, K, S>,
+    name: &str,
+    item: Item<K>,
+    start: P::Inx,
+    num: u64,
+) -> (P::Inx, Work) {
+    let limit = limit_of(arena, name, start, num);
+    let k = *item.k();
+    let since = Since::now(k);
+    let i = match kind::<P, K>(name, &k, start, num) {
+        Some(kind) => match enter(arena, "entry_insert", kind, item) {
+            Ok((told, _)) => told.any().inx(),
+            Err(_) => start,
+        },
+        None => insert(arena, item, start),
+    };
+    let comparisons = since.count();
+    (i, limit.held(comparisons, comparisons))
+}
+
+fn insert<P: Ptr, K: Counting, S: OrdSlots<P, Item<K>>>(
+    arena: &mut Pairs<P, K, S>,
+    item: Item<K>,
+    start: P::Inx,
+) -> P::Inx {
+    match arena.insert(item) {
+        Ok((p, _)) => p.inx(),
+        Err(_) => start,
+    }
+}
+
+// The one of two that tells more: the first that is past its limit, or the greater number along the list.
+fn worse(first: Work, second: Work) -> Work {
+    match (first, second) {
+        (Work::Past { .. }, _) => first,
+        (_, Work::Past { .. }) => second,
+        (Work::Within, _) => first,
+        (_, Work::Within) => second,
+        (Work::Along(n), Work::Along(m)) => Work::Along(n.max(m)),
+        (Work::Nothing, _) => second,
+        (_, Work::Nothing) => first,
+    }
+}
+
+// Removes each odd key up to the first number.
+fn remove_odd<P: Ptr, K: Counting, S: OrdSlots<P, Item<K>>>(
+    arena: &mut Pairs<P, K, S>,
+    call: &Call<'_>,
+    zero: K,
+) {
+    for n in 0..call.first.saturating_add(1) {
+        if n % 2 == 1 {
+            let k = zero.with(n);
+            remove_key(arena, &k);
+        }
+    }
+}
+
+fn remove_key<P: Ptr, K: Counting, S: OrdSlots<P, Item<K>>>(arena: &mut Pairs<P, K, S>, k: &K) {
+    if let Some(p) = arena.find_key(k) {
+        drop(arena.remove(p));
+    }
+}
+
+// How many searches found the key, its gap, nothing, or what is wrong, and their comparisons.
+#[derive(Clone, Copy, Debug)]
+struct Tally {
+    equal: u64,
+    beside: u64,
+    nowhere: u64,
+    wrong: u64,
+    work: Work,
+}
+
+// The search of a name for each key from the first number to the second, with a start.
+fn each<P: Ptr, K: Counting, S: OrdSlots<P, Item<K>>>(
+    arena: &Pairs<P, K, S>,
+    name: &str,
+    call: &Call<'_>,
+    zero: K,
+) -> Tally {
+    let mut tally = Tally {
+        equal: 0,
+        beside: 0,
+        nowhere: 0,
+        wrong: 0,
+        work: Work::Nothing,
+    };
+    let start = pointer(call.fourth, call.fifth);
+    for n in call.first..call.second.saturating_add(1) {
+        let k = zero.with(n);
+        if let Some(found) = search(arena, name, &k, call.third, start) {
+            let work = found.work(arena, name, call.third, start);
+            tally.work = worse(tally.work, work);
+            tally.counts(arena, n, place_of(arena, found.place));
+        }
+    }
+    tally
+}
+
+impl Tally {
+    fn counts<P: Ptr, A: Knots<P>>(&mut self, arena: &A, n: u64, place: Place<P>) {
+        match place {
+            Place::At(p) if key_of(arena, Some(p)) == Some(n) => {
+                self.equal = self.equal.saturating_add(1);
+            }
+            Place::Between(p, q) if parts(key_of(arena, p), n, key_of(arena, q)) => {
+                self.beside = self.beside.saturating_add(1);
+            }
+            Place::Nowhere => self.nowhere = self.nowhere.saturating_add(1),
+            _ => self.wrong = self.wrong.saturating_add(1),
+        }
+    }
+}
+
+// Whether a key is greater than the one before it, and less than the one after it, as far as there are such.
+fn parts(before: Option<u64>, n: u64, after: Option<u64>) -> bool {
+    let follows = match before {
+        Some(before) => before < n,
+        None => true,
+    };
+    let goes_before = match after {
+        Some(after) => n < after,
+        None => true,
+    };
+    follows && goes_before
+}
+
+fn key_of<P: Ptr, A: Knots<P>>(arena: &A, p: Option<P>) -> Option<u64> {
+    match p {
+        Some(p) => match arena.knot(p.inx()) {
+            Some(knot) => Some(knot.key),
+            None => None,
+        },
+        None => None,
+    }
+}
