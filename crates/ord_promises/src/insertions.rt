@@ -1,7 +1,7 @@
 //! Insertions: where each puts its item, what it refuses, and that the tree keeps its rules and has the list as its walk.
 ghost use Rattle.std.specs.Prelude.{◌≡◌, ℕ, Some, IsSome, IfOk};
 ghost use Rattle.std.specs.Borrow.{sem, RestsIfErr};
-ghost use Rattle.triple_arena_ord.specs.Inserted.{IsInsertedAt, IsInserted, within_room, growing_room, room_made, under};
+ghost use Rattle.triple_arena_ord.specs.Inserted.{IsInsertedAt, IsKeyInserted, within_room, growing_room, room_made, under};
 ghost use Rattle.triple_arena_ord.specs.InsertEntry.{entry_arena, entry_lender, entry_place, IsReady, IsOrdAnswer};
 ghost use Rattle.triple_arena_ord.specs.Placing.{Meets, IsPlaceFor};
 ghost use Rattle.triple_arena_ord.specs.Ordered.{IsOrdered, IsAscending, entry_in, size_in};
@@ -19,7 +19,7 @@ pub fn insert_within_capacity<P: PtrCore, T: SimpleOrdItem + Drop, S: OrdSlots<P
     arena: &mut SimpleOrdArena<P, T, S>,
     t: T,
 ) -> Result<(P, Option<T>), OrdInsertionError>
-    ensures inserted { IsInserted P.Inx.number T.Key.cmp T.key_of P.index P.generation
+    ensures inserted { IsKeyInserted P.Inx.number T.Key.cmp T.key_of P.index P.generation
         (within_room (size_in arena.old) arena.old.chains.room) t result arena.old arena.new }
     ensures ascending { IsAscending P.Inx.number T.Key.cmp T.key_of arena.old → IsAscending P.Inx.number T.Key.cmp T.key_of arena.new }
     ensures counter { arena.new.chains.counter ≡ arena.old.chains.counter }

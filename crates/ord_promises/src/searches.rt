@@ -1,6 +1,6 @@
 //! Searches by key: what each finds, and how often it compares.
 ghost use Rattle.std.specs.Prelude.{◌≡◌, ◌+◌, ◌≤◌, None, IsSome};
-ghost use Rattle.counted_search.specs.Searches.{fair};
+ghost use Rattle.counted_search.specs.Searches.{most_comparisons};
 ghost use Rattle.triple_arena.specs.Entries.{value_if};
 ghost use Rattle.rank_tree.specs.Search.{asked_down};
 ghost use Rattle.triple_arena_chain.specs.Chains.{On};
@@ -20,7 +20,7 @@ pub fn find_key_counted<P: PtrCore, T: SimpleOrdItem + Drop, S: OrdSlots<P, T>>(
     ensures found { IsFound P.index P.generation (asked_at T.Key.cmp T.key_of k.now arena.now)
         (IsAscending P.Inx.number T.Key.cmp T.key_of arena.now) result arena.now }
     ensures ticks { probes.new ≡ probes.old + asked_down (asked_at T.Key.cmp T.key_of k.now arena.now) (tree_in P.Inx.number arena.now) }
-    ensures bound { probes.new ≤ probes.old + fair (size_in arena.now) }
+    ensures bound { probes.new ≤ probes.old + most_comparisons (size_in arena.now) }
 {
     let found = arena.find_key_counted(k, probes);
     found
@@ -37,7 +37,7 @@ pub fn find_key_linear_counted<P: PtrCore, T: SimpleOrdItem + Drop, S: OrdSlots<
     ensures found { IsFound P.index P.generation (asked_at T.Key.cmp T.key_of k.now arena.now)
         (IsAscending P.Inx.number T.Key.cmp T.key_of arena.now) result arena.now }
     ensures rises { probes.old ≤ probes.new }
-    ensures bound { probes.new ≤ probes.old + (num + fair (size_in arena.now)) }
+    ensures bound { probes.new ≤ probes.old + (num + most_comparisons (size_in arena.now)) }
     ensures gone { value_if (P.generation p_init) (entry_in arena.now (P.index p_init)) ≡ None
         → probes.new ≡ probes.old + asked_down (asked_at T.Key.cmp T.key_of k.now arena.now) (tree_in P.Inx.number arena.now) }
     ensures counted { IsSome (value_if (P.generation p_init) (entry_in arena.now (P.index p_init))) → (on : On (order_in P.Inx.number arena.now) (P.index p_init))

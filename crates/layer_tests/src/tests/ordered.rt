@@ -119,7 +119,14 @@ fn kinds_are_shown_and_compared(rt: HostRuntime) {
     );
     assert!(rt; kinds[1] == InsertKind::Normal(5) && kinds[1] != InsertKind::Normal(6));
     assert!(rt; kinds[1] != kinds[2] && kinds[0] != behind);
-    assert!(rt; kinds[3] != InsertKind::Linear { p_init, num: 6, k: 5 });
+    assert!(rt;
+        kinds[3]
+            != InsertKind::Linear {
+                p_init,
+                num: 6,
+                k: 5
+            }
+    );
     let new = OrdEntryKind::New(P0::invalid());
     shows(&rt, &new, "New(P0[ffffffffffffffff](1))");
     shows(
@@ -143,7 +150,8 @@ fn three(rt: &impl Abort) -> Few<P0, OrdPair<u64, u64>> {
 #[test]
 fn long_texts(rt: HostRuntime) {
     let few = three(&rt);
-    let text = "{\n    P0[3](2): (\n        10,\n        1,\n    ),\n    P0[2](2): (\n        20,\n        1,\n    ),\n    P0[1](2): (\n        30,\n        1,\n    ),\n}";
+    let text =
+        "{\n    P0[3](2): (\n        10,\n        1,\n    ),\n    P0[2](2): (\n        20,\n        1,\n    ),\n    P0[1](2): (\n        30,\n        1,\n    ),\n}";
     match format!(in rt.alloc(); "{few:#?}") {
         Ok(shown) => assert_eq!(rt; shown.as_str(), text),
         Err(_) => panic!(rt; "no memory for a text"),
