@@ -26,7 +26,7 @@ pub fn enters<P: Ptr, K: Counting, S: OrdSlots<P, Item<K>>>(
     let Some(kind) = kind::<P, K>(name, &k, start, call.fourth) else {
         return false;
     };
-    let limit = limit_of(arena, name, start, call.fourth);
+    let limit = limit_of(arena, name, start, call.fourth, arena.ascends());
     let since = Since::now(zero);
     let told = if call.fifth == 1 {
         let_go(arena, form, kind)
@@ -69,10 +69,16 @@ pub fn kind<'k, P: Ptr, K: Counting>(
 }
 
 /// How many comparisons an entry of a kind may make.
-pub fn limit_of<P: Ptr, A: Knots<P>>(arena: &A, name: &str, start: P::Inx, num: u64) -> Limit {
+pub fn limit_of<P: Ptr, A: Knots<P>>(
+    arena: &A,
+    name: &str,
+    start: P::Inx,
+    num: u64,
+    ascends: bool,
+) -> Limit {
     match name {
         "insert" | "normal" | "nonhereditary" => Limit::from_root(arena.size()),
-        "linear" | "nonhereditary_linear" => limit_from(arena, start, num),
+        "linear" | "nonhereditary_linear" => limit_from(arena, start, num, ascends),
         _ => Limit::none(),
     }
 }

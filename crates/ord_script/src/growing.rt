@@ -47,6 +47,8 @@ fn grow<P: Ptr, K: Counting, S: OrdSlots<P, Item<K>>>(
     call: &Call<'_>,
     zero: K,
 ) -> Work {
+    // Where the keys ascend, they still do after each insertion by key.
+    let ascends = arena.ascends();
     let mut worst = Work::Nothing;
     let mut start = index(call.fourth);
     for i in 1..PRIME {
@@ -58,6 +60,7 @@ fn grow<P: Ptr, K: Counting, S: OrdSlots<P, Item<K>>>(
                 item(n, n.wrapping_mul(2), zero),
                 start,
                 call.third,
+                ascends,
             );
             worst = worse(worst, work);
             if call.fourth == 0 {
@@ -75,8 +78,9 @@ fn put<P: Ptr, K: Counting, S: OrdSlots<P, Item<K>>>(
     item: Item<K>,
     start: P::Inx,
     num: u64,
+    ascends: bool,
 ) -> (P::Inx, Work) {
-    let limit = limit_of(arena, name, start, num);
+    let limit = limit_of(arena, name, start, num, ascends);
     let k = *item.k();
     let since = Since::now(k);
     let i = match kind::<P, K>(name, &k, start, num) {
@@ -159,12 +163,13 @@ fn each<P: Ptr, K: Counting, S: OrdSlots<P, Item<K>>>(
         work: Work::Nothing,
     };
     let start = pointer(call.fourth, call.fifth);
+    let ascends = arena.ascends();
     for n in call.first..call.second.saturating_add(1) {
         let k = zero.with(n);
         if let Some(found) = search(arena, name, &k, call.third, start) {
-            let work = found.work(arena, name, call.third, start);
+            let work = found.work(arena, name, call.third, start, ascends);
             tally.work = worse(tally.work, work);
-            tally.counts(arena, n, place_of(arena, found.place));
+            tally.counts(arena, n, place_of(arena, found.place, ascends));
         }
     }
     tally

@@ -39,8 +39,16 @@ impl<P: Ptr> Found<P> {
     }
 
     /// What is told of its comparisons.
-    pub fn work<A: Knots<P>>(&self, arena: &A, verb: &str, num: u64, start: P) -> Work {
-        let limit = limit_of(arena, verb, num, start, self.place.is_some());
+    pub fn work<A: Knots<P>>(
+        &self,
+        arena: &A,
+        verb: &str,
+        num: u64,
+        start: P,
+        ascends: bool,
+    ) -> Work {
+        let is_exact = ascends && self.place.is_some();
+        let limit = limit_of(arena, verb, num, start, is_exact);
         limit.held(self.ticks, self.comparisons)
     }
 }
@@ -73,8 +81,9 @@ pub fn searches<P: Ptr, K: Counting, S: OrdSlots<P, Item<K>>>(
     let start = pointer(call.third, call.fourth);
     match search(arena, call.verb, &k, call.second, start) {
         Some(found) => {
-            let told = place_of(arena, found.place);
-            let work = found.work(arena, call.verb, call.second, start);
+            let ascends = arena.ascends();
+            let told = place_of(arena, found.place, ascends);
+            let work = found.work(arena, call.verb, call.second, start, ascends);
             transcript.answer(call.line, &(told, work));
             true
         }
@@ -287,37 +296,46 @@ fn limit_of<P: Ptr, A: Knots<P>>(
     verb: &str,
     num: u64,
     start: P,
-    is_found: bool,
+    is_exact: bool,
 ) -> Limit {
     let is_live = arena.ptr(start.inx()) == Some(start);
     match verb {
         "find_key_linear" | "find_key_linear_counted" if is_live => Limit {
             along: num,
             most: most(arena.size()),
-            is_exact: is_found && arena.ascends(),
+            is_exact,
         },
         "find_similar_key_linear" | "find_similar_key_linear_counted" => {
-            limit_from(arena, start.inx(), num)
+            limit_from(arena, start.inx(), num, is_exact)
         }
         _ => Limit::from_root(arena.size()),
     }
 }
 
 /// The same of one that goes along the list from an index until it comes to the place.
-pub fn limit_from<P: Ptr, A: Knots<P>>(arena: &A, start: P::Inx, num: u64) -> Limit {
+pub fn limit_from<P: Ptr, A: Knots<P>>(
+    arena: &A,
+    start: P::Inx,
+    num: u64,
+    is_exact: bool,
+) -> Limit {
     if arena.ptr(start).is_none() {
         return Limit::from_root(arena.size());
     }
     Limit {
         along: num,
         most: most(arena.size()),
-        is_exact: arena.ascends(),
+        is_exact,
     }
 }
 
 /// What is told of a place.
-pub fn place_of<P: Ptr, A: Knots<P>>(arena: &A, place: Option<(P, Ordering)>) -> Place<P> {
-    if !arena.ascends() {
+pub fn place_of<P: Ptr, A: Knots<P>>(
+    arena: &A,
+    place: Option<(P, Ordering)>,
+    ascends: bool,
+) -> Place<P> {
+    if !ascends {
         return anywhere(arena, place);
     }
     match place {
