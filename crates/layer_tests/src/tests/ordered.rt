@@ -13,8 +13,8 @@ use std::hash::{DefaultHasher, Hash, Hasher};
 use std::process::Abort;
 use std::test::Fail;
 use triple_arena::{
-    ArenaInsertTrait, ArenaSlot, ArrayArena, InvalidationOption, NonZeroInxArray, NonZeroInxVec,
-    P0, P1, PtrCore, Recast,
+    ArenaInsertTrait, ArenaSlot, ArenaTrait, ArrayArena, InvalidationOption, NonZeroInxArray,
+    NonZeroInxVec, P0, P1, PtrCore, Recast,
 };
 use triple_arena_chain::LinkNoGen;
 use triple_arena_ord::{
