@@ -165,9 +165,6 @@ fn bounds_of_iterators(rt: HostRuntime) {
     assert!(rt; few.iter().size_hint() == (3, Some(3)));
     assert!(rt; few.vals().size_hint() == (3, Some(3)));
     assert!(rt; few.ptrs().size_hint() == (3, Some(3)));
-    let mut iter = few.iter();
-    assert!(rt; iter.next().is_some());
-    assert!(rt; iter.size_hint() == (2, Some(2)));
 }
 
 #[test]
