@@ -1,14 +1,12 @@
 //! What is promised of the chains' calls, said again of callers, so that wrong bodies can be tried here.
 #![tactic(auto)]
 
-mod drains;
 mod insertions;
 mod links;
 mod moves;
 mod removals;
 mod walks;
 
-pub use drains::remove_chain;
 pub use insertions::{insert, insert_reallocating, insert_within_capacity, meets};
 pub use links::{are_neighbors, break_next, break_prev, connect, exchange_next, get_link};
 pub use moves::{clone_from, clone_from_with, compress_with, exchange_arena};
