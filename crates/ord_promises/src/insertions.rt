@@ -50,10 +50,10 @@ pub fn insert_inx_manual<P: PtrCore, T: Drop, S: OrdSlots<P, T>>(
 }
 
 /// A place for one item more, where the kind says.
-pub fn entry_insert_within_capacity<P: PtrCore, T: SimpleOrdItem + Drop, S: OrdSlots<P, T>>(
-    arena: &mut SimpleOrdArena<P, T, S>,
+pub fn entry_insert_within_capacity<'a, P: PtrCore, T: SimpleOrdItem + Drop, S: OrdSlots<P, T>>(
+    arena: &'a mut SimpleOrdArena<P, T, S>,
     kind: OrdInsertKind<P, &T::Key>,
-) -> Result<SimpleOrdArenaInsertEntry<'_, P, T, S>, OrdInsertionError>
+) -> Result<SimpleOrdArenaInsertEntry<'a, P, T, S>, OrdInsertionError>
     ensures answer { IsOrdAnswer (Meets P.Inx.number kind.entry arena.old)
         (IsPlaceFor P.Inx.number T.Key.cmp T.key_of kind.entry arena.old) (entry_place P.Inx.number)
         (within_room (size_in arena.old) arena.old.chains.room) result }
