@@ -1,4 +1,4 @@
-use Rattle.triple_arena_ord.specs.IndexedDrains.{DrainCanStep}
+use Rattle.triple_arena_ord.specs.IndexDrains.{DrainCanStep}
 use Rattle.ord_script.proofs.changes.drain.Given as goal
 
 abbrev pub invariant-loop : goal.invariant-loop
