@@ -430,6 +430,7 @@ class Random:
         refuses = stack in ('heap', 'limited', 'boxed', 'renaming') and self.random.random() < 0.5
         heap = Heap(0)
         arenas = make(kind, stack, heap, room, more)
+        made = heap.requests
         calls = []
         for _ in range(count):
             if isinstance(arenas, Renaming):
@@ -440,7 +441,8 @@ class Random:
                 whom, verb, words = self.call(arenas, self.random.choice('aaaabddde'), top, refuses)
             calls.append(' '.join([whom, verb, *map(str, words)]))
             arenas.answers(*words_of(calls[-1]))
-        first = self.random.randrange(1, heap.requests + 2) if refuses else 0
+        # A request of the arenas' making would leave no call to play.
+        first = self.random.randrange(made + 1, heap.requests + 2) if refuses else 0
         last = first + 2 if refuses else 0
         return '\n'.join([f'{kind} {stack} {room} {first} {last} {more} {end}'] + calls)
 
