@@ -459,6 +459,8 @@ def main(words):
         for section in sys.stdin.read().rstrip('\n').split('\n\n'):
             print('\n'.join(play(section)))
         return
+    if len(words) != 2:
+        sys.exit('usage: arena.py SEED LINES | answer')
     sections = random_sections(int(words[0]), int(words[1]))
     print('\n\n'.join(sections))
     print('\n'.join('\n'.join(play(section)) for section in sections), file=sys.stderr)

@@ -2,7 +2,7 @@
 """The rules of chains again, in plain Python: random sections for chain_script, and what it must answer.
 
 usage: chains.py SEED LINES >stdin 2>stdout          random sections, some LINES lines in all
-       chains.py answers <sections >stdout           the answers to sections that are given
+       chains.py answer <stdin >stdout               what must be answered to these sections
 
 Chains are Python lists, each with a mark for a ring. It knows nothing of how the crates keep their links: interlinks are
 read off the lists."""
@@ -725,7 +725,9 @@ def write_random(seed, lines):
 
 
 if __name__ == '__main__':
-    if sys.argv[1] == 'answers':
+    if sys.argv[1:] == ['answer']:
         print('\n'.join('\n'.join(answers_to(it)) for it in sys.stdin.read().rstrip('\n').split('\n\n')))
-    else:
+    elif len(sys.argv) == 3:
         write_random(int(sys.argv[1]), int(sys.argv[2]))
+    else:
+        sys.exit('usage: chains.py SEED LINES | answer')

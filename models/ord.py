@@ -2,7 +2,7 @@
 """What ord_script must answer, by a model that knows nothing of the library: one list of entries, a counter and the free slots.
 
 usage: ord.py SEED LINES >stdin 2>stdout    writes random sections, and what must be answered
-       ord.py --answer FILE                 writes what must be answered to the sections of a file
+       ord.py answer <stdin >stdout        writes what must be answered to these sections
 
 What the rules leave open (which of two neighbors a search answers, which of several equal keys, the tree's shape) the script
 tells in a form that does not hang on it, and where it cannot, the model refuses the line.
@@ -596,10 +596,11 @@ def section(r, kind, stack, lines):
 
 
 def main():
-    if sys.argv[1] == '--answer':
-        with open(sys.argv[2], encoding='utf-8') as script:
-            print('\n'.join(answers(script.read())))
+    if sys.argv[1:] == ['answer']:
+        print('\n'.join(answers(sys.stdin.read())))
         return
+    if len(sys.argv) != 3:
+        sys.exit('usage: ord.py SEED LINES | answer')
     r = random.Random(int(sys.argv[1]))
     each, left = [], int(sys.argv[2])
     while left > 0:
