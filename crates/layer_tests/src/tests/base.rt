@@ -156,6 +156,16 @@ fn is_within(rt: &impl Abort, bounds: (usize, Option<usize>), count: usize) {
     assert!(rt; most.is_none() || count <= most.unwrap_or(0));
 }
 
+// The bounds of each iterator over an arena of two entries.
+fn bounds<P: PtrCore, S: ArenaSlots<P, u64>>(rt: &impl Abort, arena: &Arena<P, u64, S>) {
+    let entries = arena.iter();
+    is_within(rt, entries.size_hint(), 2);
+    let pointers = arena.ptrs();
+    is_within(rt, pointers.size_hint(), 2);
+    let values = arena.vals();
+    is_within(rt, values.size_hint(), 2);
+}
+
 // Four entries, of which the second and the fourth stay, are gone over by each iterator.
 fn goes_over<P: PtrCore, S: ArenaSlots<P, u64>>(
     rt: &impl Abort,
@@ -167,9 +177,7 @@ fn goes_over<P: PtrCore, S: ArenaSlots<P, u64>>(
     arena.insert(40)?;
     let _ = arena.remove(first);
     let _ = arena.remove(third);
-    is_within(rt, arena.iter().size_hint(), 2);
-    is_within(rt, arena.ptrs().size_hint(), 2);
-    is_within(rt, arena.vals().size_hint(), 2);
+    bounds(rt, &arena);
     gives(rt, arena);
     Ok(())
 }
