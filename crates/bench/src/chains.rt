@@ -114,24 +114,21 @@ fn iterate(alloc: Global, steps: usize) -> Result<u64, ChainInsertionError> {
     let mut sequence = Sequence::new();
     let (chains, first, _) = filled(alloc, &mut sequence)?;
     let mut sum = 0u64;
-    let Some(mut links) = chains.iter_chain(first) else {
-        return Ok(sum);
-    };
-    for _ in 0..steps {
-        let link = match links.next() {
-            Some((_, link)) => link,
-            None => {
-                let Some(again) = chains.iter_chain(first) else {
-                    break;
-                };
-                links = again;
-                let Some((_, link)) = links.next() else {
-                    break;
-                };
-                link
-            }
+    let mut left = steps;
+    for _ in 0..steps / LEN + 1 {
+        let Some(mut links) = chains.iter_chain(first) else {
+            break;
         };
-        sum = with(sum, link.t);
+        for _ in 0..LEN {
+            if left == 0 {
+                break;
+            }
+            left -= 1;
+            let Some((_, link)) = links.next() else {
+                break;
+            };
+            sum = with(sum, link.t);
+        }
     }
     Ok(sum)
 }
