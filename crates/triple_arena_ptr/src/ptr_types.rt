@@ -34,7 +34,8 @@ impl PtrKind for Q2Kind {
     }
 }
 
-/// A pointer with a `u8` index and a `u8` generation.
+/// A pointer with a `u8` index and a `u8` generation. Its generations soon start again: an arena's counter goes from 2
+/// to 255, and then from 2 on again.
 pub type P1 = Pointer<NonZeroU8, NonZeroU8, P1Kind>;
 
 /// The kind of `P1`.
@@ -94,7 +95,7 @@ impl PtrKind for P4Kind {
     }
 }
 
-/// A pointer with a `usize` index alone.
+/// A pointer with a `usize` index alone. It has no generation, so it finds whatever stands at its index.
 pub type P5 = Pointer<NonZeroUsize, (), P5Kind>;
 
 /// The kind of `P5`.
