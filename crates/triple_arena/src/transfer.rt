@@ -56,7 +56,7 @@ pub trait ArenaTransferTrait<P: PtrCore, T: Drop>: ArenaTrait<P, T> {
 
     /// Drops what the arena holds, and moves the entries of `source` to the indexes from 1 on, in the order of their
     /// indexes there. Each gets `new_generation` and what `map` makes of its value; an arena with a counter has
-    /// `new_generation` there too, and no free index. So a pointer that was kept may find one of the new entries.
+    /// `new_generation` there too, and no free index.
     ///
     /// `map` is called once for each entry, in that order, with the pointer that it had in `source`, the value, and the
     /// pointer that it gets. `source` is left with no entry and no slot in the room that it had, and its counter, where

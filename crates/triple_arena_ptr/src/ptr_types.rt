@@ -34,8 +34,7 @@ impl PtrKind for Q2Kind {
     }
 }
 
-/// A pointer with a `u8` index and a `u8` generation. Its generations soon start again: an arena's counter goes from 2
-/// to 255, and then from 2 on again.
+/// A pointer with a `u8` index and a `u8` generation.
 pub type P1 = Pointer<NonZeroU8, NonZeroU8, P1Kind>;
 
 /// The kind of `P1`.
@@ -95,7 +94,7 @@ impl PtrKind for P4Kind {
     }
 }
 
-/// A pointer with a `usize` index alone. It has no generation, so it finds whatever stands at its index.
+/// A pointer with a `usize` index alone.
 pub type P5 = Pointer<NonZeroUsize, (), P5Kind>;
 
 /// The kind of `P5`.

@@ -17,8 +17,7 @@ use triple_arena_ptr::{InvalidationOption, PtrCore};
 /// Takes the entries out of an arena, in the order of the indexes.
 ///
 /// Each item is one removal: the counter steps, and the item is `GenerationOverflow` where that step started the
-/// generations again. Dropped, at whatever item, it takes those that are left in the same way, and leaves no slot. A
-/// caller is told so where the drain ends its life by itself; an explicit `drop` of it tells nothing.
+/// generations again. Dropped, at whatever item, it takes those that are left in the same way, and leaves no slot.
 pub struct Drain<'a, P: PtrCore, T: Drop, S: ArenaSlots<P, T>> {
     arena: &'a mut Arena<P, T, S>,
     // No index up to this one is live.
