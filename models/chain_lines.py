@@ -53,6 +53,8 @@ class Writer:
 
     def call(self, m):
         r = self.r
+        if r.random() < 0.05 and m.canonical_layout() is not None:
+            return f'compress_canonical {r.randrange(2)}'
         x = r.random()
         if x < 0.35:
             return self.insertion(m)

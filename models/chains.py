@@ -367,6 +367,8 @@ class Chains(Arena):
             return [self.step('()')]
         if verb in ('compress', 'compress_with'):
             return self.compress(x == 1, verb == 'compress_with')
+        if verb == 'compress_canonical':
+            return self.compress_canonical(x == 1)
         if verb == 'drain':
             return self.drain(x)
         if verb in ('inc_generation', 'set_generation'):
@@ -396,6 +398,28 @@ class Chains(Arena):
         self.become({new[i]: (self.counter, old[i][1] + maps) for i in k}, self.counter)
         self.lists = [(is_ring, [new[i] for i in own]) for is_ring, own in self.lists]
         return [f'({self.name(i, old[i][0])}, {old[i][1]}, {self.at(new[i])})' for i in k if maps] + [told]
+
+    def canonical_layout(self):
+        """The new indexes, where the rules leave one layout alone: the one that stands, or that of a single list."""
+        places = [i for is_ring, own in sorted(self.lists, key=lambda it: min(it[1]))
+                  for i in (own[own.index(min(own)):] + own[:own.index(min(own))] if is_ring else own)]
+        if places == list(range(1, len(places) + 1)):
+            return {i: i for i in places}
+        if len(self.lists) == 1 and not self.lists[0][0]:
+            return {i: n + 1 for n, i in enumerate(self.lists[0][1])}
+        return None
+
+    def compress_canonical(self, resets):
+        new, old, told = self.canonical_layout(), self.entries, 'Success(())'
+        if new is None:
+            raise ValueError('the rules leave the layout open')
+        if resets:
+            self.counter = 2
+        else:
+            told = self.step('()')
+        self.become({new[i]: (self.counter, value) for i, (_, value) in old.items()}, self.counter)
+        self.lists = [(is_ring, [new[i] for i in own]) for is_ring, own in self.lists]
+        return [told]
 
     def drain(self, count):
         told = []

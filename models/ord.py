@@ -53,10 +53,25 @@ def worse(first, second):
     return max(first, second, key=lambda it: int(it[6:-1]))
 
 
+def halving(part, parent, top, nodes):
+    """The nodes of the halving tree over these indexes: parent, children and rank by index. It answers the root.
+
+    A part of more than four entries has the rank that is given, and others have one by their number."""
+    if not part:
+        return None
+    middle = len(part) // 2
+    root = part[middle]
+    rank = top if len(part) > 4 else (1, 2, 3, 3)[len(part) - 1]
+    nodes[root] = (parent, halving(part[:middle], root, top - 1, nodes), halving(part[middle + 1:], root, top - 1, nodes), rank)
+    return root
+
+
 class Arena:
     def __init__(self, kind, stack, room, heap):
         self.kind, self.heap, self.last, self.top = kind, heap, LAST[kind], TOP[kind]
         self.e, self.order, self.slots, self.free, self.counter = {}, [], 0, [], 2
+        # The nodes of the tree, where its shape is known.
+        self.nodes = None
         self.limit = {'heap': self.top, 'limited': self.top, 'boxed': min(room, self.top), 'array': ARRAY}[stack]
         if room > (ARRAY if stack == 'array' else self.top):
             raise Refused('BeyondMaxCapacity')
@@ -129,11 +144,13 @@ class Arena:
             self.slots += 1
         self.e[i] = (self.counter, k, v)
         self.order.insert(at, i)
+        self.nodes = None
         return i
 
     def take(self, i):
         gone = self.e.pop(i)
         self.order.remove(i)
+        self.nodes = None
         if i == self.slots:
             self.slots -= 1
         else:
@@ -142,6 +159,18 @@ class Arena:
 
     def empty(self):
         self.e, self.order, self.slots, self.free = {}, [], 0, []
+        self.nodes = None
+
+    def compress_canonical(self, resets):
+        told, n = 'Success(())', len(self.order)
+        if resets:
+            self.counter = 2
+        else:
+            told = self.step('()')
+        self.e = {at + 1: (self.counter, *self.e[i][1:]) for at, i in enumerate(self.order)}
+        self.order, self.slots, self.free, self.nodes = list(range(1, n + 1)), n, [], {}
+        halving(self.order, None, 1 + next(t for t in range(n + 1) if 2**t >= n - 1), self.nodes)
+        return [told]
 
     # The list and its keys.
 
@@ -394,6 +423,8 @@ class Arena:
             return [None]
         if verb == 'inc_generation':
             return [self.step('()')]
+        if verb == 'compress_canonical':
+            return self.compress_canonical(x == 1)
         if verb == 'reallocate_min_capacity':
             error = self.grows(x) if x > self.reserved else None
             return [f'Err({error})' if error else 'Ok(())']
@@ -432,6 +463,8 @@ class Arena:
             told = [f'({self.gen(self.e[i][0])}, {ends}, {self.item(i)})']
             return told if verb == 'get_inx_link_no_gen' else told + [self.knot(i)]
         if verb == 'rank':
+            if self.nodes:
+                return [str(self.nodes[i][3])]
             if len(order) == 1 or (len(order) == 3 and i != order[1]):
                 return ['1']
             raise Open
@@ -460,6 +493,8 @@ class Arena:
 
     def knot(self, i):
         """The parent and the children, where there is one shape alone."""
+        if self.nodes:
+            return '(' + ', '.join(option(it) for it in self.nodes[i][:3]) + ')'
         if len(self.order) == 1:
             return '(None, None, None)'
         if len(self.order) != 3:
@@ -527,7 +562,8 @@ COMMON = ['insert', 'insert', 'insert_within_capacity', 'insert_reallocating', '
 RARE = ['clear', 'drain', 'drain_ordered', 'walk_and_remove', 'iter', 'vals', 'ptrs', 'iter_ordered', 'into_iter', 'advancer', 'manual', 'set_key',
         'generation', 'singular_generation', 'inc_generation', 'set_generation', 'len', 'is_empty', 'capacity', 'max_capacity', 'reallocate_min_capacity',
         'find_first_inx_ptr', 'find_last_inx_ptr', '_check_invariants', 'contains', 'index', 'get_inx', 'get_inx_unwrap', 'index_set', 'set_inx',
-        'set_inx_unwrap', 'empty', 'find_with_the_pointer', 'each', 'get_inx_node', 'rank', 'remove_odd', 'grow']
+        'set_inx_unwrap', 'empty', 'find_with_the_pointer', 'each', 'get_inx_node', 'get_inx_node', 'rank', 'rank',
+        'compress_canonical', 'compress_canonical', 'remove_odd', 'grow']
 
 
 def a_line(r, s, most):
@@ -565,7 +601,7 @@ def a_line(r, s, most):
         'advancer_ordered': (verb, [i, g, r.randrange(2)]), 'walk_and_remove': (verb, [i, g, r.randrange(2)]), 'advancer_inx': (verb, [i, r.randrange(2)]),
         'each': (f'each:{r.choice(SEARCHES)}', [0, most, num, i, g]), 'grow': (f'grow:{r.choice(KINDS + ("insert",))}', [r.choice([1, 1008, 389]), most, 7, i]),
         'drain': (verb, [r.randrange(6)]), 'drain_ordered': (verb, [r.randrange(6)]), 'reallocate_min_capacity': (verb, [r.randrange(20)]),
-        'set_generation': (verb, [r.randrange(1, 6)]), 'remove_odd': (verb, [r.randrange(most)]),
+        'set_generation': (verb, [r.randrange(1, 6)]), 'compress_canonical': (verb, [r.randrange(2)]), 'remove_odd': (verb, [r.randrange(most)]),
     }.get(verb, (verb, {'insert': [k, v], 'insert_within_capacity': [k, v], 'insert_reallocating': [k, v], 'remove': [i, g], 'invalidate': [i, g],
                         'get': [i, g], 'contains': [i, g], 'index': [i, g]}.get(verb, [i] if verb.endswith(('inx', 'unwrap', 'gen', 'node', 'rank')) else [])))
 

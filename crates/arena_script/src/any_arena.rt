@@ -3,8 +3,9 @@ use script::{Call, Transcript, index};
 use std::fmt::Debug;
 use triple_arena::{Advancer, ArenaInsertTrait, ArenaTrait, DisjointableArenaTrait, Ptr, PtrCore};
 
-/// Makes a call that every arena has, and says whether there is one of that name.
-pub fn call<P: Ptr, A: ArenaTrait<P, u64>>(
+/// Makes a call that every arena has, and says whether there is one of that name. That an arena keeps the traits' clauses
+/// is proved once for all of them, which costs the proof most.
+pub fn call<P: Ptr, A: DisjointableArenaTrait<P, u64>>(
     arena: &mut A,
     transcript: &mut Transcript,
     call: &Call<'_>,
@@ -13,6 +14,16 @@ pub fn call<P: Ptr, A: ArenaTrait<P, u64>>(
         || walks(arena, transcript, call)
         || writes(arena, transcript, call)
         || removes(arena, transcript, call)
+        || swaps(arena, transcript, call)
+}
+
+/// Makes such a call or an insertion, and says whether there is one of that name.
+pub fn call_or_insert<P: Ptr, A: ArenaInsertTrait<P, u64> + DisjointableArenaTrait<P, u64>>(
+    arena: &mut A,
+    transcript: &mut Transcript,
+    line: &Call<'_>,
+) -> bool {
+    call(arena, transcript, line) || inserts(arena, transcript, line)
 }
 
 fn reads<P: Ptr, A: ArenaTrait<P, u64>>(
@@ -192,8 +203,8 @@ fn walk_and_remove<P: PtrCore, A: ArenaTrait<P, u64>>(
     }
 }
 
-/// Makes an insertion, and says whether there is one of that name.
-pub fn inserts<P: PtrCore + Debug, A: ArenaInsertTrait<P, u64>>(
+// Makes an insertion, and says whether there is one of that name.
+fn inserts<P: PtrCore + Debug, A: ArenaInsertTrait<P, u64>>(
     arena: &mut A,
     transcript: &mut Transcript,
     call: &Call<'_>,
@@ -242,8 +253,22 @@ fn walk_and_insert<P: PtrCore + Debug, A: ArenaInsertTrait<P, u64>>(
     transcript.answer(line, &advancer.advance(arena));
 }
 
-/// Swaps the values that two pointers point to.
-pub fn swap<P: PtrCore, A: DisjointableArenaTrait<P, u64>>(
+// Swaps two values, and says whether there is such a call.
+fn swaps<P: PtrCore, A: DisjointableArenaTrait<P, u64>>(
+    arena: &mut A,
+    transcript: &mut Transcript,
+    call: &Call<'_>,
+) -> bool {
+    match call.verb {
+        "swap" => swap(arena, transcript, call),
+        "swap_inx" => swap_inx(arena, transcript, call),
+        _ => return false,
+    }
+    true
+}
+
+// Swaps the values that two pointers point to.
+fn swap<P: PtrCore, A: DisjointableArenaTrait<P, u64>>(
     arena: &mut A,
     transcript: &mut Transcript,
     call: &Call<'_>,
@@ -252,8 +277,8 @@ pub fn swap<P: PtrCore, A: DisjointableArenaTrait<P, u64>>(
     transcript.answer(call.line, &arena.swap(call.pointer(), other));
 }
 
-/// Swaps the values at two indexes, if both are live.
-pub fn swap_inx<P: PtrCore, A: DisjointableArenaTrait<P, u64>>(
+// Swaps the values at two indexes, if both are live.
+fn swap_inx<P: PtrCore, A: DisjointableArenaTrait<P, u64>>(
     arena: &mut A,
     transcript: &mut Transcript,
     call: &Call<'_>,

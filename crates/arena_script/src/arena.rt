@@ -12,8 +12,7 @@ pub fn call<P: Ptr, S: ArenaSlots<P, u64>>(
     transcript: &mut Transcript,
     call: &Call<'_>,
 ) {
-    if !(any_arena::call(arena, transcript, call)
-        || any_arena::inserts(arena, transcript, call)
+    if !(any_arena::call_or_insert(arena, transcript, call)
         || reads(arena, transcript, call)
         || enters(arena, transcript, call)
         || changes(arena, transcript, call))
@@ -91,8 +90,6 @@ fn changes<P: PtrCore + Debug, S: ArenaSlots<P, u64>>(
             arena.remove_free_end_slots();
             transcript.line(line);
         }
-        "swap" => any_arena::swap(arena, transcript, call),
-        "swap_inx" => any_arena::swap_inx(arena, transcript, call),
         "drain" => drain(arena, transcript, call),
         _ => return false,
     }

@@ -79,8 +79,6 @@ fn changes<P: PtrCore + Debug, S: DirectSlots<P, u64>>(
             arena.pop_free_end_slots();
             transcript.line(line);
         }
-        "swap" => any_arena::swap(arena, transcript, call),
-        "swap_inx" => any_arena::swap_inx(arena, transcript, call),
         "drain" => drain(arena, transcript, call),
         _ => return false,
     }

@@ -9,6 +9,6 @@ mod walks;
 
 pub use insertions::{insert, insert_reallocating, insert_within_capacity, meets};
 pub use links::{are_neighbors, break_next, break_prev, connect, exchange_next, get_link};
-pub use moves::{clone_from, clone_from_with, compress_with, exchange_arena};
+pub use moves::{clone_from, clone_from_with, compress_canonical, compress_with, exchange_arena};
 pub use removals::{remove_inx_link_no_gen, remove_link_no_gen};
 pub use walks::{advance, iter_chain};

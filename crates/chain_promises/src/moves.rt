@@ -6,6 +6,7 @@ ghost use Rattle.triple_arena.specs.Compression.{renewal_wraps, value_of, IsMapp
 ghost use Rattle.triple_arena.specs.Content.{live_count, some_counter, reallocated, cleared};
 ghost use Rattle.triple_arena.specs.Copy.{last_listed, copied, MayRefuse, NeverRefuses, IsMappedCopy, IsRefusedCopy, IsCopy, IsUnmadeCopy};
 ghost use Rattle.triple_arena.specs.LiveEntries.{live_entries};
+ghost use Rattle.triple_arena_chain.specs.CanonicalLayout.{IsCanonical};
 ghost use Rattle.triple_arena_chain.specs.Chains.{IsAgreed};
 ghost use Rattle.triple_arena_chain.specs.Links.{ends_in, values_in, IsChained};
 ghost use Rattle.triple_arena_chain.specs.Listed.{listed_values};
@@ -32,6 +33,19 @@ pub fn compress_with<P: PtrCore, T: Drop, S: ChainSlots<P, T>, F: FnMut(P, T, P)
     ensures formed { IsChained P.Inx.number chains.new }
 {
     let answer = chains.compress_with(reset, map);
+    answer
+}
+
+/// Moves the links to the indexes from 1 on, so that each chain has successive ones.
+pub fn compress_canonical<P: PtrCore, T: Drop, S: ChainSlots<P, T>>(
+    chains: &mut ChainArena<P, T, S>,
+    reset: bool,
+) -> InvalidationOption<()>
+    ensures overflow { overflowed result ≡ renewal_wraps P.Gen.last reset chains.old.counter }
+    ensures canonical { IsCanonical P.Inx.number P.Gen.last reset chains.old chains.new }
+    ensures formed { IsChained P.Inx.number chains.new }
+{
+    let answer = chains.compress_canonical(reset);
     answer
 }
 

@@ -2,7 +2,7 @@
 ghost use Rattle.std.specs.Prelude.{IfOk};
 
 use crate::kind::kind;
-use crate::{links, values};
+use crate::links;
 use script::{Call, Transcript, generation};
 use std::fmt::Debug;
 use triple_arena::{ArenaInsertEntryTrait, ArenaTrait, Ptr};
@@ -14,11 +14,7 @@ pub fn call<P: Ptr, S: ChainSlots<P, u64>>(
     transcript: &mut Transcript,
     call: &Call<'_>,
 ) {
-    if !(values::reads(chains, transcript, call)
-        || values::changes(chains, transcript, call)
-        || links::reads(chains, transcript, call)
-        || links::changes(chains, transcript, call)
-        || links::inserts(chains, transcript, call)
+    if !(links::call(chains, transcript, call)
         || reads(chains, transcript, call)
         || changes(chains, transcript, call)
         || enters(chains, transcript, call))
@@ -140,6 +136,7 @@ fn changes<P: Ptr, S: ChainSlots<P, u64>>(
             &chains.insert_in_gap_reallocating(None, None, call.first),
         ),
         "put" => put(chains, transcript, call),
+        "compress_canonical" => transcript.answer(line, &chains.compress_canonical(call.first == 1)),
         "drain" => drain(chains, transcript, call),
         "drain_chain" => drain_chain(chains, transcript, call),
         _ => return false,

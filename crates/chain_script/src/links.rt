@@ -1,11 +1,26 @@
 //! The calls of every arena of chains, on its links.
 use crate::kind::kind;
+use crate::values;
 use script::{Call, Transcript, index, pointer};
 use triple_arena::{Advancer, Ptr};
 use triple_arena_chain::{ChainArenaTrait, LinkInsertKind};
 
-/// Makes a call that changes nothing, and says whether there is one of that name.
-pub fn reads<P: Ptr, A: ChainArenaTrait<P, u64>>(
+/// Makes a call that every arena of chains has, and says whether there is one of that name. That an arena of chains keeps
+/// the trait's clauses is proved once for all of them, which costs the proof most.
+pub fn call<P: Ptr, A: ChainArenaTrait<P, u64>>(
+    chains: &mut A,
+    transcript: &mut Transcript,
+    call: &Call<'_>,
+) -> bool {
+    values::reads(chains, transcript, call)
+        || values::changes(chains, transcript, call)
+        || reads(chains, transcript, call)
+        || changes(chains, transcript, call)
+        || inserts(chains, transcript, call)
+}
+
+// Makes a call that changes nothing, and says whether there is one of that name.
+fn reads<P: Ptr, A: ChainArenaTrait<P, u64>>(
     chains: &A,
     transcript: &mut Transcript,
     call: &Call<'_>,
@@ -54,8 +69,8 @@ fn walk_chain<P: Ptr, A: ChainArenaTrait<P, u64>>(
     }
 }
 
-/// Makes a call that can change the interlinks, and says whether there is one of that name.
-pub fn changes<P: Ptr, A: ChainArenaTrait<P, u64>>(
+// Makes a call that can change the interlinks, and says whether there is one of that name.
+fn changes<P: Ptr, A: ChainArenaTrait<P, u64>>(
     chains: &mut A,
     transcript: &mut Transcript,
     call: &Call<'_>,
@@ -120,8 +135,8 @@ fn walk_chain_and_break<P: Ptr, A: ChainArenaTrait<P, u64>>(
     }
 }
 
-/// Makes a call that takes a kind, as `insert:NextTo`, and says whether there is one of that name.
-pub fn inserts<P: Ptr, A: ChainArenaTrait<P, u64>>(
+// Makes a call that takes a kind, as `insert:NextTo`, and says whether there is one of that name.
+fn inserts<P: Ptr, A: ChainArenaTrait<P, u64>>(
     chains: &mut A,
     transcript: &mut Transcript,
     call: &Call<'_>,

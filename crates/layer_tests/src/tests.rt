@@ -1,3 +1,4 @@
 mod base;
 mod chains;
+mod layouts;
 mod ordered;

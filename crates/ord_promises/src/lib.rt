@@ -6,9 +6,11 @@
 #![tactic(auto)]
 
 mod insertions;
+mod layout;
 mod removals;
 mod searches;
 
 pub use insertions::{entry_insert_within_capacity, insert_inx_manual, insert_within_capacity};
+pub use layout::compress_canonical;
 pub use removals::remove;
 pub use searches::{find_key_counted, find_key_linear_counted};

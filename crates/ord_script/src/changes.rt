@@ -64,6 +64,7 @@ fn counts<P: Ptr, K: Counting, S: OrdSlots<P, Item<K>>>(
             transcript.line(line);
         }
         "inc_generation" => transcript.answer(line, &arena.inc_generation()),
+        "compress_canonical" => transcript.answer(line, &arena.compress_canonical(call.first == 1)),
         "reallocate_min_capacity" => {
             transcript.answer(line, &arena.reallocate_min_capacity(call.first as usize))
         }

@@ -1,5 +1,6 @@
 //! What follows from the rules of ranks.
-ghost use Rattle.std.specs.Prelude.{◌≡◌, ◌+◌, ◌*◌, ◌^◌, ◌<◌, ◌≤◌, ℕ, Option};
+ghost use Rattle.std.specs.Prelude.{◌≡◌, ◌+◌, ◌*◌, ◌^◌, ◌<◌, ◌≤◌, ℕ, List, Option};
+ghost use Rattle.rank_tree.specs.Halving.{IsHalvingOf};
 ghost use Rattle.rank_tree.specs.Store.{Store};
 ghost use Rattle.rank_tree.specs.Tree.{Tree, IsRanked, height, rank_of, size};
 ghost use Rattle.rank_tree.specs.Shape.{Stands};
@@ -14,4 +15,10 @@ pub fn paths_are_short()
 /// The nodes determine the tree that hangs from a root.
 pub fn nodes_determine_the_tree()
     ensures { (nodes : Store) (root : Option ℕ) (t u : Tree) → Stands nodes root t → Stands nodes root u → t ≡ u }
+{}
+
+/// The halving tree of a list keeps the rules, and a list has no more than one.
+pub fn halving_trees_keep_the_rules()
+    ensures ranked { (w : List ℕ) (t : Tree) → IsHalvingOf w t → IsRanked t }
+    ensures one { (w : List ℕ) (t u : Tree) → IsHalvingOf w t → IsHalvingOf w u → t ≡ u }
 {}

@@ -27,3 +27,10 @@ pub mod PassLemmas
 pub mod CompactingLemmas
 pub mod IndexDrainLemmas
 pub mod LinkCopyLemmas
+pub mod SwapLemmas
+pub mod SwappedLinkLemmas
+pub mod RunLemmas
+pub mod GatherLemmas
+pub mod ChainStartLemmas
+pub mod GatheredLemmas
+pub mod CanonicalLayoutLemmas

@@ -17,7 +17,7 @@ module _ {A : Type 0} (at : ℕ → Option A) where
   pub live_below-live : (i : ℕ) → IsSome (at i) → live_below at (suc i) ≡ live_below at i + 1
   live_below-live i live = rw live refl
 
-  live_below-none : (i : ℕ) → at i ≡ None → live_below at (suc i) ≡ live_below at i
+  pub live_below-none : (i : ℕ) → at i ≡ None → live_below at (suc i) ≡ live_below at i
   live_below-none i none = rw none (omega arith)
 
   -- where none is live between two indexes their ranks are the same

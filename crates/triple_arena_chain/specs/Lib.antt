@@ -20,6 +20,7 @@ pub mod DrainLaws
 pub mod Listed
 pub mod ListedLaws
 pub mod Renaming
+pub mod CanonicalLayout
 pub mod LinkCopies
 pub mod LinkRecasting
 pub mod SameLinksLaws

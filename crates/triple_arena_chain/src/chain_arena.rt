@@ -6,6 +6,7 @@ ghost use Rattle.triple_arena_chain.specs.Links.{IsChained};
 mod advancer;
 mod arena_calls;
 mod backing;
+mod canonical_layout;
 pub(crate) mod capacity_drain;
 mod chain_calls;
 mod compression;

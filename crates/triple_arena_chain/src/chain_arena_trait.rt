@@ -71,7 +71,8 @@ pub trait ChainArenaTrait<P: PtrCore, T: Drop>: ArenaTrait<P, T> {
 
     /// A walk along the chain of the link that `p` points to, from there on, or `None` where `p` is not valid. It gives the
     /// pointers, one a call, to the links from that one on to the end and then backwards from the link before it, or once
-    /// round a ring. The links are free between the calls.
+    /// round a ring. The links are free between the calls; [`ChainPtrAdvancer`](crate::chain_iterators::ChainPtrAdvancer) says what
+    /// changes between them do.
     fn advancer_chain(&self, p: P) -> Option<Self::ChainAdvancer>
         ensures variant { IsSome result ↔ IsSome (get (links self.now) (P.index p) (P.generation p)) }
         ensures from { IfSome result (λ a. chain_walk a ≡ walk_from (P.index p)) }

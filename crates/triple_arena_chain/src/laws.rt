@@ -1,6 +1,7 @@
 //! What follows from the calls of a chain arena.
-ghost use Rattle.std.specs.Prelude.{◌≡◌, ℕ, List, [], ◌∷◌, ◌++◌, Option, Some, IsSome};
+ghost use Rattle.std.specs.Prelude.{◌≡◌, ℕ, Bool, List, [], ◌∷◌, ◌++◌, Option, Some, IsSome};
 ghost use Rattle.triple_arena.specs.Content.{Content};
+ghost use Rattle.triple_arena_chain.specs.CanonicalLayout.{IsCanonical};
 ghost use Rattle.triple_arena_chain.specs.declared.kind.InsertKind.TheVariants.{Bridge};
 ghost use Rattle.triple_arena_chain.specs.declared.link.IndexLink.{IndexLink};
 ghost use Rattle.triple_arena_chain.specs.Chains.{Ends, next_at, linked, unlinked, exchanged, IsLinear, IsRing, On};
@@ -85,4 +86,12 @@ pub fn exchange_next_takes_itself_back<P: PtrCore, T>()
         → next_at (ends_in P.Inx.number between) q ≡ Some n
         → IsRelinked P.Inx.number (exchanged (ends_in P.Inx.number between) p q m n) between after)
         → IsRelinked P.Inx.number (ends_in P.Inx.number before) before after }
+{}
+
+/// A second `compress_canonical` changes no index.
+pub fn compress_canonical_stays<P: PtrCore, T>()
+    ensures { (before between after : Content (IndexLink P.Inx T)) (reset again : Bool)
+        → IsCanonical P.Inx.number P.Gen.last reset before between
+        → (second : IsCanonical P.Inx.number P.Gen.last again between after)
+        → (i : ℕ) → IsSome (ends_in P.Inx.number between i) → second.to i ≡ i }
 {}

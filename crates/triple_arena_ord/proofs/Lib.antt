@@ -30,3 +30,5 @@ pub mod LawLemmas
 pub mod OrderedWalkLemmas
 pub mod OrderedDrainLemmas
 pub mod IndexedLemmas
+pub mod RebuildLemmas
+pub mod CanonicalLayoutLemmas

@@ -17,6 +17,7 @@ module _ {I T : Type 0} where
 
   rest-with_value : (c : Content (IndexLink I (IndexNode I T))) (i g : ℕ) (l m : IndexLink I (IndexNode I T)) → entry_at c i ≡ Some (g, l)
       → bare (g, m) ≡ bare (g, l) → rest (with_value c i m) ≡ rest c
+  unfolding rest
   rest-with_value c zero g l m is same = absurd (cc)
   rest-with_value c (suc k) g l m is same =
       let less : suc k - 1 ≡ k = omega arith in
@@ -46,6 +47,7 @@ module _ {I T : Type 0} where
   bare-at (x ∷ xs) (suc k) = bare-at xs k
 
   bare-entry : (c : Content (IndexLink I (IndexNode I T))) (i : ℕ) → entry_at (rest c) i ≡ option_map bare (entry_at c i)
+  unfolding rest
   bare-entry c zero = refl
   bare-entry c (suc k) = bare-at c.slots k
 
@@ -85,6 +87,7 @@ module _ {I T : Type 0} (number : I → ℕ) where
     pub kept : IsKept old new
 
   pub rested : (old new : Content (IndexLink I (IndexNode I T))) → rest new ≡ rest old → Rested old new
+  unfolding rest
   rested old new e =
       let entry : (k : ℕ) → option_map bare (entry_at new k) ≡ option_map bare (entry_at old k) =
       λ k. sym (bare-entry new k) ∙ ap (λ r. entry_at r k) e ∙ bare-entry old k in

@@ -18,3 +18,5 @@ pub mod OrderedWalks
 pub mod OrderedDrains
 pub mod Indexed
 pub mod IndexDrains
+pub mod Rebuilt
+pub mod CanonicalLayout

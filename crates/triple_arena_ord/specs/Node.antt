@@ -53,5 +53,5 @@ module _ {I T : Type 0} where
   bare entry = (entry.0, record { prev = entry.1.prev; next = entry.1.next; t = entry.1.t.t })
 
   -- all but the knots
-  abbrev pub rest : Content (IndexLink I (IndexNode I T)) → Content (IndexLink I T)
+  unfoldable pub rest : Content (IndexLink I (IndexNode I T)) → Content (IndexLink I T)
   rest c = record { slots = map (option_map bare) c.slots; counter = c.counter; free = c.free; room = c.room }

@@ -16,6 +16,7 @@ mod looks;
 mod node;
 mod ord_arena;
 mod pair;
+mod rebuild;
 mod removal_repair;
 mod slots;
 mod turn;

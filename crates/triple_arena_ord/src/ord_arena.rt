@@ -11,6 +11,7 @@ ghost use Rattle.triple_arena_ord.specs.Node.{knots_in};
 
 mod advancer;
 mod canonical;
+mod canonical_layout;
 mod check;
 mod clear;
 mod default;

@@ -40,7 +40,7 @@ where
 }
 
 // The next index of the link at an index, if both are there.
-fn next_there<P, T, S>(arena: &Arena<P, LinkNoGen<P, T>, S>, i: P::Inx) -> Option<P::Inx>
+pub(crate) fn next_there<P, T, S>(arena: &Arena<P, LinkNoGen<P, T>, S>, i: P::Inx) -> Option<P::Inx>
 where
     P: PtrCore,
     T: Drop,
@@ -55,7 +55,7 @@ where
 }
 
 // The previous index of the link at an index, if both are there.
-fn prev_there<P, T, S>(arena: &Arena<P, LinkNoGen<P, T>, S>, at: Option<P::Inx>) -> Option<P::Inx>
+pub(crate) fn prev_there<P, T, S>(arena: &Arena<P, LinkNoGen<P, T>, S>, at: Option<P::Inx>) -> Option<P::Inx>
 where
     P: PtrCore,
     T: Drop,

@@ -1,5 +1,6 @@
-use Rattle.std.proofs.Common.{rules, ◌<◌, ◌^◌, None, arith}
+use Rattle.std.proofs.Common.{rules, ◌<◌, ◌^◌, None, ◌∙◌, arith}
 use Rattle.std.specs.Option.{option_map}
+use Rattle.triple_arena_ord.proofs.RestLemmas.{rested}
 use Rattle.triple_arena_ord.proofs.LeafLemmas.{Cut, Linked, Leaf, cut_found, cut_gap, leaf_gap, leaf_works}
 use Rattle.triple_arena_ord.proofs.leaf.insert_leaf.Goals.{After-neighbors_beside-prev, After-inx, After-bring_in}
 use Rattle.triple_arena_ord.proofs.leaf.insert_leaf.Goals as goal
@@ -57,3 +58,13 @@ returns-clause-order g c = (leaf g (goal.at.returns-clause-order g c).After-brin
 
 pub returns-clause-added : goal.returns-clause-added
 returns-clause-added g c = (leaf g (goal.at.returns-clause-added g c).After-bring_in).added
+
+pub returns-clause-counter : goal.returns-clause-counter
+returns-clause-counter g c =
+    (rested g.P.Inx.PtrInxCore.number c.insert_in_gap_within_capacity.new.self c.bring_in.new.chains c.bring_in.ensures.keeps).kept.counter
+    ∙ c.in-Ok.ensures.placed.counter
+
+pub returns-clause-room : goal.returns-clause-room
+returns-clause-room g c =
+    (rested g.P.Inx.PtrInxCore.number c.insert_in_gap_within_capacity.new.self c.bring_in.new.chains c.bring_in.ensures.keeps).kept.room
+    ∙ c.in-Ok.ensures.room

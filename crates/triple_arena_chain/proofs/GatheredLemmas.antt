@@ -1,0 +1,394 @@
+-- Chains that are brought to successive indexes, one after another.
+use Rattle.std.proofs.Common.{◌≡◌, ◌≢◌, ℕ, zero, suc, ◌+◌, ◌-◌, ◌<◌, ◌≤◌, List, [], ◌∷◌, ◌++◌, length, map, Option, Some, None, IsSome, is_some, option_map, true≢false, refl, sym, ap, subst, ◌∙◌, arith, inl, inr, ◌⊎◌, append_assoc}
+use Rattle.std.specs.Prelude.{count_by, cond, slice_index_or}
+use Rattle.std.specs.List.{range_with_len}
+use Rattle.std.proofs.lemmas.List.Sums.{sum_by-cons}
+use Rattle.std.proofs.lemmas.Bool.Decides.{eqb_tells}
+use Rattle.std.proofs.lemmas.List.FromFn.{length-range_with_len}
+use Rattle.triple_arena.specs.Content.{Content, IsWellFormed}
+use Rattle.triple_arena_chain.specs.LinkLaws.{kept_on}
+use Rattle.triple_arena_chain.specs.declared.link.IndexLink.{IndexLink}
+use Rattle.triple_arena_chain.specs.Chains.{Ends, next_in, next_at, IsAgreed, first_or, On, Apart}
+use Rattle.triple_arena_chain.specs.ListLaws.{On-first, On-front, On-back, live_next_in, live_prev_in, chain_where}
+use Rattle.triple_arena_chain.specs.Lists.{Chain, Linear, Cyclic, members, all_members, IsChainOf, IsWritten, AreAllChainsOf}
+use Rattle.triple_arena_chain.specs.Links.{values_in, ends_in, IsChained}
+use Rattle.triple_arena_chain.specs.Renaming.{renamed, ends_renamed, FollowsRenaming}
+use Rattle.triple_arena_chain.specs.CanonicalLayout.{IsLaidOut, IsHead, IsClosed, IsMoved, IsGathered, IsAllGathered, swapped_index}
+use Rattle.triple_arena_chain.proofs.PassLemmas.{live_ends}
+use Rattle.triple_arena_chain.proofs.WalkLemmas.{bounded}
+use Rattle.triple_arena_chain.proofs.SwapLemmas.{swap_i, swap_other}
+use Rattle.triple_arena_chain.proofs.RunLemmas.{run-append, run-on, run-within, run-apart, Leads, further, around, laid_next, laid_head}
+use Rattle.triple_arena_chain.proofs.GatherLemmas.{some_moved, head_moved, closed_moved, IsOpen, open_first, open_more, placed_live, next_past, done_linear, done_ring, closed_done}
+
+-- an exchange with itself
+pub swapped_self : (i k : ℕ) → swapped_index i i k ≡ k
+swapped_self i k =
+    elim (eqb_tells k i) [
+      | inl same ↦ rw same.0 (sym same.1)
+      | inr other ↦ rw other.0 refl
+    ]
+
+map_twice : (f g : ℕ → ℕ) (xs : List ℕ) → map f (map g xs) ≡ map (λ x. f (g x)) xs
+map_twice f g [] = refl
+map_twice f g (x ∷ xs) = ap (λ l. f (g x) ∷ l) (map_twice f g xs)
+
+map_fixed : (f : ℕ → ℕ) (xs : List ℕ) → ((k : ℕ) → On xs k → f k ≡ k) → map f xs ≡ xs
+map_fixed f [] fixed = refl
+map_fixed f (x ∷ xs) fixed =
+    ap (λ y. y ∷ map f xs) (fixed x (On-first x xs)) ∙ ap (λ l. x ∷ l) (map_fixed f xs (λ k on. fixed k (On-back (x ∷ []) xs k on)))
+
+renamed_twice : (f g : ℕ → ℕ) (c : Chain) → renamed f (renamed g c) ≡ renamed (λ x. f (g x)) c
+renamed_twice f g (Linear xs) = ap Linear (map_twice f g xs)
+renamed_twice f g (Cyclic xs) = ap Cyclic (map_twice f g xs)
+
+renamed_fixed : (f : ℕ → ℕ) (c : Chain) → ((k : ℕ) → On (members c) k → f k ≡ k) → renamed f c ≡ c
+renamed_fixed f (Linear xs) fixed = ap Linear (map_fixed f xs fixed)
+renamed_fixed f (Cyclic xs) fixed = ap Cyclic (map_fixed f xs fixed)
+
+option_twice : (f g : ℕ → ℕ) (o : Option ℕ) → option_map f (option_map g o) ≡ option_map (λ x. f (g x)) o
+option_twice f g None = refl
+option_twice f g (Some x) = refl
+
+option_fixed : (f : ℕ → ℕ) (o : Option ℕ) → ((k : ℕ) → f k ≡ k) → option_map f o ≡ o
+option_fixed f None fixed = refl
+option_fixed f (Some x) fixed = ap Some (fixed x)
+
+ends_twice : (f g : ℕ → ℕ) (o : Option Ends) → option_map (ends_renamed f) (option_map (ends_renamed g) o) ≡ option_map (ends_renamed (λ x. f (g x))) o
+ends_twice f g None = refl
+ends_twice f g (Some v) = ap (λ a. Some (a, option_map f (option_map g v.1))) (option_twice f g v.0) ∙ ap (λ b. Some (option_map (λ x. f (g x)) v.0, b)) (option_twice f g v.1)
+
+ends_fixed : (f : ℕ → ℕ) (o : Option Ends) → ((k : ℕ) → f k ≡ k) → option_map (ends_renamed f) o ≡ o
+ends_fixed f None fixed = refl
+ends_fixed f (Some v) fixed = ap (λ a. Some (a, option_map f v.1)) (option_fixed f v.0 fixed) ∙ ap (λ b. Some (v.0, b)) (option_fixed f v.1 fixed)
+
+some_renamed : (f : ℕ → ℕ) (o : Option Ends) → IsSome o → IsSome (option_map (ends_renamed f) o)
+some_renamed f None some = absurd (true≢false (sym some))
+some_renamed f (Some v) some = refl
+
+none_or_some : {A : Type 0} (o : Option A) → (o ≡ None) ⊎ IsSome o
+none_or_some None = inl refl
+none_or_some (Some v) = inr refl
+
+-- one renaming after another
+pub renamed_after : (f g : ℕ → ℕ) (a b c : ℕ → Option Ends) → FollowsRenaming g a b → FollowsRenaming f b c → FollowsRenaming (λ i. f (g i)) a c
+renamed_after f g a b c r s =
+    record {
+      ends = λ i some. s.ends (g i) (some_moved g a b r i some) ∙ ap (option_map (ends_renamed f)) (r.ends i some) ∙ ends_twice f g (a i);
+      apart = λ i j some some' same. r.apart i j some some' (s.apart (g i) (g j) (some_moved g a b r i some) (some_moved g a b r j some') same);
+      onto = λ k some.
+          let n = s.onto k some in
+          let m = r.onto n.0 n.1 in
+          (m.0, m.1, ap f m.2 ∙ n.2);
+      lists = λ d chain. subst (IsChainOf c) (renamed_twice f g d) (s.lists (renamed g d) (r.lists d chain));
+    }
+
+-- interlinks that are the same have the same layout
+pub laid_same : (e e' : ℕ → Option Ends) (n : ℕ) → ((i : ℕ) → e' i ≡ e i) → IsLaidOut e n → IsLaidOut e' n
+laid_same e e' n same laid =
+    record {
+      chains = laid.chains;
+      are = record {
+        chains = all laid.chains laid.are.chains;
+        once = laid.are.once;
+        whole = λ i some. laid.are.whole i (ap is_some (sym (same i)) ∙ some);
+      };
+      runs = laid.runs;
+    }
+  where
+    all : (cs : List Chain) → AreAllChainsOf e cs → AreAllChainsOf e' cs
+    all [] are = tt
+    all (c ∷ cs) are = ((chain_where e e' c (λ k on. same k) are.0.0, are.0.1), all cs are.1)
+
+swap_fixes : (i j low k : ℕ) → low < i → low < j → k ≤ low → swapped_index i j k ≡ k
+swap_fixes i j low k above_i above_j within = swap_other i j k (λ same. omega (arith, same, within, above_i)) (λ same. omega (arith, same, within, above_j))
+
+all_append : (cs : List Chain) (c : Chain) → all_members (cs ++ c ∷ []) ≡ all_members cs ++ members c
+all_append [] c = nothing_more (members c)
+  where
+    nothing_more : (xs : List ℕ) → xs ++ [] ≡ xs
+    nothing_more [] = refl
+    nothing_more (x ∷ xs) = ap (λ l. x ∷ l) (nothing_more xs)
+all_append (d ∷ cs) c = ap (λ l. members d ++ l) (all_append cs c) ∙ sym (append_assoc (members d) (all_members cs) (members c))
+
+are_append : (e : ℕ → Option Ends) (cs : List Chain) (c : Chain) → AreAllChainsOf e cs → IsChainOf e c → IsWritten c → AreAllChainsOf e (cs ++ c ∷ [])
+are_append e [] c are chain written = ((chain, written), tt)
+are_append e (d ∷ cs) c are chain written = (are.0, are_append e cs c are.1 chain written)
+
+module _ {I T : Type 0} (number : I → ℕ) where
+  -- where no index changes
+  pub moved_nowhere : (f : ℕ → ℕ) (c : Content (IndexLink I T)) → ((k : ℕ) → f k ≡ k) → IsChained number c → IsMoved number f c c
+  moved_nowhere f c fixed chained =
+      record {
+        renamed = record {
+          ends = λ i some. ap (ends_in number c) (fixed i) ∙ sym (ends_fixed f (ends_in number c i) fixed);
+          apart = λ i j some some' same. sym (fixed i) ∙ same ∙ fixed j;
+          onto = λ k some. (k, some, fixed k);
+          lists = λ d chain. subst (IsChainOf (ends_in number c)) (sym (renamed_fixed f d (λ k on. fixed k))) chain;
+        };
+        values = λ i some. ap (values_in c) (fixed i);
+        live = λ i some. some;
+        kept = record { live = refl; slots = refl; free = refl; counter = refl; room = refl };
+        chained = chained;
+      }
+
+  pub moved_none : (c : Content (IndexLink I T)) → IsChained number c → IsMoved number (λ i. i) c c
+  moved_none c chained = moved_nowhere (λ i. i) c (λ k. refl) chained
+
+  -- an exchange with itself moves nothing
+  pub moved_itself : (c : Content (IndexLink I T)) (i j : ℕ) → i ≡ j → IsChained number c → IsMoved number (swapped_index i j) c c
+  moved_itself c i j same chained = moved_nowhere (swapped_index i j) c (λ k. ap (λ n. swapped_index i n k) (sym same) ∙ swapped_self i k) chained
+
+  pub moved_after : (f g : ℕ → ℕ) (a b c : Content (IndexLink I T)) → IsMoved number g a b → IsMoved number f b c → IsMoved number (λ i. f (g i)) a c
+  moved_after f g a b c m n =
+      record {
+        renamed = renamed_after f g (ends_in number a) (ends_in number b) (ends_in number c) m.renamed n.renamed;
+        values = λ i some. n.values (g i) (some_moved g (ends_in number a) (ends_in number b) m.renamed i some) ∙ m.values i some;
+        live = λ i some. m.live i (n.live i some);
+        kept = kept_on a b c m.kept n.kept;
+        chained = n.chained;
+      }
+
+  -- where no index changes the interlinks stay
+  pub moved_same : (f : ℕ → ℕ) (a b : Content (IndexLink I T)) → IsMoved number f a b → ((i : ℕ) → f i ≡ i) → (i : ℕ) → ends_in number b i ≡ ends_in number a i
+  moved_same f a b m fixed i = by (none_or_some (ends_in number a i))
+    where
+      by : (ends_in number a i ≡ None) ⊎ IsSome (ends_in number a i) → ends_in number b i ≡ ends_in number a i
+      by (inr some) = ap (ends_in number b) (sym (fixed i)) ∙ m.renamed.ends i some ∙ ends_fixed f (ends_in number a i) fixed
+      by (inl gone) = none_of (ends_in number b i) (λ some. true≢false (sym (m.live i some) ∙ ap is_some gone)) ∙ sym gone
+        where
+          none_of : (o : Option Ends) → (IsSome o → ⊥) → o ≡ None
+          none_of None never = refl
+          none_of (Some v) never = absurd (never refl)
+
+  -- what is live is among the slots
+  pub within_slots : (c : Content (IndexLink I T)) (i : ℕ) → IsSome (ends_in number c i) → i ≤ length c.slots
+  within_slots c i some = let less = bounded number c i some in omega (arith, less)
+
+  -- links up to `placed` are placed
+  pub record IsPlacing (first placed : ℕ) (old now : Content (IndexLink I T)) : Type 0 where
+    pub to : ℕ → ℕ
+    pub moved : IsMoved number to old now
+    pub fixed : (i : ℕ) → i ≤ first → to i ≡ i
+    pub opened : IsOpen (ends_in number now) first placed
+    pub stays : (n : ℕ) → IsLaidOut (ends_in number old) n → (i : ℕ) → to i ≡ i
+
+  pub placing_first : (first h : ℕ) (old now : Content (IndexLink I T)) → IsChained number old → IsClosed (ends_in number old) first
+      → IsSome (ends_in number old h) → IsHead (ends_in number old) h → first < h → (IsHead (ends_in number old) (first + 1) → h ≡ first + 1)
+      → IsMoved number (swapped_index h (first + 1)) old now → IsPlacing first (first + 1) old now
+  placing_first first h old now chained closed some head past own m =
+      record {
+        to = swapped_index h (first + 1);
+        moved = m;
+        fixed = λ i low. swap_fixes h (first + 1) first i past (omega arith) low;
+        opened =
+            open_first (ends_in number now) m.chained.agreed first
+            (subst (λ k. IsSome (ends_in number now k)) (swap_i h (first + 1)) (some_moved (swapped_index h (first + 1)) (ends_in number old) (ends_in number now) m.renamed h some))
+            (head_moved (swapped_index h (first + 1)) (ends_in number old) (ends_in number now) m.renamed h (first + 1) (swap_i h (first + 1)) some head)
+            (closed_moved (swapped_index h (first + 1)) (ends_in number old) (ends_in number now) m.renamed m.live first
+            (λ i low. swap_fixes h (first + 1) first i past (omega arith) low) chained.agreed closed);
+        stays = λ n laid i.
+            let is = own (laid_head (ends_in number old) n first chained.agreed laid closed) in
+            ap (λ k. swapped_index k (first + 1) i) is ∙ swapped_self (first + 1) i;
+      }
+
+  pub placing_more : (first placed j : ℕ) (old c new : Content (IndexLink I T)) → IsPlacing first placed old c → next_at (ends_in number c) placed ≡ Some j
+      → j ≢ first + 1 → IsMoved number (swapped_index j (placed + 1)) c new → IsPlacing first (placed + 1) old new
+  placing_more first placed j old c new p goes other m =
+      let e = ends_in number c in
+      let past : placed < j = next_past (ends_in number c) p.moved.chained.agreed first placed p.opened j goes other in
+      let at = p.opened.placed_is in
+      record {
+        to = λ i. swapped_index j (placed + 1) (p.to i);
+        moved = moved_after (swapped_index j (placed + 1)) p.to old c new p.moved m;
+        fixed = λ i low. ap (swapped_index j (placed + 1)) (p.fixed i low) ∙ swap_fixes j (placed + 1) first i (omega (arith, past, at)) (omega (arith, at)) low;
+        opened =
+            open_more (swapped_index j (placed + 1)) (ends_in number c) (ends_in number new) m.renamed m.live p.moved.chained.agreed first placed j p.opened
+            (λ i low. swap_fixes j (placed + 1) placed i past (omega arith) low) goes (swap_i j (placed + 1)) m.chained.agreed;
+        stays = λ n laid i.
+            let fixed = p.stays n laid in
+            let same = moved_same p.to old c p.moved fixed placed in
+            let before : next_at (ends_in number old) placed ≡ Some j = sym (ap next_in same) ∙ goes in
+            let is : j ≡ placed + 1 = by_leads j past (laid_next (ends_in number old) n placed j laid before) in
+            ap (swapped_index j (placed + 1)) (fixed i) ∙ ap (λ k. swapped_index k (placed + 1) i) is ∙ swapped_self (placed + 1) i;
+      }
+    where
+      by_leads : (q : ℕ) → placed < q → Leads (ends_in number old) placed q → q ≡ placed + 1
+      by_leads q past (further is) = is
+      by_leads q past (around n ring is) = absurd (omega (arith, past, is))
+
+  pub placing_done : (first placed : ℕ) (old new : Content (IndexLink I T)) → IsPlacing first placed old new
+      → ((next_at (ends_in number new) placed ≡ None) ⊎ (next_at (ends_in number new) placed ≡ Some (first + 1))) → IsGathered number first placed old new
+  placing_done first placed old new p over = by over
+    where
+      e : ℕ → Option Ends
+      e = ends_in number new
+
+      agreed : IsAgreed (ends_in number new)
+      agreed = p.moved.chained.agreed
+
+      count : p.opened.count + 1 ≡ placed - first
+      count = let at = p.opened.placed_is in omega (arith, at)
+
+      gathered : (c : Chain) → IsChainOf (ends_in number new) c → IsWritten c → members c ≡ range_with_len (first + 1) (p.opened.count + 1)
+          → IsGathered number first placed old new
+      gathered c chain written is =
+          let at = p.opened.placed_is in
+          record {
+            to = p.to;
+            moved = p.moved;
+            fixed = p.fixed;
+            chain = c;
+            is_chain = chain;
+            written = written;
+            is_run = is ∙ ap (range_with_len (first + 1)) count;
+            more = omega (arith, at);
+            within = within_slots new placed (placed_live (ends_in number new) agreed first placed p.opened);
+            closed = closed_done (ends_in number new) agreed first placed p.opened c chain is;
+            stays = p.stays;
+          }
+
+      not_empty : (m : ℕ) → range_with_len (first + 1) (m + 1) ≢ []
+      not_empty m is = let long = sym (length-range_with_len (first + 1) (m + 1)) ∙ ap length is in omega (arith, long)
+
+      first_is : (m : ℕ) → first_or (range_with_len (first + 1) (m + 1)) None ≡ Some (first + 1)
+      first_is m = let one : m + 1 ≡ suc m = omega arith in ap (λ n. first_or (range_with_len (first + 1) n) None) one
+
+      by : (next_at (ends_in number new) placed ≡ None) ⊎ (next_at (ends_in number new) placed ≡ Some (first + 1)) → IsGathered number first placed old new
+      by (inl none) =
+          gathered (Linear (range_with_len (first + 1) (p.opened.count + 1))) (done_linear (ends_in number new) agreed first placed p.opened none)
+          (not_empty p.opened.count) refl
+      by (inr round) =
+          gathered (Cyclic (range_with_len (first + 1) (p.opened.count + 1))) (done_ring (ends_in number new) agreed first placed p.opened round)
+          (first + 1, first_is p.opened.count, λ k on. (run-within (first + 1) (p.opened.count + 1) k on).0) refl
+
+  -- whole chains stand at the indexes up to `placed`
+  pub record AreGathered (placed : ℕ) (old now : Content (IndexLink I T)) : Type 0 where
+    pub to : ℕ → ℕ
+    pub moved : IsMoved number to old now
+    pub chains : List Chain
+    pub are : AreAllChainsOf (ends_in number now) chains
+    pub runs : all_members chains ≡ range_with_len 1 placed
+    pub closed : IsClosed (ends_in number now) placed
+    pub stays : (n : ℕ) → IsLaidOut (ends_in number old) n → (i : ℕ) → to i ≡ i
+
+  pub gathered_none : (c : Content (IndexLink I T)) → IsChained number c → AreGathered 0 c c
+  gathered_none c chained =
+      record {
+        to = λ i. i;
+        moved = moved_none c chained;
+        chains = [];
+        are = tt;
+        runs = refl;
+        closed = record {
+          on = λ p q goes low. absurd (none_there p low (live_next_in (ends_in number c p) q goes));
+          back = λ p q goes low. absurd (none_there q low (live_prev_in (ends_in number c q) p (chained.agreed.forward p q goes)));
+        };
+        stays = λ n laid i. refl;
+      }
+    where
+      none_there : (p : ℕ) → p ≤ 0 → IsSome (ends_in number c p) → ⊥
+      none_there p low some = let is : p ≡ 0 = omega (arith, low) in true≢false (sym (subst (λ k. IsSome (ends_in number c k)) is some))
+
+  pub gathered_more : (placed more : ℕ) (old c new : Content (IndexLink I T)) → AreGathered placed old c → IsGathered number placed more c new
+      → AreGathered more old new
+  gathered_more placed more old c new a g =
+      record {
+        to = λ i. g.to (a.to i);
+        moved = moved_after g.to a.to old c new a.moved g.moved;
+        chains = a.chains ++ g.chain ∷ [];
+        are = are_append (ends_in number new) a.chains g.chain (keep a.chains a.are (λ k on. (run-within 1 placed k (subst (λ l. On l k) a.runs on)).1)) g.is_chain g.written;
+        runs =
+            let up = g.more in
+            let sum : placed + (more - placed) ≡ more = omega (arith, up) in
+            let one : placed + 1 ≡ 1 + placed = omega arith in
+            all_append a.chains g.chain ∙ ap (λ l. l ++ members g.chain) a.runs
+            ∙ ap (λ l. range_with_len 1 placed ++ l) (g.is_run ∙ ap (λ u. range_with_len u (more - placed)) one)
+            ∙ sym (run-append 1 placed (more - placed)) ∙ ap (range_with_len 1) sum;
+        closed = g.closed;
+        stays = λ n laid i.
+            let fixed = a.stays n laid in
+            let there = laid_same (ends_in number old) (ends_in number c) n (moved_same a.to old c a.moved fixed) laid in
+            ap g.to (fixed i) ∙ g.stays n there i;
+      }
+    where
+      keep : (cs : List Chain) → AreAllChainsOf (ends_in number c) cs → ((k : ℕ) → On (all_members cs) k → k < 1 + placed) → AreAllChainsOf (ends_in number new) cs
+      keep [] are low = tt
+      keep (d ∷ cs) are low = (
+        (
+          subst (IsChainOf (ends_in number new))
+              (renamed_fixed g.to d (λ k on. g.fixed k (let within = low k (On-front (members d) (all_members cs) k on) in omega (arith, within))))
+              (g.moved.renamed.lists d are.0.0),
+          are.0.1,
+        ),
+        keep cs are.1 (λ k on. low k (On-back (members d) (all_members cs) k on)),
+      )
+
+  pub gathered_all : (placed : ℕ) (old new : Content (IndexLink I T)) → AreGathered placed old new → placed ≡ length old.slots → IsAllGathered number old new
+  gathered_all placed old new a is =
+      record {
+        to = a.to;
+        moved = a.moved;
+        laid_out = record {
+          chains = a.chains;
+          are = record {
+            chains = a.are;
+            once = subst Apart (sym a.runs) (run-apart 1 placed);
+            whole = λ i some.
+                let within = within_slots new i some in
+                let same = a.moved.kept.slots in
+                subst (λ l. On l i) (sym a.runs) (run-on 1 placed i (positive i some) (omega (arith, within, same, is)));
+          };
+          runs = a.runs ∙ ap (range_with_len 1) is;
+        };
+        stays = a.stays;
+      }
+    where
+      positive : (i : ℕ) → IsSome (ends_in number new i) → 1 ≤ i
+      positive zero some = absurd (true≢false (sym some))
+      positive (suc k) some = omega arith
+
+module _ {A : Type 0} where
+  count_more : (x : Option A) (xs : List (Option A)) → count_by is_some (x ∷ xs) ≡ cond (is_some x) 1 0 + count_by is_some xs
+  count_more x xs = sum_by-cons (λ o. cond (is_some o) 1 0) x xs
+
+  count_few : (xs : List (Option A)) → count_by is_some xs ≤ length xs
+  count_few [] = omega arith
+  count_few (None ∷ xs) = let more = count_more None xs in let few = count_few xs in omega (arith, more, few)
+  count_few (Some x ∷ xs) = let more = count_more (Some x) xs in let few = count_few xs in omega (arith, more, few)
+
+  -- where as many are there as there are places, one is at each
+  all_there : (xs : List (Option A)) (k : ℕ) → count_by is_some xs ≡ length xs → k < length xs → IsSome (slice_index_or xs k None)
+  all_there [] k all below = absurd (omega (arith, below))
+  all_there (None ∷ xs) k all below = absurd (let more = count_more None xs in let few = count_few xs in omega (arith, more, few, all))
+  all_there (Some x ∷ xs) zero all below = refl
+  all_there (Some x ∷ xs) (suc k) all below =
+      let more = count_more (Some x) xs in all_there xs k (omega (arith, more, all)) (omega (arith, below))
+
+module _ {I T : Type 0} (number : I → ℕ) where
+  -- where no index is free each one up to the last is live
+  pub full_live : (c : Content (IndexLink I T)) (i : ℕ) → IsWellFormed c → c.free ≡ [] → 1 ≤ i → i ≤ length c.slots → IsSome (ends_in number c i)
+  full_live c zero formed full low high = absurd (omega (arith, low))
+  full_live c (suc k) formed full low high =
+      let counted = formed.counted in
+      let none = ap length full in
+      live_ends number c (suc k) ∙ all_there c.slots k (omega (arith, counted, none)) (omega (arith, high))
+
+  pub record Step (placed j : ℕ) (old c : Content (IndexLink I T)) : Type 0 where
+    pub past : placed < j
+    pub within : j ≤ length old.slots
+    pub live : IsSome (ends_in number c j)
+    pub place : IsSome (ends_in number c (placed + 1))
+
+  pub placing_step : (first placed j : ℕ) (old c : Content (IndexLink I T)) → old.free ≡ [] → IsPlacing number first placed old c
+      → next_at (ends_in number c) placed ≡ Some j → j ≢ first + 1 → Step placed j old c
+  placing_step first placed j old c full p goes other =
+      let past = next_past (ends_in number c) p.moved.chained.agreed first placed p.opened j goes other in
+      let live = live_prev_in (ends_in number c j) placed (p.moved.chained.agreed.forward placed j goes) in
+      let within = within_slots number c j live in
+      let same = p.moved.kept.slots in
+      record {
+        past = past;
+        within = omega (arith, within, same);
+        live = live;
+        place = full_live c (placed + 1) p.moved.chained.formed (p.moved.kept.free ∙ full) (omega arith) (omega (arith, past, within));
+      }
