@@ -30,15 +30,17 @@ impl<A: Allocator> RouteBook<A> {
         writer: &mut Watched<W>,
         counts: &mut Counts,
     ) -> io::Result<()>
-        ensures state { self.new ≡ next self.old (command_of line.now) }
+        ensures state { self.new.state ≡ next self.old.state (command_of line.now) }
         ensures ok { OnOk result (Appends (W.contents (inner_of writer.old))
-            (W.contents (inner_of writer.new)) (reply self.old (command_of line.now))) }
+            (W.contents (inner_of writer.new)) (reply self.old.state (command_of line.now))) }
         ensures ok_failed { OnOk result (failed_of writer.new ≡ failed_of writer.old) }
         ensures err { OnErr result (AppendsBeginning (W.contents (inner_of writer.old))
-            (W.contents (inner_of writer.new)) (reply self.old (command_of line.now))) }
+            (W.contents (inner_of writer.new)) (reply self.old.state (command_of line.now))) }
         ensures err_failed { OnErr result (failed_of writer.new ≡ failed_of writer.old + 1) }
-        ensures counts { CountsWithin counts.old counts.new (most_comparisons (place_count self.old))
-            (most_comparisons (living_count self.old)) (most_comparisons (living_count self.old)) }
+        ensures counts { CountsWithin counts.old counts.new
+            (most_comparisons (place_count self.old.state))
+            (most_comparisons (living_count self.old.state))
+            (most_comparisons (living_count self.old.state)) }
     {
         self.carry_out(read_line(line), &mut ReplyText::new(), writer, counts)
     }
@@ -51,15 +53,17 @@ impl<A: Allocator> RouteBook<A> {
         writer: &mut Watched<W>,
         counts: &mut Counts,
     ) -> io::Result<()>
-        ensures state { self.new ≡ next self.old command }
+        ensures state { self.new.state ≡ next self.old.state command }
         ensures ok { OnOk result (Appends (W.contents (inner_of writer.old))
-            (W.contents (inner_of writer.new)) (reply self.old command)) }
+            (W.contents (inner_of writer.new)) (reply self.old.state command)) }
         ensures ok_failed { OnOk result (failed_of writer.new ≡ failed_of writer.old) }
         ensures err { OnErr result (AppendsBeginning (W.contents (inner_of writer.old))
-            (W.contents (inner_of writer.new)) (reply self.old command)) }
+            (W.contents (inner_of writer.new)) (reply self.old.state command)) }
         ensures err_failed { OnErr result (failed_of writer.new ≡ failed_of writer.old + 1) }
-        ensures counts { CountsWithin counts.old counts.new (most_comparisons (place_count self.old))
-            (most_comparisons (living_count self.old)) (most_comparisons (living_count self.old)) }
+        ensures counts { CountsWithin counts.old counts.new
+            (most_comparisons (place_count self.old.state))
+            (most_comparisons (living_count self.old.state))
+            (most_comparisons (living_count self.old.state)) }
     {
         text.clear();
         match command {

@@ -98,13 +98,13 @@ fn answer_input<R: Read, W: Write, E: Write>(
     errors: &mut Watched<E>,
 ) -> u8
     ensures status { result ≤ 1 }
-    ensures answered { result ≡ 0 → (rooms : Rooms) → book ≡ empty rooms 0
+    ensures answered { result ≡ 0 → (rooms : Rooms) → book.state ≡ empty rooms 0
         → Answers rooms (R.remaining (inner_of input.old)) (R.remaining (inner_of input.new))
         (W.contents (inner_of output.old)) (W.contents (inner_of output.new)) }
     ensures unfailed { result ≡ 0 → (failed_of input.new ≡ failed_of input.old)
         × (failed_of output.new ≡ failed_of output.old) }
     ensures silent { result ≡ 0 → errors.new ≡ errors.old }
-    ensures fault { result ≡ 1 → (rooms : Rooms) → book ≡ empty rooms 0 →
+    ensures fault { result ≡ 1 → (rooms : Rooms) → book.state ≡ empty rooms 0 →
         (AnswersWholeLines rooms (R.remaining (inner_of input.old)) (R.remaining (inner_of input.new))
         (W.contents (inner_of output.old)) (W.contents (inner_of output.new))
         × ((failed_of input.new ≡ failed_of input.old + 1)

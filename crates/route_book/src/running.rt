@@ -32,7 +32,7 @@ pub fn run<A: Allocator, R: Read, W: Write>(
     ensures ok { OnOk result ((input : List ℕ)
         × Consumes (R.remaining (inner_of reader.old)) (R.remaining (inner_of reader.new)) input
         × IsAtEnd (R.remaining (inner_of reader.new))
-        × Carries book.old (lines input) book.new (W.contents (inner_of writer.old))
+        × Carries book.old.state (lines input) book.new.state (W.contents (inner_of writer.old))
         (W.contents (inner_of writer.new)) counts.old counts.new) }
 
     ensures ok_failed { OnOk result
@@ -43,13 +43,13 @@ pub fn run<A: Allocator, R: Read, W: Write>(
     ensures read { IfErr result (λ fault. OnRead fault
         ((input : List ℕ) × Consumes (R.remaining (inner_of reader.old))
         (R.remaining (inner_of reader.new)) input
-        × Carries book.old (map whole (whole_lines input)) book.new
+        × Carries book.old.state (map whole (whole_lines input)) book.new.state
         (W.contents (inner_of writer.old))
         (W.contents (inner_of writer.new)) counts.old counts.new)) }
     ensures too_long { IfErr result
         (λ fault. OnTooLong fault ((input : List ℕ)
         × Consumes (R.remaining (inner_of reader.old)) (R.remaining (inner_of reader.new)) input
-        × Carries book.old (map whole (whole_lines input)) book.new
+        × Carries book.old.state (map whole (whole_lines input)) book.new.state
         (W.contents (inner_of writer.old))
         (W.contents (inner_of writer.new)) counts.old counts.new)) }
 
@@ -57,11 +57,11 @@ pub fn run<A: Allocator, R: Read, W: Write>(
     ensures write { IfErr result (λ fault. OnWrite fault
         ((input : List ℕ) × Consumes (R.remaining (inner_of reader.old))
         (R.remaining (inner_of reader.new)) input
-        × (StopsWithin input (R.remaining (inner_of reader.new)) book.old book.new
+        × (StopsWithin input (R.remaining (inner_of reader.new)) book.old.state book.new.state
         (W.contents (inner_of writer.old))
         (W.contents (inner_of writer.new)) counts.old counts.new
         ⊎ (IsAtEnd (R.remaining (inner_of reader.new))
-        × Carries book.old (lines input) book.new (W.contents (inner_of writer.old))
+        × Carries book.old.state (lines input) book.new.state (W.contents (inner_of writer.old))
         (W.contents (inner_of writer.new)) counts.old counts.new)))) }
 
     // No fault comes without a cause.
@@ -114,12 +114,12 @@ fn take<A: Allocator, W: Write>(
     counts: &mut Counts,
 ) -> io::Result<()>
     ensures ok { OnOk result ((line : List ℕ) → HasNoLineEnd line → StandsFor unfinished.old line
-        → Takes (line ++ piece.now) [] unfinished.new book.old book.new
+        → Takes (line ++ piece.now) [] unfinished.new book.old.state book.new.state
         (W.contents (inner_of writer.old))
         (W.contents (inner_of writer.new)) counts.old counts.new) }
     ensures ok_failed { OnOk result (failed_of writer.new ≡ failed_of writer.old) }
     ensures err { OnErr result ((line : List ℕ) → HasNoLineEnd line → StandsFor unfinished.old line
-        → Stops (line ++ piece.now) book.old book.new (W.contents (inner_of writer.old))
+        → Stops (line ++ piece.now) book.old.state book.new.state (W.contents (inner_of writer.old))
         (W.contents (inner_of writer.new)) counts.old counts.new) }
     ensures err_failed { OnErr result (failed_of writer.new ≡ failed_of writer.old + 1) }
 {
@@ -142,13 +142,14 @@ fn end<A: Allocator, W: Write>(
     counts: &mut Counts,
 ) -> io::Result<()>
     ensures ok { OnOk result ((line : List ℕ) → StandsFor unfinished.now line
-        → Carries book.old (unended_line line) book.new (W.contents (inner_of writer.old))
+        → Carries book.old.state (unended_line line) book.new.state (W.contents (inner_of writer.old))
         (W.contents (inner_of writer.new)) counts.old counts.new) }
     ensures ok_failed { OnOk result (failed_of writer.new ≡ failed_of writer.old) }
     ensures err { OnErr result ((line : List ℕ) → StandsFor unfinished.now line
-        → StopsAtEnd line book.old book.new (W.contents (inner_of writer.old))
+        → StopsAtEnd line book.old.state book.new.state (W.contents (inner_of writer.old))
         (W.contents (inner_of writer.new)) counts.old counts.new
-        ⊎ Carries book.old (unended_line line) book.new (W.contents (inner_of writer.old)) (W.contents (inner_of writer.new)) counts.old counts.new) }
+        ⊎ Carries book.old.state (unended_line line) book.new.state (W.contents (inner_of writer.old))
+        (W.contents (inner_of writer.new)) counts.old counts.new) }
     ensures err_failed { OnErr result (failed_of writer.new ≡ failed_of writer.old + 1) }
 {
     if unfinished.is_empty() {
