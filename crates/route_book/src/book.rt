@@ -1,18 +1,14 @@
 ghost use Rattle.std.specs.Prelude.{◌≡◌, ℕ, ◌+◌, ◌-◌, ◌<◌, ◌≤◌, ◌^◌, ◌↔◌, ◌⊎◌, Ok, Err, IsOk, IfOk, IfErr, IsErrOf, [], ◌∷◌, ◌++◌, length, insert, vec_len, vec_capacity};
-ghost use Rattle.route_book.specs.Calls.{placed, after_place, shown, found};
+ghost use Rattle.route_lines.specs.Calls.{placed, after_place, shown, found};
 ghost use Rattle.counted_search.specs.Searches.{most_comparisons};
-ghost use Rattle.route_book.specs.Searches.{CountsWithin, place_count, living_count};
-ghost use Rattle.route_book.specs.State.{Rooms, State, empty, is_full_of_places};
+ghost use Rattle.route_lines.specs.Searches.{CountsWithin, place_count, living_count};
+ghost use Rattle.route_lines.specs.State.{Rooms, State, empty, is_full_of_places};
 ghost use Rattle.route_book.specs.Book.{IsOrder, entry_at, place_at, places_by};
 
-use crate::counts::Counts;
 use crate::place::Place;
-use crate::placed::Placed;
 use crate::places::Places;
-use crate::refusal::{Refusal, RoomError};
-use crate::shown::Shown;
-use crate::word::Word;
 use counted_search::search;
+use route_lines::{Counts, Placed, Refusal, RoomError, Shown, Word};
 use std::alloc::{Allocator, Global};
 use std::marker::Model;
 use std::mem;

@@ -1,18 +1,12 @@
-ghost use Rattle.std.specs.Prelude.{◌≡◌, ◌⊎◌, ℕ, ◌+◌, ◌-◌, ◌<◌, ◌++◌, ◌^◌, List, [], ◌∷◌, IfErr, IfNone, IfSome, OnOk, OnErr, map};
+ghost use Rattle.std.specs.Prelude.{◌≡◌, ◌⊎◌, ℕ, ◌+◌, ◌-◌, ◌<◌, ◌++◌, ◌^◌, List, [], IfErr, OnOk, OnErr, map};
 ghost use Rattle.std.specs.Io.KnownBytes.{Consumes, IsAtEnd};
-ghost use Rattle.route_book.specs.Run.{Carries, OnRead, OnWrite, OnTooLong, StopsWithin};
-ghost use Rattle.route_book.specs.Text.{lines, unended_line, whole, whole_lines};
-ghost use Rattle.route_book.specs.Unfinished.{HasNoLineEnd, StandsFor, StopsAtEnd, Stops, Takes};
-ghost use Rattle.route_book.specs.Watched.{inner_of, failed_of, calls_of};
-
-mod fault;
+ghost use Rattle.route_lines.specs.Run.{Carries, OnRead, OnWrite, OnTooLong, StopsWithin};
+ghost use Rattle.route_lines.specs.Text.{lines, unended_line, whole, whole_lines};
+ghost use Rattle.route_lines.specs.Unfinished.{HasNoLineEnd, StandsFor, StopsAtEnd, Stops, Takes};
+ghost use Rattle.route_lines.specs.Watched.{inner_of, failed_of, calls_of};
 
 use crate::book::RouteBook;
-use crate::counts::Counts;
-use crate::reply_text::ReplyText;
-use crate::unfinished::Unfinished;
-use crate::watched::Watched;
-pub use fault::RunFault;
+use route_lines::{Counts, ReplyText, RunFault, Unfinished, Watched, split_line};
 use std::alloc::Allocator;
 use std::io;
 use std::io::{Read, Write};
@@ -157,14 +151,4 @@ fn end<A: Allocator, W: Write>(
     }
     book.carry_out(None, text, writer, counts)?;
     writer.flush()
-}
-
-// The bytes before the first LF, and those behind it.
-fn split_line(bytes: &[u8]) -> Option<(&[u8], &[u8])>
-    ensures found { IfSome result (λ cut. (bytes.now ≡ cut.0.now ++ 10 ∷ cut.1.now)
-        × HasNoLineEnd cut.0.now) }
-    ensures none { IfNone result (HasNoLineEnd bytes.now) }
-{
-    let end = bytes.iter().position(|byte| *byte == b'\n')?;
-    Some((&bytes[..end], &bytes[end + 1..]))
 }

@@ -1,6 +1,6 @@
 use Rattle.std.proofs.Common.{◌≡◌, ◌+◌, ◌<◌, ℕ, List, [], length}
 use Rattle.std.specs.Io.KnownBytes.{Consumes}
-use Rattle.route_book.specs.Unfinished.{Takes}
+use Rattle.route_lines.specs.Unfinished.{Takes}
 use Rattle.route_book.proofs.running.run.Given as goal
 
 abbrev pub invariant-loop : goal.invariant-loop

@@ -1,5 +1,5 @@
 use Rattle.std.proofs.Common.{◌≡◌, ◌++◌, ℕ, List, length}
-use Rattle.route_book.specs.Unfinished.{HasNoLineEnd, StandsFor, Takes}
+use Rattle.route_lines.specs.Unfinished.{HasNoLineEnd, StandsFor, Takes}
 use Rattle.route_book.proofs.running.take.Given as goal
 
 abbrev pub invariant-loop-line : goal.invariant-loop-line

@@ -1,9 +1,9 @@
 use Rattle.std.proofs.Common.{◌≡◌, ◌∙◌, ◌<◌, ap, sym, subst, length, Ok, arith}
 use Rattle.route_book.specs.Book.{Book}
-use Rattle.route_book.specs.State.{Rooms, is_full_of_places}
+use Rattle.route_lines.specs.State.{Rooms, is_full_of_places}
 use Rattle.std.proofs.lemmas.List.{length-set}
-use Rattle.route_book.specs.Calls.{placed, after_place}
-use Rattle.route_book.specs.declared.placed.Placed.TheVariants.{Old}
+use Rattle.route_lines.specs.Calls.{placed, after_place}
+use Rattle.route_lines.specs.declared.placed.Placed.TheVariants.{Old}
 use Rattle.route_book.proofs.BookLemmas.{IsBook-with_word}
 use Rattle.route_book.proofs.CallLemmas.{placed_old, placed_full, placed_new, fits_more}
 use Rattle.route_book.proofs.book.RouteBook.place_counted.Goals as goal

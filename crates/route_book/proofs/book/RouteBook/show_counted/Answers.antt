@@ -1,7 +1,7 @@
 use Rattle.std.proofs.Common.{◌∙◌, ap, arith}
 use Rattle.route_book.specs.Book.{Book}
-use Rattle.route_book.specs.State.{Rooms}
-use Rattle.route_book.specs.Calls.{shown}
+use Rattle.route_lines.specs.State.{Rooms}
+use Rattle.route_lines.specs.Calls.{shown}
 use Rattle.route_book.proofs.CallLemmas.{shown_at, shown_gone}
 use Rattle.route_book.proofs.book.RouteBook.show_counted.Goals as goal
 
