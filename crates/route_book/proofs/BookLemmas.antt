@@ -4,7 +4,7 @@ use Rattle.std.specs.List.{insert, list_any}
 use Rattle.std.proofs.lemmas.Bool.{cases_lt, cases_eq, cases_order, eq-eqb}
 use Rattle.std.proofs.lemmas.List.{get_or-map, get_or_default, length-map, length-set, ext_get_or, get_or-set_same, get_or-set_other, get_or_append_left, get_or_at, length-append}
 use Rattle.std.proofs.lemmas.List.Edits.{length-insert, get_or-insert_below, get_or-insert_at, get_or-insert_above}
-use Rattle.route_book.specs.State.{Place}
+use Rattle.route_lines.specs.State.{Place}
 use Rattle.route_book.specs.declared.place.Place.{Place as Entry}
 use Rattle.route_book.specs.Book.{entry_at, state_place, place_at, places_by, IsOrder, AreByKey, IsBook}
 use Rattle.route_book.proofs.PlaceLemmas.{below_gap, above_gap, same_place, AreByKey-set, AreByKey-insert}

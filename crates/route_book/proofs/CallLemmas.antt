@@ -4,13 +4,13 @@ use Rattle.std.specs.List.{insert, list_any, find}
 use Rattle.std.specs.Option.{option_map}
 use Rattle.std.proofs.lemmas.Bool.{leb-false, eq-eqb, ne_eqb, le-ltb, cases_eq, cases_lt, cases_order}
 use Rattle.std.proofs.lemmas.List.{length-append, get_or_default}
-use Rattle.route_book.specs.State.{Rooms, State, Place, with_key, is_full_of_places}
-use Rattle.route_book.specs.Calls.{placed, after_place, found, shown}
+use Rattle.route_lines.specs.State.{Rooms, State, Place, with_key, is_full_of_places}
+use Rattle.route_lines.specs.Calls.{placed, after_place, found, shown}
 use Rattle.route_book.specs.Book.{entry_at, state_place, place_at, places_by, held, IsOrder, AreByKey, AreByTicket, IsBook}
 use Rattle.route_book.specs.declared.place.Place.{Place as Entry}
-use Rattle.route_book.specs.declared.placed.Placed.TheVariants.{New, Old}
-use Rattle.route_book.specs.declared.refusal.Refusal.TheVariants.{Full, Gone}
-use Rattle.route_book.specs.declared.shown.Shown.TheVariants.{Place as ShownPlace}
+use Rattle.route_lines.specs.declared.placed.Placed.TheVariants.{New, Old}
+use Rattle.route_lines.specs.declared.refusal.Refusal.TheVariants.{Full, Gone}
+use Rattle.route_lines.specs.declared.shown.Shown.TheVariants.{Place as ShownPlace}
 use Rattle.route_book.proofs.PlaceLemmas.{with_key-at, with_key_none, below_gap, above_gap, put_at, reworded_at}
 use Rattle.route_book.proofs.BookLemmas.{length-places_by, not_in_gap, place_read_at, with_word, places_by-insert, IsBook-added}
 

@@ -1,13 +1,3 @@
 pub mod BookLemmas
 pub mod CallLemmas
-pub mod CommandLineLemmas
-pub mod GrammarLemmas
-pub mod LineTextLemmas
-pub mod NumberLemmas
 pub mod PlaceLemmas
-pub mod ReplyLemmas
-pub mod RunLemmas
-pub mod SoundLemmas
-pub mod UnfinishedLemmas
-pub mod WordLemmas
-pub mod WrittenLemmas

@@ -4,8 +4,8 @@ use Rattle.std.specs.List.{insert}
 use Rattle.std.proofs.lemmas.Bool.{eq-eqb, ne_eqb, lt-ltb, le-ltb, cases_order, cases_eq}
 use Rattle.std.proofs.lemmas.List.{length-set, get_or-set_same, get_or-set_other}
 use Rattle.std.proofs.lemmas.List.Edits.{length-insert, get_or-insert_below, get_or-insert_at, get_or-insert_above}
-use Rattle.route_book.specs.State.{Place, with_key}
-use Rattle.route_book.specs.Calls.{put, reworded}
+use Rattle.route_lines.specs.State.{Place, with_key}
+use Rattle.route_lines.specs.Calls.{put, reworded}
 use Rattle.route_book.specs.Book.{place_at, AreByKey}
 
 -- the places behind the first one

@@ -1,8 +1,12 @@
--- How a store keeps its places in vectors. No public clause cites this module.
+-- What a contract sees of a store, and how it keeps its places in vectors.
 use Rattle.std.specs.Prelude.{◌≡◌, ℕ, ◌<◌, ◌≤◌, ◌==◌, true, List, [], map, length, slice_index_or, slice_index}
 use Rattle.std.specs.List.{list_any}
-use Rattle.route_book.specs.State.{Rooms, State, Place}
+use Rattle.route_lines.specs.State.{Rooms, State, Place}
 use Rattle.route_book.specs.declared.place.Place.{Place as Entry}
+
+-- what a clause sees of a store
+pub record Book : Type 0 where
+  pub state : State
 
 -- a place as the state has it
 abbrev pub state_place : Entry → Place

@@ -1,20 +1,15 @@
-ghost use Rattle.std.specs.Prelude.{◌≡◌, ℕ, ◌+◌, ◌++◌, List, [], OnOk, OnErr};
-ghost use Rattle.route_book.specs.ReplyText.{HasRoom};
+ghost use Rattle.std.specs.Prelude.{◌≡◌, ◌+◌, [], OnOk, OnErr};
 ghost use Rattle.std.specs.Io.KnownBytes.{Appends};
-ghost use Rattle.route_book.specs.Grammar.{command_of};
-ghost use Rattle.route_book.specs.Reply.{reply, next, places_text};
+ghost use Rattle.route_lines.specs.Grammar.{command_of};
+ghost use Rattle.route_lines.specs.Reply.{reply, next, places_text};
 ghost use Rattle.counted_search.specs.Searches.{most_comparisons};
-ghost use Rattle.route_book.specs.Searches.{CountsWithin, place_count, living_count};
-ghost use Rattle.route_book.specs.Watched.{inner_of, failed_of};
-ghost use Rattle.route_book.specs.Written.{AppendsBeginning};
+ghost use Rattle.route_lines.specs.Searches.{CountsWithin, place_count, living_count};
+ghost use Rattle.route_lines.specs.Watched.{inner_of, failed_of};
+ghost use Rattle.route_lines.specs.Written.{AppendsBeginning};
 
 use crate::book::RouteBook;
-use crate::command::Command;
-use crate::counts::Counts;
-use crate::line::read_line;
 use crate::places::Places;
-use crate::reply_text::ReplyText;
-use crate::watched::Watched;
+use route_lines::{Command, Counts, ReplyText, Watched, make_room, read_line, send};
 use std::alloc::Allocator;
 use std::io;
 use std::io::Write;
@@ -30,15 +25,17 @@ impl<A: Allocator> RouteBook<A> {
         writer: &mut Watched<W>,
         counts: &mut Counts,
     ) -> io::Result<()>
-        ensures state { self.new ≡ next self.old (command_of line.now) }
+        ensures state { self.new.state ≡ next self.old.state (command_of line.now) }
         ensures ok { OnOk result (Appends (W.contents (inner_of writer.old))
-            (W.contents (inner_of writer.new)) (reply self.old (command_of line.now))) }
+            (W.contents (inner_of writer.new)) (reply self.old.state (command_of line.now))) }
         ensures ok_failed { OnOk result (failed_of writer.new ≡ failed_of writer.old) }
         ensures err { OnErr result (AppendsBeginning (W.contents (inner_of writer.old))
-            (W.contents (inner_of writer.new)) (reply self.old (command_of line.now))) }
+            (W.contents (inner_of writer.new)) (reply self.old.state (command_of line.now))) }
         ensures err_failed { OnErr result (failed_of writer.new ≡ failed_of writer.old + 1) }
-        ensures counts { CountsWithin counts.old counts.new (most_comparisons (place_count self.old))
-            (most_comparisons (living_count self.old)) (most_comparisons (living_count self.old)) }
+        ensures counts { CountsWithin counts.old counts.new
+            (most_comparisons (place_count self.old.state))
+            (most_comparisons (living_count self.old.state))
+            (most_comparisons (living_count self.old.state)) }
     {
         self.carry_out(read_line(line), &mut ReplyText::new(), writer, counts)
     }
@@ -51,15 +48,17 @@ impl<A: Allocator> RouteBook<A> {
         writer: &mut Watched<W>,
         counts: &mut Counts,
     ) -> io::Result<()>
-        ensures state { self.new ≡ next self.old command }
+        ensures state { self.new.state ≡ next self.old.state command }
         ensures ok { OnOk result (Appends (W.contents (inner_of writer.old))
-            (W.contents (inner_of writer.new)) (reply self.old command)) }
+            (W.contents (inner_of writer.new)) (reply self.old.state command)) }
         ensures ok_failed { OnOk result (failed_of writer.new ≡ failed_of writer.old) }
         ensures err { OnErr result (AppendsBeginning (W.contents (inner_of writer.old))
-            (W.contents (inner_of writer.new)) (reply self.old command)) }
+            (W.contents (inner_of writer.new)) (reply self.old.state command)) }
         ensures err_failed { OnErr result (failed_of writer.new ≡ failed_of writer.old + 1) }
-        ensures counts { CountsWithin counts.old counts.new (most_comparisons (place_count self.old))
-            (most_comparisons (living_count self.old)) (most_comparisons (living_count self.old)) }
+        ensures counts { CountsWithin counts.old counts.new
+            (most_comparisons (place_count self.old.state))
+            (most_comparisons (living_count self.old.state))
+            (most_comparisons (living_count self.old.state)) }
     {
         text.clear();
         match command {
@@ -71,7 +70,7 @@ impl<A: Allocator> RouteBook<A> {
             Some(Command::Find { key }) => text.push_found(self.find_counted(key, counts)),
             Some(Command::All) => return write_places(self.places(), text, writer),
         }
-        writer.send(text.as_slice())
+        send(writer, text.as_slice())
     }
 }
 
@@ -95,23 +94,5 @@ fn write_places<W: Write>(
     }
     make_room(text, writer)?;
     text.push_line(b"end");
-    writer.send(text.as_slice())
-}
-
-// Room for one line more: where there is none, what was gathered is written.
-fn make_room<W: Write>(text: &mut ReplyText, writer: &mut Watched<W>) -> io::Result<()>
-    ensures room { OnOk result (HasRoom text.new 59) }
-    ensures ok { OnOk result ((sent : List ℕ) × (text.old ≡ sent ++ text.new)
-        × Appends (W.contents (inner_of writer.old)) (W.contents (inner_of writer.new)) sent) }
-    ensures ok_failed { OnOk result (failed_of writer.new ≡ failed_of writer.old) }
-    ensures err { OnErr result (AppendsBeginning (W.contents (inner_of writer.old))
-        (W.contents (inner_of writer.new)) text.old) }
-    ensures err_failed { OnErr result (failed_of writer.new ≡ failed_of writer.old + 1) }
-{
-    if text.has_room() {
-        return Ok(());
-    }
-    writer.send(text.as_slice())?;
-    text.clear();
-    Ok(())
+    send(writer, text.as_slice())
 }

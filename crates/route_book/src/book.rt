@@ -1,18 +1,14 @@
 ghost use Rattle.std.specs.Prelude.{◌≡◌, ℕ, ◌+◌, ◌-◌, ◌<◌, ◌≤◌, ◌^◌, ◌↔◌, ◌⊎◌, Ok, Err, IsOk, IfOk, IfErr, IsErrOf, [], ◌∷◌, ◌++◌, length, insert, vec_len, vec_capacity};
-ghost use Rattle.route_book.specs.Calls.{placed, after_place, shown, found};
+ghost use Rattle.route_lines.specs.Calls.{placed, after_place, shown, found};
 ghost use Rattle.counted_search.specs.Searches.{most_comparisons};
-ghost use Rattle.route_book.specs.Searches.{CountsWithin, place_count, living_count};
-ghost use Rattle.route_book.specs.State.{Rooms, State, empty, is_full_of_places};
+ghost use Rattle.route_lines.specs.Searches.{CountsWithin, place_count, living_count};
+ghost use Rattle.route_lines.specs.State.{Rooms, State, empty, is_full_of_places};
 ghost use Rattle.route_book.specs.Book.{IsOrder, entry_at, place_at, places_by};
 
-use crate::counts::Counts;
 use crate::place::Place;
-use crate::placed::Placed;
 use crate::places::Places;
-use crate::refusal::{Refusal, RoomError};
-use crate::shown::Shown;
-use crate::word::Word;
 use counted_search::search;
+use route_lines::{Counts, Placed, Refusal, RoomError, Shown, Word};
 use std::alloc::{Allocator, Global};
 use std::marker::Model;
 use std::mem;
@@ -36,15 +32,15 @@ pub struct RouteBook<A: Allocator = Global> {
 
 impl<A: Allocator> Model for RouteBook<A> {
     ghost use Rattle.std.specs.Prelude.{◌≡◌, ℕ, ◌≤◌, length, vec_capacity};
-    ghost use Rattle.route_book.specs.State.{State};
+    ghost use Rattle.route_book.specs.Book.{Book, IsBook, held};
 
-    ghost Value = { State };
+    ghost Value = { Book };
 
-    ghost use Rattle.route_book.specs.Book.{IsBook, held};
-
-    ghost view = { λ b. held (record
-        { places = b.place_room; stops = b.stop_room; marks = b.mark_room }) b.last b.places.items
-        b.by_key.items };
+    ghost view = { λ b. record {
+      state = held (record
+          { places = b.place_room; stops = b.stop_room; marks = b.mark_room }) b.last b.places.items
+          b.by_key.items;
+    } };
 
     ghost invariant = { λ b. record {
       book : IsBook b.places.items b.by_key.items b.last;
@@ -59,7 +55,7 @@ impl<A: Allocator> RouteBook<A> {
     pub fn new(alloc: A, places: usize, stops: usize, marks: usize) -> Result<Self, RoomError>
     where
         A: Copy,
-        ensures made { IfOk result (λ book. book
+        ensures made { IfOk result (λ book. book.state
             ≡ empty (record { places = places; stops = stops; marks = marks }) 0) }
         ensures index { IsErrOf result RoomError.Index ↔ (2 ^ 64 ≤ places + stops + marks) }
         ensures refused { IfErr result (λ e. (e ≡ RoomError.Index) ⊎ (e ≡ RoomError.Memory)) }
@@ -80,7 +76,7 @@ impl<A: Allocator> RouteBook<A> {
     ) -> Result<Self, RoomError>
     where
         A: Copy,
-        ensures made { IfOk result (λ book. book
+        ensures made { IfOk result (λ book. book.state
             ≡ empty (record { places = places; stops = stops; marks = marks }) last) }
         ensures index { IsErrOf result RoomError.Index ↔ (2 ^ 64 ≤ places + stops + marks) }
         ensures refused { IfErr result (λ e. (e ≡ RoomError.Index) ⊎ (e ≡ RoomError.Memory)) }
@@ -107,15 +103,16 @@ impl<A: Allocator> RouteBook<A> {
 
     /// The ticket of the place with this key.
     pub fn find(&self, key: u64) -> Option<u64>
-        ensures { result ≡ found self.now key }
+        ensures { result ≡ found self.now.state key }
     {
         self.find_counted(key, &mut Counts::new())
     }
 
     /// The same, with the comparisons of its search counted as `key`.
     pub fn find_counted(&self, key: u64, counts: &mut Counts) -> Option<u64>
-        ensures result { result ≡ found self.now key }
-        ensures counts { CountsWithin counts.old counts.new (most_comparisons (place_count self.now)) 0 0 }
+        ensures result { result ≡ found self.now.state key }
+        ensures counts { CountsWithin counts.old counts.new
+            (most_comparisons (place_count self.now.state)) 0 0 }
     {
         match search_key(&self.places, &self.by_key, key, counts) {
             Ok(at) => Some(self.places[self.by_key[at]].ticket),
@@ -127,15 +124,16 @@ impl<A: Allocator> RouteBook<A> {
     ///
     /// `Unknown` where the ticket was never given, `Gone` where its item has ended.
     pub fn show(&self, ticket: u64) -> Result<Shown, Refusal>
-        ensures { result ≡ shown self.now ticket }
+        ensures { result ≡ shown self.now.state ticket }
     {
         self.show_counted(ticket, &mut Counts::new())
     }
 
     /// The same, with the comparisons of its search counted as `first`.
     pub fn show_counted(&self, ticket: u64, counts: &mut Counts) -> Result<Shown, Refusal>
-        ensures result { result ≡ shown self.now ticket }
-        ensures counts { CountsWithin counts.old counts.new 0 (most_comparisons (living_count self.now)) 0 }
+        ensures result { result ≡ shown self.now.state ticket }
+        ensures counts { CountsWithin counts.old counts.new
+            0 (most_comparisons (living_count self.now.state)) 0 }
     {
         if ticket == 0 || ticket > self.last {
             return Err(Refusal::Unknown);
@@ -157,8 +155,8 @@ impl<A: Allocator> RouteBook<A> {
     /// `Full` where the key is new and as many places live as the room holds, or every ticket was given;
     /// then nothing changes.
     pub fn place(&mut self, key: u64, word: Word) -> Result<Placed, Refusal>
-        ensures result { result ≡ placed self.old key word }
-        ensures state { self.new ≡ after_place self.old key word }
+        ensures result { result ≡ placed self.old.state key word }
+        ensures state { self.new.state ≡ after_place self.old.state key word }
     {
         self.place_counted(key, word, &mut Counts::new())
     }
@@ -170,9 +168,10 @@ impl<A: Allocator> RouteBook<A> {
         word: Word,
         counts: &mut Counts,
     ) -> Result<Placed, Refusal>
-        ensures result { result ≡ placed self.old key word }
-        ensures state { self.new ≡ after_place self.old key word }
-        ensures counts { CountsWithin counts.old counts.new (most_comparisons (place_count self.old)) 0 0 }
+        ensures result { result ≡ placed self.old.state key word }
+        ensures state { self.new.state ≡ after_place self.old.state key word }
+        ensures counts { CountsWithin counts.old counts.new
+            (most_comparisons (place_count self.old.state)) 0 0 }
     {
         let searched = search_key(&self.places, &self.by_key, key, counts);
         match searched {
@@ -203,7 +202,7 @@ impl<A: Allocator> RouteBook<A> {
 impl<A: Allocator> RouteBook<A> {
     /// The places in the order of their keys.
     pub fn places(&self) -> Places<'_>
-        ensures { result ≡ self.now.places }
+        ensures { result ≡ self.now.state.places }
     {
         Places {
             places: &self.places,
@@ -213,7 +212,7 @@ impl<A: Allocator> RouteBook<A> {
 
     // Whether no further place can be had.
     fn is_full_of_places(&self) -> bool
-        ensures { result ≡ is_full_of_places self.now }
+        ensures { result ≡ is_full_of_places self.now.state }
     {
         self.places.len() >= self.place_room || self.last == u64::MAX
     }

@@ -1,18 +1,11 @@
 ghost use Rattle.std.specs.Prelude.{◌≡◌, ◌<◌, ◌≤◌, ◌+◌, ◌-◌, ◌^◌, ◌↔◌, ◌⊎◌, ℕ, Some, IfSome, IsNone, codes, map, string_bytes};
-ghost use Rattle.std.specs.Option.{option_map};
-ghost use Rattle.std.specs.Io.KnownBytes.{Appends};
-ghost use Rattle.route_book.specs.Number.{number_of};
-ghost use Rattle.route_book.specs.CommandLine.{Answers, AnswersWholeLines, BeginsToAnswer, Tells, refusal_of, refused_line, room_sum, rooms_of};
-ghost use Rattle.route_book.specs.Reply.{ended};
-ghost use Rattle.route_book.specs.State.{Rooms, empty};
-ghost use Rattle.route_book.specs.Watched.{inner_of, failed_of, calls_of};
+ghost use Rattle.route_lines.specs.CommandLine.{Answers, AnswersWholeLines, BeginsToAnswer, Tells, refusal_of, refused_line, room_sum, rooms_of};
+ghost use Rattle.route_lines.specs.State.{Rooms, empty};
+ghost use Rattle.route_lines.specs.Watched.{inner_of, failed_of, calls_of};
 
 use crate::book::RouteBook;
-use crate::counts::Counts;
-use crate::number::read_number;
-use crate::refusal::RoomError;
-use crate::running::{RunFault, run};
-use crate::watched::Watched;
+use crate::running::run;
+use route_lines::{Counts, RunFault, Watched, read_rooms, refused_line, tell};
 use std::alloc::Global;
 use std::io::{Read, Write};
 
@@ -98,13 +91,13 @@ fn answer_input<R: Read, W: Write, E: Write>(
     errors: &mut Watched<E>,
 ) -> u8
     ensures status { result ≤ 1 }
-    ensures answered { result ≡ 0 → (rooms : Rooms) → book ≡ empty rooms 0
+    ensures answered { result ≡ 0 → (rooms : Rooms) → book.state ≡ empty rooms 0
         → Answers rooms (R.remaining (inner_of input.old)) (R.remaining (inner_of input.new))
         (W.contents (inner_of output.old)) (W.contents (inner_of output.new)) }
     ensures unfailed { result ≡ 0 → (failed_of input.new ≡ failed_of input.old)
         × (failed_of output.new ≡ failed_of output.old) }
     ensures silent { result ≡ 0 → errors.new ≡ errors.old }
-    ensures fault { result ≡ 1 → (rooms : Rooms) → book ≡ empty rooms 0 →
+    ensures fault { result ≡ 1 → (rooms : Rooms) → book.state ≡ empty rooms 0 →
         (AnswersWholeLines rooms (R.remaining (inner_of input.old)) (R.remaining (inner_of input.new))
         (W.contents (inner_of output.old)) (W.contents (inner_of output.new))
         × ((failed_of input.new ≡ failed_of input.old + 1)
@@ -132,43 +125,4 @@ fn answer_input<R: Read, W: Write, E: Write>(
             1
         }
     }
-}
-
-// The rooms of places, stops and marks.
-fn read_rooms(args: &[String]) -> Option<(usize, usize, usize)>
-    ensures { option_map (λ rooms. record { places = rooms.0; stops = rooms.1; marks = rooms.2 })
-        result ≡ rooms_of (map string_bytes args.now) }
-{
-    let [places, stops, marks] = args else {
-        return None;
-    };
-    Some((read_room(places)?, read_room(stops)?, read_room(marks)?))
-}
-
-fn read_room(arg: &String) -> Option<usize>
-    ensures { result ≡ number_of (string_bytes arg.now) }
-{
-    let number = read_number(arg.as_bytes())?;
-    usize::try_from(number).ok()
-}
-
-// The line for a refusal of `RouteBook::new`, with its LF.
-fn refused_line(refusal: RoomError) -> &'static [u8]
-    ensures { result.now ≡ ended (refused_line refusal) }
-{
-    match refusal {
-        RoomError::Generation => b"room refused: generation\n",
-        RoomError::Index => b"room refused: index\n",
-        RoomError::Stack => b"room refused: stack\n",
-        RoomError::Memory => b"room refused: memory\n",
-        RoomError::TooSmall => b"room refused: too small\n",
-    }
-}
-
-// Writes a line. Nobody is left to hear of a failure.
-fn tell<E: Write>(errors: &mut Watched<E>, line: &[u8])
-    ensures { failed_of errors.new ≡ failed_of errors.old
-        → Appends (E.contents (inner_of errors.old)) (E.contents (inner_of errors.new)) line.now }
-{
-    let _ = errors.send(line);
 }

@@ -15,34 +15,17 @@
 
 mod answer;
 mod book;
-mod command;
 mod command_line;
-mod counts;
-pub mod laws;
-mod line;
-mod number;
 mod place;
-mod placed;
 mod places;
-mod refusal;
-mod reply_text;
 mod running;
-mod shown;
-mod unfinished;
-mod watched;
-mod word;
 
 pub use book::RouteBook;
-pub use command::Command;
 pub use command_line::program;
-pub use counts::Counts;
-pub use line::read_line;
-pub use number::read_number;
-pub use placed::Placed;
 pub use places::Places;
-pub use refusal::{Refusal, RoomError};
-pub use running::{RunFault, run};
-pub use shown::Shown;
+pub use route_lines::{
+    Command, Counts, Placed, Refusal, RoomError, RunFault, Shown, Watched, Word, laws, read_line,
+    read_number,
+};
+pub use running::run;
 pub use triple_arena_ptr::Probes;
-pub use watched::Watched;
-pub use word::Word;

@@ -1,4 +1,4 @@
-use crate::word::Word;
+use route_lines::Word;
 
 /// A living place.
 #[derive(Debug, PartialEq, Eq, Drop)]

@@ -2,7 +2,7 @@ ghost use Rattle.std.specs.Prelude.{◌≡◌};
 ghost use Rattle.std.specs.Iterator.{YieldsFirstBy, item_count};
 
 use crate::place::Place;
-use crate::word::Word;
+use route_lines::Word;
 use std::marker::Model;
 
 /// The places of a store in the order of their keys, seen as the list of those that are left.
@@ -15,7 +15,7 @@ pub struct Places<'a> {
 
 impl<'a> Model for Places<'a> {
     ghost use Rattle.std.specs.Prelude.{List};
-    ghost use Rattle.route_book.specs.State.{Place};
+    ghost use Rattle.route_lines.specs.State.{Place};
 
     ghost Value = { List Place };
 
@@ -27,7 +27,7 @@ impl<'a> Model for Places<'a> {
 }
 
 impl<'a> Iterator for Places<'a> {
-    ghost use Rattle.route_book.specs.Calls.{listed};
+    ghost use Rattle.route_lines.specs.Calls.{listed};
 
     /// A place's ticket, key and word.
     type Item = (u64, u64, &'a Word);

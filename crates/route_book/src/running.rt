@@ -1,18 +1,12 @@
-ghost use Rattle.std.specs.Prelude.{◌≡◌, ◌⊎◌, ℕ, ◌+◌, ◌-◌, ◌<◌, ◌++◌, ◌^◌, List, [], ◌∷◌, IfErr, IfNone, IfSome, OnOk, OnErr, map};
+ghost use Rattle.std.specs.Prelude.{◌≡◌, ◌⊎◌, ℕ, ◌+◌, ◌-◌, ◌<◌, ◌++◌, ◌^◌, List, [], IfErr, OnOk, OnErr, map};
 ghost use Rattle.std.specs.Io.KnownBytes.{Consumes, IsAtEnd};
-ghost use Rattle.route_book.specs.Run.{Carries, OnRead, OnWrite, OnTooLong, StopsWithin};
-ghost use Rattle.route_book.specs.Text.{lines, unended_line, whole, whole_lines};
-ghost use Rattle.route_book.specs.Unfinished.{HasNoLineEnd, StandsFor, StopsAtEnd, Stops, Takes};
-ghost use Rattle.route_book.specs.Watched.{inner_of, failed_of, calls_of};
-
-mod fault;
+ghost use Rattle.route_lines.specs.Run.{Carries, OnRead, OnWrite, OnTooLong, StopsWithin};
+ghost use Rattle.route_lines.specs.Text.{lines, unended_line, whole, whole_lines};
+ghost use Rattle.route_lines.specs.Unfinished.{HasNoLineEnd, StandsFor, StopsAtEnd, Stops, Takes};
+ghost use Rattle.route_lines.specs.Watched.{inner_of, failed_of, calls_of};
 
 use crate::book::RouteBook;
-use crate::counts::Counts;
-use crate::reply_text::ReplyText;
-use crate::unfinished::Unfinished;
-use crate::watched::Watched;
-pub use fault::RunFault;
+use route_lines::{Counts, ReplyText, RunFault, Unfinished, Watched, split_line};
 use std::alloc::Allocator;
 use std::io;
 use std::io::{Read, Write};
@@ -32,7 +26,7 @@ pub fn run<A: Allocator, R: Read, W: Write>(
     ensures ok { OnOk result ((input : List ℕ)
         × Consumes (R.remaining (inner_of reader.old)) (R.remaining (inner_of reader.new)) input
         × IsAtEnd (R.remaining (inner_of reader.new))
-        × Carries book.old (lines input) book.new (W.contents (inner_of writer.old))
+        × Carries book.old.state (lines input) book.new.state (W.contents (inner_of writer.old))
         (W.contents (inner_of writer.new)) counts.old counts.new) }
 
     ensures ok_failed { OnOk result
@@ -43,13 +37,13 @@ pub fn run<A: Allocator, R: Read, W: Write>(
     ensures read { IfErr result (λ fault. OnRead fault
         ((input : List ℕ) × Consumes (R.remaining (inner_of reader.old))
         (R.remaining (inner_of reader.new)) input
-        × Carries book.old (map whole (whole_lines input)) book.new
+        × Carries book.old.state (map whole (whole_lines input)) book.new.state
         (W.contents (inner_of writer.old))
         (W.contents (inner_of writer.new)) counts.old counts.new)) }
     ensures too_long { IfErr result
         (λ fault. OnTooLong fault ((input : List ℕ)
         × Consumes (R.remaining (inner_of reader.old)) (R.remaining (inner_of reader.new)) input
-        × Carries book.old (map whole (whole_lines input)) book.new
+        × Carries book.old.state (map whole (whole_lines input)) book.new.state
         (W.contents (inner_of writer.old))
         (W.contents (inner_of writer.new)) counts.old counts.new)) }
 
@@ -57,11 +51,11 @@ pub fn run<A: Allocator, R: Read, W: Write>(
     ensures write { IfErr result (λ fault. OnWrite fault
         ((input : List ℕ) × Consumes (R.remaining (inner_of reader.old))
         (R.remaining (inner_of reader.new)) input
-        × (StopsWithin input (R.remaining (inner_of reader.new)) book.old book.new
+        × (StopsWithin input (R.remaining (inner_of reader.new)) book.old.state book.new.state
         (W.contents (inner_of writer.old))
         (W.contents (inner_of writer.new)) counts.old counts.new
         ⊎ (IsAtEnd (R.remaining (inner_of reader.new))
-        × Carries book.old (lines input) book.new (W.contents (inner_of writer.old))
+        × Carries book.old.state (lines input) book.new.state (W.contents (inner_of writer.old))
         (W.contents (inner_of writer.new)) counts.old counts.new)))) }
 
     // No fault comes without a cause.
@@ -114,12 +108,12 @@ fn take<A: Allocator, W: Write>(
     counts: &mut Counts,
 ) -> io::Result<()>
     ensures ok { OnOk result ((line : List ℕ) → HasNoLineEnd line → StandsFor unfinished.old line
-        → Takes (line ++ piece.now) [] unfinished.new book.old book.new
+        → Takes (line ++ piece.now) [] unfinished.new book.old.state book.new.state
         (W.contents (inner_of writer.old))
         (W.contents (inner_of writer.new)) counts.old counts.new) }
     ensures ok_failed { OnOk result (failed_of writer.new ≡ failed_of writer.old) }
     ensures err { OnErr result ((line : List ℕ) → HasNoLineEnd line → StandsFor unfinished.old line
-        → Stops (line ++ piece.now) book.old book.new (W.contents (inner_of writer.old))
+        → Stops (line ++ piece.now) book.old.state book.new.state (W.contents (inner_of writer.old))
         (W.contents (inner_of writer.new)) counts.old counts.new) }
     ensures err_failed { OnErr result (failed_of writer.new ≡ failed_of writer.old + 1) }
 {
@@ -142,13 +136,14 @@ fn end<A: Allocator, W: Write>(
     counts: &mut Counts,
 ) -> io::Result<()>
     ensures ok { OnOk result ((line : List ℕ) → StandsFor unfinished.now line
-        → Carries book.old (unended_line line) book.new (W.contents (inner_of writer.old))
+        → Carries book.old.state (unended_line line) book.new.state (W.contents (inner_of writer.old))
         (W.contents (inner_of writer.new)) counts.old counts.new) }
     ensures ok_failed { OnOk result (failed_of writer.new ≡ failed_of writer.old) }
     ensures err { OnErr result ((line : List ℕ) → StandsFor unfinished.now line
-        → StopsAtEnd line book.old book.new (W.contents (inner_of writer.old))
+        → StopsAtEnd line book.old.state book.new.state (W.contents (inner_of writer.old))
         (W.contents (inner_of writer.new)) counts.old counts.new
-        ⊎ Carries book.old (unended_line line) book.new (W.contents (inner_of writer.old)) (W.contents (inner_of writer.new)) counts.old counts.new) }
+        ⊎ Carries book.old.state (unended_line line) book.new.state (W.contents (inner_of writer.old))
+        (W.contents (inner_of writer.new)) counts.old counts.new) }
     ensures err_failed { OnErr result (failed_of writer.new ≡ failed_of writer.old + 1) }
 {
     if unfinished.is_empty() {
@@ -156,14 +151,4 @@ fn end<A: Allocator, W: Write>(
     }
     book.carry_out(None, text, writer, counts)?;
     writer.flush()
-}
-
-// The bytes before the first LF, and those behind it.
-fn split_line(bytes: &[u8]) -> Option<(&[u8], &[u8])>
-    ensures found { IfSome result (λ cut. (bytes.now ≡ cut.0.now ++ 10 ∷ cut.1.now)
-        × HasNoLineEnd cut.0.now) }
-    ensures none { IfNone result (HasNoLineEnd bytes.now) }
-{
-    let end = bytes.iter().position(|byte| *byte == b'\n')?;
-    Some((&bytes[..end], &bytes[end + 1..]))
 }

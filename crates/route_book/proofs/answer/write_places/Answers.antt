@@ -2,10 +2,10 @@ use Rattle.std.proofs.Common.{◌≡◌, ◌∙◌, ◌++◌, [], ◌∷◌, ℕ
 use Rattle.std.specs.Io.KnownBytes.{Appends}
 use Rattle.std.proofs.KnownBytes.{Appends-trans}
 use Rattle.std.proofs.lemmas.Result.{on_err_weaker}
-use Rattle.route_book.specs.State.{Place}
-use Rattle.route_book.specs.Reply.{ended, place_line, places_text}
-use Rattle.route_book.specs.Written.{AppendsBeginning}
-use Rattle.route_book.proofs.WrittenLemmas.{begun, on_err}
+use Rattle.route_lines.specs.State.{Place}
+use Rattle.route_lines.specs.Reply.{ended, place_line, places_text}
+use Rattle.route_lines.specs.Written.{AppendsBeginning}
+use Rattle.route_lines.proofs.WrittenLemmas.{begun, on_err}
 use Rattle.route_book.proofs.answer.write_places.Goals as goal
 
 abbrev lines_of : List Place → List ℕ

@@ -1,6 +1,6 @@
 use Rattle.std.proofs.Common.{◌≡◌, ◌++◌, ℕ, List, flat_map}
 use Rattle.std.specs.Io.KnownBytes.{Appends}
-use Rattle.route_book.specs.Reply.{ended, place_line}
+use Rattle.route_lines.specs.Reply.{ended, place_line}
 use Rattle.route_book.proofs.answer.write_places.Given as goal
 
 abbrev pub invariant-loop-ticket : goal.invariant-loop-ticket

@@ -1,5 +1,5 @@
 use Rattle.std.proofs.Common.{inl, inr}
-use Rattle.route_book.proofs.CommandLineLemmas.{answers-whole_lines, begins-to_answer, on_read, on_write, on_too_long}
+use Rattle.route_lines.proofs.CommandLineLemmas.{answers-whole_lines, begins-to_answer, on_read, on_write, on_too_long}
 use Rattle.route_book.proofs.command_line.answer_input.Goals as goal
 
 pub returns-in-Err-Read-clause-fault : goal.returns-in-Err-Read-clause-fault

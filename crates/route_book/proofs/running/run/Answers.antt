@@ -2,7 +2,7 @@ use Rattle.std.proofs.Common.{◌∙◌, ◌≡◌, ◌++◌, ℕ, Option, List,
 use Rattle.std.specs.Io.KnownBytes.{Consumes}
 use Rattle.std.proofs.KnownBytes.{Consumes-nil, Consumes-trans, Consumes-kept}
 use Rattle.std.proofs.lemmas.List.Elements.{All-nil}
-use Rattle.route_book.proofs.UnfinishedLemmas.{Takes-none, Takes-piece, Takes-whole, Takes-all, Stops-within, Stops-at_end}
+use Rattle.route_lines.proofs.UnfinishedLemmas.{Takes-none, Takes-piece, Takes-whole, Takes-all, Stops-within, Stops-at_end}
 use Rattle.route_book.proofs.running.run.Goals as goal
 
 -- a read that gave nothing leaves the input as it was

@@ -1,6 +1,6 @@
 use Rattle.std.proofs.Common.{◌∙◌, refl}
-use Rattle.route_book.proofs.UnfinishedLemmas.{Takes-none, Takes-line, Stops-at_line, Takes-rest}
-use Rattle.route_book.proofs.WrittenLemmas.{on_err}
+use Rattle.route_lines.proofs.UnfinishedLemmas.{Takes-none, Takes-line, Stops-at_line, Takes-rest}
+use Rattle.route_lines.proofs.WrittenLemmas.{on_err}
 use Rattle.route_book.proofs.running.take.Goals as goal
 
 pub loop-line-init : goal.loop-line-init

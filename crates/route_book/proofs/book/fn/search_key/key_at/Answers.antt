@@ -1,5 +1,5 @@
 use Rattle.std.proofs.Common.{ℕ, ap}
-use Rattle.route_book.specs.State.{Place}
+use Rattle.route_lines.specs.State.{Place}
 use Rattle.route_book.proofs.BookLemmas.{place_read}
 use Rattle.route_book.proofs.book.fn.search_key.key_at.Goals as goal
 

@@ -1,5 +1,0 @@
-use Rattle.route_book.proofs.SoundLemmas.{IsSound-from_empty}
-use Rattle.route_book.proofs.laws.states.states_are_sound.Goals as goal
-
-pub returns : goal.returns
-returns c = IsSound-from_empty

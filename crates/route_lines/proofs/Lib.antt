@@ -1,0 +1,10 @@
+pub mod CommandLineLemmas
+pub mod GrammarLemmas
+pub mod LineTextLemmas
+pub mod NumberLemmas
+pub mod ReplyLemmas
+pub mod RunLemmas
+pub mod SoundLemmas
+pub mod UnfinishedLemmas
+pub mod WordLemmas
+pub mod WrittenLemmas

@@ -1,0 +1,15 @@
+pub mod Calls
+pub mod CommandLine
+pub mod Grammar
+pub mod Number
+pub mod Reply
+pub mod ReplyText
+pub mod Run
+pub mod Searches
+pub mod Sound
+pub mod State
+pub mod Text
+pub mod Unfinished
+pub mod Watched
+pub mod Word
+pub mod Written

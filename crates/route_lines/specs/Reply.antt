@@ -1,0 +1,65 @@
+-- The text that answers a command, and the state after it. Each reply line ends with an LF.
+use Rattle.std.specs.Prelude.{ℕ, ◌++◌, ◌∷◌, List, [], Option, None, Some, Result, Ok, Err, codes, decimal, flat_map}
+use Rattle.route_lines.specs.State.{State, Place}
+use Rattle.route_lines.specs.Calls.{placed, after_place, shown, found}
+use Rattle.route_lines.specs.declared.command.Command.{Command}
+use Rattle.route_lines.specs.declared.command.Command.TheVariants.{Place as PlaceLine, Show, Find, All}
+use Rattle.route_lines.specs.declared.placed.Placed.{Placed}
+use Rattle.route_lines.specs.declared.placed.Placed.TheVariants.{New, Old}
+use Rattle.route_lines.specs.declared.shown.Shown.{Shown}
+use Rattle.route_lines.specs.declared.shown.Shown.TheVariants.{Place as ShownPlace, Stop as ShownStop, Mark as ShownMark}
+use Rattle.route_lines.specs.declared.refusal.Refusal.{Refusal}
+use Rattle.route_lines.specs.declared.refusal.Refusal.TheVariants.{Unknown, Gone, Kind, No, Full}
+
+abbrev pub ended : List ℕ → List ℕ
+ended line = line ++ 10 ∷ []
+
+abbrev pub refusal_line : Refusal → List ℕ
+refusal_line Unknown = codes "unknown"
+refusal_line Gone = codes "gone"
+refusal_line Kind = codes "kind"
+refusal_line No = codes "no"
+refusal_line Full = codes "full"
+
+-- a reference: the ticket that it names, or that its item is gone
+abbrev pub reference_text : Option ℕ → List ℕ
+reference_text (Some ticket) = decimal ticket
+reference_text None = codes "gone"
+
+abbrev pub placed_line : Result Placed Refusal → List ℕ
+placed_line (Ok (New ticket)) = decimal ticket
+placed_line (Ok (Old ticket word)) = decimal ticket ++ codes " old " ++ word
+placed_line (Err refusal) = refusal_line refusal
+
+abbrev pub shown_line : Result Shown Refusal → List ℕ
+shown_line (Ok (ShownPlace key word)) = decimal key ++ codes " " ++ word
+shown_line (Ok (ShownStop place)) = codes "at " ++ reference_text place
+shown_line (Ok (ShownMark place stop)) = reference_text place ++ codes " " ++ reference_text stop
+shown_line (Err refusal) = refusal_line refusal
+
+abbrev pub found_line : Option ℕ → List ℕ
+found_line (Some ticket) = decimal ticket
+found_line None = codes "none"
+
+abbrev pub place_line : Place → List ℕ
+place_line p = decimal p.ticket ++ codes " " ++ decimal p.key ++ codes " " ++ p.word
+
+-- every place in the order of the keys, then `end`
+abbrev pub places_text : List Place → List ℕ
+places_text places = flat_map (λ p. ended (place_line p)) places ++ ended (codes "end")
+
+-- the reply to a command, where there is one, from this state
+abbrev pub reply : State → Option Command → List ℕ
+reply s None = ended (codes "bad")
+reply s (Some (PlaceLine key word)) = ended (placed_line (placed s key word))
+reply s (Some (Show ticket)) = ended (shown_line (shown s ticket))
+reply s (Some (Find key)) = ended (found_line (found s key))
+reply s (Some All) = places_text s.places
+
+-- the state after it: only `place` changes anything
+abbrev pub next : State → Option Command → State
+next s None = s
+next s (Some (PlaceLine key word)) = after_place s key word
+next s (Some (Show ticket)) = s
+next s (Some (Find key)) = s
+next s (Some All) = s

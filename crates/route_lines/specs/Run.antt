@@ -1,0 +1,62 @@
+-- What a run over an input does: the lines that it carries out, and where a fault breaks it off.
+use Rattle.std.specs.Prelude.{◌≡◌, ℕ, ◌+◌, ◌<◌, ◌++◌, ◌∷◌, List, [], Option, length}
+use Rattle.std.specs.Io.KnownBytes.{Appends, IsAtEnd}
+use Rattle.route_lines.specs.State.{State}
+use Rattle.route_lines.specs.Reply.{reply, next}
+use Rattle.route_lines.specs.Text.{Line, whole, unended, command_in, replies, after_lines, lines}
+use Rattle.counted_search.specs.Searches.{most_comparisons}
+use Rattle.route_lines.specs.Searches.{CountsWithin, place_count, living_count}
+use Rattle.route_lines.specs.declared.counts.Counts.{Counts}
+use Rattle.route_lines.specs.declared.fault.RunFault.{RunFault}
+use Rattle.route_lines.specs.declared.fault.RunFault.TheVariants.{Read, Write, TooLong}
+
+-- the greatest number of comparisons that lines may take, one after another, among so many entries
+abbrev pub most_comparisons_over : (State → ℕ) → State → List Line → ℕ
+most_comparisons_over count s [] = 0
+most_comparisons_over count s (line ∷ lines) = most_comparisons (count s) + most_comparisons_over count (next s (command_in line)) lines
+
+-- from the old state on, the lines are carried out and their replies written
+pub record Carries (old : State) (lines : List Line) (new : State) (held written : Option (List ℕ)) (before later : Counts) : Type 0 where
+  pub state : new ≡ after_lines old lines
+  pub replied : Appends held written (replies old lines)
+  pub counts : CountsWithin before later (most_comparisons_over place_count old lines) (most_comparisons_over living_count old lines) (most_comparisons_over living_count old lines)
+
+-- the lines are carried out, and one more; of its reply a beginning is written, at least a byte short
+pub record BreaksOff (old : State) (lines : List Line) (line : Line) (new : State) (held written : Option (List ℕ)) (before later : Counts) : Type 0 where
+  pub part : List ℕ
+  pub missing : List ℕ
+  pub reply : reply (after_lines old lines) (command_in line) ≡ part ++ missing
+  pub short : 0 < length missing
+  pub state : new ≡ after_lines old (lines ++ line ∷ [])
+  pub replied : Appends held written (replies old lines ++ part)
+  pub counts : CountsWithin before later (most_comparisons_over place_count old (lines ++ line ∷ [])) (most_comparisons_over living_count old (lines ++ line ∷ [])) (most_comparisons_over living_count old (lines ++ line ∷ []))
+
+-- a line without LF comes at the end of the input alone
+abbrev pub ComesIn : Line → Option (List ℕ) → Type 0
+ComesIn (whole bytes) left = Unit {0}
+ComesIn (unended bytes) left = IsAtEnd left
+
+-- a write fault breaks off at one of the lines that were read; where the flush at the end failed, all are answered
+pub record StopsWithin (input : List ℕ) (left : Option (List ℕ)) (old new : State) (held written : Option (List ℕ)) (counts later : Counts) : Type 0 where
+  pub before : List Line
+  pub line : Line
+  pub behind : List Line
+  pub read : lines input ≡ before ++ line ∷ behind
+  pub comes : ComesIn line left
+  pub breaks : BreaksOff old before line new held written counts later
+
+-- a fact on one kind of fault
+abbrev pub OnRead : RunFault → Type 0 → Type 0
+OnRead (Read e) P = P
+OnRead (Write e) P = Unit {0}
+OnRead TooLong P = Unit {0}
+
+abbrev pub OnWrite : RunFault → Type 0 → Type 0
+OnWrite (Read e) P = Unit {0}
+OnWrite (Write e) P = P
+OnWrite TooLong P = Unit {0}
+
+abbrev pub OnTooLong : RunFault → Type 0 → Type 0
+OnTooLong (Read e) P = Unit {0}
+OnTooLong (Write e) P = Unit {0}
+OnTooLong TooLong P = P

@@ -1,0 +1,73 @@
+-- What a store holds: plain lists under tickets. No pointer, no slot, no order of memory.
+use Rattle.std.specs.Prelude.{ℕ, ◌==◌, ◌||◌, Bool, List, [], Option, Result, Err, if◌then◌else◌, nat_lt, nat_le, find, flat_map, length}
+use Rattle.std.specs.Option.{option_map, option_or, ok_or}
+use Rattle.route_lines.specs.declared.refusal.Refusal.{Refusal}
+use Rattle.route_lines.specs.declared.refusal.Refusal.TheVariants.{Unknown, Gone}
+
+-- how many places, stops and marks may live at one time
+pub record Rooms : Type 0 where
+  pub places : ℕ
+  pub stops : ℕ
+  pub marks : ℕ
+
+pub record Place : Type 0 where
+  pub ticket : ℕ
+  pub key : ℕ
+  pub word : List ℕ
+
+-- a stop names a place by its ticket, or nothing where that place is gone
+pub record Stop : Type 0 where
+  pub ticket : ℕ
+  pub place : Option ℕ
+
+-- a ring is written from its smallest ticket
+pub record Route : Type 0 where
+  pub is_ring : Bool
+  pub stops : List Stop
+
+-- a mark names a place and a stop
+pub record Mark : Type 0 where
+  pub ticket : ℕ
+  pub place : Option ℕ
+  pub stop : Option ℕ
+
+-- the rooms, the last ticket given, the places in the order of their keys, the routes in the order of their first tickets, the marks in the order of their tickets
+pub record State : Type 0 where
+  pub rooms : Rooms
+  pub last : ℕ
+  pub places : List Place
+  pub routes : List Route
+  pub marks : List Mark
+
+-- a living item
+pub data Item : Type 0 where
+  place : Place → Item
+  stop : Stop → Item
+  mark : Mark → Item
+
+abbrev pub with_key : ℕ → List Place → Option Place
+with_key key places = find (λ p. p.key == key) places
+
+-- the living item that has the ticket
+abbrev pub living : State → ℕ → Option Item
+living s ticket =
+    option_or (option_map place (find (λ p. p.ticket == ticket) s.places))
+    (option_or (option_map stop (find (λ t. t.ticket == ticket) (flat_map (λ r. r.stops) s.routes)))
+    (option_map mark (find (λ m. m.ticket == ticket) s.marks)))
+
+-- the item that has the ticket: a ticket is unknown where it was never given, and gone where its item has ended
+abbrev pub holder : State → ℕ → Result Item Refusal
+holder s ticket =
+    if (ticket == 0) || nat_lt s.last ticket then Err Unknown else ok_or (living s ticket) Gone
+
+-- the last ticket there is
+abbrev pub last_ticket : ℕ
+last_ticket = 18446744073709551615
+
+-- no place more: as many live as the room holds, or every ticket was given
+abbrev pub is_full_of_places : State → Bool
+is_full_of_places s = nat_le s.rooms.places (length s.places) || (s.last == last_ticket)
+
+-- a store with nothing in it
+abbrev pub empty : Rooms → ℕ → State
+empty rooms last = record { rooms = rooms; last = last; places = []; routes = []; marks = [] }
