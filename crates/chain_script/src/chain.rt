@@ -136,7 +136,10 @@ fn changes<P: Ptr, S: ChainSlots<P, u64>>(
             &chains.insert_in_gap_reallocating(None, None, call.first),
         ),
         "put" => put(chains, transcript, call),
-        "compress_canonical" => transcript.answer(line, &chains.compress_canonical(call.first == 1)),
+        "compress_canonical" => transcript.answer(
+            line,
+            &chains.compress_canonical(call.first == 1),
+        ),
         "drain" => drain(chains, transcript, call),
         "drain_chain" => drain_chain(chains, transcript, call),
         _ => return false,

@@ -23,7 +23,6 @@ module _ (k m i : ℕ) (v w : List ℕ) (left right : Option ℕ) (n0 n1 n2 n3 n
     (top : Written n4 n5 i (record { parent = None; left = left; right = right; rank = part_rank k m }))
     (half : length v ≡ m / 2) (whole : length v + length w + 1 ≡ m)
     (distinct : IsDistinct (node a.tree i (part_rank k m) b.tree)) where
-
   once : (j : ℕ) → count j a.tree + one j i + count j b.tree ≤ 1
   once = distinct.once
 

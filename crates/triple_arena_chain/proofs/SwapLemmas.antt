@@ -259,4 +259,3 @@ module _ (e : ℕ → Option Ends) (agreed : IsAgreed e) (i j : ℕ) (u v : Ends
           prev_step f4 f5 (Some i) (option_map (swapped_index i j) v.0) (prev_at r k) k x4.0 x4.1 (w5 k) (λ h. let is_i : i ≡ k = cc in sym prev_at_i ∙ ap (prev_at r) is_i)
           (λ not_i. prevs_before ∙ prev_stays k (λ same. not_i (ap Some (sym same))) (λ same. not_j (ap Some (sym same))) not_v not_u)))) in
           ends_by_parts (f8 k) (under (swapped_index i j) e k) (s8 ∙ sym (some_r (e (swapped_index i j k)))) (nexts_after ∙ nexts) prevs
-

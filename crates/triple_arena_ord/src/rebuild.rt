@@ -8,8 +8,8 @@ ghost use Rattle.triple_arena_ord.specs.Node.{knots_in, rest};
 ghost use Rattle.triple_arena_ord.specs.Rebuilt.{IsAhead, IsRebuilt};
 ghost use Rattle.rank_tree.specs.Halving.{part_rank, IsTopRank, IsBuilt};
 
-use crate::{OrdSlots, SimpleOrdArenaNode};
 use crate::knots::{reparent, write};
+use crate::{OrdSlots, SimpleOrdArenaNode};
 use rank_tree::TreeLinks;
 use triple_arena::{ArenaTrait, PtrCore};
 use triple_arena_chain::{ChainArena, ChainArenaTrait};
@@ -36,7 +36,10 @@ fn top_rank(count: usize) -> u8
 }
 
 // The next index of the link at an index, if there is one.
-fn next_of<P: PtrCore, T: Drop, S: OrdSlots<P, T>>(chains: &ChainArena<P, SimpleOrdArenaNode<P, T>, S>, i: P::Inx) -> Option<P::Inx>
+fn next_of<P: PtrCore, T: Drop, S: OrdSlots<P, T>>(
+    chains: &ChainArena<P, SimpleOrdArenaNode<P, T>, S>,
+    i: P::Inx,
+) -> Option<P::Inx>
     ensures { option_map P.Inx.number result ≡ next_at (ends_in P.Inx.number chains.now) (P.Inx.number i) }
 {
     match chains.get_inx_link_no_gen(i) {

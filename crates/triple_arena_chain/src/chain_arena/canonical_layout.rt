@@ -13,7 +13,9 @@ use crate::chain_arena::compression::{next_there, prev_there};
 use crate::chain_arena::interlinks::{set_next, set_prev};
 use crate::{ChainArena, ChainSlots, LinkNoGen};
 use std::num::NonZeroUsize;
-use triple_arena::{Arena, ArenaTrait, DisjointableArenaTrait, InvalidationOption, PtrCore, PtrInxCore};
+use triple_arena::{
+    Arena, ArenaTrait, DisjointableArenaTrait, InvalidationOption, PtrCore, PtrInxCore,
+};
 
 // An index after those at `i` and `j` have changed places.
 fn swapped<I: PtrInxCore>(at: Option<I>, i: I, j: I) -> Option<I>

@@ -55,7 +55,10 @@ where
 }
 
 // The previous index of the link at an index, if both are there.
-pub(crate) fn prev_there<P, T, S>(arena: &Arena<P, LinkNoGen<P, T>, S>, at: Option<P::Inx>) -> Option<P::Inx>
+pub(crate) fn prev_there<P, T, S>(
+    arena: &Arena<P, LinkNoGen<P, T>, S>,
+    at: Option<P::Inx>,
+) -> Option<P::Inx>
 where
     P: PtrCore,
     T: Drop,

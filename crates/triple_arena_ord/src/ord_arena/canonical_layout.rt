@@ -21,7 +21,10 @@ fn ends_of_run<I: PtrInxCore>(len: usize) -> (Option<I>, Option<I>)
     ensures last { option_map I.number result.1 ≡ last_or None (range_with_len 1 len) }
 {
     match NonZeroUsize::new(len) {
-        Some(last) => (I::try_from_usize(NonZeroUsize::MIN), I::try_from_usize(last)),
+        Some(last) => (
+            I::try_from_usize(NonZeroUsize::MIN),
+            I::try_from_usize(last),
+        ),
         None => (None, None),
     }
 }
