@@ -1,4 +1,5 @@
 pub mod Calls
+pub mod Changes
 pub mod CommandLine
 pub mod Grammar
 pub mod Number

@@ -71,3 +71,7 @@ is_full_of_places s = nat_le s.rooms.places (length s.places) || (s.last == last
 -- a store with nothing in it
 abbrev pub empty : Rooms → ℕ → State
 empty rooms last = record { rooms = rooms; last = last; places = []; routes = []; marks = [] }
+
+-- a store with no room
+abbrev pub nothing : State
+nothing = empty (record { places = 0; stops = 0; marks = 0 }) 0

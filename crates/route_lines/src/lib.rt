@@ -2,13 +2,16 @@
 //! it, and the state after it. There is no store here, and no arena: a state is plain lists under tickets.
 //!
 //! [`read_line`] reads a command, a [`ReplyText`] gathers a reply, and [`Unfinished`] keeps a line whose end has not
-//! come. `specs/` has the grammar, the states, the replies and what a run over an input does.
+//! come. [`Held`] is a state that a store carries for its proofs alone. `specs/` has the grammar, the states, the
+//! replies and what a run over an input does.
 #![tactic(auto)]
 
 mod arguments;
+mod change;
 mod command;
 mod counts;
 mod fault;
+mod held;
 pub mod laws;
 mod line;
 mod number;
@@ -22,9 +25,11 @@ mod watched;
 mod word;
 
 pub use arguments::{read_rooms, refused_line};
+pub use change::Change;
 pub use command::Command;
 pub use counts::Counts;
 pub use fault::RunFault;
+pub use held::Held;
 pub use line::read_line;
 pub use number::read_number;
 pub use placed::Placed;
