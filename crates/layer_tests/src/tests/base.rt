@@ -1,8 +1,10 @@
 //! Arenas and direct arenas.
 //!
 //! A test names pointer types and stacks. What it calls is generic in both, which is proved in far less time.
+ghost use Rattle.std.specs.Prelude.{◌≡◌};
+
 use crate::tests::calls::{remove, store};
-use crate::tests::values::{Counted, Scarce, counts_down, hold, shows};
+use crate::tests::values::{Counted, Scarce, are, hold, shows};
 use std::alloc::Global;
 use std::cell::Cell;
 use std::num::{NonZeroU64, NonZeroU128, NonZeroUsize};
@@ -211,7 +213,13 @@ fn drains<P: PtrCore, S: ArenaSlots<P, u64>>(rt: &impl Abort, alloc: S::Alloc) {
     let mut arena = Arena::<P, u64, S>::new(alloc);
     store(rt, &mut arena, 10);
     store(rt, &mut arena, 20);
-    counts_down(rt, arena.drain(), 2);
+    let mut drain = arena.drain();
+    assert!(rt; are(drain.size_hint(), 2));
+    assert!(rt; drain.next().is_some());
+    assert!(rt; are(drain.size_hint(), 1));
+    assert!(rt; drain.next().is_some());
+    assert!(rt; are(drain.size_hint(), 0));
+    assert!(rt; drain.next().is_none());
 }
 
 // A drain tells how many items are left, and its bounds are that number.
@@ -596,7 +604,9 @@ fn is_cloned<P: PtrCore, T: Clone, H: Copy, S: ArenaSlots<P, T, Alloc = H>>(
     source: &Arena<P, T, S>,
     alloc: H,
     made: bool,
-) {
+)
+    requires { (x y : T) → T.is_clone x y → y ≡ x }
+{
     assert!(rt; source.clone(alloc).is_ok() == made);
 }
 
@@ -606,7 +616,9 @@ fn is_cloned_onto<P: PtrCore, T: Clone, S: ArenaSlots<P, T>>(
     source: &Arena<P, T, S>,
     copy: &mut Arena<P, T, S>,
     made: bool,
-) {
+)
+    requires { (x y : T) → T.is_clone x y → y ≡ x }
+{
     assert!(rt; copy.clone_from(source).is_ok() == made);
     assert!(rt; copy.len() == (if made { 2 } else { 0 }));
 }
@@ -634,7 +646,9 @@ fn is_cloned_directly<P: PtrCore, T: Clone, H: Copy, S: DirectSlots<P, T, Alloc 
     source: &DirectArena<P, T, S>,
     alloc: H,
     made: bool,
-) {
+)
+    requires { (x y : T) → T.is_clone x y → y ≡ x }
+{
     assert!(rt; source.clone(alloc).is_ok() == made);
 }
 
@@ -643,7 +657,9 @@ fn is_cloned_directly_onto<P: PtrCore, T: Clone, S: DirectSlots<P, T>>(
     source: &DirectArena<P, T, S>,
     copy: &mut DirectArena<P, T, S>,
     made: bool,
-) {
+)
+    requires { (x y : T) → T.is_clone x y → y ≡ x }
+{
     assert!(rt; copy.clone_from(source).is_ok() == made);
     assert!(rt; copy.len() == (if made { 2 } else { 0 }));
 }

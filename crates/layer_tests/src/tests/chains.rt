@@ -1,8 +1,10 @@
 //! Chains: what no script can see.
 //!
 //! A test names a pointer type and a stack. What it calls is generic in both, which is proved in far less time.
+ghost use Rattle.std.specs.Prelude.{◌≡◌};
+
 use crate::tests::calls::link;
-use crate::tests::values::{Scarce, are, counts_down, hashed, hold, shows, shows_long};
+use crate::tests::values::{Scarce, are, hashed, hold, shows, shows_long};
 use std::alloc::Global;
 use std::cell::Cell;
 use std::fmt::Display;
@@ -178,11 +180,21 @@ fn sizes<P: Ptr, S: ChainSlots<P, u64>>(rt: &impl Abort, chains: &ChainArena<P, 
     assert!(rt; hold(chains.ptrs().size_hint(), 3));
 }
 
+fn sizes_of_drain<P: PtrCore, S: ChainSlots<P, u64>>(
+    rt: &impl Abort,
+    chains: &mut ChainArena<P, u64, S>,
+) {
+    let mut drain = chains.drain();
+    assert!(rt; are(drain.size_hint(), 3));
+    assert!(rt; drain.next().is_some());
+    assert!(rt; are(drain.size_hint(), 2));
+}
+
 fn sizes_of_ring<P: Ptr, S: ChainSlots<P, u64>>(rt: &impl Abort, alloc: S::Alloc) {
     let mut chains = ChainArena::<P, u64, S>::new(alloc);
     let (a, _, _) = ring(rt, &mut chains);
     sizes(rt, &chains, a);
-    counts_down(rt, chains.drain(), 3);
+    sizes_of_drain(rt, &mut chains);
 }
 
 // No more items come than an iterator says. A drain says how many are left.
@@ -205,7 +217,8 @@ fn entries_of_ring<P: Ptr, S: ChainSlots<P, u64>>(rt: &impl Abort, alloc: S::All
     is_entry(rt, entries.next(), b, 2);
     assert!(rt; are(entries.size_hint(), 1));
     is_entry(rt, entries.next(), c, 3);
-    counts_down(rt, entries, 0);
+    assert!(rt; entries.next().is_none());
+    assert!(rt; are(entries.size_hint(), 0));
 }
 
 // A chain arena that is taken gives its pointers and values in the order of the indexes.
@@ -330,7 +343,9 @@ fn is_cloned<P: PtrCore, T: Clone, H: Copy, S: ChainSlots<P, T, Alloc = H>>(
     source: &ChainArena<P, T, S>,
     alloc: H,
     made: bool,
-) {
+)
+    requires { (x y : T) → T.is_clone x y → y ≡ x }
+{
     assert!(rt; source.clone(alloc).is_ok() == made);
 }
 
@@ -371,7 +386,9 @@ fn is_cloned_onto<P: PtrCore, T: Clone, S: ChainSlots<P, T>>(
     a: P,
     b: P,
     calls: u8,
-) {
+)
+    requires { (x y : T) → T.is_clone x y → y ≡ x }
+{
     let answer = copy.clone_from(source);
     is_answer(rt, copy, answer, a, b, calls);
 }

@@ -8,7 +8,7 @@ ghost use Rattle.std.specs.Cmp.Rules.{comparing};
 ghost use Rattle.std.specs.Ordering.{nat_cmp, on, flip_args, as_partial_cmp};
 
 use crate::tests::calls::{put_in, store};
-use crate::tests::values::{Counted, counts_down, hashed, hold, shows, shows_long};
+use crate::tests::values::{Counted, are, hashed, hold, shows, shows_long};
 use std::alloc::Global;
 use std::cell::Cell;
 use std::cmp::Ordering;
@@ -170,12 +170,15 @@ fn drains<P: PtrCore, S: OrdSlots<P, Pair>>(rt: &impl Abort, alloc: S::Alloc) {
     let mut few = three::<P, S>(rt, alloc);
     let mut drain = few.drain();
     assert!(rt; drain.next().is_some());
+    assert!(rt; are(drain.size_hint(), 2));
     assert!(rt; drain.len() == 2);
-    counts_down(rt, drain, 2);
 }
 
 fn is_counted_down<P: PtrCore, S: OrdSlots<P, Pair>>(rt: &impl Abort, alloc: S::Alloc) {
-    counts_down(rt, three::<P, S>(rt, alloc).into_iter(), 3);
+    let mut entries = three::<P, S>(rt, alloc).into_iter();
+    assert!(rt; are(entries.size_hint(), 3));
+    assert!(rt; entries.next().is_some());
+    assert!(rt; are(entries.size_hint(), 2));
 }
 
 #[test]

@@ -41,16 +41,6 @@ pub fn are(bounds: (usize, Option<usize>), count: usize) -> bool {
     bounds == (count, Some(count))
 }
 
-/// What is left of an iterator is this number of items, and its bounds say so before each of them and at the end.
-pub fn counts_down<I: Iterator<Item: Drop> + Drop>(rt: &impl Abort, mut items: I, count: usize) {
-    for given in 0..count {
-        assert!(rt; are(items.size_hint(), count.saturating_sub(given)));
-        assert!(rt; items.next().is_some());
-    }
-    assert!(rt; are(items.size_hint(), 0));
-    assert!(rt; items.next().is_none());
-}
-
 /// A value that adds itself to a sum when it is dropped.
 pub struct Counted<'a> {
     pub value: u64,
