@@ -1,4 +1,6 @@
 mod base;
+mod calls;
 mod chains;
 mod layouts;
 mod ordered;
+mod values;

@@ -1,26 +1,30 @@
 //! Arenas and direct arenas.
+//!
+//! A test names pointer types and stacks. What it calls is generic in both, which is proved in far less time.
 ghost use Rattle.std.specs.Prelude.{◌≡◌};
 
-use std::alloc::{AllocError, Global};
+use crate::tests::calls::{remove, store};
+use crate::tests::values::{Counted, Scarce, are, hold, shows};
+use std::alloc::Global;
 use std::cell::Cell;
-use std::fmt::Debug;
 use std::num::{NonZeroU64, NonZeroU128, NonZeroUsize};
 use std::process::Abort;
-use std::test::Fail;
 use triple_arena::{
-    Arena, ArenaCloneFromWith, ArenaDirectInsertEntryTrait, ArenaDirectInsertTrait,
-    ArenaInsertTrait, ArenaSlots, ArenaTrait, ArenaTransferTrait, ArrayArena, ArrayDirectArena,
-    DirectArena, DirectSlots, HeapArena, HeapDirectArena, InvalidationOption, InvalidationResult,
-    LimitedDirectArena, P0, P1, P4, P5, PtrCore, ReallocationError,
+    Arena, ArenaCloneFromWith, ArenaDirectInsertEntryTrait, ArenaDirectInsertTrait, ArenaSlot,
+    ArenaSlots, ArenaTrait, ArenaTransferTrait, DirectArena, DirectSlot, DirectSlots,
+    InvalidationOption, InvalidationResult, NonZeroInxArray, NonZeroInxLimitedVec, NonZeroInxVec,
+    P0, P1, P4, P5, Ptr, PtrCore,
 };
 
-// What `{:?}` shows of a value.
-fn shows<A: Debug>(rt: &(impl Abort + Alloc), shown: &A, text: &str) {
-    match format!(in rt.alloc(); "{shown:?}") {
-        Ok(shown) => assert_eq!(rt; shown.as_str(), text),
-        Err(_) => panic!(rt; "no memory for a text"),
-    }
-}
+type Two<P, T> = NonZeroInxArray<ArenaSlot<P, T>, 2>;
+
+type Four<P, T> = NonZeroInxArray<ArenaSlot<P, T>, 4>;
+
+type Heap<P, T> = NonZeroInxVec<ArenaSlot<P, T>, Global>;
+
+type FourDirect<P, T> = NonZeroInxArray<DirectSlot<P, T>, 4>;
+
+type HeapDirect<P, T> = NonZeroInxVec<DirectSlot<P, T>, Global>;
 
 fn at(index: usize, generation: u64) -> P0 {
     P0::_from_raw(
@@ -44,166 +48,184 @@ fn put<P: PtrCore, T: Drop, S: DirectSlots<P, T>>(
     }
 }
 
-#[test]
-fn arenas_of_texts(rt: HostRuntime) -> Result<(), Fail> {
-    let mut arena = ArrayArena::<P0, &str, 2>::new(());
-    let first = arena.insert("test")?;
-    arena.insert("hello")?;
-    shows(&rt, &arena, "{P0[1](2): \"test\", P0[2](2): \"hello\"}");
+fn texts<P: Ptr, S: ArenaSlots<P, &'static str>>(rt: &(impl Abort + Alloc), alloc: S::Alloc) {
+    let mut arena = Arena::<P, &'static str, S>::new(alloc);
+    let first = store(rt, &mut arena, "test");
+    store(rt, &mut arena, "hello");
+    shows(rt, &arena, "{P0[1](2): \"test\", P0[2](2): \"hello\"}");
     assert!(rt; arena.remove(first) == InvalidationResult::Success("test"));
     assert!(rt; arena.get(first).is_none());
-    shows(&rt, &arena, "{P0[2](2): \"hello\"}");
-    Ok(())
+    shows(rt, &arena, "{P0[2](2): \"hello\"}");
 }
 
 #[test]
-fn direct_arenas_of_texts(rt: HostRuntime) -> Result<(), Fail> {
-    let mut arena = ArrayDirectArena::<P0, &str, 4>::new(());
-    assert!(rt; put(&mut arena, at(3, 7), "x"));
-    assert!(rt; !put(&mut arena, at(3, 9), "y"));
-    assert!(rt; !put(&mut arena, at(5, 2), "z"));
-    shows(&rt, &arena, "{P0[3](7): \"x\"}");
-    Ok(())
+fn arenas_of_texts(rt: HostRuntime) {
+    texts::<P0, Two<P0, &'static str>>(&rt, ());
 }
 
-// With a line for each entry.
+// Of these pointers two have one index, and the third is past the capacity.
+fn direct_texts<P: Ptr, S: DirectSlots<P, &'static str>>(
+    rt: &(impl Abort + Alloc),
+    alloc: S::Alloc,
+    p: P,
+    other: P,
+    beyond: P,
+) {
+    let mut arena = DirectArena::<P, &'static str, S>::new(alloc);
+    assert!(rt; put(&mut arena, p, "x"));
+    assert!(rt; !put(&mut arena, other, "y"));
+    assert!(rt; !put(&mut arena, beyond, "z"));
+    shows(rt, &arena, "{P0[3](7): \"x\"}");
+}
+
 #[test]
-fn long_texts(rt: HostRuntime) -> Result<(), Fail> {
-    let mut arena = ArrayArena::<P0, u64, 2>::new(());
-    let p = arena.insert(7)?;
+fn direct_arenas_of_texts(rt: HostRuntime) {
+    direct_texts::<P0, FourDirect<P0, &'static str>>(&rt, (), at(3, 7), at(3, 9), at(5, 2));
+}
+
+fn long_text<P: Ptr, S: ArenaSlots<P, u64>>(rt: &(impl Abort + Alloc), alloc: S::Alloc) {
+    let mut arena = Arena::<P, u64, S>::new(alloc);
+    let p = store(rt, &mut arena, 7);
     match format!(in rt.alloc(); "{arena:#?} {p:#?}") {
         Ok(shown) => assert!(rt; shown.as_str() == "{\n    P0[1](2): 7,\n} P0[1](2)"),
         Err(_) => panic!(rt; "no memory for a text"),
     }
-    Ok(())
 }
 
-// A value that adds itself to a sum when it is dropped.
-struct Counted<'a> {
-    value: u64,
-    dropped: &'a Cell<u64>,
-}
-
-impl Drop for Counted<'_> {
-    fn drop(self) {
-        let Counted { value, dropped } = self;
-        dropped.set(dropped.get().wrapping_add(value));
-    }
+// With a line for each entry.
+#[test]
+fn long_texts(rt: HostRuntime) {
+    long_text::<P0, Two<P0, u64>>(&rt, ());
 }
 
 // Stores three values that are counted.
-fn three_counted<'a, A: ArenaInsertTrait<P0, Counted<'a>>>(
-    arena: &mut A,
+fn three_counted<'a, P: PtrCore, S: ArenaSlots<P, Counted<'a>>>(
+    rt: &impl Abort,
+    arena: &mut Arena<P, Counted<'a>, S>,
     dropped: &'a Cell<u64>,
-) -> Result<(), ReallocationError> {
-    arena.insert(Counted { value: 1, dropped })?;
-    arena.insert(Counted { value: 20, dropped })?;
-    arena.insert(Counted {
-        value: 300,
-        dropped,
-    })?;
-    Ok(())
+) {
+    store(rt, arena, Counted { value: 1, dropped });
+    store(rt, arena, Counted { value: 20, dropped });
+    store(
+        rt,
+        arena,
+        Counted {
+            value: 300,
+            dropped,
+        },
+    );
+}
+
+fn lets_go<'a, P: PtrCore, S: ArenaSlots<P, Counted<'a>>>(
+    rt: &impl Abort,
+    alloc: S::Alloc,
+    dropped: &'a Cell<u64>,
+) {
+    let mut arena = Arena::<P, Counted<'a>, S>::new(alloc);
+    three_counted(rt, &mut arena, dropped);
+    let mut entries = arena.into_iter();
+    let first = entries.next();
+    assert!(rt; first.is_some());
+    assert!(rt; dropped.get() == 0);
+    drop(entries);
+    assert!(rt; dropped.get() == 320);
+    drop(first);
+    assert!(rt; dropped.get() == 321);
 }
 
 // An iterator over an arena by value that is let go after its first entry drops the others, each once.
 #[test]
-fn an_arena_by_value_let_go_half_way(rt: HostRuntime) -> Result<(), Fail> {
+fn an_arena_by_value_let_go_half_way(rt: HostRuntime) {
     let dropped = Cell::new(0);
-    let mut arena = HeapArena::<P0, Counted<'_>, Global>::new(rt.alloc());
-    three_counted(&mut arena, &dropped)?;
-    let mut entries = arena.into_iter();
-    let first = entries.next();
-    assert!(rt; first.is_some());
-    assert_eq!(rt; dropped.get(), 0);
-    drop(entries);
-    assert_eq!(rt; dropped.get(), 320);
-    drop(first);
-    assert_eq!(rt; dropped.get(), 321);
-    Ok(())
+    lets_go::<P0, Heap<P0, Counted<'_>>>(&rt, rt.alloc(), &dropped);
+}
+
+fn drops<'a, P: PtrCore, S: ArenaSlots<P, Counted<'a>>>(
+    rt: &impl Abort,
+    alloc: S::Alloc,
+    dropped: &'a Cell<u64>,
+) {
+    let mut arena = Arena::<P, Counted<'a>, S>::new(alloc);
+    three_counted(rt, &mut arena, dropped);
+    drop(arena.drain());
+    assert!(rt; dropped.get() == 321);
+    three_counted(rt, &mut arena, dropped);
+    arena.clear();
+    assert!(rt; dropped.get() == 642);
+    three_counted(rt, &mut arena, dropped);
+    drop(arena);
+    assert!(rt; dropped.get() == 963);
 }
 
 // Each value is dropped once: by a drain that is let go, by a clearing, and with its arena.
 #[test]
-fn values_are_dropped_once(rt: HostRuntime) -> Result<(), Fail> {
+fn values_are_dropped_once(rt: HostRuntime) {
     let dropped = Cell::new(0);
-    let mut arena = HeapArena::<P0, Counted<'_>, Global>::new(rt.alloc());
-    three_counted(&mut arena, &dropped)?;
-    drop(arena.drain());
-    assert_eq!(rt; dropped.get(), 321);
-    three_counted(&mut arena, &dropped)?;
-    arena.clear();
-    assert_eq!(rt; dropped.get(), 642);
-    three_counted(&mut arena, &dropped)?;
-    drop(arena);
-    assert_eq!(rt; dropped.get(), 963);
-    Ok(())
+    drops::<P0, Heap<P0, Counted<'_>>>(&rt, rt.alloc(), &dropped);
 }
 
 // An arena that is gone over by value gives 20 and then 40, and nothing more.
 fn gives<P: PtrCore, S: ArenaSlots<P, u64>>(rt: &impl Abort, arena: Arena<P, u64, S>) {
     let mut wanted = 20u64;
     for (_, value) in arena {
-        assert_eq!(rt; value, wanted);
+        assert!(rt; value == wanted);
         wanted = value.saturating_add(20);
     }
-    assert_eq!(rt; wanted, 60);
-}
-
-// The bounds that an iterator gives hold the number of what it gives, which is this.
-fn is_within(rt: &impl Abort, bounds: (usize, Option<usize>), count: usize) {
-    let (least, most) = bounds;
-    assert!(rt; least <= count);
-    assert!(rt; most.is_none() || count <= most.unwrap_or(0));
+    assert!(rt; wanted == 60);
 }
 
 // The bounds of each iterator over an arena of two entries.
 fn bounds<P: PtrCore, S: ArenaSlots<P, u64>>(rt: &impl Abort, arena: &Arena<P, u64, S>) {
-    let entries = arena.iter();
-    is_within(rt, entries.size_hint(), 2);
-    let pointers = arena.ptrs();
-    is_within(rt, pointers.size_hint(), 2);
-    let values = arena.vals();
-    is_within(rt, values.size_hint(), 2);
+    assert!(rt; hold(arena.iter().size_hint(), 2));
+    assert!(rt; hold(arena.ptrs().size_hint(), 2));
+    assert!(rt; hold(arena.vals().size_hint(), 2));
 }
 
-// Four entries, of which the second and the fourth stay, are gone over by each iterator.
-fn goes_over<P: PtrCore, S: ArenaSlots<P, u64>>(
+// Four entries, of which the second and the fourth stay.
+fn second_and_fourth<P: PtrCore, S: ArenaSlots<P, u64>>(
     rt: &impl Abort,
-    mut arena: Arena<P, u64, S>,
-) -> Result<(), ReallocationError> {
-    let first = arena.insert(10)?;
-    arena.insert(20)?;
-    let third = arena.insert(30)?;
-    arena.insert(40)?;
-    let _ = arena.remove(first);
-    let _ = arena.remove(third);
+    arena: &mut Arena<P, u64, S>,
+) {
+    let first = store(rt, arena, 10);
+    store(rt, arena, 20);
+    let third = store(rt, arena, 30);
+    store(rt, arena, 40);
+    remove(rt, arena, first);
+    remove(rt, arena, third);
+}
+
+// They are gone over by each iterator.
+fn goes_over<P: PtrCore, S: ArenaSlots<P, u64>>(rt: &impl Abort, alloc: S::Alloc) {
+    let mut arena = Arena::<P, u64, S>::new(alloc);
+    second_and_fourth(rt, &mut arena);
     bounds(rt, &arena);
     gives(rt, arena);
-    Ok(())
 }
 
 #[test]
-fn arenas_by_value(rt: HostRuntime) -> Result<(), Fail> {
-    goes_over(&rt, HeapArena::<P0, u64, Global>::new(rt.alloc()))?;
-    goes_over(&rt, ArrayArena::<P1, u64, 4>::new(()))?;
-    goes_over(&rt, HeapArena::<P5, u64, Global>::new(rt.alloc()))?;
-    Ok(())
+fn arenas_by_value(rt: HostRuntime) {
+    goes_over::<P0, Heap<P0, u64>>(&rt, rt.alloc());
+    goes_over::<P1, Four<P1, u64>>(&rt, ());
+    goes_over::<P5, Heap<P5, u64>>(&rt, rt.alloc());
+}
+
+fn drains<P: PtrCore, S: ArenaSlots<P, u64>>(rt: &impl Abort, alloc: S::Alloc) {
+    let mut arena = Arena::<P, u64, S>::new(alloc);
+    store(rt, &mut arena, 10);
+    store(rt, &mut arena, 20);
+    let mut drain = arena.drain();
+    assert!(rt; are(drain.size_hint(), 2));
+    assert!(rt; drain.next().is_some());
+    assert!(rt; are(drain.size_hint(), 1));
+    assert!(rt; drain.next().is_some());
+    assert!(rt; are(drain.size_hint(), 0));
+    assert!(rt; drain.next().is_none());
 }
 
 // A drain tells how many items are left, and its bounds are that number.
 #[test]
-fn bounds_of_drains(rt: HostRuntime) -> Result<(), Fail> {
-    let mut arena = ArrayArena::<P0, u64, 4>::new(());
-    arena.insert(10)?;
-    arena.insert(20)?;
-    let mut drain = arena.drain();
-    assert!(rt; drain.size_hint() == (2, Some(2)));
-    assert!(rt; drain.next().is_some());
-    assert!(rt; drain.size_hint() == (1, Some(1)));
-    assert!(rt; drain.next().is_some());
-    assert!(rt; drain.size_hint() == (0, Some(0)));
-    assert!(rt; drain.next().is_none());
-    Ok(())
+fn bounds_of_drains(rt: HostRuntime) {
+    drains::<P0, Four<P0, u64>>(&rt, ());
 }
 
 // The value that a pointer points to, by `arena[p]`.
@@ -237,205 +259,450 @@ fn read_and_write<P: PtrCore, S: DirectSlots<P, u64>>(
     }
 }
 
-#[test]
-fn values_by_pointers(rt: HostRuntime) -> Result<(), Fail> {
-    let mut arena = HeapArena::<P0, u64, Global>::new(rt.alloc());
-    let gone = arena.insert(10)?;
-    let other = arena.insert(20)?;
-    assert!(rt; arena.remove(gone).is_success());
-    let p = arena.insert(30)?;
+fn reads_and_writes<P: PtrCore, S: ArenaSlots<P, u64>>(rt: &impl Abort, alloc: S::Alloc) {
+    let mut arena = Arena::<P, u64, S>::new(alloc);
+    let gone = store(rt, &mut arena, 10);
+    let other = store(rt, &mut arena, 20);
+    remove(rt, &mut arena, gone);
+    let p = store(rt, &mut arena, 30);
     write(&mut arena, p, 31);
     // The slot has another entry.
     write(&mut arena, gone, 11);
     assert!(rt; read(&arena, gone).is_none());
     assert!(rt; read(&arena, p) == Some(31));
     assert!(rt; read(&arena, other) == Some(20));
-    let mut direct = ArrayDirectArena::<P0, u64, 4>::new(());
-    assert!(rt; put(&mut direct, at(3, 7), 30));
-    assert!(rt; read_and_write(&mut direct, at(3, 7), 31) == Some(30));
-    assert!(rt; read_and_write(&mut direct, at(3, 8), 32).is_none());
-    assert!(rt; read_and_write(&mut direct, at(3, 7), 33) == Some(31));
-    Ok(())
+}
+
+// The two pointers have one index.
+fn reads_and_writes_directly<P: PtrCore, S: DirectSlots<P, u64>>(
+    rt: &impl Abort,
+    alloc: S::Alloc,
+    p: P,
+    other: P,
+) {
+    let mut direct = DirectArena::<P, u64, S>::new(alloc);
+    assert!(rt; put(&mut direct, p, 30));
+    assert!(rt; read_and_write(&mut direct, p, 31) == Some(30));
+    assert!(rt; read_and_write(&mut direct, other, 32).is_none());
+    assert!(rt; read_and_write(&mut direct, p, 33) == Some(31));
+}
+
+#[test]
+fn values_by_pointers(rt: HostRuntime) {
+    reads_and_writes::<P0, Heap<P0, u64>>(&rt, rt.alloc());
+    reads_and_writes_directly::<P0, FourDirect<P0, u64>>(&rt, (), at(3, 7), at(3, 8));
+}
+
+// A removal of an entry with the last generation. It tells the counter behind it.
+fn removes_the_last<P: Ptr, S: ArenaSlots<P, u64>>(
+    rt: &(impl Abort + Alloc),
+    alloc: S::Alloc,
+    last: P::Gen,
+) -> P::Gen {
+    let mut arena = Arena::<P, u64, S>::new(alloc);
+    arena.set_generation(last);
+    let p = store(rt, &mut arena, 10);
+    shows(rt, &p, "P0[1](ffffffffffffffff)");
+    assert!(rt; arena.remove(p) == InvalidationResult::GenerationOverflow(10));
+    let counter = arena.generation();
+    let q = store(rt, &mut arena, 20);
+    assert!(rt; arena.get(p).is_none());
+    assert!(rt; arena.get(q) == Some(&20));
+    counter
+}
+
+fn invalidates_the_last<P: Ptr, S: DirectSlots<P, u64>>(
+    rt: &impl Abort,
+    alloc: S::Alloc,
+    last: P,
+    stepped: P,
+) {
+    let mut direct = DirectArena::<P, u64, S>::new(alloc);
+    assert!(rt; put(&mut direct, last, 20));
+    assert!(rt; direct.invalidate(last) == InvalidationResult::GenerationOverflow(stepped));
 }
 
 // The last generation of 64 bits is stepped to 2, and the removal tells it.
 #[test]
-fn the_last_generation_of_64_bits(rt: HostRuntime) -> Result<(), Fail> {
-    let mut arena = ArrayArena::<P0, u64, 2>::new(());
-    arena.set_generation(NonZeroU64::MAX);
-    let p = arena.insert(10)?;
-    shows(&rt, &p, "P0[1](ffffffffffffffff)");
-    assert!(rt; arena.remove(p) == InvalidationResult::GenerationOverflow(10));
-    assert!(rt; arena.generation().get() == 2);
-    let q = arena.insert(20)?;
-    assert!(rt; arena.get(p).is_none());
-    assert!(rt; arena.get(q) == Some(&20));
-    let mut direct = ArrayDirectArena::<P0, u64, 2>::new(());
-    assert!(rt; put(&mut direct, at(2, u64::MAX), 20));
-    assert!(rt;
-        direct.invalidate(at(2, u64::MAX)) == InvalidationResult::GenerationOverflow(at(2, 2))
-    );
-    Ok(())
+fn the_last_generation_of_64_bits(rt: HostRuntime) {
+    let counter = removes_the_last::<P0, Two<P0, u64>>(&rt, (), NonZeroU64::MAX);
+    assert!(rt; counter.get() == 2);
+    invalidates_the_last::<P0, FourDirect<P0, u64>>(&rt, (), at(2, u64::MAX), at(2, 2));
 }
 
-#[test]
-fn the_last_generation_of_128_bits(rt: HostRuntime) -> Result<(), Fail> {
-    let mut arena = ArrayArena::<P4, u64, 2>::new(());
-    arena.set_generation(NonZeroU128::MAX);
-    let p = arena.insert(10)?;
-    shows(&rt, &p, "P4[1](ffffffffffffffffffffffffffffffff)");
+fn compresses_the_last<P: Ptr, S: ArenaSlots<P, u64>>(
+    rt: &(impl Abort + Alloc),
+    alloc: S::Alloc,
+    last: P::Gen,
+) {
+    let mut arena = Arena::<P, u64, S>::new(alloc);
+    arena.set_generation(last);
+    let p = store(rt, &mut arena, 10);
+    shows(rt, &p, "P4[1](ffffffffffffffffffffffffffffffff)");
     assert!(rt; arena.compress(false) == InvalidationOption::GenerationOverflow(()));
-    shows(&rt, &arena, "{P4[1](2): 10}");
-    Ok(())
+    shows(rt, &arena, "{P4[1](2): 10}");
 }
 
-type To = ArrayArena<P0, ((P1, P0), (u64, bool)), 3>;
-
-// Each value goes to an arena over another pointer type, with both pointers and whether the generations started again.
 #[test]
-fn from_one_pointer_type_to_another(rt: HostRuntime) -> Result<(), Fail> {
-    let mut source = ArrayArena::<P1, u64, 4>::new(());
-    source.insert(10)?;
-    let gone = source.insert(20)?;
-    source.insert(30)?;
-    source.insert(40)?;
-    assert!(rt; source.remove(gone).is_success());
-    source.set_generation(narrow(254));
-    let mut target = To::new(());
-    let seventh = NonZeroU64::MIN.saturating_add(6);
-    let moved = target.transfer_reallocating(seventh, &mut source, |from, item, to| {
+fn the_last_generation_of_128_bits(rt: HostRuntime) {
+    compresses_the_last::<P4, Two<P4, u64>>(&rt, (), NonZeroU128::MAX);
+}
+
+// Four entries, of which the second one is removed.
+fn without_second<P: PtrCore, S: ArenaSlots<P, u64>>(
+    rt: &impl Abort,
+    source: &mut Arena<P, u64, S>,
+) {
+    store(rt, source, 10);
+    let gone = store(rt, source, 20);
+    store(rt, source, 30);
+    store(rt, source, 40);
+    remove(rt, source, gone);
+}
+
+// What goes to another arena: both pointers, and the value with whether the generations started again.
+type Moved<P, Q> = ((P, Q), (u64, bool));
+
+fn moves_all<P: PtrCore, Q: PtrCore, S: ArenaSlots<P, u64>, R: ArenaSlots<Q, Moved<P, Q>>>(
+    rt: &impl Abort,
+    source: &mut Arena<P, u64, S>,
+    target: &mut Arena<Q, Moved<P, Q>, R>,
+    seventh: Q::Gen,
+) {
+    let moved = target.transfer_reallocating(seventh, source, |from, item, to| {
         ((from, to), item.overflowing())
     });
     assert!(rt; moved == Ok(()));
+}
+
+// It tells the counter that the source is left with.
+fn moves<P: Ptr, Q: Ptr, S: ArenaSlots<P, u64>, R: ArenaSlots<Q, Moved<P, Q>>>(
+    rt: &(impl Abort + Alloc),
+    alloc: S::Alloc,
+    target_alloc: R::Alloc,
+    counter: P::Gen,
+    seventh: Q::Gen,
+) -> P::Gen {
+    let mut source = Arena::<P, u64, S>::new(alloc);
+    without_second(rt, &mut source);
+    source.set_generation(counter);
+    let mut target = Arena::<Q, Moved<P, Q>, R>::new(target_alloc);
+    moves_all(rt, &mut source, &mut target, seventh);
     shows(
-        &rt,
+        rt,
         &target,
         "{P0[1](7): ((P1[1](2), P0[1](7)), (10, false)), P0[2](7): ((P1[3](2), P0[2](7)), (30, true)), P0[3](7): ((P1[4](2), P0[3](7)), (40, false))}",
     );
     assert!(rt; source.is_empty());
-    assert!(rt; source.generation().get() == 3);
-    Ok(())
+    source.generation()
 }
+
+type To = NonZeroInxArray<ArenaSlot<P0, Moved<P1, P0>>, 3>;
 
 fn narrow(number: u8) -> std::num::NonZeroU8 {
     std::num::NonZeroU8::new(number).unwrap_or(std::num::NonZeroU8::MIN)
 }
 
-// Entries go from a direct arena to one without generations, to an arena, and back.
+fn seventh() -> NonZeroU64 {
+    NonZeroU64::MIN.saturating_add(6)
+}
+
+// Each value goes to an arena over another pointer type, with both pointers and whether the generations started again.
 #[test]
-fn from_one_stack_to_another(rt: HostRuntime) -> Result<(), Fail> {
-    let mut source = ArrayDirectArena::<P0, u64, 4>::new(());
-    assert!(rt; put(&mut source, at(4, u64::MAX), 20));
-    assert!(rt; put(&mut source, at(1, 7), 10));
-    let mut direct = HeapDirectArena::<P5, (u64, bool), Global>::new(rt.alloc());
-    let moved = direct.transfer_reallocating((), &mut source, |_, item, _| item.overflowing());
+fn from_one_pointer_type_to_another(rt: HostRuntime) {
+    let counter = moves::<P1, P0, Four<P1, u64>, To>(&rt, (), (), narrow(254), seventh());
+    assert!(rt; counter.get() == 3);
+}
+
+// The entries of a direct arena go to one over another pointer type.
+fn to_direct<P: PtrCore, Q: PtrCore, S: DirectSlots<P, u64>, R: DirectSlots<Q, (u64, bool)>>(
+    rt: &impl Abort,
+    source: &mut DirectArena<P, u64, S>,
+    direct: &mut DirectArena<Q, (u64, bool), R>,
+    generation: Q::Gen,
+) {
+    let moved = direct.transfer_reallocating(generation, source, |_, item, _| item.overflowing());
     assert!(rt; moved == Ok(()));
-    shows(&rt, &direct, "{P5[1]: (10, false), P5[2]: (20, false)}");
-    shows(&rt, &source, "{}");
-    let mut arena = ArrayArena::<P5, u64, 2>::new(());
-    let moved = arena.transfer_reallocating((), &mut direct, |_, item, _| item.allow().0);
+}
+
+// They go on to an arena.
+fn to_arena<P: PtrCore, S: DirectSlots<P, (u64, bool)>, R: ArenaSlots<P, u64>>(
+    rt: &impl Abort,
+    mut direct: DirectArena<P, (u64, bool), S>,
+    arena: &mut Arena<P, u64, R>,
+    generation: P::Gen,
+) {
+    let moved = arena.transfer_reallocating(generation, &mut direct, |_, item, _| item.allow().0);
     assert!(rt; moved == Ok(()));
-    let mut last = LimitedDirectArena::<P0, (P5, u64), Global>::new(rt.alloc());
-    let seventh = NonZeroU64::MIN.saturating_add(6);
+}
+
+// And to a direct arena, with the pointers that they had.
+fn to_last<P: PtrCore, Q: PtrCore, S: ArenaSlots<P, u64>, R: DirectSlots<Q, (P, u64)>>(
+    rt: &impl Abort,
+    mut arena: Arena<P, u64, S>,
+    last: &mut DirectArena<Q, (P, u64), R>,
+    generation: Q::Gen,
+) {
     let moved = last.transfer_reallocating(
-        seventh,
+        generation,
         &mut arena,
         |from, item, _| (from, item.allow()),
     );
     assert!(rt; moved == Ok(()));
-    shows(&rt, &last, "{P0[1](7): (P5[1], 10), P0[2](7): (P5[2], 20)}");
-    Ok(())
+}
+
+// From there to an arena, and to a direct arena over the first pointer type.
+fn goes_back<P, Q, R, A, L>(
+    rt: &(impl Abort + Alloc),
+    direct: DirectArena<Q, (u64, bool), R>,
+    alloc: A::Alloc,
+    generation: Q::Gen,
+    last_alloc: L::Alloc,
+    seventh: P::Gen,
+)
+where
+    P: Ptr,
+    Q: Ptr,
+    R: DirectSlots<Q, (u64, bool)>,
+    A: ArenaSlots<Q, u64>,
+    L: DirectSlots<P, (Q, u64)>,
+{
+    let mut arena = Arena::<Q, u64, A>::new(alloc);
+    to_arena(rt, direct, &mut arena, generation);
+    let mut last = DirectArena::<P, (Q, u64), L>::new(last_alloc);
+    to_last(rt, arena, &mut last, seventh);
+    shows(rt, &last, "{P0[1](7): (P5[1], 10), P0[2](7): (P5[2], 20)}");
+}
+
+// Two entries of a direct arena.
+fn two_entries<P: PtrCore, S: DirectSlots<P, u64>>(
+    rt: &impl Abort,
+    source: &mut DirectArena<P, u64, S>,
+    pointers: (P, P),
+) {
+    let (first, fourth) = pointers;
+    assert!(rt; put(source, fourth, 20));
+    assert!(rt; put(source, first, 10));
+}
+
+// The entries of a direct arena, which have these two pointers, go all the way.
+fn goes_on<P, Q, S, R, A, L>(
+    rt: &(impl Abort + Alloc),
+    source_alloc: S::Alloc,
+    pointers: (P, P),
+    direct_alloc: R::Alloc,
+    alloc: A::Alloc,
+    generation: Q::Gen,
+    last_alloc: L::Alloc,
+    seventh: P::Gen,
+)
+where
+    P: Ptr,
+    Q: Ptr,
+    S: DirectSlots<P, u64>,
+    R: DirectSlots<Q, (u64, bool)>,
+    A: ArenaSlots<Q, u64>,
+    L: DirectSlots<P, (Q, u64)>,
+{
+    let mut source = DirectArena::<P, u64, S>::new(source_alloc);
+    two_entries(rt, &mut source, pointers);
+    let mut direct = DirectArena::<Q, (u64, bool), R>::new(direct_alloc);
+    to_direct(rt, &mut source, &mut direct, generation);
+    shows(rt, &source, "{}");
+    shows(rt, &direct, "{P5[1]: (10, false), P5[2]: (20, false)}");
+    goes_back::<P, Q, R, A, L>(rt, direct, alloc, generation, last_alloc, seventh);
+}
+
+type Last = NonZeroInxLimitedVec<DirectSlot<P0, (P5, u64)>, Global>;
+
+// Entries go from a direct arena to one without generations, to an arena, and back.
+#[test]
+fn from_one_stack_to_another(rt: HostRuntime) {
+    let pointers = (at(1, 7), at(4, u64::MAX));
+    goes_on::<P0, P5, FourDirect<P0, u64>, HeapDirect<P5, (u64, bool)>, Two<P5, u64>, Last>(
+        &rt,
+        (),
+        pointers,
+        rt.alloc(),
+        (),
+        (),
+        rt.alloc(),
+        seventh(),
+    );
+}
+
+fn copy_shows<P: Ptr, S: ArenaSlots<P, u64>, R: ArenaSlots<P, (P, bool)>>(
+    rt: &(impl Abort + Alloc),
+    copy: &Arena<P, (P, bool), R>,
+    source: &Arena<P, u64, S>,
+) {
+    assert!(rt; copy.capacity() == 2);
+    assert!(rt; copy.generation() == source.generation());
+    shows(rt, copy, "{P1[2](2): (P1[2](2), true)}");
+}
+
+fn copies_onto<P: PtrCore, S: ArenaSlots<P, u64>, R: ArenaSlots<P, (P, bool)>>(
+    rt: &impl Abort,
+    copy: &mut Arena<P, (P, bool), R>,
+    source: &Arena<P, u64, S>,
+) {
+    let made = copy.clone_from_with(source, |p, value| Ok((p, *value == 20)));
+    assert!(rt; made == Ok(()));
+}
+
+fn mirrors<P: Ptr, S: ArenaSlots<P, (P, bool)>, R: DirectSlots<P, u64>>(
+    rt: &(impl Abort + Alloc),
+    copy: &Arena<P, (P, bool), S>,
+    alloc: R::Alloc,
+) {
+    let mut mirror = DirectArena::<P, u64, R>::new(alloc);
+    let made = mirror.clone_from_with(copy, |_, value| Ok(u64::from(value.1)));
+    assert!(rt; made == Ok(()));
+    shows(rt, &mirror, "{P1[2](2): 1}");
+}
+
+fn copies<P: Ptr, S: ArenaSlots<P, u64>, R: ArenaSlots<P, (P, bool)>, D: DirectSlots<P, u64>>(
+    rt: &(impl Abort + Alloc),
+    alloc: S::Alloc,
+    copy_alloc: R::Alloc,
+    mirror_alloc: D::Alloc,
+) {
+    let mut source = Arena::<P, u64, S>::new(alloc);
+    let mut copy = Arena::<P, (P, bool), R>::new(copy_alloc);
+    let gone = store(rt, &mut source, 10);
+    store(rt, &mut source, 20);
+    remove(rt, &mut source, gone);
+    copies_onto(rt, &mut copy, &source);
+    copy_shows(rt, &copy, &source);
+    mirrors::<P, R, D>(rt, &copy, mirror_alloc);
 }
 
 // A copy has the pointers of an arena over another stack, with values of another type.
 #[test]
-fn a_copy_over_another_stack(rt: HostRuntime) -> Result<(), Fail> {
-    let mut source = ArrayArena::<P1, u64, 4>::new(());
-    let gone = source.insert(10)?;
-    source.insert(20)?;
-    assert!(rt; source.remove(gone).is_success());
-    let mut copy = HeapArena::<P1, (P1, bool), Global>::new(rt.alloc());
-    let made = copy.clone_from_with(&source, |p, value| Ok((p, *value == 20)));
-    assert!(rt; made == Ok(()));
-    assert!(rt; copy.capacity() == 2);
-    assert!(rt; copy.generation() == source.generation());
-    shows(&rt, &copy, "{P1[2](2): (P1[2](2), true)}");
-    let mut mirror = HeapDirectArena::<P1, u64, Global>::new(rt.alloc());
-    let made = mirror.clone_from_with(&copy, |_, value| Ok(u64::from(value.1)));
-    assert!(rt; made == Ok(()));
-    shows(&rt, &mirror, "{P1[2](2): 1}");
-    Ok(())
-}
-
-// A number of which as many clones can be made as are left.
-#[derive(Drop)]
-struct Scarce<'a> {
-    value: u64,
-    left: &'a Cell<u8>,
-}
-
-impl Clone for Scarce<'_> {
-    ghost is_clone = { λ x y. y ≡ x };
-
-    fn clone(&self) -> Result<Self, AllocError> {
-        match self.left.get().checked_sub(1) {
-            Some(less) => {
-                self.left.set(less);
-                Ok(Scarce {
-                    value: self.value,
-                    left: self.left,
-                })
-            }
-            None => Err(AllocError),
-        }
-    }
+fn a_copy_over_another_stack(rt: HostRuntime) {
+    copies::<P1, Four<P1, u64>, Heap<P1, (P1, bool)>, HeapDirect<P1, u64>>(
+        &rt,
+        (),
+        rt.alloc(),
+        rt.alloc(),
+    );
 }
 
 // Two such numbers.
-fn two_scarce<'a, A: ArenaInsertTrait<P0, Scarce<'a>>>(
-    arena: &mut A,
+fn two_scarce<'a, P: PtrCore, S: ArenaSlots<P, Scarce<'a>>>(
+    rt: &impl Abort,
+    arena: &mut Arena<P, Scarce<'a>, S>,
     left: &'a Cell<u8>,
-) -> Result<(), ReallocationError> {
-    arena.insert(Scarce { value: 10, left })?;
-    arena.insert(Scarce { value: 20, left })?;
-    Ok(())
+) {
+    store(rt, arena, Scarce { value: 10, left });
+    store(rt, arena, Scarce { value: 20, left });
 }
 
-// A clone of two values, of which so many can be made, is made or refused; onto an arena it leaves that empty.
-fn clones(rt: &impl Abort, alloc: Global, calls: u8) -> Result<(), ReallocationError> {
-    let left = Cell::new(calls);
-    let mut source = HeapArena::<P0, Scarce<'_>, Global>::new(alloc);
-    two_scarce(&mut source, &left)?;
-    assert!(rt; source.clone(alloc).is_ok() == (2 <= calls));
+// A clone is made, or not.
+fn is_cloned<P: PtrCore, T: Clone, H: Copy, S: ArenaSlots<P, T, Alloc = H>>(
+    rt: &impl Abort,
+    source: &Arena<P, T, S>,
+    alloc: H,
+    made: bool,
+)
+    requires { (x y : T) → T.is_clone x y → y ≡ x }
+{
+    assert!(rt; source.clone(alloc).is_ok() == made);
+}
+
+// A clone of two values onto an arena is made, or leaves it empty.
+fn is_cloned_onto<P: PtrCore, T: Clone, S: ArenaSlots<P, T>>(
+    rt: &impl Abort,
+    source: &Arena<P, T, S>,
+    copy: &mut Arena<P, T, S>,
+    made: bool,
+)
+    requires { (x y : T) → T.is_clone x y → y ≡ x }
+{
+    assert!(rt; copy.clone_from(source).is_ok() == made);
+    assert!(rt; copy.len() == (if made { 2 } else { 0 }));
+}
+
+// Two values, of which so many clones can be made.
+fn clones<'a, P: PtrCore, H: Copy, S: ArenaSlots<P, Scarce<'a>, Alloc = H>>(
+    rt: &impl Abort,
+    alloc: H,
+    left: &'a Cell<u8>,
+    calls: u8,
+) {
+    let mut source = Arena::<P, Scarce<'a>, S>::new(alloc);
+    two_scarce(rt, &mut source, left);
     left.set(calls);
-    let mut copy = HeapArena::<P0, Scarce<'_>, Global>::new(alloc);
-    two_scarce(&mut copy, &left)?;
-    assert!(rt; copy.clone_from(&source).is_ok() == (2 <= calls));
-    assert!(rt; copy.len() == (if 2 <= calls { 2 } else { 0 }));
-    Ok(())
+    is_cloned(rt, &source, alloc, 2 <= calls);
+    let mut copy = Arena::<P, Scarce<'a>, S>::new(alloc);
+    two_scarce(rt, &mut copy, left);
+    left.set(calls);
+    is_cloned_onto(rt, &source, &mut copy, 2 <= calls);
 }
 
 // The same of a direct arena.
-fn clones_directly(rt: &impl Abort, alloc: Global, calls: u8) -> Result<(), ReallocationError> {
-    let left = Cell::new(2);
-    let mut source = HeapArena::<P0, Scarce<'_>, Global>::new(alloc);
-    two_scarce(&mut source, &left)?;
-    let mut mirror = HeapDirectArena::<P0, Scarce<'_>, Global>::new(alloc);
-    mirror.clone_from_with(&source, |_, item| item.clone())?;
+fn is_cloned_directly<P: PtrCore, T: Clone, H: Copy, S: DirectSlots<P, T, Alloc = H>>(
+    rt: &impl Abort,
+    source: &DirectArena<P, T, S>,
+    alloc: H,
+    made: bool,
+)
+    requires { (x y : T) → T.is_clone x y → y ≡ x }
+{
+    assert!(rt; source.clone(alloc).is_ok() == made);
+}
+
+fn is_cloned_directly_onto<P: PtrCore, T: Clone, S: DirectSlots<P, T>>(
+    rt: &impl Abort,
+    source: &DirectArena<P, T, S>,
+    copy: &mut DirectArena<P, T, S>,
+    made: bool,
+)
+    requires { (x y : T) → T.is_clone x y → y ≡ x }
+{
+    assert!(rt; copy.clone_from(source).is_ok() == made);
+    assert!(rt; copy.len() == (if made { 2 } else { 0 }));
+}
+
+// A direct arena becomes a clone of an arena.
+fn is_mirrored<P: PtrCore, T: Clone, S: ArenaSlots<P, T>, R: DirectSlots<P, T>>(
+    rt: &impl Abort,
+    source: &Arena<P, T, S>,
+    mirror: &mut DirectArena<P, T, R>,
+) {
+    let made = mirror.clone_from_with(source, |_, item| item.clone());
+    assert!(rt; made == Ok(()));
+}
+
+fn clones_directly<'a, P, H, S, R>(rt: &impl Abort, alloc: H, left: &'a Cell<u8>, calls: u8)
+where
+    P: PtrCore,
+    H: Copy,
+    S: ArenaSlots<P, Scarce<'a>, Alloc = H>,
+    R: DirectSlots<P, Scarce<'a>, Alloc = H>,
+{
+    let mut source = Arena::<P, Scarce<'a>, S>::new(alloc);
+    two_scarce(rt, &mut source, left);
+    left.set(2);
+    let mut mirror = DirectArena::<P, Scarce<'a>, R>::new(alloc);
+    is_mirrored(rt, &source, &mut mirror);
     left.set(calls);
-    assert!(rt; mirror.clone(alloc).is_ok() == (2 <= calls));
+    is_cloned_directly(rt, &mirror, alloc, 2 <= calls);
     left.set(calls);
-    let mut other = HeapDirectArena::<P0, Scarce<'_>, Global>::new(alloc);
-    assert!(rt; other.clone_from(&mirror).is_ok() == (2 <= calls));
-    assert!(rt; other.len() == (if 2 <= calls { 2 } else { 0 }));
-    Ok(())
+    let mut other = DirectArena::<P, Scarce<'a>, R>::new(alloc);
+    is_cloned_directly_onto(rt, &mirror, &mut other, 2 <= calls);
 }
 
 #[test]
-fn the_clone_of_each_value_is_refused(rt: HostRuntime) -> Result<(), Fail> {
+fn the_clone_of_each_value_is_refused(rt: HostRuntime) {
+    let left = Cell::new(0);
     for calls in 0..4u8 {
-        clones(&rt, rt.alloc(), calls)?;
-        clones_directly(&rt, rt.alloc(), calls)?;
+        clones::<P0, Global, Heap<P0, Scarce<'_>>>(&rt, rt.alloc(), &left, calls);
+        clones_directly::<P0, Global, Heap<P0, Scarce<'_>>, HeapDirect<P0, Scarce<'_>>>(
+            &rt,
+            rt.alloc(),
+            &left,
+            calls,
+        );
     }
-    Ok(())
 }

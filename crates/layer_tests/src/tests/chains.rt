@@ -1,34 +1,27 @@
 //! Chains: what no script can see.
+//!
+//! A test names a pointer type and a stack. What it calls is generic in both, which is proved in far less time.
 ghost use Rattle.std.specs.Prelude.{◌≡◌};
 
-use std::alloc::{AllocError, Global};
+use crate::tests::calls::link;
+use crate::tests::values::{Scarce, are, hashed, hold, shows, shows_long};
+use std::alloc::Global;
 use std::cell::Cell;
-use std::fmt::{Debug, Display};
-use std::hash::{DefaultHasher, Hash, Hasher};
+use std::fmt::Display;
 use std::process::Abort;
-use std::test::Fail;
 use triple_arena::{
-    ArenaSlot, ArenaTrait, NonZeroInxArray, NonZeroInxVec, P0, PtrCore, ReallocationError,
+    ArenaSlot, ArenaTrait, NonZeroInxArray, NonZeroInxVec, P0, Ptr, PtrCore, ReallocationError,
 };
 use triple_arena_chain::{
-    ChainArena, ChainArenaTrait, ChainInsertionError, Link, LinkInsertKind, LinkNoGen,
+    ArrayChainArena, ChainArena, ChainArenaTrait, ChainInsertionError, ChainSlots, Link,
+    LinkInsertKind, LinkNoGen,
 };
 
 type Slot<T> = ArenaSlot<P0, LinkNoGen<P0, T>>;
 
-type Words<'a> = ChainArena<P0, &'a str, NonZeroInxArray<Slot<&'a str>, 3>>;
+type Three<T> = NonZeroInxArray<Slot<T>, 3>;
 
-type Numbers = ChainArena<P0, u64, NonZeroInxArray<Slot<u64>, 3>>;
-
-type HeapNumbers = ChainArena<P0, u64, NonZeroInxVec<Slot<u64>, Global>>;
-
-// The text by `{:?}`.
-fn reads<A: Debug>(rt: &(impl Abort + Alloc), value: &A, text: &str) {
-    match format!(in rt.alloc(); "{value:?}") {
-        Ok(shown) => assert!(rt; shown.as_str() == text),
-        Err(_) => panic!(rt; "no memory for a text"),
-    }
-}
+type Heap<T> = NonZeroInxVec<Slot<T>, Global>;
 
 // The text by `{}`.
 fn displays<A: Display>(rt: &(impl Abort + Alloc), value: &A, text: &str) {
@@ -38,61 +31,88 @@ fn displays<A: Display>(rt: &(impl Abort + Alloc), value: &A, text: &str) {
     }
 }
 
-#[test]
-fn texts_of_words_in_chains(rt: HostRuntime) -> Result<(), Fail> {
-    let mut chains = Words::default();
-    reads(&rt, &chains, "{}");
+// A list of two words, the second one before the first.
+fn two_words<P: Ptr, S: ChainSlots<P, &'static str>>(
+    chains: &mut ChainArena<P, &'static str, S>,
+) -> Result<P, ChainInsertionError> {
     let p = chains.insert(LinkInsertKind::Disconnected, "test")?;
     chains.insert(LinkInsertKind::PrevTo(p), "hello")?;
-    reads(&rt, &chains, "{P0[1](2): \"test\", P0[2](2): \"hello\"}");
+    Ok(p)
+}
+
+// The texts of an arena of words without one, with two, and with one.
+fn texts_of_words<P: Ptr, S: ChainSlots<P, &'static str>>(
+    rt: &(impl Abort + Alloc),
+    mut chains: ChainArena<P, &'static str, S>,
+) {
+    shows(rt, &chains, "{}");
+    let p = match two_words(&mut chains) {
+        Ok(p) => p,
+        Err(_) => panic!(rt; "a word is not stored"),
+    };
+    shows(rt, &chains, "{P0[1](2): \"test\", P0[2](2): \"hello\"}");
     assert!(rt; chains.remove_link_no_gen(p).is_success());
-    reads(&rt, &chains, "{P0[2](2): \"hello\"}");
-    Ok(())
+    shows(rt, &chains, "{P0[2](2): \"hello\"}");
+}
+
+#[test]
+fn texts_of_words_in_chains(rt: HostRuntime) {
+    texts_of_words(&rt, ArrayChainArena::<P0, &'static str, 3>::default());
 }
 
 // With a line for each entry.
-#[test]
-fn long_texts_of_chains(rt: HostRuntime) -> Result<(), Fail> {
-    let mut chains = Numbers::new(());
-    chains.insert(LinkInsertKind::Disconnected, 7)?;
-    match format!(in rt.alloc(); "{chains:#?}") {
-        Ok(shown) => assert!(rt; shown.as_str() == "{\n    P0[1](2): 7,\n}"),
-        Err(_) => panic!(rt; "no memory for a text"),
-    }
-    Ok(())
+fn long_text<P: Ptr, S: ChainSlots<P, u64>>(rt: &(impl Abort + Alloc), alloc: S::Alloc) {
+    let mut chains = ChainArena::<P, u64, S>::new(alloc);
+    link(rt, &mut chains, LinkInsertKind::Disconnected, 7);
+    shows_long(rt, &chains, "{\n    P0[1](2): 7,\n}");
 }
 
 #[test]
-fn texts_of_links(rt: HostRuntime) -> Result<(), Fail> {
-    let mut chains = Words::new(());
-    let p = chains.insert(LinkInsertKind::Disconnected, "test")?;
-    chains.insert(LinkInsertKind::NextTo(p), "hello")?;
+fn long_texts_of_chains(rt: HostRuntime) {
+    long_text::<P0, Three<u64>>(&rt, ());
+}
+
+// The texts of a link that has a next one.
+fn texts_of_link<P: Ptr>(rt: &(impl Abort + Alloc), link: Link<P, &&'static str>) {
+    displays(rt, &link, "(-, P0[2](2)) test");
+    let indexes = link.no_gen();
+    displays(rt, &indexes, "(-, 2) test");
+    shows(
+        rt,
+        &indexes,
+        "IndexLink { prev: None, next: Some(2), t: \"test\" }",
+    );
+}
+
+fn texts_of_first_link<P: Ptr, S: ChainSlots<P, &'static str>>(
+    rt: &(impl Abort + Alloc),
+    alloc: S::Alloc,
+) {
+    let mut chains = ChainArena::<P, &'static str, S>::new(alloc);
+    let p = link(rt, &mut chains, LinkInsertKind::Disconnected, "test");
+    link(rt, &mut chains, LinkInsertKind::NextTo(p), "hello");
     match chains.get_link(p) {
-        Some(link) => {
-            displays(&rt, &link, "(-, P0[2](2)) test");
-            displays(&rt, &link.no_gen(), "(-, 2) test");
-            reads(
-                &rt,
-                &link.no_gen(),
-                "IndexLink { prev: None, next: Some(2), t: \"test\" }",
-            );
-        }
+        Some(link) => texts_of_link(rt, link),
         None => panic!(rt; "the link is not there"),
     }
-    Ok(())
+}
+
+#[test]
+fn texts_of_links(rt: HostRuntime) {
+    texts_of_first_link::<P0, Three<&'static str>>(&rt, ());
 }
 
 #[test]
 fn texts_of_kinds(rt: HostRuntime) {
-    reads(&rt, &LinkInsertKind::<P0>::Disconnected, "Disconnected");
+    shows(&rt, &LinkInsertKind::<P0>::Disconnected, "Disconnected");
     let p = P0::invalid();
     let i = p.inx();
-    reads(
+    shows(
         &rt,
         &LinkInsertKind::<P0>::AtInterlinkInx(i, i),
         "AtInterlinkInx(18446744073709551615, 18446744073709551615)",
     );
-    reads(
+    shows(
         &rt,
         &LinkInsertKind::NextTo(p),
         "NextTo(P0[ffffffffffffffff](1))",
@@ -125,12 +145,6 @@ fn kinds_as_values(rt: HostRuntime) {
     assert!(rt; end < LinkInsertKind::Bridge(p, p));
 }
 
-fn hashed<A: Hash>(value: &A) -> u64 {
-    let mut hasher = DefaultHasher::new();
-    value.hash(&mut hasher);
-    hasher.finish()
-}
-
 // Equal links and kinds have one hash; those that are told apart here have two.
 #[test]
 fn hashes(rt: HostRuntime) {
@@ -146,54 +160,71 @@ fn hashes(rt: HostRuntime) {
 }
 
 // A ring of 1, 3 and 2, where 3 came last.
-fn ring(chains: &mut Numbers) -> Result<(P0, P0, P0), ChainInsertionError> {
-    let a = chains.insert_reallocating(LinkInsertKind::SingleLinkCyclic, 1)?;
-    let b = chains.insert_reallocating(LinkInsertKind::NextTo(a), 2)?;
-    let c = chains.insert_reallocating(LinkInsertKind::NextTo(a), 3)?;
-    Ok((a, b, c))
+fn ring<P: PtrCore, S: ChainSlots<P, u64>>(
+    rt: &impl Abort,
+    chains: &mut ChainArena<P, u64, S>,
+) -> (P, P, P) {
+    let a = link(rt, chains, LinkInsertKind::SingleLinkCyclic, 1);
+    let b = link(rt, chains, LinkInsertKind::NextTo(a), 2);
+    let c = link(rt, chains, LinkInsertKind::NextTo(a), 3);
+    (a, b, c)
 }
 
-// Whether so many items are within the bounds.
-fn holds(hint: (usize, Option<usize>), count: usize) -> bool {
-    let (low, high) = hint;
-    match high {
-        Some(high) => low <= count && count <= high,
-        None => low <= count,
-    }
+// The bounds of the iterators over three links.
+fn sizes<P: Ptr, S: ChainSlots<P, u64>>(rt: &impl Abort, chains: &ChainArena<P, u64, S>, first: P) {
+    let mut entries = chains.iter();
+    assert!(rt; hold(entries.size_hint(), 3));
+    assert!(rt; entries.next() == Some((first, &1)));
+    assert!(rt; hold(entries.size_hint(), 2));
+    assert!(rt; hold(chains.vals().size_hint(), 3));
+    assert!(rt; hold(chains.ptrs().size_hint(), 3));
+}
+
+fn sizes_of_drain<P: PtrCore, S: ChainSlots<P, u64>>(
+    rt: &impl Abort,
+    chains: &mut ChainArena<P, u64, S>,
+) {
+    let mut drain = chains.drain();
+    assert!(rt; are(drain.size_hint(), 3));
+    assert!(rt; drain.next().is_some());
+    assert!(rt; are(drain.size_hint(), 2));
+}
+
+fn sizes_of_ring<P: Ptr, S: ChainSlots<P, u64>>(rt: &impl Abort, alloc: S::Alloc) {
+    let mut chains = ChainArena::<P, u64, S>::new(alloc);
+    let (a, _, _) = ring(rt, &mut chains);
+    sizes(rt, &chains, a);
+    sizes_of_drain(rt, &mut chains);
 }
 
 // No more items come than an iterator says. A drain says how many are left.
 #[test]
-fn sizes_of_iterators(rt: HostRuntime) -> Result<(), Fail> {
-    let mut chains = Numbers::new(());
-    let (a, _, _) = ring(&mut chains)?;
-    let mut entries = chains.iter();
-    assert!(rt; holds(entries.size_hint(), 3));
-    assert!(rt; entries.next() == Some((a, &1)));
-    assert!(rt; holds(entries.size_hint(), 2));
-    assert!(rt; holds(chains.vals().size_hint(), 3));
-    assert!(rt; holds(chains.ptrs().size_hint(), 3));
-    let mut drain = chains.drain();
-    assert!(rt; drain.size_hint() == (3, Some(3)));
-    assert!(rt; drain.next().is_some());
-    assert!(rt; drain.size_hint() == (2, Some(2)));
-    Ok(())
+fn sizes_of_iterators(rt: HostRuntime) {
+    sizes_of_ring::<P0, Three<u64>>(&rt, ());
+}
+
+// An entry is this one.
+fn is_entry<P: Ptr>(rt: &impl Abort, entry: Option<(P, u64)>, p: P, value: u64) {
+    assert!(rt; entry == Some((p, value)));
+}
+
+fn entries_of_ring<P: Ptr, S: ChainSlots<P, u64>>(rt: &impl Abort, alloc: S::Alloc) {
+    let mut chains = ChainArena::<P, u64, S>::new(alloc);
+    let (a, b, c) = ring(rt, &mut chains);
+    let mut entries = chains.into_iter();
+    assert!(rt; are(entries.size_hint(), 3));
+    is_entry(rt, entries.next(), a, 1);
+    is_entry(rt, entries.next(), b, 2);
+    assert!(rt; are(entries.size_hint(), 1));
+    is_entry(rt, entries.next(), c, 3);
+    assert!(rt; entries.next().is_none());
+    assert!(rt; are(entries.size_hint(), 0));
 }
 
 // A chain arena that is taken gives its pointers and values in the order of the indexes.
 #[test]
-fn an_arena_by_value(rt: HostRuntime) -> Result<(), Fail> {
-    let mut chains = Numbers::new(());
-    let (a, b, c) = ring(&mut chains)?;
-    let mut entries = chains.into_iter();
-    assert!(rt; entries.size_hint() == (3, Some(3)));
-    assert!(rt; entries.next() == Some((a, 1)));
-    assert!(rt; entries.next() == Some((b, 2)));
-    assert!(rt; entries.size_hint() == (1, Some(1)));
-    assert!(rt; entries.next() == Some((c, 3)));
-    assert!(rt; entries.next().is_none());
-    assert!(rt; entries.size_hint() == (0, Some(0)));
-    Ok(())
+fn an_arena_by_value(rt: HostRuntime) {
+    entries_of_ring::<P0, Three<u64>>(&rt, ());
 }
 
 // A value that counts those that are there.
@@ -215,16 +246,25 @@ impl Drop for Counted<'_> {
     }
 }
 
-type Counting<'a> = ChainArena<P0, Counted<'a>, NonZeroInxArray<Slot<Counted<'a>>, 3>>;
+// A list of three values that are counted. It tells the pointer to the one that was stored first.
+fn three_counted<'a, P: PtrCore, S: ChainSlots<P, Counted<'a>>>(
+    rt: &impl Abort,
+    chains: &mut ChainArena<P, Counted<'a>, S>,
+    left: &'a Cell<u8>,
+) -> P {
+    let a = link(rt, chains, LinkInsertKind::Disconnected, Counted::new(left));
+    link(rt, chains, LinkInsertKind::NextTo(a), Counted::new(left));
+    link(rt, chains, LinkInsertKind::PrevTo(a), Counted::new(left));
+    a
+}
 
-// One that is let go half-way drops each value that is left, once.
-#[test]
-fn an_arena_by_value_let_go(rt: HostRuntime) -> Result<(), Fail> {
-    let left = Cell::new(0);
-    let mut chains = Counting::new(());
-    let a = chains.insert(LinkInsertKind::Disconnected, Counted::new(&left))?;
-    chains.insert_reallocating(LinkInsertKind::NextTo(a), Counted::new(&left))?;
-    chains.insert_reallocating(LinkInsertKind::PrevTo(a), Counted::new(&left))?;
+fn lets_go<'a, P: Ptr, S: ChainSlots<P, Counted<'a>>>(
+    rt: &impl Abort,
+    alloc: S::Alloc,
+    left: &'a Cell<u8>,
+) {
+    let mut chains = ChainArena::<P, Counted<'a>, S>::new(alloc);
+    let a = three_counted(rt, &mut chains, left);
     assert!(rt; left.get() == 3);
     let mut entries = chains.into_iter();
     match entries.next() {
@@ -238,88 +278,142 @@ fn an_arena_by_value_let_go(rt: HostRuntime) -> Result<(), Fail> {
     assert!(rt; left.get() == 2);
     drop(entries);
     assert!(rt; left.get() == 0);
-    Ok(())
+}
+
+// One that is let go half-way drops each value that is left, once.
+#[test]
+fn an_arena_by_value_let_go(rt: HostRuntime) {
+    let left = Cell::new(0);
+    lets_go::<P0, Three<Counted<'_>>>(&rt, (), &left);
+}
+
+// Whether these three links are a ring in this order.
+fn is_ring<P: PtrCore, S: ChainSlots<P, u64>>(
+    chains: &ChainArena<P, u64, S>,
+    a: P,
+    b: P,
+    c: P,
+) -> bool {
+    chains.are_neighbors(a, b) && chains.are_neighbors(b, c) && chains.are_neighbors(c, a)
+}
+
+fn copies<P: PtrCore, S: ChainSlots<P, u64>, R: ChainSlots<P, u64>>(
+    rt: &impl Abort,
+    alloc: S::Alloc,
+    other_alloc: R::Alloc,
+) {
+    let mut source = ChainArena::<P, u64, S>::new(alloc);
+    let mut copy = ChainArena::<P, u64, R>::new(other_alloc);
+    let (a, b, c) = ring(rt, &mut source);
+    assert!(rt; copy.clone_from_with(&source, |_, link| Ok(link.t)) == Ok(()));
+    assert!(rt; is_ring(&copy, a, c, b));
+    assert!(rt; copy.get(c) == Some(&3));
 }
 
 // A copy between two kinds of stack.
 #[test]
-fn a_copy_into_another_stack(rt: HostRuntime) -> Result<(), Fail> {
-    let mut source = Numbers::new(());
-    let (a, b, c) = ring(&mut source)?;
-    let mut copy = HeapNumbers::new(rt.alloc());
-    assert!(rt; copy.clone_from_with(&source, |_, link| Ok(link.t)) == Ok(()));
-    assert!(rt; copy.are_neighbors(a, c));
-    assert!(rt; copy.are_neighbors(c, b));
-    assert!(rt; copy.are_neighbors(b, a));
-    assert!(rt; copy.get(c) == Some(&3));
-    Ok(())
+fn a_copy_into_another_stack(rt: HostRuntime) {
+    copies::<P0, Three<u64>, Heap<u64>>(&rt, (), rt.alloc());
 }
-
-// A number of which as many clones can be made as are left.
-#[derive(Drop)]
-struct Scarce<'a> {
-    value: u64,
-    left: &'a Cell<u8>,
-}
-
-impl Clone for Scarce<'_> {
-    ghost is_clone = { λ x y. y ≡ x };
-
-    fn clone(&self) -> Result<Self, AllocError> {
-        match self.left.get().checked_sub(1) {
-            Some(less) => {
-                self.left.set(less);
-                Ok(Scarce {
-                    value: self.value,
-                    left: self.left,
-                })
-            }
-            None => Err(AllocError),
-        }
-    }
-}
-
-type Scarces<'a> = ChainArena<P0, Scarce<'a>, NonZeroInxVec<Slot<Scarce<'a>>, Global>>;
 
 // A ring of two such numbers.
-fn scarce_ring<'a>(
-    chains: &mut Scarces<'a>,
+fn scarce_ring<'a, P: PtrCore, S: ChainSlots<P, Scarce<'a>>>(
+    rt: &impl Abort,
+    chains: &mut ChainArena<P, Scarce<'a>, S>,
     left: &'a Cell<u8>,
-) -> Result<(P0, P0), ChainInsertionError> {
-    let a = chains.insert_reallocating(
+) -> (P, P) {
+    let a = link(
+        rt,
+        chains,
         LinkInsertKind::SingleLinkCyclic,
         Scarce { value: 10, left },
-    )?;
-    let b = chains.insert_reallocating(LinkInsertKind::NextTo(a), Scarce { value: 20, left })?;
-    Ok((a, b))
+    );
+    let b = link(
+        rt,
+        chains,
+        LinkInsertKind::NextTo(a),
+        Scarce { value: 20, left },
+    );
+    (a, b)
 }
 
-// A clone is refused where one of its values is, and an arena that was to be a clone is then empty.
-fn refuses(rt: &impl Abort, alloc: Global, calls: u8) -> Result<(), ChainInsertionError> {
-    let left = Cell::new(calls);
-    let mut source = Scarces::<'_>::new(alloc);
-    let (a, b) = scarce_ring(&mut source, &left)?;
-    assert!(rt; source.clone(alloc).is_ok() == (2 <= calls));
-    left.set(calls);
-    let mut copy = Scarces::<'_>::new(alloc);
-    scarce_ring(&mut copy, &left)?;
-    let answer = copy.clone_from(&source);
+// A clone is made, or not.
+fn is_cloned<P: PtrCore, T: Clone, H: Copy, S: ChainSlots<P, T, Alloc = H>>(
+    rt: &impl Abort,
+    source: &ChainArena<P, T, S>,
+    alloc: H,
+    made: bool,
+)
+    requires { (x y : T) → T.is_clone x y → y ≡ x }
+{
+    assert!(rt; source.clone(alloc).is_ok() == made);
+}
+
+fn is_ring_of_two<P: PtrCore, T: Drop, S: ChainSlots<P, T>>(
+    rt: &impl Abort,
+    copy: &ChainArena<P, T, S>,
+    a: P,
+    b: P,
+) {
+    assert!(rt; copy.len() == 2);
+    assert!(rt; copy.are_neighbors(a, b));
+    assert!(rt; copy.are_neighbors(b, a));
+}
+
+// The copy is such a ring, or is empty.
+fn is_answer<P: PtrCore, T: Drop, S: ChainSlots<P, T>>(
+    rt: &impl Abort,
+    copy: &ChainArena<P, T, S>,
+    answer: Result<(), ReallocationError>,
+    a: P,
+    b: P,
+    calls: u8,
+) {
     if calls < 2 {
         assert!(rt; answer == Err(ReallocationError::AllocError));
         assert!(rt; copy.is_empty());
     } else {
         assert!(rt; answer == Ok(()));
-        assert!(rt; copy.len() == 2);
-        assert!(rt; copy.are_neighbors(a, b));
-        assert!(rt; copy.are_neighbors(b, a));
+        is_ring_of_two(rt, copy, a, b);
     }
-    Ok(())
+}
+
+// What an arena that is to be a clone answers, and what it then holds.
+fn is_cloned_onto<P: PtrCore, T: Clone, S: ChainSlots<P, T>>(
+    rt: &impl Abort,
+    source: &ChainArena<P, T, S>,
+    copy: &mut ChainArena<P, T, S>,
+    a: P,
+    b: P,
+    calls: u8,
+)
+    requires { (x y : T) → T.is_clone x y → y ≡ x }
+{
+    let answer = copy.clone_from(source);
+    is_answer(rt, copy, answer, a, b, calls);
+}
+
+// A clone is refused where one of its values is, and an arena that was to be a clone is then empty.
+fn refuses<'a, P: PtrCore, H: Copy, S: ChainSlots<P, Scarce<'a>, Alloc = H>>(
+    rt: &impl Abort,
+    alloc: H,
+    left: &'a Cell<u8>,
+    calls: u8,
+) {
+    let mut source = ChainArena::<P, Scarce<'a>, S>::new(alloc);
+    let (a, b) = scarce_ring(rt, &mut source, left);
+    left.set(calls);
+    is_cloned(rt, &source, alloc, 2 <= calls);
+    let mut copy = ChainArena::<P, Scarce<'a>, S>::new(alloc);
+    let _ = scarce_ring(rt, &mut copy, left);
+    left.set(calls);
+    is_cloned_onto(rt, &source, &mut copy, a, b, calls);
 }
 
 #[test]
-fn the_clone_of_each_value_is_refused(rt: HostRuntime) -> Result<(), Fail> {
+fn the_clone_of_each_value_is_refused(rt: HostRuntime) {
+    let left = Cell::new(0);
     for calls in 0..4u8 {
-        refuses(&rt, rt.alloc(), calls)?;
+        refuses::<P0, Global, Heap<Scarce<'_>>>(&rt, rt.alloc(), &left, calls);
     }
-    Ok(())
 }

@@ -1,38 +1,33 @@
 //! Ordered arenas.
+//!
+//! A test names pointer types and stacks. What it calls is generic in both, which is proved in far less time.
 ghost use Rattle.std.specs.Prelude.{◌==◌};
 ghost use Rattle.std.proofs.Common.{rules};
 ghost use Rattle.std.specs.Cmp.{partial_order_from_own_ties};
 ghost use Rattle.std.specs.Cmp.Rules.{comparing};
 ghost use Rattle.std.specs.Ordering.{nat_cmp, on, flip_args, as_partial_cmp};
 
+use crate::tests::calls::{put_in, store};
+use crate::tests::values::{Counted, are, hashed, hold, shows, shows_long};
 use std::alloc::Global;
 use std::cell::Cell;
 use std::cmp::Ordering;
-use std::fmt::Debug;
-use std::hash::{DefaultHasher, Hash, Hasher};
 use std::process::Abort;
-use std::test::Fail;
 use triple_arena::{
-    ArenaInsertTrait, ArenaSlot, ArenaTrait, ArrayArena, InvalidationOption, NonZeroInxArray,
-    NonZeroInxVec, P0, P1, PtrCore, Recast,
+    Arena, ArenaSlot, ArenaSlots, ArenaTrait, InvalidationOption, NonZeroInxArray, NonZeroInxVec,
+    P0, P1, Ptr, PtrCore, Recast,
 };
 use triple_arena_chain::LinkNoGen;
 use triple_arena_ord::{
-    InsertKind, OrdEntryKind, OrdInsertKind, OrdInsertionError, OrdPair, OrdSlots, Probes,
+    ArrayOrdArena, InsertKind, OrdEntryKind, OrdInsertKind, OrdPair, OrdSlots, Probes,
     SimpleOrdArena, SimpleOrdArenaNode, SimpleOrdItem,
 };
 
 type Slot<P, T> = ArenaSlot<P, LinkNoGen<P, SimpleOrdArenaNode<P, T>>>;
 
-type Few<P, T> = SimpleOrdArena<P, T, NonZeroInxArray<Slot<P, T>, 7>>;
+type Few<P, T> = NonZeroInxArray<Slot<P, T>, 7>;
 
-// What `{:?}` shows of a value.
-fn shows<A: Debug>(rt: &(impl Abort + Alloc), shown: &A, text: &str) {
-    match format!(in rt.alloc(); "{shown:?}") {
-        Ok(shown) => assert_eq!(rt; shown.as_str(), text),
-        Err(_) => panic!(rt; "no memory for a text"),
-    }
-}
+type Heap<P, T> = NonZeroInxVec<Slot<P, T>, Global>;
 
 #[test]
 fn pairs_are_shown_and_written(rt: HostRuntime) {
@@ -44,32 +39,25 @@ fn pairs_are_shown_and_written(rt: HostRuntime) {
     *v = "six";
     assert!(rt; pair.k_v() == (&5, &"six"));
     assert!(rt; pair.into_k_v() == (5, "six"));
-    match format!(in rt.alloc(); "{:#?}", OrdPair::new(1u64, 2u64)) {
-        Ok(shown) => assert!(rt; shown.as_str() == "(\n    1,\n    2,\n)"),
-        Err(_) => panic!(rt; "no memory for a text"),
-    }
+    shows_long(&rt, &OrdPair::new(1u64, 2u64), "(\n    1,\n    2,\n)");
 }
 
-// A recaster renames the pointer that is the value of a pair, and not the key.
-#[test]
-fn the_values_of_pairs_are_recast(rt: HostRuntime) -> Result<(), Fail> {
-    let mut renaming = ArrayArena::<P0, P0, 2>::new(());
-    let image = P0::invalid();
-    let p = renaming.insert(image)?;
+fn recasts<P: Ptr + Recast<P>, S: ArenaSlots<P, P>>(rt: &impl Abort, alloc: S::Alloc) {
+    let mut renaming = Arena::<P, P, S>::new(alloc);
+    let image = P::invalid();
+    let p = store(rt, &mut renaming, image);
     let mut pair = OrdPair::new(p, p);
     assert!(rt; pair.recast(&renaming) == Ok(()));
     assert!(rt; pair.into_k_v() == (p, image));
     // The image has no image.
     assert!(rt; pair.recast(&renaming) == Err(image));
     assert!(rt; pair.into_k_v() == (p, image));
-    Ok(())
 }
 
-// What a hasher makes of a value.
-fn hashed<A: Hash>(value: &A) -> u64 {
-    let mut hasher = DefaultHasher::new();
-    value.hash(&mut hasher);
-    hasher.finish()
+// A recaster renames the pointer that is the value of a pair, and not the key.
+#[test]
+fn the_values_of_pairs_are_recast(rt: HostRuntime) {
+    recasts::<P0, NonZeroInxArray<ArenaSlot<P0, P0>, 2>>(&rt, ());
 }
 
 // Pairs compare by the key, and then by the value; equal ones have one hash.
@@ -138,105 +126,109 @@ fn kinds_are_shown_and_compared(rt: HostRuntime) {
     assert!(rt; new != OrdEntryKind::Replacing(P0::invalid()));
 }
 
-fn three(rt: &impl Abort) -> Few<P0, OrdPair<u64, u64>> {
-    let mut few = Few::<P0, OrdPair<u64, u64>>::default();
+type Pair = OrdPair<u64, u64>;
+
+// Three entries, whose keys fall in the order in which they are put in.
+fn three<P: PtrCore, S: OrdSlots<P, Pair>>(
+    rt: &impl Abort,
+    alloc: S::Alloc,
+) -> SimpleOrdArena<P, Pair, S> {
+    let mut few = SimpleOrdArena::<P, Pair, S>::new(alloc);
     for key in [30, 20, 10] {
-        assert!(rt; few.insert(OrdPair::new(key, 1)).is_ok());
+        put_in(rt, &mut few, OrdPair::new(key, 1));
     }
     few
+}
+
+fn long_text<P: Ptr, S: OrdSlots<P, Pair>>(rt: &(impl Abort + Alloc), alloc: S::Alloc) {
+    let few = three::<P, S>(rt, alloc);
+    shows_long(
+        rt,
+        &few,
+        "{\n    P0[3](2): (\n        10,\n        1,\n    ),\n    P0[2](2): (\n        20,\n        1,\n    ),\n    P0[1](2): (\n        30,\n        1,\n    ),\n}",
+    );
 }
 
 // With a line for each entry.
 #[test]
 fn long_texts(rt: HostRuntime) {
-    let few = three(&rt);
-    let text =
-        "{\n    P0[3](2): (\n        10,\n        1,\n    ),\n    P0[2](2): (\n        20,\n        1,\n    ),\n    P0[1](2): (\n        30,\n        1,\n    ),\n}";
-    match format!(in rt.alloc(); "{few:#?}") {
-        Ok(shown) => assert_eq!(rt; shown.as_str(), text),
-        Err(_) => panic!(rt; "no memory for a text"),
-    }
+    long_text::<P0, Few<P0, Pair>>(&rt, ());
 }
 
-// Whether the bounds that an iterator gives hold the number of what it gives.
-fn hold(bounds: (usize, Option<usize>), count: usize) -> bool {
-    let (least, most) = bounds;
-    least <= count && count <= most.unwrap_or(count)
-}
-
-#[test]
-fn bounds_of_iterators(rt: HostRuntime) {
-    let few = three(&rt);
+fn bounds<P: PtrCore, S: OrdSlots<P, Pair>>(rt: &impl Abort, few: &SimpleOrdArena<P, Pair, S>) {
     assert!(rt; hold(few.iter().size_hint(), 3));
     assert!(rt; hold(few.vals().size_hint(), 3));
     assert!(rt; hold(few.ptrs().size_hint(), 3));
 }
 
 #[test]
-fn bounds_of_drains(rt: HostRuntime) {
-    let mut few = three(&rt);
-    {
-        let mut drain = few.drain();
-        assert!(rt; drain.next().is_some());
-        assert!(rt; drain.size_hint() == (2, Some(2)) && drain.len() == 2);
-    }
-    let mut entries = three(&rt).into_iter();
-    assert!(rt; entries.size_hint() == (3, Some(3)));
+fn bounds_of_iterators(rt: HostRuntime) {
+    bounds(&rt, &three::<P0, Few<P0, Pair>>(&rt, ()));
+}
+
+fn drains<P: PtrCore, S: OrdSlots<P, Pair>>(rt: &impl Abort, alloc: S::Alloc) {
+    let mut few = three::<P, S>(rt, alloc);
+    let mut drain = few.drain();
+    assert!(rt; drain.next().is_some());
+    assert!(rt; are(drain.size_hint(), 2));
+    assert!(rt; drain.len() == 2);
+}
+
+fn is_counted_down<P: PtrCore, S: OrdSlots<P, Pair>>(rt: &impl Abort, alloc: S::Alloc) {
+    let mut entries = three::<P, S>(rt, alloc).into_iter();
+    assert!(rt; are(entries.size_hint(), 3));
     assert!(rt; entries.next().is_some());
-    assert!(rt; entries.size_hint() == (2, Some(2)));
+    assert!(rt; are(entries.size_hint(), 2));
 }
 
-// A value that adds itself to a sum when it is dropped.
-struct Counted<'a> {
-    value: u64,
-    dropped: &'a Cell<u64>,
+#[test]
+fn bounds_of_drains(rt: HostRuntime) {
+    drains::<P0, Few<P0, Pair>>(&rt, ());
+    is_counted_down::<P0, Few<P0, Pair>>(&rt, ());
 }
 
-impl Drop for Counted<'_> {
-    fn drop(self) {
-        let Counted { value, dropped } = self;
-        dropped.set(dropped.get().wrapping_add(value));
-    }
-}
+type Counting<'a> = OrdPair<u64, Counted<'a>>;
 
 // Stores three values that are counted, by keys that fall.
-fn three_counted<'a, S: OrdSlots<P0, OrdPair<u64, Counted<'a>>>>(
-    arena: &mut SimpleOrdArena<P0, OrdPair<u64, Counted<'a>>, S>,
+fn three_counted<'a, P: PtrCore, S: OrdSlots<P, Counting<'a>>>(
+    rt: &impl Abort,
+    arena: &mut SimpleOrdArena<P, Counting<'a>, S>,
     dropped: &'a Cell<u64>,
-) -> Result<(), OrdInsertionError> {
+) {
     for (key, value) in [(30, 300), (20, 20), (10, 1)] {
-        arena.insert(OrdPair::new(key, Counted { value, dropped }))?;
+        put_in(rt, arena, OrdPair::new(key, Counted { value, dropped }));
     }
-    Ok(())
 }
 
-// An arena by value gives its entries in their order. Let go after the first one, it drops the others, each once.
-#[test]
-fn an_arena_by_value_let_go_half_way(rt: HostRuntime) -> Result<(), Fail> {
-    let dropped = Cell::new(0);
-    let mut arena = SimpleOrdArena::<
-        P0,
-        OrdPair<u64, Counted<'_>>,
-        NonZeroInxVec<Slot<P0, OrdPair<u64, Counted<'_>>>, Global>,
-    >::new(rt.alloc());
-    three_counted(&mut arena, &dropped)?;
+fn lets_go<'a, P: PtrCore, S: OrdSlots<P, Counting<'a>>>(
+    rt: &impl Abort,
+    alloc: S::Alloc,
+    dropped: &'a Cell<u64>,
+) {
+    let mut arena = SimpleOrdArena::<P, Counting<'a>, S>::new(alloc);
+    three_counted(rt, &mut arena, dropped);
     let mut entries = arena.into_iter();
     let first = entries.next();
     match &first {
         Some((_, item)) => assert!(rt; *item.k() == 10),
         None => panic!(rt; "an entry is not given"),
     }
-    assert_eq!(rt; dropped.get(), 0);
+    assert!(rt; dropped.get() == 0);
     drop(entries);
-    assert_eq!(rt; dropped.get(), 320);
+    assert!(rt; dropped.get() == 320);
     drop(first);
-    assert_eq!(rt; dropped.get(), 321);
-    Ok(())
+    assert!(rt; dropped.get() == 321);
 }
 
+// An arena by value gives its entries in their order. Let go after the first one, it drops the others, each once.
 #[test]
-fn an_arena_by_value_to_its_end(rt: HostRuntime) {
-    let mut entries = three(&rt).into_iter();
+fn an_arena_by_value_let_go_half_way(rt: HostRuntime) {
+    let dropped = Cell::new(0);
+    lets_go::<P0, Heap<P0, Counting<'_>>>(&rt, rt.alloc(), &dropped);
+}
+
+fn goes_to_the_end<P: PtrCore, S: OrdSlots<P, Pair>>(rt: &impl Abort, alloc: S::Alloc) {
+    let mut entries = three::<P, S>(rt, alloc).into_iter();
     for key in [10, 20, 30] {
         match entries.next() {
             Some((_, item)) => assert!(rt; *item.k() == key),
@@ -247,31 +239,56 @@ fn an_arena_by_value_to_its_end(rt: HostRuntime) {
     assert!(rt; entries.next().is_none());
 }
 
+#[test]
+fn an_arena_by_value_to_its_end(rt: HostRuntime) {
+    goes_to_the_end::<P0, Few<P0, Pair>>(&rt, ());
+}
+
+// An item that is replaced is given back.
+fn replaces<'a, P: PtrCore, S: OrdSlots<P, Counting<'a>>>(
+    rt: &impl Abort,
+    arena: &mut SimpleOrdArena<P, Counting<'a>, S>,
+    dropped: &'a Cell<u64>,
+) {
+    let value = 4000;
+    let (_, replaced) = put_in(rt, arena, OrdPair::new(20, Counted { value, dropped }));
+    assert!(rt; replaced.is_some());
+    assert!(rt; dropped.get() == 0);
+    drop(replaced);
+    assert!(rt; dropped.get() == 20);
+}
+
+// The first one of a drain.
+fn drains_first<'a, P: PtrCore, S: OrdSlots<P, Counting<'a>>>(
+    rt: &impl Abort,
+    arena: &mut SimpleOrdArena<P, Counting<'a>, S>,
+    dropped: &'a Cell<u64>,
+) {
+    let mut drain = arena.drain_ordered();
+    match drain.next() {
+        Some(InvalidationOption::Success((_, item))) => assert!(rt; *item.k() == 10),
+        _ => panic!(rt; "an entry is not given"),
+    }
+    assert!(rt; dropped.get() == 21);
+}
+
+fn drops<'a, P: PtrCore, S: OrdSlots<P, Counting<'a>>>(
+    rt: &impl Abort,
+    alloc: S::Alloc,
+    dropped: &'a Cell<u64>,
+) {
+    let mut arena = SimpleOrdArena::<P, Counting<'a>, S>::new(alloc);
+    three_counted(rt, &mut arena, dropped);
+    replaces(rt, &mut arena, dropped);
+    drains_first(rt, &mut arena, dropped);
+    assert!(rt; dropped.get() == 4321);
+}
+
 // A drain that is let go drops what is left, and an item that is replaced is given back.
 #[test]
-fn each_item_is_dropped_once(rt: HostRuntime) -> Result<(), Fail> {
+fn each_item_is_dropped_once(rt: HostRuntime) {
     let dropped = Cell::new(0);
-    let mut arena = Few::<P0, OrdPair<u64, Counted<'_>>>::new(());
-    three_counted(&mut arena, &dropped)?;
-    let again = Counted {
-        value: 4000,
-        dropped: &dropped,
-    };
-    let (_, replaced) = arena.insert(OrdPair::new(20, again))?;
-    assert!(rt; replaced.is_some());
-    assert_eq!(rt; dropped.get(), 0);
-    drop(replaced);
-    assert_eq!(rt; dropped.get(), 20);
-    {
-        let mut drain = arena.drain_ordered();
-        match drain.next() {
-            Some(InvalidationOption::Success((_, item))) => assert!(rt; *item.k() == 10),
-            _ => panic!(rt; "an entry is not given"),
-        }
-        assert_eq!(rt; dropped.get(), 21);
-    }
-    assert_eq!(rt; dropped.get(), 4321);
-    Ok(())
+    drops::<P0, Few<P0, Counting<'_>>>(&rt, (), &dropped);
 }
 
 // A task, whose key is the time at which it is due.
@@ -292,7 +309,11 @@ impl SimpleOrdItem for Task {
 }
 
 // Along the list these tasks stand.
-fn lists(rt: &impl Abort, tasks: &Few<P0, Task>, names: &[&str]) {
+fn lists<P: PtrCore, S: OrdSlots<P, Task>>(
+    rt: &impl Abort,
+    tasks: &SimpleOrdArena<P, Task, S>,
+    names: &[&str],
+) {
     let mut entries = tasks.iter_ordered();
     for name in names {
         match entries.next() {
@@ -303,28 +324,58 @@ fn lists(rt: &impl Abort, tasks: &Few<P0, Task>, names: &[&str]) {
     assert!(rt; entries.next().is_none());
 }
 
-#[test]
-fn tasks_by_their_times(rt: HostRuntime) -> Result<(), Fail> {
-    let mut tasks = Few::<P0, Task>::default();
+// Three tasks. It tells the pointer to the one at noon.
+fn three_tasks<P: PtrCore, S: OrdSlots<P, Task>>(
+    rt: &impl Abort,
+    tasks: &mut SimpleOrdArena<P, Task, S>,
+) -> P {
     let name = "lunch";
-    let (lunch, none) = tasks.insert(Task { name, due: 12 })?;
+    let (lunch, none) = put_in(rt, tasks, Task { name, due: 12 });
     assert!(rt; none.is_none());
     let name = "breakfast";
-    tasks.insert(Task { name, due: 8 })?;
+    put_in(rt, tasks, Task { name, due: 8 });
     let name = "dinner";
-    tasks.insert(Task { name, due: 19 })?;
-    lists(&rt, &tasks, &["breakfast", "lunch", "dinner"]);
-    // A task that is due at the same time takes the place of the other one, with its pointer.
+    put_in(rt, tasks, Task { name, due: 19 });
+    lunch
+}
+
+// A task that is due at the same time takes the place of the other one, with its pointer.
+fn replaces_lunch<P: Ptr, S: OrdSlots<P, Task>>(
+    rt: &impl Abort,
+    tasks: &mut SimpleOrdArena<P, Task, S>,
+    lunch: P,
+) {
     let name = "brunch";
-    let (p, replaced) = tasks.insert(Task { name, due: 12 })?;
+    let (p, replaced) = put_in(rt, tasks, Task { name, due: 12 });
     assert!(rt; p == lunch);
     assert!(rt; replaced.map(|task| task.name) == Some("lunch"));
-    lists(&rt, &tasks, &["breakfast", "brunch", "dinner"]);
+}
+
+fn finds_and_removes<P: Ptr, S: OrdSlots<P, Task>>(
+    rt: &impl Abort,
+    tasks: &mut SimpleOrdArena<P, Task, S>,
+    lunch: P,
+) {
     assert!(rt; tasks.find_key(&12) == Some(lunch));
     assert!(rt; tasks.find_key(&13).is_none());
     assert!(rt; tasks.remove(lunch).is_success());
-    lists(&rt, &tasks, &["breakfast", "dinner"]);
-    Ok(())
+}
+
+fn goes_through_a_day<P: Ptr, S: OrdSlots<P, Task>>(
+    rt: &impl Abort,
+    mut tasks: SimpleOrdArena<P, Task, S>,
+) {
+    let lunch = three_tasks(rt, &mut tasks);
+    lists(rt, &tasks, &["breakfast", "lunch", "dinner"]);
+    replaces_lunch(rt, &mut tasks, lunch);
+    lists(rt, &tasks, &["breakfast", "brunch", "dinner"]);
+    finds_and_removes(rt, &mut tasks, lunch);
+    lists(rt, &tasks, &["breakfast", "dinner"]);
+}
+
+#[test]
+fn tasks_by_their_times(rt: HostRuntime) {
+    goes_through_a_day(&rt, ArrayOrdArena::<P0, Task, 7>::default());
 }
 
 // A number, from the greatest to the least.
@@ -369,7 +420,7 @@ fn falls<P: PtrCore, S: OrdSlots<P, Falls>>(
     for i in 1..8u64 {
         let key = i.wrapping_mul(3) % 7 + 1;
         if key <= n {
-            assert!(rt; arena.insert(OrdPair::new(Falling { n: key }, key)).is_ok());
+            put_in(rt, &mut arena, OrdPair::new(Falling { n: key }, key));
         }
     }
     arena
@@ -397,8 +448,14 @@ fn finds<P: PtrCore, S: OrdSlots<P, Falls>>(
     found.is_some()
 }
 
-// Of the keys up to `n` the entry has the one that is nearest to `key`, and the answer is what `key` compares as with it: the
+// Of the keys up to `n` the one that was found is the nearest to `key`, and the answer is what `key` compares as with it: the
 // greater one of the two in this order is the lesser number.
+fn is_nearest(rt: &impl Abort, found: u64, answer: Ordering, key: u64, n: u64) {
+    assert!(rt; found == key.max(1).min(n));
+    assert!(rt; answer == found.cmp(&key));
+}
+
+// The entry that is found has the key that is nearest to `key`. Only an arena without an entry has none.
 fn finds_the_nearest<P: PtrCore, S: OrdSlots<P, Falls>>(
     rt: &impl Abort,
     arena: &SimpleOrdArena<P, Falls, S>,
@@ -407,10 +464,7 @@ fn finds_the_nearest<P: PtrCore, S: OrdSlots<P, Falls>>(
 ) {
     match arena.find_similar_key(&Falling { n: key }) {
         Some((p, answer)) => match arena.get(p) {
-            Some(item) => {
-                assert!(rt; item.k().n == key.max(1).min(n));
-                assert!(rt; answer == item.k().n.cmp(&key));
-            }
+            Some(item) => is_nearest(rt, item.k().n, answer, key, n),
             None => panic!(rt; "what is similar is not there"),
         },
         None => assert!(rt; n == 0),
@@ -445,9 +499,9 @@ fn searches<P: PtrCore, S: OrdSlots<P, Falls>>(
 #[test]
 fn keys_in_falling_order(rt: HostRuntime) {
     for (n, list, most) in CASES {
-        let arena = falls::<P0, NonZeroInxVec<Slot<P0, Falls>, Global>>(&rt, rt.alloc(), n);
+        let arena = falls::<P0, Heap<P0, Falls>>(&rt, rt.alloc(), n);
         searches(&rt, &arena, n, list, most);
-        let arena = falls::<P1, NonZeroInxArray<Slot<P1, Falls>, 7>>(&rt, (), n);
+        let arena = falls::<P1, Few<P1, Falls>>(&rt, (), n);
         searches(&rt, &arena, n, list, most);
     }
 }
