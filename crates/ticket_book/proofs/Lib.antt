@@ -1,0 +1,2 @@
+pub mod InsertionLemmas
+pub mod TicketLemmas

@@ -1,0 +1,2 @@
+pub mod InArena
+pub mod Tickets

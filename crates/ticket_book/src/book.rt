@@ -1,0 +1,98 @@
+ghost use Rattle.std.specs.Prelude.{◌≡◌, ◌+◌, ◌<◌, ◌≤◌, ◌++◌, [], ◌∷◌, length, IfOk};
+ghost use Rattle.std.specs.Option.{option_map};
+ghost use Rattle.counted_search.specs.Searches.{most_comparisons};
+ghost use Rattle.ticket_book.specs.Tickets.{AreBelow, lookup};
+ghost use Rattle.triple_arena.specs.ArenaRoom.{room_of};
+ghost use Rattle.triple_arena_ord.specs.Growth.{IsRoomRefusal};
+
+use crate::entry::{Entry, Kind};
+use crate::insertion::put;
+use std::cmp::Ordering;
+use std::marker::Model;
+use triple_arena::ArenaSlot;
+use triple_arena_chain::LinkNoGen;
+use triple_arena_ord::laws::{entries_stand_in_the_list, the_list_has_as_many_entries_as_are_live};
+use triple_arena_ord::{InsertKind, OrdSlots, SimpleOrdArena, SimpleOrdArenaNode};
+use triple_arena_ptr::{Probes, PtrCore, ReallocationError};
+
+/// A slot of a ticket book.
+pub type TicketSlot<P> = ArenaSlot<P, LinkNoGen<P, SimpleOrdArenaNode<P, Entry<P>>>>;
+
+/// The living tickets, in their order.
+#[derive(Drop)]
+pub struct TicketBook<P: PtrCore, S: OrdSlots<P, Entry<P>>> {
+    arena: SimpleOrdArena<P, Entry<P>, S>,
+}
+
+impl<P: PtrCore, S: OrdSlots<P, Entry<P>>> Model for TicketBook<P, S> {
+    ghost use Rattle.ticket_book.specs.Tickets.{Tickets};
+
+    ghost Value = { Tickets };
+
+    ghost use Rattle.ticket_book.specs.InArena.{entries_of};
+    ghost use Rattle.ticket_book.specs.Tickets.{TicketsRise};
+    ghost use Rattle.triple_arena.specs.Content.{arena_capacity};
+
+    ghost view = { λ b. record {
+      entries = entries_of P.Inx.number b.arena;
+      capacity = arena_capacity b.arena.chains;
+    } };
+
+    ghost invariant = { λ b. TicketsRise (entries_of P.Inx.number b.arena) };
+}
+
+impl<P: PtrCore, S: OrdSlots<P, Entry<P>>> TicketBook<P, S> {
+    /// A book without a ticket, with room for so many.
+    pub fn with_room(alloc: S::Alloc, room: usize) -> Result<Self, ReallocationError>
+        ensures empty { IfOk result (λ book. book.entries ≡ []) }
+        ensures fits { IfOk result (λ book. room ≤ book.capacity) }
+        ensures refusal { IsRoomRefusal S.takes_memory room (room_of P.Inx.greatest (S.room_at 0))
+            (room_of P.Inx.greatest (S.room_at room)).limit result }
+    {
+        Ok(TicketBook {
+            arena: SimpleOrdArena::with_min_capacity(alloc, room)?,
+        })
+    }
+
+    /// The entry of a ticket. Each comparison is a tick.
+    pub fn find_counted(&self, ticket: u64, probes: &mut Probes) -> Option<&Entry<P>>
+        ensures found { option_map (λ e. e.now) result ≡ lookup self.now.entries ticket }
+        ensures bound { probes.new ≤ probes.old + most_comparisons (length self.now.entries) }
+        ensures rises { probes.old ≤ probes.new }
+    {
+        entries_stand_in_the_list::<P, Entry<P>>();
+        the_list_has_as_many_entries_as_are_live::<P, Entry<P>>();
+        // The list is as it must be.
+        let _ = self.arena.len();
+        match self.arena.find_key_counted(&ticket, probes) {
+            Some(p) => self.arena.get(p),
+            None => None,
+        }
+    }
+
+    /// A ticket above all others. It is compared with none.
+    pub fn add(&mut self, ticket: u64, kind: Kind, at: P)
+        requires above { AreBelow self.old.entries ticket }
+        requires room { length self.old.entries < self.old.capacity }
+        ensures entries { self.new.entries ≡ self.old.entries ++ record
+            { ticket = ticket; kind = kind; index = P.index at; generation = P.generation at } ∷ [] }
+        ensures capacity { self.new.capacity ≡ self.old.capacity }
+    {
+        the_list_has_as_many_entries_as_are_live::<P, Entry<P>>();
+        // The list is as it must be.
+        let _ = self.arena.len();
+        let entry = Entry::new(ticket, kind, at);
+        match self.arena.last() {
+            Some(last) => {
+                let behind = InsertKind::Manual {
+                    p_target: last.inx(),
+                    direction: Ordering::Greater,
+                };
+                put(&mut self.arena, behind, entry);
+            }
+            None => {
+                put(&mut self.arena, InsertKind::Empty, entry);
+            }
+        }
+    }
+}
