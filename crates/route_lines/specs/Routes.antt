@@ -1,5 +1,5 @@
 -- The routes of a state: which stop follows which, and what is made of routes as stops are put in, joined and cut apart.
-use Rattle.std.specs.Prelude.{ℕ, ◌==◌, ◌∷◌, ◌++◌, Bool, true, false, List, [], Option, Some, None, if◌then◌else◌, nat_lt, min, map, find, filter, not, reverse, option_and_then}
+use Rattle.std.specs.Prelude.{ℕ, ◌==◌, ◌∷◌, ◌++◌, Bool, true, false, List, [], Option, Some, None, if◌then◌else◌, nat_lt, min, length, map, find, filter, not, reverse, option_and_then}
 use Rattle.std.specs.List.{list_any}
 use Rattle.std.specs.Option.{option_map, option_or, option_map_or}
 use Rattle.route_lines.specs.Cuts.{before, onward, up_to, behind, first_item, last_item}
@@ -64,9 +64,13 @@ abbrev pub first_ticket : Route → ℕ
 first_ticket r = option_map_or (λ t. t.ticket) (first_item r.stops) 0
 
 -- the routes with one more, in the order of their first tickets
+abbrev pub insert_route : Route → List Route → List Route
+insert_route new [] = new ∷ []
+insert_route new (r ∷ routes) = if nat_lt (first_ticket new) (first_ticket r) then new ∷ r ∷ routes else r ∷ insert_route new routes
+
+-- a list of no stops is no route
 abbrev pub put_route : Route → List Route → List Route
-put_route new [] = new ∷ []
-put_route new (r ∷ routes) = if nat_lt (first_ticket new) (first_ticket r) then new ∷ r ∷ routes else r ∷ put_route new routes
+put_route new routes = if length new.stops == 0 then routes else insert_route new routes
 
 abbrev pub next_stop : List Route → ℕ → Option ℕ
 next_stop routes s = option_and_then (next_in s) (route_of routes s)
@@ -83,9 +87,10 @@ put_behind s new routes =
 abbrev pub linked : ℕ → ℕ → List Route → List Route
 linked s u routes =
     let front = stops_with s routes in
+    let others = without s routes in
     if list_any (has_ticket u) front
-    then put_route (ring front) (without s routes)
-    else put_route (linear (front ++ stops_with u routes)) (without u (without s routes))
+    then put_route (ring front) others
+    else put_route (linear (front ++ stops_with u others)) (without u others)
 
 -- `s` is parted from the stop that follows it: a linear route is split behind `s`, a ring becomes a linear route that ends with `s`
 abbrev pub unlinked : ℕ → List Route → List Route
