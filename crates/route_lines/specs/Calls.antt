@@ -170,6 +170,10 @@ after_swap s t u = unless_refused s (swapped s t u) (λ ok. record s { routes = 
 abbrev pub walked : State → ℕ → Result (List Stop) Refusal
 walked s t = and_then (stop_holder s t) (λ x. Ok (walk_from t s.routes))
 
+-- what the iterator of a walk gives of a stop
+abbrev pub listed_stop : ℕ × Option ℕ → Stop
+listed_stop item = record { ticket = item.0; place = item.1 }
+
 -- ---- marks
 
 -- `mark`: its ticket is above all others, so it is the last one
