@@ -1,11 +1,11 @@
 //! The calls of every arena.
-use script::{Call, Transcript, index};
+use script::{Call, ShownPtr, Transcript, index};
 use std::fmt::Debug;
-use triple_arena::{Advancer, ArenaInsertTrait, ArenaTrait, DisjointableArenaTrait, Ptr, PtrCore};
+use triple_arena::{Advancer, ArenaInsertTrait, ArenaTrait, DisjointableArenaTrait, PtrCore};
 
 /// Makes a call that every arena has, and says whether there is one of that name. That an arena keeps the traits' clauses
 /// is proved once for all of them, which costs the proof most.
-pub fn call<P: Ptr, A: DisjointableArenaTrait<P, u64>>(
+pub fn call<P: ShownPtr, A: DisjointableArenaTrait<P, u64>>(
     arena: &mut A,
     transcript: &mut Transcript,
     call: &Call<'_>,
@@ -18,7 +18,7 @@ pub fn call<P: Ptr, A: DisjointableArenaTrait<P, u64>>(
 }
 
 /// Makes such a call or an insertion, and says whether there is one of that name.
-pub fn call_or_insert<P: Ptr, A: ArenaInsertTrait<P, u64> + DisjointableArenaTrait<P, u64>>(
+pub fn call_or_insert<P: ShownPtr, A: ArenaInsertTrait<P, u64> + DisjointableArenaTrait<P, u64>>(
     arena: &mut A,
     transcript: &mut Transcript,
     line: &Call<'_>,
@@ -26,7 +26,7 @@ pub fn call_or_insert<P: Ptr, A: ArenaInsertTrait<P, u64> + DisjointableArenaTra
     call(arena, transcript, line) || inserts(arena, transcript, line)
 }
 
-fn reads<P: Ptr, A: ArenaTrait<P, u64>>(
+fn reads<P: ShownPtr, A: ArenaTrait<P, u64>>(
     arena: &A,
     transcript: &mut Transcript,
     call: &Call<'_>,
@@ -102,7 +102,7 @@ fn walk<P: PtrCore + Debug, A: ArenaTrait<P, u64>>(
     transcript.answer(line, &advancer.advance(arena));
 }
 
-fn writes<P: Ptr, A: ArenaTrait<P, u64>>(
+fn writes<P: ShownPtr, A: ArenaTrait<P, u64>>(
     arena: &mut A,
     transcript: &mut Transcript,
     call: &Call<'_>,
@@ -123,7 +123,7 @@ fn writes<P: Ptr, A: ArenaTrait<P, u64>>(
     true
 }
 
-fn removes<P: Ptr, A: ArenaTrait<P, u64>>(
+fn removes<P: ShownPtr, A: ArenaTrait<P, u64>>(
     arena: &mut A,
     transcript: &mut Transcript,
     call: &Call<'_>,

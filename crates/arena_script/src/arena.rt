@@ -2,7 +2,7 @@
 ghost use Rattle.std.specs.Prelude.{IfOk};
 
 use crate::any_arena;
-use script::{Call, Transcript, generation};
+use script::{Call, ShownPtr, Transcript, generation};
 use std::fmt::Debug;
 use triple_arena::{Arena, ArenaInsertEntries, ArenaInsertEntryTrait, ArenaSlots, Ptr, PtrCore};
 
@@ -12,7 +12,10 @@ pub fn call<P: Ptr, S: ArenaSlots<P, u64>>(
     transcript: &mut Transcript,
     call: &Call<'_>,
 ) {
-    if !(any_arena::call_or_insert(arena, transcript, call)
+    // A text asks more of its pointers than the calls do.
+    if call.verb == "show" {
+        transcript.answer(call.line, arena);
+    } else if !(any_arena::call_or_insert(arena, transcript, call)
         || reads(arena, transcript, call)
         || enters(arena, transcript, call)
         || changes(arena, transcript, call))
@@ -21,7 +24,7 @@ pub fn call<P: Ptr, S: ArenaSlots<P, u64>>(
     }
 }
 
-fn reads<P: Ptr, S: ArenaSlots<P, u64>>(
+fn reads<P: ShownPtr, S: ArenaSlots<P, u64>>(
     arena: &Arena<P, u64, S>,
     transcript: &mut Transcript,
     call: &Call<'_>,
@@ -31,7 +34,6 @@ fn reads<P: Ptr, S: ArenaSlots<P, u64>>(
         "generation" => transcript.answer(line, &arena.generation()),
         "freelist_root" => transcript.answer(line, &arena.freelist_root()),
         "slots" => transcript.answer(line, &arena.backing().len()),
-        "show" => transcript.answer(line, arena),
         "ptrs" => ptrs(arena, transcript, line),
         "vals" => vals(arena, transcript, line),
         "iter" => iter(arena, transcript, line),

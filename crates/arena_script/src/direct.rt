@@ -1,6 +1,6 @@
 //! The calls of a `DirectArena`.
 use crate::any_arena;
-use script::{Call, Transcript};
+use script::{Call, ShownPtr, Transcript};
 use std::fmt::Debug;
 use triple_arena::{
     ArenaDirectInsertEntryTrait, ArenaDirectInsertTrait, DirectArena, DirectSlots, Ptr, PtrCore,
@@ -12,7 +12,10 @@ pub fn call<P: Ptr, S: DirectSlots<P, u64>>(
     transcript: &mut Transcript,
     call: &Call<'_>,
 ) {
-    if !(any_arena::call(arena, transcript, call)
+    // A text asks more of its pointers than the calls do.
+    if call.verb == "show" {
+        transcript.answer(call.line, arena);
+    } else if !(any_arena::call(arena, transcript, call)
         || reads(arena, transcript, call)
         || changes(arena, transcript, call))
     {
@@ -20,7 +23,7 @@ pub fn call<P: Ptr, S: DirectSlots<P, u64>>(
     }
 }
 
-fn reads<P: Ptr, S: DirectSlots<P, u64>>(
+fn reads<P: ShownPtr, S: DirectSlots<P, u64>>(
     arena: &DirectArena<P, u64, S>,
     transcript: &mut Transcript,
     call: &Call<'_>,
@@ -28,7 +31,6 @@ fn reads<P: Ptr, S: DirectSlots<P, u64>>(
     let line = call.line;
     match call.verb {
         "slots" => transcript.answer(line, &arena.backing().len()),
-        "show" => transcript.answer(line, arena),
         "ptrs" => ptrs(arena, transcript, line),
         "vals" => vals(arena, transcript, line),
         "iter" => iter(arena, transcript, line),

@@ -6,7 +6,7 @@
 //! `h compress_recaster RESET` compresses `h`, and renames by the map of that what `h` and `k` hold. `h| set_generation G`
 //! sets the counter of `h`.
 use crate::stacks::Heap;
-use script::{Call, Transcript, generation, pointer};
+use script::{Call, ShownPtr, Transcript, generation, pointer};
 use std::fmt::Debug;
 use triple_arena::{
     Arena, ArenaDirectInsertEntryTrait, ArenaDirectInsertTrait, ArenaInsertTrait, ArenaSlot,
@@ -183,7 +183,7 @@ fn set_generation<P: PtrCore, S: ArenaSlots<P, Held<P>>>(
     transcript.line(call.line);
 }
 
-fn of_holder<P: Ptr, A: ArenaInsertTrait<P, Held<P>> + Debug>(
+fn of_holder<P: ShownPtr, A: ArenaInsertTrait<P, Held<P>> + Debug>(
     h: &mut A,
     transcript: &mut Transcript,
     call: &Call<'_>,

@@ -3,7 +3,7 @@ ghost use Rattle.std.specs.Prelude.{IfOk};
 
 use crate::kind::kind;
 use crate::links;
-use script::{Call, Transcript, generation};
+use script::{Call, ShownPtr, Transcript, generation};
 use std::fmt::Debug;
 use triple_arena::{ArenaInsertEntryTrait, ArenaTrait, Ptr};
 use triple_arena_chain::{ChainArena, ChainArenaTrait, ChainSlots, LinkInsertKind};
@@ -14,7 +14,10 @@ pub fn call<P: Ptr, S: ChainSlots<P, u64>>(
     transcript: &mut Transcript,
     call: &Call<'_>,
 ) {
-    if !(links::call(chains, transcript, call)
+    // A text asks more of its pointers than the calls do.
+    if call.verb == "show" {
+        transcript.answer(call.line, chains);
+    } else if !(links::call(chains, transcript, call)
         || reads(chains, transcript, call)
         || changes(chains, transcript, call)
         || enters(chains, transcript, call))
@@ -23,7 +26,7 @@ pub fn call<P: Ptr, S: ChainSlots<P, u64>>(
     }
 }
 
-fn reads<P: Ptr, S: ChainSlots<P, u64>>(
+fn reads<P: ShownPtr, S: ChainSlots<P, u64>>(
     chains: &ChainArena<P, u64, S>,
     transcript: &mut Transcript,
     call: &Call<'_>,
@@ -32,7 +35,6 @@ fn reads<P: Ptr, S: ChainSlots<P, u64>>(
     match call.verb {
         "generation" => transcript.answer(line, &chains.generation()),
         "slots" => transcript.answer(line, &chains.backing().len()),
-        "show" => transcript.answer(line, chains),
         "ptrs" => ptrs(chains, transcript, line),
         "vals" => vals(chains, transcript, line),
         "iter" => iter(chains, transcript, line),
@@ -44,7 +46,7 @@ fn reads<P: Ptr, S: ChainSlots<P, u64>>(
     true
 }
 
-fn ptrs<P: Ptr, S: ChainSlots<P, u64>>(
+fn ptrs<P: ShownPtr, S: ChainSlots<P, u64>>(
     chains: &ChainArena<P, u64, S>,
     transcript: &mut Transcript,
     line: &str,
@@ -54,7 +56,7 @@ fn ptrs<P: Ptr, S: ChainSlots<P, u64>>(
     }
 }
 
-fn vals<P: Ptr, S: ChainSlots<P, u64>>(
+fn vals<P: ShownPtr, S: ChainSlots<P, u64>>(
     chains: &ChainArena<P, u64, S>,
     transcript: &mut Transcript,
     line: &str,
@@ -64,7 +66,7 @@ fn vals<P: Ptr, S: ChainSlots<P, u64>>(
     }
 }
 
-fn iter<P: Ptr, S: ChainSlots<P, u64>>(
+fn iter<P: ShownPtr, S: ChainSlots<P, u64>>(
     chains: &ChainArena<P, u64, S>,
     transcript: &mut Transcript,
     line: &str,
@@ -74,7 +76,7 @@ fn iter<P: Ptr, S: ChainSlots<P, u64>>(
     }
 }
 
-fn iter_link_no_gen<P: Ptr, S: ChainSlots<P, u64>>(
+fn iter_link_no_gen<P: ShownPtr, S: ChainSlots<P, u64>>(
     chains: &ChainArena<P, u64, S>,
     transcript: &mut Transcript,
     line: &str,
@@ -84,7 +86,7 @@ fn iter_link_no_gen<P: Ptr, S: ChainSlots<P, u64>>(
     }
 }
 
-fn iter_chain<P: Ptr, S: ChainSlots<P, u64>>(
+fn iter_chain<P: ShownPtr, S: ChainSlots<P, u64>>(
     chains: &ChainArena<P, u64, S>,
     transcript: &mut Transcript,
     call: &Call<'_>,
@@ -100,7 +102,7 @@ fn iter_chain<P: Ptr, S: ChainSlots<P, u64>>(
 }
 
 // Reads by `chains[p]`.
-fn at<P: Ptr, S: ChainSlots<P, u64>>(
+fn at<P: ShownPtr, S: ChainSlots<P, u64>>(
     chains: &ChainArena<P, u64, S>,
     transcript: &mut Transcript,
     call: &Call<'_>,
@@ -113,7 +115,7 @@ fn at<P: Ptr, S: ChainSlots<P, u64>>(
     }
 }
 
-fn changes<P: Ptr, S: ChainSlots<P, u64>>(
+fn changes<P: ShownPtr, S: ChainSlots<P, u64>>(
     chains: &mut ChainArena<P, u64, S>,
     transcript: &mut Transcript,
     call: &Call<'_>,
@@ -148,7 +150,7 @@ fn changes<P: Ptr, S: ChainSlots<P, u64>>(
 }
 
 // Writes by `chains[p]`.
-fn put<P: Ptr, S: ChainSlots<P, u64>>(
+fn put<P: ShownPtr, S: ChainSlots<P, u64>>(
     chains: &mut ChainArena<P, u64, S>,
     transcript: &mut Transcript,
     call: &Call<'_>,
@@ -163,7 +165,7 @@ fn put<P: Ptr, S: ChainSlots<P, u64>>(
 }
 
 // Takes so many items of a drain, and tells how many are left when it is let go.
-fn drain<P: Ptr, S: ChainSlots<P, u64>>(
+fn drain<P: ShownPtr, S: ChainSlots<P, u64>>(
     chains: &mut ChainArena<P, u64, S>,
     transcript: &mut Transcript,
     call: &Call<'_>,
@@ -176,7 +178,7 @@ fn drain<P: Ptr, S: ChainSlots<P, u64>>(
 }
 
 // Takes so many items of the drain of a chain, and lets it go.
-fn drain_chain<P: Ptr, S: ChainSlots<P, u64>>(
+fn drain_chain<P: ShownPtr, S: ChainSlots<P, u64>>(
     chains: &mut ChainArena<P, u64, S>,
     transcript: &mut Transcript,
     call: &Call<'_>,
@@ -193,7 +195,7 @@ fn drain_chain<P: Ptr, S: ChainSlots<P, u64>>(
 }
 
 // Makes a place for a link, and says whether there is such a call.
-fn enters<P: Ptr, S: ChainSlots<P, u64>>(
+fn enters<P: ShownPtr, S: ChainSlots<P, u64>>(
     chains: &mut ChainArena<P, u64, S>,
     transcript: &mut Transcript,
     call: &Call<'_>,
@@ -205,7 +207,7 @@ fn enters<P: Ptr, S: ChainSlots<P, u64>>(
     }
 }
 
-fn enter_by<P: Ptr, S: ChainSlots<P, u64>>(
+fn enter_by<P: ShownPtr, S: ChainSlots<P, u64>>(
     chains: &mut ChainArena<P, u64, S>,
     transcript: &mut Transcript,
     call: &Call<'_>,
@@ -223,7 +225,7 @@ fn enter_by<P: Ptr, S: ChainSlots<P, u64>>(
     true
 }
 
-fn enter_growing<P: Ptr, S: ChainSlots<P, u64>>(
+fn enter_growing<P: ShownPtr, S: ChainSlots<P, u64>>(
     chains: &mut ChainArena<P, u64, S>,
     transcript: &mut Transcript,
     call: &Call<'_>,
@@ -232,7 +234,7 @@ fn enter_growing<P: Ptr, S: ChainSlots<P, u64>>(
     enter(chains.entry_insert_reallocating(kind), transcript, call);
 }
 
-fn enter_where_met<P: Ptr, S: ChainSlots<P, u64>>(
+fn enter_where_met<P: ShownPtr, S: ChainSlots<P, u64>>(
     chains: &mut ChainArena<P, u64, S>,
     transcript: &mut Transcript,
     call: &Call<'_>,
@@ -246,7 +248,7 @@ fn enter_where_met<P: Ptr, S: ChainSlots<P, u64>>(
 }
 
 // Tells an entry's pointer, and stores the first number by it, unless that is 0.
-fn enter<P: Ptr, E: ArenaInsertEntryTrait<P, u64> + Drop, Refusal: Debug + Drop>(
+fn enter<P: ShownPtr, E: ArenaInsertEntryTrait<P, u64> + Drop, Refusal: Debug + Drop>(
     entry: Result<E, Refusal>,
     transcript: &mut Transcript,
     call: &Call<'_>,

@@ -1,13 +1,13 @@
 //! The calls of every arena of chains, on its links.
 use crate::kind::kind;
 use crate::values;
-use script::{Call, Transcript, index, pointer};
-use triple_arena::{Advancer, Ptr};
+use script::{Call, ShownPtr, Transcript, index, pointer};
+use triple_arena::Advancer;
 use triple_arena_chain::{ChainArenaTrait, LinkInsertKind};
 
 /// Makes a call that every arena of chains has, and says whether there is one of that name. That an arena of chains keeps
 /// the trait's clauses is proved once for all of them, which costs the proof most.
-pub fn call<P: Ptr, A: ChainArenaTrait<P, u64>>(
+pub fn call<P: ShownPtr, A: ChainArenaTrait<P, u64>>(
     chains: &mut A,
     transcript: &mut Transcript,
     call: &Call<'_>,
@@ -20,7 +20,7 @@ pub fn call<P: Ptr, A: ChainArenaTrait<P, u64>>(
 }
 
 // Makes a call that changes nothing, and says whether there is one of that name.
-fn reads<P: Ptr, A: ChainArenaTrait<P, u64>>(
+fn reads<P: ShownPtr, A: ChainArenaTrait<P, u64>>(
     chains: &A,
     transcript: &mut Transcript,
     call: &Call<'_>,
@@ -43,12 +43,12 @@ fn reads<P: Ptr, A: ChainArenaTrait<P, u64>>(
 }
 
 // The pointers of the first two numbers and of the next two.
-fn pointers<P: Ptr>(call: &Call<'_>) -> (P, P) {
+fn pointers<P: ShownPtr>(call: &Call<'_>) -> (P, P) {
     (call.pointer(), pointer(call.third, call.fourth))
 }
 
 // The pointers that an advancer comes to along a chain, up to its end.
-fn walk_chain<P: Ptr, A: ChainArenaTrait<P, u64>>(
+fn walk_chain<P: ShownPtr, A: ChainArenaTrait<P, u64>>(
     chains: &A,
     transcript: &mut Transcript,
     line: &str,
@@ -70,7 +70,7 @@ fn walk_chain<P: Ptr, A: ChainArenaTrait<P, u64>>(
 }
 
 // Makes a call that can change the interlinks, and says whether there is one of that name.
-fn changes<P: Ptr, A: ChainArenaTrait<P, u64>>(
+fn changes<P: ShownPtr, A: ChainArenaTrait<P, u64>>(
     chains: &mut A,
     transcript: &mut Transcript,
     call: &Call<'_>,
@@ -94,7 +94,7 @@ fn changes<P: Ptr, A: ChainArenaTrait<P, u64>>(
 }
 
 // Goes along a chain that changes: each link that the advancer comes to is removed.
-fn walk_chain_and_remove<P: Ptr, A: ChainArenaTrait<P, u64>>(
+fn walk_chain_and_remove<P: ShownPtr, A: ChainArenaTrait<P, u64>>(
     chains: &mut A,
     transcript: &mut Transcript,
     line: &str,
@@ -115,7 +115,7 @@ fn walk_chain_and_remove<P: Ptr, A: ChainArenaTrait<P, u64>>(
 }
 
 // Goes along a chain that changes: each link that the advancer comes to is parted from its next.
-fn walk_chain_and_break<P: Ptr, A: ChainArenaTrait<P, u64>>(
+fn walk_chain_and_break<P: ShownPtr, A: ChainArenaTrait<P, u64>>(
     chains: &mut A,
     transcript: &mut Transcript,
     line: &str,
@@ -136,7 +136,7 @@ fn walk_chain_and_break<P: Ptr, A: ChainArenaTrait<P, u64>>(
 }
 
 // Makes a call that takes a kind, as `insert:NextTo`, and says whether there is one of that name.
-fn inserts<P: Ptr, A: ChainArenaTrait<P, u64>>(
+fn inserts<P: ShownPtr, A: ChainArenaTrait<P, u64>>(
     chains: &mut A,
     transcript: &mut Transcript,
     call: &Call<'_>,
@@ -148,7 +148,7 @@ fn inserts<P: Ptr, A: ChainArenaTrait<P, u64>>(
     }
 }
 
-fn insert<P: Ptr, A: ChainArenaTrait<P, u64>>(
+fn insert<P: ShownPtr, A: ChainArenaTrait<P, u64>>(
     chains: &mut A,
     transcript: &mut Transcript,
     call: &Call<'_>,
@@ -169,7 +169,7 @@ fn insert<P: Ptr, A: ChainArenaTrait<P, u64>>(
 }
 
 // The insertion on the caller's condition that the kind's requirement is met.
-fn insert_where_met<P: Ptr, A: ChainArenaTrait<P, u64>>(
+fn insert_where_met<P: ShownPtr, A: ChainArenaTrait<P, u64>>(
     chains: &mut A,
     transcript: &mut Transcript,
     call: &Call<'_>,

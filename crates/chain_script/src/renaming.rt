@@ -1,6 +1,6 @@
 //! Calls at chains whose values are pointers, and at names for pointers.
 use crate::kind::kind;
-use script::{Call, Transcript, generation, index, pointer};
+use script::{Call, ShownPtr, Transcript, generation, index, pointer};
 use std::fmt::Debug;
 use triple_arena::{
     Arena, ArenaDirectInsertEntryTrait, ArenaDirectInsertTrait, ArenaInsertTrait, ArenaSlots,
@@ -66,7 +66,7 @@ fn recast<P: PtrCore, A: Recast<P>, R: Recaster<Item = P>>(
 }
 
 // Makes a call at the arena of targets.
-fn target<P: Ptr, A: ArenaInsertTrait<P, u64> + Debug>(
+fn target<P: ShownPtr, A: ArenaInsertTrait<P, u64> + Debug>(
     targets: &mut A,
     transcript: &mut Transcript,
     call: &Call<'_>,
@@ -81,7 +81,7 @@ fn target<P: Ptr, A: ArenaInsertTrait<P, u64> + Debug>(
 
 // Makes a call at the chains: a link that holds the pointer of the first two numbers, between the neighbors that the other
 // numbers name by their indexes.
-fn hold<P: Ptr, A: ChainArenaTrait<P, P> + Debug>(
+fn hold<P: ShownPtr, A: ChainArenaTrait<P, P> + Debug>(
     chains: &mut A,
     transcript: &mut Transcript,
     call: &Call<'_>,
@@ -105,7 +105,7 @@ fn indexes<'a>(call: &Call<'a>) -> Call<'a> {
     }
 }
 
-fn ask<P: Ptr, A: ChainArenaTrait<P, P> + Debug>(
+fn ask<P: ShownPtr, A: ChainArenaTrait<P, P> + Debug>(
     chains: &mut A,
     transcript: &mut Transcript,
     call: &Call<'_>,

@@ -1,6 +1,6 @@
 //! Calls among several arenas over stacks of one kind: the chain arenas `a` and `b`, the arena `l` of links, which can
 //! become a chain arena, and the arena `v` of values.
-use script::{Call, Transcript, index};
+use script::{Call, ShownPtr, Transcript, index};
 use std::alloc::AllocError;
 use std::mem;
 use std::num::NonZeroUsize;
@@ -8,7 +8,7 @@ use triple_arena::{Arena, ArenaCloneFromWith, ArenaInsertTrait, ArenaTrait, Ptr,
 use triple_arena_chain::{ChainArena, ChainSlots, IndexLink, LinkNoGen};
 
 /// Makes the chain arena `a` a copy of `b`.
-pub fn copies<P: Ptr, H: Copy, S: ChainSlots<P, u64, Alloc = H>>(
+pub fn copies<P: ShownPtr, H: Copy, S: ChainSlots<P, u64, Alloc = H>>(
     a: &mut ChainArena<P, u64, S>,
     b: &ChainArena<P, u64, S>,
     alloc: H,
@@ -24,7 +24,7 @@ pub fn copies<P: Ptr, H: Copy, S: ChainSlots<P, u64, Alloc = H>>(
 }
 
 // By a map that tells what it gets, adds 1, and refuses at the call of the first number.
-fn clone_from_with<P: Ptr, S: ChainSlots<P, u64>>(
+fn clone_from_with<P: ShownPtr, S: ChainSlots<P, u64>>(
     target: &mut ChainArena<P, u64, S>,
     source: &ChainArena<P, u64, S>,
     transcript: &mut Transcript,
@@ -44,7 +44,7 @@ fn clone_from_with<P: Ptr, S: ChainSlots<P, u64>>(
     transcript.answer(line, &answer);
 }
 
-fn clone_from<P: Ptr, S: ChainSlots<P, u64>>(
+fn clone_from<P: ShownPtr, S: ChainSlots<P, u64>>(
     target: &mut ChainArena<P, u64, S>,
     source: &ChainArena<P, u64, S>,
     transcript: &mut Transcript,
@@ -54,7 +54,7 @@ fn clone_from<P: Ptr, S: ChainSlots<P, u64>>(
 }
 
 // The target becomes the clone, if that is made.
-fn clone<P: Ptr, H: Copy, S: ChainSlots<P, u64, Alloc = H>>(
+fn clone<P: ShownPtr, H: Copy, S: ChainSlots<P, u64, Alloc = H>>(
     target: &mut ChainArena<P, u64, S>,
     source: &ChainArena<P, u64, S>,
     alloc: H,
@@ -71,7 +71,7 @@ fn clone<P: Ptr, H: Copy, S: ChainSlots<P, u64, Alloc = H>>(
 }
 
 /// Makes the arena of values a copy of the chain arena, by the same map.
-pub fn clone_to_arena<P: Ptr, S: ChainSlots<P, u64>, A: ArenaCloneFromWith<P, u64>>(
+pub fn clone_to_arena<P: ShownPtr, S: ChainSlots<P, u64>, A: ArenaCloneFromWith<P, u64>>(
     target: &mut A,
     source: &ChainArena<P, u64, S>,
     transcript: &mut Transcript,
@@ -92,7 +92,7 @@ pub fn clone_to_arena<P: Ptr, S: ChainSlots<P, u64>, A: ArenaCloneFromWith<P, u6
 }
 
 /// Makes the links of the arena the chain arena's.
-pub fn becomes<P: Ptr, H: Copy, S: ChainSlots<P, u64, Alloc = H>>(
+pub fn becomes<P: ShownPtr, H: Copy, S: ChainSlots<P, u64, Alloc = H>>(
     chains: &mut ChainArena<P, u64, S>,
     links: &mut Arena<P, LinkNoGen<P, u64>, S>,
     alloc: H,
@@ -107,7 +107,7 @@ pub fn becomes<P: Ptr, H: Copy, S: ChainSlots<P, u64, Alloc = H>>(
 }
 
 // The arena is new where its links are taken, and is handed back where they are not.
-fn from_arena<P: Ptr, H: Copy, S: ChainSlots<P, u64, Alloc = H>>(
+fn from_arena<P: ShownPtr, H: Copy, S: ChainSlots<P, u64, Alloc = H>>(
     chains: &mut ChainArena<P, u64, S>,
     links: &mut Arena<P, LinkNoGen<P, u64>, S>,
     alloc: H,
@@ -144,7 +144,7 @@ pub fn link<P: Ptr, S: ChainSlots<P, u64>>(
 }
 
 // Inserts a link with the value of the first number between the indexes of the next two, or removes one.
-fn link_by_link<P: Ptr, A: ArenaInsertTrait<P, LinkNoGen<P, u64>>>(
+fn link_by_link<P: ShownPtr, A: ArenaInsertTrait<P, LinkNoGen<P, u64>>>(
     links: &mut A,
     transcript: &mut Transcript,
     call: &Call<'_>,

@@ -1,9 +1,9 @@
 //! The calls of every arena, on its values.
-use script::{Call, Transcript};
-use triple_arena::{Advancer, ArenaTrait, Ptr};
+use script::{Call, ShownPtr, Transcript};
+use triple_arena::{Advancer, ArenaTrait};
 
 /// Makes a call that changes nothing, and says whether there is one of that name.
-pub fn reads<P: Ptr, A: ArenaTrait<P, u64>>(
+pub fn reads<P: ShownPtr, A: ArenaTrait<P, u64>>(
     arena: &A,
     transcript: &mut Transcript,
     call: &Call<'_>,
@@ -40,7 +40,7 @@ pub fn reads<P: Ptr, A: ArenaTrait<P, u64>>(
 }
 
 // The value at an index, by the call on the caller's condition that there is one.
-fn get_inx_unwrap<P: Ptr, A: ArenaTrait<P, u64>>(arena: &A, i: P::Inx) -> Option<u64> {
+fn get_inx_unwrap<P: ShownPtr, A: ArenaTrait<P, u64>>(arena: &A, i: P::Inx) -> Option<u64> {
     if arena.get_inx(i).is_some() {
         Some(*arena.get_inx_unwrap(i))
     } else {
@@ -49,7 +49,7 @@ fn get_inx_unwrap<P: Ptr, A: ArenaTrait<P, u64>>(arena: &A, i: P::Inx) -> Option
 }
 
 // The pointers that an advancer comes to, up to its end.
-fn walk<P: Ptr, A: ArenaTrait<P, u64>>(
+fn walk<P: ShownPtr, A: ArenaTrait<P, u64>>(
     arena: &A,
     transcript: &mut Transcript,
     line: &str,
@@ -66,7 +66,7 @@ fn walk<P: Ptr, A: ArenaTrait<P, u64>>(
 }
 
 /// Makes a call that can change the arena, and says whether there is one of that name.
-pub fn changes<P: Ptr, A: ArenaTrait<P, u64>>(
+pub fn changes<P: ShownPtr, A: ArenaTrait<P, u64>>(
     arena: &mut A,
     transcript: &mut Transcript,
     call: &Call<'_>,
@@ -91,7 +91,7 @@ pub fn changes<P: Ptr, A: ArenaTrait<P, u64>>(
 }
 
 // Writes through `get_mut`, and answers what stood there.
-fn set<P: Ptr, A: ArenaTrait<P, u64>>(arena: &mut A, p: P, value: u64) -> Option<u64> {
+fn set<P: ShownPtr, A: ArenaTrait<P, u64>>(arena: &mut A, p: P, value: u64) -> Option<u64> {
     match arena.get_mut(p) {
         Some(own) => {
             let was = *own;
@@ -103,7 +103,11 @@ fn set<P: Ptr, A: ArenaTrait<P, u64>>(arena: &mut A, p: P, value: u64) -> Option
 }
 
 // Writes through `get_inx_mut`, and answers what stood there.
-fn set_inx<P: Ptr, A: ArenaTrait<P, u64>>(arena: &mut A, i: P::Inx, value: u64) -> Option<u64> {
+fn set_inx<P: ShownPtr, A: ArenaTrait<P, u64>>(
+    arena: &mut A,
+    i: P::Inx,
+    value: u64,
+) -> Option<u64> {
     match arena.get_inx_mut(i) {
         Some(own) => {
             let was = *own;
@@ -115,7 +119,7 @@ fn set_inx<P: Ptr, A: ArenaTrait<P, u64>>(arena: &mut A, i: P::Inx, value: u64) 
 }
 
 // Compresses with a map that tells what it gets, and adds 1.
-fn compress_with<P: Ptr, A: ArenaTrait<P, u64>>(
+fn compress_with<P: ShownPtr, A: ArenaTrait<P, u64>>(
     arena: &mut A,
     transcript: &mut Transcript,
     line: &str,
@@ -129,7 +133,7 @@ fn compress_with<P: Ptr, A: ArenaTrait<P, u64>>(
 }
 
 // Goes over an arena that changes: each entry that the advancer comes to is removed.
-fn walk_and_remove<P: Ptr, A: ArenaTrait<P, u64>>(
+fn walk_and_remove<P: ShownPtr, A: ArenaTrait<P, u64>>(
     arena: &mut A,
     transcript: &mut Transcript,
     line: &str,

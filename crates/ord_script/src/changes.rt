@@ -1,12 +1,11 @@
 //! The calls that change an arena beside its insertions.
 use crate::items::{Counting, Item, Pairs};
 use crate::walks::{walk_and_remove, walk_over_a_change};
-use script::{Call, Transcript, generation};
-use triple_arena::Ptr;
+use script::{Call, ShownPtr, Transcript, generation};
 use triple_arena_ord::{OrdPair, OrdSlots};
 
 /// Makes such a call, and says whether there is one of that name.
-pub fn changes<P: Ptr, K: Counting, S: OrdSlots<P, Item<K>>>(
+pub fn changes<P: ShownPtr, K: Counting, S: OrdSlots<P, Item<K>>>(
     arena: &mut Pairs<P, K, S>,
     transcript: &mut Transcript,
     call: &Call<'_>,
@@ -18,7 +17,7 @@ pub fn changes<P: Ptr, K: Counting, S: OrdSlots<P, Item<K>>>(
         || writes(arena, transcript, call, zero)
 }
 
-fn removes<P: Ptr, K: Counting, S: OrdSlots<P, Item<K>>>(
+fn removes<P: ShownPtr, K: Counting, S: OrdSlots<P, Item<K>>>(
     arena: &mut Pairs<P, K, S>,
     transcript: &mut Transcript,
     call: &Call<'_>,
@@ -34,7 +33,7 @@ fn removes<P: Ptr, K: Counting, S: OrdSlots<P, Item<K>>>(
     true
 }
 
-fn drains<P: Ptr, K: Counting, S: OrdSlots<P, Item<K>>>(
+fn drains<P: ShownPtr, K: Counting, S: OrdSlots<P, Item<K>>>(
     arena: &mut Pairs<P, K, S>,
     transcript: &mut Transcript,
     call: &Call<'_>,
@@ -52,7 +51,7 @@ fn drains<P: Ptr, K: Counting, S: OrdSlots<P, Item<K>>>(
     true
 }
 
-fn counts<P: Ptr, K: Counting, S: OrdSlots<P, Item<K>>>(
+fn counts<P: ShownPtr, K: Counting, S: OrdSlots<P, Item<K>>>(
     arena: &mut Pairs<P, K, S>,
     transcript: &mut Transcript,
     call: &Call<'_>,
@@ -73,7 +72,7 @@ fn counts<P: Ptr, K: Counting, S: OrdSlots<P, Item<K>>>(
     true
 }
 
-fn writes<P: Ptr, K: Counting, S: OrdSlots<P, Item<K>>>(
+fn writes<P: ShownPtr, K: Counting, S: OrdSlots<P, Item<K>>>(
     arena: &mut Pairs<P, K, S>,
     transcript: &mut Transcript,
     call: &Call<'_>,
@@ -109,7 +108,7 @@ pub fn item<K: Counting>(n: u64, v: u64, zero: K) -> Item<K> {
 }
 
 // Writes through `get_mut`, and answers what stood there.
-fn set<P: Ptr, K: Counting, S: OrdSlots<P, Item<K>>>(
+fn set<P: ShownPtr, K: Counting, S: OrdSlots<P, Item<K>>>(
     arena: &mut Pairs<P, K, S>,
     p: P,
     item: Item<K>,
@@ -125,7 +124,7 @@ fn set<P: Ptr, K: Counting, S: OrdSlots<P, Item<K>>>(
 }
 
 // Writes through `get_inx_mut`, and answers what stood there.
-fn set_inx<P: Ptr, K: Counting, S: OrdSlots<P, Item<K>>>(
+fn set_inx<P: ShownPtr, K: Counting, S: OrdSlots<P, Item<K>>>(
     arena: &mut Pairs<P, K, S>,
     i: P::Inx,
     item: Item<K>,
@@ -141,7 +140,7 @@ fn set_inx<P: Ptr, K: Counting, S: OrdSlots<P, Item<K>>>(
 }
 
 // Writes by `arena[p]`, where the pointer is valid, and says whether it is.
-fn index_set<P: Ptr, K: Counting, S: OrdSlots<P, Item<K>>>(
+fn index_set<P: ShownPtr, K: Counting, S: OrdSlots<P, Item<K>>>(
     arena: &mut Pairs<P, K, S>,
     p: P,
     item: Item<K>,
@@ -154,7 +153,7 @@ fn index_set<P: Ptr, K: Counting, S: OrdSlots<P, Item<K>>>(
 }
 
 // Writes at an index that is live, and says whether it is.
-fn set_inx_unwrap<P: Ptr, K: Counting, S: OrdSlots<P, Item<K>>>(
+fn set_inx_unwrap<P: ShownPtr, K: Counting, S: OrdSlots<P, Item<K>>>(
     arena: &mut Pairs<P, K, S>,
     i: P::Inx,
     item: Item<K>,
@@ -167,7 +166,7 @@ fn set_inx_unwrap<P: Ptr, K: Counting, S: OrdSlots<P, Item<K>>>(
 }
 
 // Writes the value of a pair alone, and answers the one that it had.
-fn set_value<P: Ptr, K: Counting, S: OrdSlots<P, Item<K>>>(
+fn set_value<P: ShownPtr, K: Counting, S: OrdSlots<P, Item<K>>>(
     arena: &mut Pairs<P, K, S>,
     p: P,
     v: u64,
@@ -183,7 +182,7 @@ fn set_value<P: Ptr, K: Counting, S: OrdSlots<P, Item<K>>>(
 }
 
 // Takes so many items of a drain by index, and tells how many are left when it is let go.
-fn drain<P: Ptr, K: Counting, S: OrdSlots<P, Item<K>>>(
+fn drain<P: ShownPtr, K: Counting, S: OrdSlots<P, Item<K>>>(
     arena: &mut Pairs<P, K, S>,
     transcript: &mut Transcript,
     call: &Call<'_>,
@@ -196,7 +195,7 @@ fn drain<P: Ptr, K: Counting, S: OrdSlots<P, Item<K>>>(
 }
 
 // Takes so many items of a drain along the list, and tells how many are left when it is let go.
-fn drain_ordered<P: Ptr, K: Counting, S: OrdSlots<P, Item<K>>>(
+fn drain_ordered<P: ShownPtr, K: Counting, S: OrdSlots<P, Item<K>>>(
     arena: &mut Pairs<P, K, S>,
     transcript: &mut Transcript,
     call: &Call<'_>,

@@ -4,16 +4,15 @@ use crate::items::{Counting, Item, Pairs};
 use crate::knots::Knots;
 use crate::searches::limit_from;
 use crate::work::{Limit, Since};
-use script::{Call, Transcript, index};
+use script::{Call, ShownPtr, Transcript, index};
 use std::cmp::Ordering;
-use triple_arena::Ptr;
 use triple_arena_ord::{InsertKind, OrdEntryKind, OrdInsertKind, OrdInsertionError, OrdSlots};
 
 /// What an entry told, and the item that it replaced.
 pub type Entered<P, K> = Result<(OrdEntryKind<P>, Option<Item<K>>), OrdInsertionError>;
 
 /// Makes such a call, and says whether there is one of that name.
-pub fn enters<P: Ptr, K: Counting, S: OrdSlots<P, Item<K>>>(
+pub fn enters<P: ShownPtr, K: Counting, S: OrdSlots<P, Item<K>>>(
     arena: &mut Pairs<P, K, S>,
     transcript: &mut Transcript,
     call: &Call<'_>,
@@ -39,7 +38,7 @@ pub fn enters<P: Ptr, K: Counting, S: OrdSlots<P, Item<K>>>(
 }
 
 /// The kind of this name, if there is one: by a key, from an index with a number of comparisons, or at an index.
-pub fn kind<'k, P: Ptr, K: Counting>(
+pub fn kind<'k, P: ShownPtr, K: Counting>(
     name: &str,
     k: &'k K,
     i: P::Inx,
@@ -69,7 +68,7 @@ pub fn kind<'k, P: Ptr, K: Counting>(
 }
 
 /// How many comparisons an entry of a kind may make.
-pub fn limit_of<P: Ptr, A: Knots<P>>(
+pub fn limit_of<P: ShownPtr, A: Knots<P>>(
     arena: &A,
     name: &str,
     start: P::Inx,
@@ -84,7 +83,7 @@ pub fn limit_of<P: Ptr, A: Knots<P>>(
 }
 
 /// Puts an item in by an entry of this form.
-pub fn enter<P: Ptr, K: Counting, S: OrdSlots<P, Item<K>>>(
+pub fn enter<P: ShownPtr, K: Counting, S: OrdSlots<P, Item<K>>>(
     arena: &mut Pairs<P, K, S>,
     form: &str,
     kind: OrdInsertKind<P, &K>,
@@ -97,7 +96,7 @@ pub fn enter<P: Ptr, K: Counting, S: OrdSlots<P, Item<K>>>(
     }
 }
 
-fn enter_growing<P: Ptr, K: Counting, S: OrdSlots<P, Item<K>>>(
+fn enter_growing<P: ShownPtr, K: Counting, S: OrdSlots<P, Item<K>>>(
     arena: &mut Pairs<P, K, S>,
     kind: OrdInsertKind<P, &K>,
     item: Item<K>,
@@ -107,7 +106,7 @@ fn enter_growing<P: Ptr, K: Counting, S: OrdSlots<P, Item<K>>>(
     Ok((told, entry.insert(item)))
 }
 
-fn enter_reallocating<P: Ptr, K: Counting, S: OrdSlots<P, Item<K>>>(
+fn enter_reallocating<P: ShownPtr, K: Counting, S: OrdSlots<P, Item<K>>>(
     arena: &mut Pairs<P, K, S>,
     kind: OrdInsertKind<P, &K>,
     item: Item<K>,
@@ -117,7 +116,7 @@ fn enter_reallocating<P: Ptr, K: Counting, S: OrdSlots<P, Item<K>>>(
     Ok((told, entry.insert(item)))
 }
 
-fn enter_within_capacity<P: Ptr, K: Counting, S: OrdSlots<P, Item<K>>>(
+fn enter_within_capacity<P: ShownPtr, K: Counting, S: OrdSlots<P, Item<K>>>(
     arena: &mut Pairs<P, K, S>,
     kind: OrdInsertKind<P, &K>,
     item: Item<K>,
@@ -128,7 +127,7 @@ fn enter_within_capacity<P: Ptr, K: Counting, S: OrdSlots<P, Item<K>>>(
 }
 
 // What an entry of this form tells, which is let go then.
-fn let_go<P: Ptr, K: Counting, S: OrdSlots<P, Item<K>>>(
+fn let_go<P: ShownPtr, K: Counting, S: OrdSlots<P, Item<K>>>(
     arena: &mut Pairs<P, K, S>,
     form: &str,
     kind: OrdInsertKind<P, &K>,

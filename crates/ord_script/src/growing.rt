@@ -5,8 +5,8 @@ use crate::items::{Counting, Item, Pairs};
 use crate::knots::Knots;
 use crate::searches::{Place, place_of, search};
 use crate::work::{Limit, Since, Work};
-use script::{Call, Transcript, index, pointer};
-use triple_arena::{Ptr, PtrCore};
+use script::{Call, ShownPtr, Transcript, index, pointer};
+use triple_arena::PtrCore;
 use triple_arena_ord::OrdSlots;
 
 // The keys of a script go up to this prime: the products of all lesser numbers with one of them, modulo the prime, are all
@@ -14,7 +14,7 @@ use triple_arena_ord::OrdSlots;
 const PRIME: u64 = 1009;
 
 /// Makes such calls, and says whether there are some of that name.
-pub fn grows<P: Ptr, K: Counting, S: OrdSlots<P, Item<K>>>(
+pub fn grows<P: ShownPtr, K: Counting, S: OrdSlots<P, Item<K>>>(
     arena: &mut Pairs<P, K, S>,
     transcript: &mut Transcript,
     call: &Call<'_>,
@@ -41,7 +41,7 @@ pub fn grows<P: Ptr, K: Counting, S: OrdSlots<P, Item<K>>>(
 
 // Puts the keys up to the second number in, in the order of their products with the first one: by `insert`, or by an entry of
 // a kind, whose search begins at an index, or at the entry that was put in before it where that is 0.
-fn grow<P: Ptr, K: Counting, S: OrdSlots<P, Item<K>>>(
+fn grow<P: ShownPtr, K: Counting, S: OrdSlots<P, Item<K>>>(
     arena: &mut Pairs<P, K, S>,
     name: &str,
     call: &Call<'_>,
@@ -72,7 +72,7 @@ fn grow<P: Ptr, K: Counting, S: OrdSlots<P, Item<K>>>(
 }
 
 // Puts one item in, and answers its index.
-fn put<P: Ptr, K: Counting, S: OrdSlots<P, Item<K>>>(
+fn put<P: ShownPtr, K: Counting, S: OrdSlots<P, Item<K>>>(
     arena: &mut Pairs<P, K, S>,
     name: &str,
     item: Item<K>,
@@ -94,7 +94,7 @@ fn put<P: Ptr, K: Counting, S: OrdSlots<P, Item<K>>>(
     (i, limit.held(comparisons, comparisons))
 }
 
-fn insert<P: Ptr, K: Counting, S: OrdSlots<P, Item<K>>>(
+fn insert<P: ShownPtr, K: Counting, S: OrdSlots<P, Item<K>>>(
     arena: &mut Pairs<P, K, S>,
     item: Item<K>,
     start: P::Inx,
@@ -119,7 +119,7 @@ fn worse(first: Work, second: Work) -> Work {
 }
 
 // Removes each odd key up to the first number.
-fn remove_odd<P: Ptr, K: Counting, S: OrdSlots<P, Item<K>>>(
+fn remove_odd<P: ShownPtr, K: Counting, S: OrdSlots<P, Item<K>>>(
     arena: &mut Pairs<P, K, S>,
     call: &Call<'_>,
     zero: K,
@@ -132,7 +132,10 @@ fn remove_odd<P: Ptr, K: Counting, S: OrdSlots<P, Item<K>>>(
     }
 }
 
-fn remove_key<P: Ptr, K: Counting, S: OrdSlots<P, Item<K>>>(arena: &mut Pairs<P, K, S>, k: &K) {
+fn remove_key<P: ShownPtr, K: Counting, S: OrdSlots<P, Item<K>>>(
+    arena: &mut Pairs<P, K, S>,
+    k: &K,
+) {
     if let Some(p) = arena.find_key(k) {
         drop(arena.remove(p));
     }
@@ -149,7 +152,7 @@ struct Tally {
 }
 
 // The search of a name for each key from the first number to the second, with a start.
-fn each<P: Ptr, K: Counting, S: OrdSlots<P, Item<K>>>(
+fn each<P: ShownPtr, K: Counting, S: OrdSlots<P, Item<K>>>(
     arena: &Pairs<P, K, S>,
     name: &str,
     call: &Call<'_>,
@@ -176,7 +179,7 @@ fn each<P: Ptr, K: Counting, S: OrdSlots<P, Item<K>>>(
 }
 
 impl Tally {
-    fn counts<P: Ptr, A: Knots<P>>(&mut self, arena: &A, n: u64, place: Place<P>) {
+    fn counts<P: ShownPtr, A: Knots<P>>(&mut self, arena: &A, n: u64, place: Place<P>) {
         match place {
             Place::At(p) if key_of(arena, Some(p)) == Some(n) => {
                 self.equal = self.equal.saturating_add(1);
@@ -203,7 +206,7 @@ fn parts(before: Option<u64>, n: u64, after: Option<u64>) -> bool {
     follows && goes_before
 }
 
-fn key_of<P: Ptr, A: Knots<P>>(arena: &A, p: Option<P>) -> Option<u64> {
+fn key_of<P: ShownPtr, A: Knots<P>>(arena: &A, p: Option<P>) -> Option<u64> {
     match p {
         Some(p) => match arena.knot(p.inx()) {
             Some(knot) => Some(knot.key),

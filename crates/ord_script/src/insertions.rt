@@ -3,14 +3,13 @@ use crate::changes::item;
 use crate::items::{Counting, Item, Pairs};
 use crate::knots::Knots;
 use crate::work::{Limit, Since};
-use script::{Call, Transcript};
+use script::{Call, ShownPtr, Transcript};
 use std::cmp::Ordering;
 use std::fmt::Debug;
-use triple_arena::Ptr;
 use triple_arena_ord::OrdSlots;
 
 /// Makes such a call, and says whether there is one of that name.
-pub fn inserts<P: Ptr, K: Counting, S: OrdSlots<P, Item<K>>>(
+pub fn inserts<P: ShownPtr, K: Counting, S: OrdSlots<P, Item<K>>>(
     arena: &mut Pairs<P, K, S>,
     transcript: &mut Transcript,
     call: &Call<'_>,
@@ -41,7 +40,7 @@ fn tell<A: Debug, K: Counting>(
     transcript.answer(line, &(answer, limit.held(comparisons, comparisons)));
 }
 
-fn insert<P: Ptr, K: Counting, S: OrdSlots<P, Item<K>>>(
+fn insert<P: ShownPtr, K: Counting, S: OrdSlots<P, Item<K>>>(
     arena: &mut Pairs<P, K, S>,
     transcript: &mut Transcript,
     call: &Call<'_>,
@@ -53,7 +52,7 @@ fn insert<P: Ptr, K: Counting, S: OrdSlots<P, Item<K>>>(
     tell(transcript, call.line, &answer, limit, &since);
 }
 
-fn insert_reallocating<P: Ptr, K: Counting, S: OrdSlots<P, Item<K>>>(
+fn insert_reallocating<P: ShownPtr, K: Counting, S: OrdSlots<P, Item<K>>>(
     arena: &mut Pairs<P, K, S>,
     transcript: &mut Transcript,
     call: &Call<'_>,
@@ -65,7 +64,7 @@ fn insert_reallocating<P: Ptr, K: Counting, S: OrdSlots<P, Item<K>>>(
     tell(transcript, call.line, &answer, limit, &since);
 }
 
-fn insert_within_capacity<P: Ptr, K: Counting, S: OrdSlots<P, Item<K>>>(
+fn insert_within_capacity<P: ShownPtr, K: Counting, S: OrdSlots<P, Item<K>>>(
     arena: &mut Pairs<P, K, S>,
     transcript: &mut Transcript,
     call: &Call<'_>,
@@ -78,7 +77,7 @@ fn insert_within_capacity<P: Ptr, K: Counting, S: OrdSlots<P, Item<K>>>(
 }
 
 // Puts an item in at an index, if it is live. No key is compared.
-fn manual<P: Ptr, K: Counting, S: OrdSlots<P, Item<K>>>(
+fn manual<P: ShownPtr, K: Counting, S: OrdSlots<P, Item<K>>>(
     arena: &mut Pairs<P, K, S>,
     transcript: &mut Transcript,
     call: &Call<'_>,

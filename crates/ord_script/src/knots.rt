@@ -1,6 +1,7 @@
 //! Entries with their neighbors in the list and in the tree, as the checks of a script see them.
 use crate::items::{Counting, Item, Pairs};
-use triple_arena::{Ptr, PtrCore, PtrInxCore};
+use script::ShownPtr;
+use triple_arena::{PtrCore, PtrInxCore};
 use triple_arena_ord::OrdSlots;
 
 /// An entry: its key, its neighbors in the list, its parent, its left and its right child, and its rank.
@@ -16,7 +17,7 @@ pub struct Knot<I: PtrInxCore> {
 }
 
 /// What has such entries.
-pub trait Knots<P: Ptr> {
+pub trait Knots<P: ShownPtr> {
     /// How many entries there are.
     fn size(&self) -> u64;
 
@@ -36,7 +37,7 @@ pub trait Knots<P: Ptr> {
     fn ascends(&self) -> bool;
 }
 
-impl<P: Ptr, K: Counting, S: OrdSlots<P, Item<K>>> Knots<P> for Pairs<P, K, S> {
+impl<P: ShownPtr, K: Counting, S: OrdSlots<P, Item<K>>> Knots<P> for Pairs<P, K, S> {
     fn size(&self) -> u64 {
         self.len() as u64
     }

@@ -25,7 +25,7 @@ mod work;
 use items::{Counting, Item, Key, Pairs, Slot};
 use narrow_ptr::N3;
 use refusing_allocator::RefusingAllocator;
-use script::{Call, Transcript};
+use script::{Call, ShownPtr, Transcript};
 use std::alloc::Global;
 use std::cell::Cell;
 use std::io;
@@ -190,7 +190,7 @@ fn over<P: Ptr, Q: Ptr, K: Counting, S: OrdSlots<P, Item<K>>, R: OrdSlots<Q, Ite
 }
 
 // An arena with so much room, which is asked for where it is not 0.
-fn arena<P: Ptr, K: Counting, S: OrdSlots<P, Item<K>>>(
+fn arena<P: ShownPtr, K: Counting, S: OrdSlots<P, Item<K>>>(
     alloc: S::Alloc,
     room: usize,
 ) -> Result<Pairs<P, K, S>, ReallocationError> {
@@ -209,16 +209,30 @@ fn play_line<P: Ptr, Q: Ptr, K: Counting, S: OrdSlots<P, Item<K>>, R: OrdSlots<Q
     zero: K,
 ) {
     match call.whom {
-        "a" => play_at(a, transcript, call, zero),
-        "b" => play_at(b, transcript, call, zero),
+        "a" => show_or_play(a, transcript, call, zero),
+        "b" => show_or_play(b, transcript, call, zero),
         "ab" => several::compare(a, b, transcript, call),
         "ba" => several::compare(b, a, transcript, call),
         _ => transcript.line(call.line),
     }
 }
 
+// The text of an arena asks more of its pointers than the calls do.
+fn show_or_play<P: Ptr, K: Counting, S: OrdSlots<P, Item<K>>>(
+    arena: &mut Pairs<P, K, S>,
+    transcript: &mut Transcript,
+    call: &Call<'_>,
+    zero: K,
+) {
+    if call.verb == "show" {
+        transcript.answer(call.line, arena);
+    } else {
+        play_at(arena, transcript, call, zero);
+    }
+}
+
 // Makes the call that a line names.
-fn play_at<P: Ptr, K: Counting, S: OrdSlots<P, Item<K>>>(
+fn play_at<P: ShownPtr, K: Counting, S: OrdSlots<P, Item<K>>>(
     arena: &mut Pairs<P, K, S>,
     transcript: &mut Transcript,
     call: &Call<'_>,

@@ -1,12 +1,11 @@
 //! The calls that read an arena.
 use crate::check::check;
 use crate::items::{Counting, Item, Pairs};
-use script::{Call, Transcript};
-use triple_arena::Ptr;
+use script::{Call, ShownPtr, Transcript};
 use triple_arena_ord::OrdSlots;
 
 /// Makes a call that asks for a number or an end, and says whether there is one of that name.
-pub fn asks<P: Ptr, K: Counting, S: OrdSlots<P, Item<K>>>(
+pub fn asks<P: ShownPtr, K: Counting, S: OrdSlots<P, Item<K>>>(
     arena: &Pairs<P, K, S>,
     transcript: &mut Transcript,
     call: &Call<'_>,
@@ -29,14 +28,13 @@ pub fn asks<P: Ptr, K: Counting, S: OrdSlots<P, Item<K>>>(
 }
 
 /// Makes a call that reads an entry, or all of them, and says whether there is one of that name.
-pub fn reads<P: Ptr, K: Counting, S: OrdSlots<P, Item<K>>>(
+pub fn reads<P: ShownPtr, K: Counting, S: OrdSlots<P, Item<K>>>(
     arena: &Pairs<P, K, S>,
     transcript: &mut Transcript,
     call: &Call<'_>,
 ) -> bool {
     let line = call.line;
     match call.verb {
-        "show" => transcript.answer(line, arena),
         "check" => transcript.answer(line, &check(arena)),
         "_check_invariants" => check_invariants(arena, transcript, line),
         "contains" => transcript.answer(line, &arena.contains(call.pointer())),
@@ -52,7 +50,7 @@ pub fn reads<P: Ptr, K: Counting, S: OrdSlots<P, Item<K>>>(
     true
 }
 
-fn check_invariants<P: Ptr, K: Counting, S: OrdSlots<P, Item<K>>>(
+fn check_invariants<P: ShownPtr, K: Counting, S: OrdSlots<P, Item<K>>>(
     arena: &Pairs<P, K, S>,
     transcript: &mut Transcript,
     line: &str,
@@ -61,7 +59,7 @@ fn check_invariants<P: Ptr, K: Counting, S: OrdSlots<P, Item<K>>>(
 }
 
 // Reads by `arena[p]`, where the pointer is valid.
-fn index<P: Ptr, K: Counting, S: OrdSlots<P, Item<K>>>(
+fn index<P: ShownPtr, K: Counting, S: OrdSlots<P, Item<K>>>(
     arena: &Pairs<P, K, S>,
     transcript: &mut Transcript,
     call: &Call<'_>,
@@ -74,7 +72,7 @@ fn index<P: Ptr, K: Counting, S: OrdSlots<P, Item<K>>>(
     }
 }
 
-fn get_inx_unwrap<P: Ptr, K: Counting, S: OrdSlots<P, Item<K>>>(
+fn get_inx_unwrap<P: ShownPtr, K: Counting, S: OrdSlots<P, Item<K>>>(
     arena: &Pairs<P, K, S>,
     transcript: &mut Transcript,
     call: &Call<'_>,
@@ -88,7 +86,7 @@ fn get_inx_unwrap<P: Ptr, K: Counting, S: OrdSlots<P, Item<K>>>(
 }
 
 // The generation, the neighbors and the item at an index.
-fn link<P: Ptr, K: Counting, S: OrdSlots<P, Item<K>>>(
+fn link<P: ShownPtr, K: Counting, S: OrdSlots<P, Item<K>>>(
     arena: &Pairs<P, K, S>,
     transcript: &mut Transcript,
     call: &Call<'_>,
@@ -102,7 +100,7 @@ fn link<P: Ptr, K: Counting, S: OrdSlots<P, Item<K>>>(
 }
 
 // The generation, the neighbors, the item, the parent and the children at an index.
-fn node<P: Ptr, K: Counting, S: OrdSlots<P, Item<K>>>(
+fn node<P: ShownPtr, K: Counting, S: OrdSlots<P, Item<K>>>(
     arena: &Pairs<P, K, S>,
     transcript: &mut Transcript,
     call: &Call<'_>,
@@ -117,7 +115,7 @@ fn node<P: Ptr, K: Counting, S: OrdSlots<P, Item<K>>>(
 }
 
 // The rank at an index.
-fn rank<P: Ptr, K: Counting, S: OrdSlots<P, Item<K>>>(
+fn rank<P: ShownPtr, K: Counting, S: OrdSlots<P, Item<K>>>(
     arena: &Pairs<P, K, S>,
     transcript: &mut Transcript,
     call: &Call<'_>,

@@ -2,10 +2,10 @@
 use crate::items::{Counting, Item, Pairs};
 use crate::knots::Knots;
 use crate::work::{Limit, Since, Work, most};
-use script::{Call, Transcript, pointer};
+use script::{Call, ShownPtr, Transcript, pointer};
 use std::cell::Cell;
 use std::cmp::Ordering;
-use triple_arena::{Ptr, PtrCore};
+use triple_arena::PtrCore;
 use triple_arena_ord::{OrdSlots, Probes};
 
 /// What a search found, and its comparisons: as it ticked them, and as the keys, or the closure, counted them.
@@ -16,7 +16,7 @@ pub struct Found<P> {
     comparisons: u64,
 }
 
-impl<P: Ptr> Found<P> {
+impl<P: ShownPtr> Found<P> {
     // An entry with an equal key.
     fn equal(found: Option<P>, ticks: u64, comparisons: u64) -> Self {
         let place = match found {
@@ -71,7 +71,7 @@ pub enum Place<P> {
 }
 
 /// Makes a search, and says whether there is one of that name.
-pub fn searches<P: Ptr, K: Counting, S: OrdSlots<P, Item<K>>>(
+pub fn searches<P: ShownPtr, K: Counting, S: OrdSlots<P, Item<K>>>(
     arena: &Pairs<P, K, S>,
     transcript: &mut Transcript,
     call: &Call<'_>,
@@ -92,7 +92,7 @@ pub fn searches<P: Ptr, K: Counting, S: OrdSlots<P, Item<K>>>(
 }
 
 /// What a search finds, if there is one of that name.
-pub fn search<P: Ptr, K: Counting, S: OrdSlots<P, Item<K>>>(
+pub fn search<P: ShownPtr, K: Counting, S: OrdSlots<P, Item<K>>>(
     arena: &Pairs<P, K, S>,
     verb: &str,
     k: &K,
@@ -116,7 +116,7 @@ pub fn search<P: Ptr, K: Counting, S: OrdSlots<P, Item<K>>>(
 }
 
 // What a search by a closure finds, if there is one of that name.
-fn search_with<P: Ptr, K: Counting, S: OrdSlots<P, Item<K>>>(
+fn search_with<P: ShownPtr, K: Counting, S: OrdSlots<P, Item<K>>>(
     arena: &Pairs<P, K, S>,
     verb: &str,
     n: u64,
@@ -132,7 +132,7 @@ fn search_with<P: Ptr, K: Counting, S: OrdSlots<P, Item<K>>>(
     }
 }
 
-fn find_key<P: Ptr, K: Counting, S: OrdSlots<P, Item<K>>>(
+fn find_key<P: ShownPtr, K: Counting, S: OrdSlots<P, Item<K>>>(
     arena: &Pairs<P, K, S>,
     k: &K,
 ) -> Found<P> {
@@ -141,7 +141,7 @@ fn find_key<P: Ptr, K: Counting, S: OrdSlots<P, Item<K>>>(
     Found::equal(found, since.count(), since.count())
 }
 
-fn find_key_counted<P: Ptr, K: Counting, S: OrdSlots<P, Item<K>>>(
+fn find_key_counted<P: ShownPtr, K: Counting, S: OrdSlots<P, Item<K>>>(
     arena: &Pairs<P, K, S>,
     k: &K,
 ) -> Found<P> {
@@ -151,7 +151,7 @@ fn find_key_counted<P: Ptr, K: Counting, S: OrdSlots<P, Item<K>>>(
     Found::equal(found, probes.count(), since.count())
 }
 
-fn find_similar_key<P: Ptr, K: Counting, S: OrdSlots<P, Item<K>>>(
+fn find_similar_key<P: ShownPtr, K: Counting, S: OrdSlots<P, Item<K>>>(
     arena: &Pairs<P, K, S>,
     k: &K,
 ) -> Found<P> {
@@ -160,7 +160,7 @@ fn find_similar_key<P: Ptr, K: Counting, S: OrdSlots<P, Item<K>>>(
     Found::similar(found, since.count(), since.count())
 }
 
-fn find_similar_key_counted<P: Ptr, K: Counting, S: OrdSlots<P, Item<K>>>(
+fn find_similar_key_counted<P: ShownPtr, K: Counting, S: OrdSlots<P, Item<K>>>(
     arena: &Pairs<P, K, S>,
     k: &K,
 ) -> Found<P> {
@@ -170,7 +170,7 @@ fn find_similar_key_counted<P: Ptr, K: Counting, S: OrdSlots<P, Item<K>>>(
     Found::similar(found, probes.count(), since.count())
 }
 
-fn find_key_linear<P: Ptr, K: Counting, S: OrdSlots<P, Item<K>>>(
+fn find_key_linear<P: ShownPtr, K: Counting, S: OrdSlots<P, Item<K>>>(
     arena: &Pairs<P, K, S>,
     k: &K,
     num: usize,
@@ -181,7 +181,7 @@ fn find_key_linear<P: Ptr, K: Counting, S: OrdSlots<P, Item<K>>>(
     Found::equal(found, since.count(), since.count())
 }
 
-fn find_key_linear_counted<P: Ptr, K: Counting, S: OrdSlots<P, Item<K>>>(
+fn find_key_linear_counted<P: ShownPtr, K: Counting, S: OrdSlots<P, Item<K>>>(
     arena: &Pairs<P, K, S>,
     k: &K,
     num: usize,
@@ -193,7 +193,7 @@ fn find_key_linear_counted<P: Ptr, K: Counting, S: OrdSlots<P, Item<K>>>(
     Found::equal(found, probes.count(), since.count())
 }
 
-fn find_similar_key_linear<P: Ptr, K: Counting, S: OrdSlots<P, Item<K>>>(
+fn find_similar_key_linear<P: ShownPtr, K: Counting, S: OrdSlots<P, Item<K>>>(
     arena: &Pairs<P, K, S>,
     k: &K,
     num: usize,
@@ -204,7 +204,7 @@ fn find_similar_key_linear<P: Ptr, K: Counting, S: OrdSlots<P, Item<K>>>(
     Found::similar(found, since.count(), since.count())
 }
 
-fn find_similar_key_linear_counted<P: Ptr, K: Counting, S: OrdSlots<P, Item<K>>>(
+fn find_similar_key_linear_counted<P: ShownPtr, K: Counting, S: OrdSlots<P, Item<K>>>(
     arena: &Pairs<P, K, S>,
     k: &K,
     num: usize,
@@ -216,7 +216,7 @@ fn find_similar_key_linear_counted<P: Ptr, K: Counting, S: OrdSlots<P, Item<K>>>
     Found::similar(found, probes.count(), since.count())
 }
 
-fn find_with<P: Ptr, K: Counting, S: OrdSlots<P, Item<K>>>(
+fn find_with<P: ShownPtr, K: Counting, S: OrdSlots<P, Item<K>>>(
     arena: &Pairs<P, K, S>,
     n: u64,
 ) -> Found<P> {
@@ -228,7 +228,7 @@ fn find_with<P: Ptr, K: Counting, S: OrdSlots<P, Item<K>>>(
     Found::equal(found, asked.get(), asked.get())
 }
 
-fn find_with_counted<P: Ptr, K: Counting, S: OrdSlots<P, Item<K>>>(
+fn find_with_counted<P: ShownPtr, K: Counting, S: OrdSlots<P, Item<K>>>(
     arena: &Pairs<P, K, S>,
     n: u64,
 ) -> Found<P> {
@@ -244,7 +244,7 @@ fn find_with_counted<P: Ptr, K: Counting, S: OrdSlots<P, Item<K>>>(
     Found::equal(found, probes.count(), asked.get())
 }
 
-fn find_similar_with<P: Ptr, K: Counting, S: OrdSlots<P, Item<K>>>(
+fn find_similar_with<P: ShownPtr, K: Counting, S: OrdSlots<P, Item<K>>>(
     arena: &Pairs<P, K, S>,
     n: u64,
 ) -> Found<P> {
@@ -256,7 +256,7 @@ fn find_similar_with<P: Ptr, K: Counting, S: OrdSlots<P, Item<K>>>(
     Found::similar(found, asked.get(), asked.get())
 }
 
-fn find_similar_with_counted<P: Ptr, K: Counting, S: OrdSlots<P, Item<K>>>(
+fn find_similar_with_counted<P: ShownPtr, K: Counting, S: OrdSlots<P, Item<K>>>(
     arena: &Pairs<P, K, S>,
     n: u64,
 ) -> Found<P> {
@@ -273,7 +273,7 @@ fn find_similar_with_counted<P: Ptr, K: Counting, S: OrdSlots<P, Item<K>>>(
 }
 
 // Goes left at each entry but at that of the pointer: it finds the first one.
-fn find_with_the_pointer<P: Ptr, K: Counting, S: OrdSlots<P, Item<K>>>(
+fn find_with_the_pointer<P: ShownPtr, K: Counting, S: OrdSlots<P, Item<K>>>(
     arena: &Pairs<P, K, S>,
     start: P,
 ) -> Found<P> {
@@ -291,7 +291,7 @@ fn find_with_the_pointer<P: Ptr, K: Counting, S: OrdSlots<P, Item<K>>>(
 
 /// How many comparisons a search may make. One for a key that is not there goes on from the root, and else their number hangs
 /// on the list alone where one along it came to its end there.
-fn limit_of<P: Ptr, A: Knots<P>>(
+fn limit_of<P: ShownPtr, A: Knots<P>>(
     arena: &A,
     verb: &str,
     num: u64,
@@ -313,7 +313,7 @@ fn limit_of<P: Ptr, A: Knots<P>>(
 }
 
 /// The same of one that goes along the list from an index until it comes to the place.
-pub fn limit_from<P: Ptr, A: Knots<P>>(
+pub fn limit_from<P: ShownPtr, A: Knots<P>>(
     arena: &A,
     start: P::Inx,
     num: u64,
@@ -330,7 +330,7 @@ pub fn limit_from<P: Ptr, A: Knots<P>>(
 }
 
 /// What is told of a place.
-pub fn place_of<P: Ptr, A: Knots<P>>(
+pub fn place_of<P: ShownPtr, A: Knots<P>>(
     arena: &A,
     place: Option<(P, Ordering)>,
     ascends: bool,
@@ -348,7 +348,7 @@ pub fn place_of<P: Ptr, A: Knots<P>>(
     }
 }
 
-fn anywhere<P: Ptr, A: Knots<P>>(arena: &A, place: Option<(P, Ordering)>) -> Place<P> {
+fn anywhere<P: ShownPtr, A: Knots<P>>(arena: &A, place: Option<(P, Ordering)>) -> Place<P> {
     match place {
         Some((p, _)) => if arena.ptr(p.inx()) == Some(p) {
             Place::Anywhere
@@ -360,7 +360,7 @@ fn anywhere<P: Ptr, A: Knots<P>>(arena: &A, place: Option<(P, Ordering)>) -> Pla
 }
 
 // The entry of a pointer, or its key, where a neighbor has the same.
-fn at<P: Ptr, A: Knots<P>>(arena: &A, p: P) -> Place<P> {
+fn at<P: ShownPtr, A: Knots<P>>(arena: &A, p: P) -> Place<P> {
     match arena.knot(p.inx()) {
         Some(knot) => {
             let is_one_of = key_at(arena, knot.prev) == Some(knot.key)
@@ -376,7 +376,7 @@ fn at<P: Ptr, A: Knots<P>>(arena: &A, p: P) -> Place<P> {
 }
 
 // The key at an index, if there is an entry.
-fn key_at<P: Ptr, A: Knots<P>>(arena: &A, i: Option<P::Inx>) -> Option<u64> {
+fn key_at<P: ShownPtr, A: Knots<P>>(arena: &A, i: Option<P::Inx>) -> Option<u64> {
     match i {
         Some(i) => match arena.knot(i) {
             Some(knot) => Some(knot.key),
@@ -387,7 +387,7 @@ fn key_at<P: Ptr, A: Knots<P>>(arena: &A, i: Option<P::Inx>) -> Option<u64> {
 }
 
 // The pointer to the neighbor of an entry, before it or after it.
-fn beside<P: Ptr, A: Knots<P>>(arena: &A, p: P, is_before: bool) -> Option<P> {
+fn beside<P: ShownPtr, A: Knots<P>>(arena: &A, p: P, is_before: bool) -> Option<P> {
     match arena.knot(p.inx()) {
         Some(knot) => {
             let i = if is_before { knot.prev } else { knot.next };

@@ -1,16 +1,16 @@
 //! Comparisons of two arenas by their lists.
 use crate::items::{Counting, Item, Pairs};
-use script::{Call, Transcript};
-use triple_arena::Ptr;
+use script::{Call, ShownPtr, Transcript};
 use triple_arena_ord::OrdSlots;
 
 /// Compares the lists of two arenas.
-pub fn compare<P: Ptr, Q: Ptr, K: Counting, S: OrdSlots<P, Item<K>>, R: OrdSlots<Q, Item<K>>>(
-    left: &Pairs<P, K, S>,
-    right: &Pairs<Q, K, R>,
-    transcript: &mut Transcript,
-    call: &Call<'_>,
-) {
+pub fn compare<
+    P: ShownPtr,
+    Q: ShownPtr,
+    K: Counting,
+    S: OrdSlots<P, Item<K>>,
+    R: OrdSlots<Q, Item<K>>,
+>(left: &Pairs<P, K, S>, right: &Pairs<Q, K, R>, transcript: &mut Transcript, call: &Call<'_>) {
     let line = call.line;
     match call.verb {
         "canonical_eq" => transcript.answer(line, &left.canonical_eq(right)),

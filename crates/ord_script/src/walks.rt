@@ -1,7 +1,7 @@
 //! Walks by indexes and along the list, by advancers and by iterators.
 use crate::items::{Counting, Item, Pairs};
-use script::{Call, Transcript};
-use triple_arena::{Advancer, Ptr};
+use script::{Call, ShownPtr, Transcript};
+use triple_arena::Advancer;
 use triple_arena_ord::OrdSlots;
 use triple_arena_ord::ord_iterators::OrderedPtrAdvancer;
 
@@ -9,7 +9,7 @@ use triple_arena_ord::ord_iterators::OrderedPtrAdvancer;
 const LONGEST: u64 = 4096;
 
 /// Makes a walk that changes nothing, and says whether there is one of that name.
-pub fn walks<P: Ptr, K: Counting, S: OrdSlots<P, Item<K>>>(
+pub fn walks<P: ShownPtr, K: Counting, S: OrdSlots<P, Item<K>>>(
     arena: &Pairs<P, K, S>,
     transcript: &mut Transcript,
     call: &Call<'_>,
@@ -35,7 +35,7 @@ pub fn walks<P: Ptr, K: Counting, S: OrdSlots<P, Item<K>>>(
 }
 
 // The pointers that an advancer comes to, up to its end.
-fn walk<P: Ptr, C, W: Advancer<C, Item = P> + Drop>(
+fn walk<P: ShownPtr, C, W: Advancer<C, Item = P> + Drop>(
     arena: &C,
     transcript: &mut Transcript,
     line: &str,
@@ -51,7 +51,7 @@ fn walk<P: Ptr, C, W: Advancer<C, Item = P> + Drop>(
     transcript.answer(line, &advancer.advance(arena));
 }
 
-fn ordered<P: Ptr, K: Counting, S: OrdSlots<P, Item<K>>>(
+fn ordered<P: ShownPtr, K: Counting, S: OrdSlots<P, Item<K>>>(
     arena: &Pairs<P, K, S>,
     transcript: &mut Transcript,
     call: &Call<'_>,
@@ -62,7 +62,7 @@ fn ordered<P: Ptr, K: Counting, S: OrdSlots<P, Item<K>>>(
     }
 }
 
-fn ptrs<P: Ptr, K: Counting, S: OrdSlots<P, Item<K>>>(
+fn ptrs<P: ShownPtr, K: Counting, S: OrdSlots<P, Item<K>>>(
     arena: &Pairs<P, K, S>,
     transcript: &mut Transcript,
     line: &str,
@@ -72,7 +72,7 @@ fn ptrs<P: Ptr, K: Counting, S: OrdSlots<P, Item<K>>>(
     }
 }
 
-fn vals<P: Ptr, K: Counting, S: OrdSlots<P, Item<K>>>(
+fn vals<P: ShownPtr, K: Counting, S: OrdSlots<P, Item<K>>>(
     arena: &Pairs<P, K, S>,
     transcript: &mut Transcript,
     line: &str,
@@ -82,7 +82,7 @@ fn vals<P: Ptr, K: Counting, S: OrdSlots<P, Item<K>>>(
     }
 }
 
-fn iter<P: Ptr, K: Counting, S: OrdSlots<P, Item<K>>>(
+fn iter<P: ShownPtr, K: Counting, S: OrdSlots<P, Item<K>>>(
     arena: &Pairs<P, K, S>,
     transcript: &mut Transcript,
     line: &str,
@@ -92,7 +92,7 @@ fn iter<P: Ptr, K: Counting, S: OrdSlots<P, Item<K>>>(
     }
 }
 
-fn iter_ordered<P: Ptr, K: Counting, S: OrdSlots<P, Item<K>>>(
+fn iter_ordered<P: ShownPtr, K: Counting, S: OrdSlots<P, Item<K>>>(
     arena: &Pairs<P, K, S>,
     transcript: &mut Transcript,
     line: &str,
@@ -102,7 +102,7 @@ fn iter_ordered<P: Ptr, K: Counting, S: OrdSlots<P, Item<K>>>(
     }
 }
 
-fn into_iter<P: Ptr, K: Counting, S: OrdSlots<P, Item<K>>>(
+fn into_iter<P: ShownPtr, K: Counting, S: OrdSlots<P, Item<K>>>(
     arena: &Pairs<P, K, S>,
     transcript: &mut Transcript,
     line: &str,
@@ -113,7 +113,7 @@ fn into_iter<P: Ptr, K: Counting, S: OrdSlots<P, Item<K>>>(
 }
 
 /// Goes along the list from a pointer, and removes each entry that it comes to.
-pub fn walk_and_remove<P: Ptr, K: Counting, S: OrdSlots<P, Item<K>>>(
+pub fn walk_and_remove<P: ShownPtr, K: Counting, S: OrdSlots<P, Item<K>>>(
     arena: &mut Pairs<P, K, S>,
     transcript: &mut Transcript,
     call: &Call<'_>,
@@ -124,7 +124,7 @@ pub fn walk_and_remove<P: Ptr, K: Counting, S: OrdSlots<P, Item<K>>>(
     }
 }
 
-fn remove_along<P: Ptr, K: Counting, S: OrdSlots<P, Item<K>>>(
+fn remove_along<P: ShownPtr, K: Counting, S: OrdSlots<P, Item<K>>>(
     arena: &mut Pairs<P, K, S>,
     transcript: &mut Transcript,
     line: &str,
@@ -141,7 +141,7 @@ fn remove_along<P: Ptr, K: Counting, S: OrdSlots<P, Item<K>>>(
 
 /// Goes along the list from a pointer over an arena that changes: after the first step the entry at an index is removed, and
 /// an item is put in.
-pub fn walk_over_a_change<P: Ptr, K: Counting, S: OrdSlots<P, Item<K>>>(
+pub fn walk_over_a_change<P: ShownPtr, K: Counting, S: OrdSlots<P, Item<K>>>(
     arena: &mut Pairs<P, K, S>,
     transcript: &mut Transcript,
     call: &Call<'_>,

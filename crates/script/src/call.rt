@@ -1,6 +1,12 @@
 //! A line of a script: whose call it is, its name and its numbers.
+use std::fmt::Debug;
 use std::num::NonZeroUsize;
-use triple_arena_ptr::{PtrCore, PtrGenCore, PtrInxCore};
+use triple_arena_ptr::{Ptr, PtrCore, PtrGenCore, PtrInxCore};
+
+/// A pointer that calls take and answers show. It asks for less than [`Ptr`], whose bounds each function would carry.
+pub trait ShownPtr: PtrCore<Inx: Debug, Gen: Debug> + Debug + PartialEq {}
+
+impl<P: Ptr> ShownPtr for P {}
 
 /// The first two words of a line and up to five numbers, which are 0 where the line has none.
 #[derive(Clone, Copy)]

@@ -7,5 +7,5 @@
 mod call;
 mod transcript;
 
-pub use call::{Call, generation, index, pointer};
+pub use call::{Call, ShownPtr, generation, index, pointer};
 pub use transcript::Transcript;
