@@ -4,7 +4,7 @@
 ghost use Rattle.std.specs.Prelude.{◌≡◌};
 
 use crate::tests::calls::link;
-use crate::tests::values::{Scarce, are, hashed, hold, shows, shows_long};
+use crate::tests::values::{Scarce, are, counts_down, hashed, hold, shows, shows_long};
 use std::alloc::Global;
 use std::cell::Cell;
 use std::fmt::Display;
@@ -13,8 +13,7 @@ use triple_arena::{
     ArenaSlot, ArenaTrait, NonZeroInxArray, NonZeroInxVec, P0, Ptr, PtrCore, ReallocationError,
 };
 use triple_arena_chain::{
-    ArrayChainArena, ChainArena, ChainArenaTrait, ChainInsertionError, ChainSlots, Link,
-    LinkInsertKind, LinkNoGen,
+    ArrayChainArena, ChainArena, ChainArenaTrait, ChainSlots, Link, LinkInsertKind, LinkNoGen,
 };
 
 type Slot<T> = ArenaSlot<P0, LinkNoGen<P0, T>>;
@@ -31,28 +30,34 @@ fn displays<A: Display>(rt: &(impl Abort + Alloc), value: &A, text: &str) {
     }
 }
 
-// A list of two words, the second one before the first.
-fn two_words<P: Ptr, S: ChainSlots<P, &'static str>>(
-    chains: &mut ChainArena<P, &'static str, S>,
-) -> Result<P, ChainInsertionError> {
-    let p = chains.insert(LinkInsertKind::Disconnected, "test")?;
-    chains.insert(LinkInsertKind::PrevTo(p), "hello")?;
-    Ok(p)
+// An arena's text.
+fn chains_show<P: Ptr, S: ChainSlots<P, &'static str>>(
+    rt: &(impl Abort + Alloc),
+    chains: &ChainArena<P, &'static str, S>,
+    text: &str,
+) {
+    shows(rt, chains, text);
 }
 
-// The texts of an arena of words without one, with two, and with one.
+fn let_go<P: PtrCore, T: Drop, S: ChainSlots<P, T>>(
+    rt: &impl Abort,
+    chains: &mut ChainArena<P, T, S>,
+    p: P,
+) {
+    assert!(rt; chains.remove_link_no_gen(p).is_success());
+}
+
+// The texts of an arena of words without one, with two of which the second is before the first, and with one.
 fn texts_of_words<P: Ptr, S: ChainSlots<P, &'static str>>(
     rt: &(impl Abort + Alloc),
     mut chains: ChainArena<P, &'static str, S>,
 ) {
-    shows(rt, &chains, "{}");
-    let p = match two_words(&mut chains) {
-        Ok(p) => p,
-        Err(_) => panic!(rt; "a word is not stored"),
-    };
-    shows(rt, &chains, "{P0[1](2): \"test\", P0[2](2): \"hello\"}");
-    assert!(rt; chains.remove_link_no_gen(p).is_success());
-    shows(rt, &chains, "{P0[2](2): \"hello\"}");
+    chains_show(rt, &chains, "{}");
+    let p = link(rt, &mut chains, LinkInsertKind::Disconnected, "test");
+    link(rt, &mut chains, LinkInsertKind::PrevTo(p), "hello");
+    chains_show(rt, &chains, "{P0[1](2): \"test\", P0[2](2): \"hello\"}");
+    let_go(rt, &mut chains, p);
+    chains_show(rt, &chains, "{P0[2](2): \"hello\"}");
 }
 
 #[test]
@@ -170,31 +175,33 @@ fn ring<P: PtrCore, S: ChainSlots<P, u64>>(
     (a, b, c)
 }
 
-// The bounds of the iterators over three links.
-fn sizes<P: Ptr, S: ChainSlots<P, u64>>(rt: &impl Abort, chains: &ChainArena<P, u64, S>, first: P) {
-    let mut entries = chains.iter();
+// An iterator over three entries, of which this one is the first.
+fn sizes_of_entries<'a, P: PtrCore + PartialEq, I: Iterator<Item = (P, &'a u64)> + Drop>(
+    rt: &impl Abort,
+    mut entries: I,
+    first: P,
+) {
     assert!(rt; hold(entries.size_hint(), 3));
     assert!(rt; entries.next() == Some((first, &1)));
     assert!(rt; hold(entries.size_hint(), 2));
+}
+
+// The bounds of the iterators over three links.
+fn sizes<P: PtrCore + PartialEq, S: ChainSlots<P, u64>>(
+    rt: &impl Abort,
+    chains: &ChainArena<P, u64, S>,
+    first: P,
+) {
+    sizes_of_entries(rt, chains.iter(), first);
     assert!(rt; hold(chains.vals().size_hint(), 3));
     assert!(rt; hold(chains.ptrs().size_hint(), 3));
 }
 
-fn sizes_of_drain<P: PtrCore, S: ChainSlots<P, u64>>(
-    rt: &impl Abort,
-    chains: &mut ChainArena<P, u64, S>,
-) {
-    let mut drain = chains.drain();
-    assert!(rt; are(drain.size_hint(), 3));
-    assert!(rt; drain.next().is_some());
-    assert!(rt; are(drain.size_hint(), 2));
-}
-
-fn sizes_of_ring<P: Ptr, S: ChainSlots<P, u64>>(rt: &impl Abort, alloc: S::Alloc) {
+fn sizes_of_ring<P: PtrCore + PartialEq, S: ChainSlots<P, u64>>(rt: &impl Abort, alloc: S::Alloc) {
     let mut chains = ChainArena::<P, u64, S>::new(alloc);
     let (a, _, _) = ring(rt, &mut chains);
     sizes(rt, &chains, a);
-    sizes_of_drain(rt, &mut chains);
+    counts_down(rt, chains.drain(), 3);
 }
 
 // No more items come than an iterator says. A drain says how many are left.
@@ -203,22 +210,29 @@ fn sizes_of_iterators(rt: HostRuntime) {
     sizes_of_ring::<P0, Three<u64>>(&rt, ());
 }
 
-// An entry is this one.
-fn is_entry<P: Ptr>(rt: &impl Abort, entry: Option<(P, u64)>, p: P, value: u64) {
-    assert!(rt; entry == Some((p, value)));
-}
-
-fn entries_of_ring<P: Ptr, S: ChainSlots<P, u64>>(rt: &impl Abort, alloc: S::Alloc) {
-    let mut chains = ChainArena::<P, u64, S>::new(alloc);
-    let (a, b, c) = ring(rt, &mut chains);
-    let mut entries = chains.into_iter();
+// An iterator gives three entries, and tells how many are left.
+fn gives<P: PtrCore + PartialEq, I: Iterator<Item = (P, u64)> + Drop>(
+    rt: &impl Abort,
+    mut entries: I,
+    wanted: (P, P, P),
+) {
+    let (a, b, c) = wanted;
     assert!(rt; are(entries.size_hint(), 3));
-    is_entry(rt, entries.next(), a, 1);
-    is_entry(rt, entries.next(), b, 2);
+    assert!(rt; entries.next() == Some((a, 1)));
+    assert!(rt; entries.next() == Some((b, 2)));
     assert!(rt; are(entries.size_hint(), 1));
-    is_entry(rt, entries.next(), c, 3);
+    assert!(rt; entries.next() == Some((c, 3)));
     assert!(rt; entries.next().is_none());
     assert!(rt; are(entries.size_hint(), 0));
+}
+
+fn entries_of_ring<P: PtrCore + PartialEq, S: ChainSlots<P, u64>>(
+    rt: &impl Abort,
+    alloc: S::Alloc,
+) {
+    let mut chains = ChainArena::<P, u64, S>::new(alloc);
+    let wanted = ring(rt, &mut chains);
+    gives(rt, chains.into_iter(), wanted);
 }
 
 // A chain arena that is taken gives its pointers and values in the order of the indexes.
@@ -258,15 +272,13 @@ fn three_counted<'a, P: PtrCore, S: ChainSlots<P, Counted<'a>>>(
     a
 }
 
-fn lets_go<'a, P: Ptr, S: ChainSlots<P, Counted<'a>>>(
+// An iterator over three of them is let go after the first one.
+fn lets_go<'a, P: PtrCore + PartialEq, I: Iterator<Item = (P, Counted<'a>)> + Drop>(
     rt: &impl Abort,
-    alloc: S::Alloc,
+    mut entries: I,
+    a: P,
     left: &'a Cell<u8>,
 ) {
-    let mut chains = ChainArena::<P, Counted<'a>, S>::new(alloc);
-    let a = three_counted(rt, &mut chains, left);
-    assert!(rt; left.get() == 3);
-    let mut entries = chains.into_iter();
     match entries.next() {
         Some((p, value)) => {
             assert!(rt; p == a);
@@ -280,11 +292,22 @@ fn lets_go<'a, P: Ptr, S: ChainSlots<P, Counted<'a>>>(
     assert!(rt; left.get() == 0);
 }
 
+fn lets_arena_go<'a, P: PtrCore + PartialEq, S: ChainSlots<P, Counted<'a>>>(
+    rt: &impl Abort,
+    alloc: S::Alloc,
+    left: &'a Cell<u8>,
+) {
+    let mut chains = ChainArena::<P, Counted<'a>, S>::new(alloc);
+    let a = three_counted(rt, &mut chains, left);
+    assert!(rt; left.get() == 3);
+    lets_go(rt, chains.into_iter(), a, left);
+}
+
 // One that is let go half-way drops each value that is left, once.
 #[test]
 fn an_arena_by_value_let_go(rt: HostRuntime) {
     let left = Cell::new(0);
-    lets_go::<P0, Three<Counted<'_>>>(&rt, (), &left);
+    lets_arena_go::<P0, Three<Counted<'_>>>(&rt, (), &left);
 }
 
 // Whether these three links are a ring in this order.
@@ -371,7 +394,7 @@ fn is_answer<P: PtrCore, T: Drop, S: ChainSlots<P, T>>(
 ) {
     if calls < 2 {
         assert!(rt; answer == Err(ReallocationError::AllocError));
-        assert!(rt; copy.is_empty());
+        assert!(rt; copy.len() == 0);
     } else {
         assert!(rt; answer == Ok(()));
         is_ring_of_two(rt, copy, a, b);
