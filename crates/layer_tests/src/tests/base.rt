@@ -4,7 +4,7 @@
 ghost use Rattle.std.specs.Prelude.{◌≡◌};
 
 use crate::tests::calls::{remove, store};
-use crate::tests::values::{Counted, Scarce, counts_down, hold, shows, shows_long};
+use crate::tests::values::{Counted, Scarce, are, hold, shows, shows_long};
 use std::alloc::Global;
 use std::cell::Cell;
 use std::fmt::Debug;
@@ -153,12 +153,14 @@ fn three_counted<'a, P: PtrCore, S: ArenaSlots<P, Counted<'a>>>(
     );
 }
 
-// An iterator over them is let go after the first one.
-fn lets_go<'a, P: Drop, I: Iterator<Item = (P, Counted<'a>)> + Drop>(
+fn lets_go<'a, P: PtrCore, S: ArenaSlots<P, Counted<'a>>>(
     rt: &impl Abort,
-    mut entries: I,
+    alloc: S::Alloc,
     dropped: &'a Cell<u64>,
 ) {
+    let mut arena = Arena::<P, Counted<'a>, S>::new(alloc);
+    three_counted(rt, &mut arena, dropped);
+    let mut entries = arena.into_iter();
     let first = entries.next();
     assert!(rt; first.is_some());
     assert!(rt; dropped.get() == 0);
@@ -168,21 +170,11 @@ fn lets_go<'a, P: Drop, I: Iterator<Item = (P, Counted<'a>)> + Drop>(
     assert!(rt; dropped.get() == 321);
 }
 
-fn lets_arena_go<'a, P: PtrCore, S: ArenaSlots<P, Counted<'a>>>(
-    rt: &impl Abort,
-    alloc: S::Alloc,
-    dropped: &'a Cell<u64>,
-) {
-    let mut arena = Arena::<P, Counted<'a>, S>::new(alloc);
-    three_counted(rt, &mut arena, dropped);
-    lets_go(rt, arena.into_iter(), dropped);
-}
-
 // An iterator over an arena by value that is let go after its first entry drops the others, each once.
 #[test]
 fn an_arena_by_value_let_go_half_way(rt: HostRuntime) {
     let dropped = Cell::new(0);
-    lets_arena_go::<P0, Heap<P0, Counted<'_>>>(&rt, rt.alloc(), &dropped);
+    lets_go::<P0, Heap<P0, Counted<'_>>>(&rt, rt.alloc(), &dropped);
 }
 
 fn drops<'a, P: PtrCore, S: ArenaSlots<P, Counted<'a>>>(
@@ -258,7 +250,13 @@ fn drains<P: PtrCore, S: ArenaSlots<P, u64>>(rt: &impl Abort, alloc: S::Alloc) {
     let mut arena = Arena::<P, u64, S>::new(alloc);
     store(rt, &mut arena, 10);
     store(rt, &mut arena, 20);
-    counts_down(rt, arena.drain(), 2);
+    let mut drain = arena.drain();
+    assert!(rt; are(drain.size_hint(), 2));
+    assert!(rt; drain.next().is_some());
+    assert!(rt; drain.len() == 1);
+    assert!(rt; drain.next().is_some());
+    assert!(rt; are(drain.size_hint(), 0));
+    assert!(rt; drain.next().is_none());
 }
 
 // A drain tells how many items are left, and its bounds are that number.

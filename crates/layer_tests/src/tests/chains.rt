@@ -4,7 +4,7 @@
 ghost use Rattle.std.specs.Prelude.{◌≡◌};
 
 use crate::tests::calls::link;
-use crate::tests::values::{Scarce, are, counts_down, hashed, hold, shows, shows_long};
+use crate::tests::values::{Scarce, are, hashed, hold, shows, shows_long};
 use std::alloc::Global;
 use std::cell::Cell;
 use std::fmt::Display;
@@ -30,15 +30,6 @@ fn displays<A: Display>(rt: &(impl Abort + Alloc), value: &A, text: &str) {
     }
 }
 
-// An arena's text.
-fn chains_show<P: Ptr, S: ChainSlots<P, &'static str>>(
-    rt: &(impl Abort + Alloc),
-    chains: &ChainArena<P, &'static str, S>,
-    text: &str,
-) {
-    shows(rt, chains, text);
-}
-
 fn let_go<P: PtrCore, T: Drop, S: ChainSlots<P, T>>(
     rt: &impl Abort,
     chains: &mut ChainArena<P, T, S>,
@@ -52,12 +43,12 @@ fn texts_of_words<P: Ptr, S: ChainSlots<P, &'static str>>(
     rt: &(impl Abort + Alloc),
     mut chains: ChainArena<P, &'static str, S>,
 ) {
-    chains_show(rt, &chains, "{}");
+    shows(rt, &chains, "{}");
     let p = link(rt, &mut chains, LinkInsertKind::Disconnected, "test");
     link(rt, &mut chains, LinkInsertKind::PrevTo(p), "hello");
-    chains_show(rt, &chains, "{P0[1](2): \"test\", P0[2](2): \"hello\"}");
+    shows(rt, &chains, "{P0[1](2): \"test\", P0[2](2): \"hello\"}");
     let_go(rt, &mut chains, p);
-    chains_show(rt, &chains, "{P0[2](2): \"hello\"}");
+    shows(rt, &chains, "{P0[2](2): \"hello\"}");
 }
 
 #[test]
@@ -180,7 +171,9 @@ fn sizes_of_entries<'a, P: PtrCore + PartialEq, I: Iterator<Item = (P, &'a u64)>
     rt: &impl Abort,
     mut entries: I,
     first: P,
-) {
+)
+    requires { (items : I) → I.can_next items }
+{
     assert!(rt; hold(entries.size_hint(), 3));
     assert!(rt; entries.next() == Some((first, &1)));
     assert!(rt; hold(entries.size_hint(), 2));
@@ -197,11 +190,21 @@ fn sizes<P: PtrCore + PartialEq, S: ChainSlots<P, u64>>(
     assert!(rt; hold(chains.ptrs().size_hint(), 3));
 }
 
+fn sizes_of_drain<P: PtrCore, S: ChainSlots<P, u64>>(
+    rt: &impl Abort,
+    chains: &mut ChainArena<P, u64, S>,
+) {
+    let mut drain = chains.drain();
+    assert!(rt; are(drain.size_hint(), 3));
+    assert!(rt; drain.next().is_some());
+    assert!(rt; are(drain.size_hint(), 2));
+}
+
 fn sizes_of_ring<P: PtrCore + PartialEq, S: ChainSlots<P, u64>>(rt: &impl Abort, alloc: S::Alloc) {
     let mut chains = ChainArena::<P, u64, S>::new(alloc);
     let (a, _, _) = ring(rt, &mut chains);
     sizes(rt, &chains, a);
-    counts_down(rt, chains.drain(), 3);
+    sizes_of_drain(rt, &mut chains);
 }
 
 // No more items come than an iterator says. A drain says how many are left.
@@ -215,7 +218,9 @@ fn gives<P: PtrCore + PartialEq, I: Iterator<Item = (P, u64)> + Drop>(
     rt: &impl Abort,
     mut entries: I,
     wanted: (P, P, P),
-) {
+)
+    requires { (items : I) → I.can_next items }
+{
     let (a, b, c) = wanted;
     assert!(rt; are(entries.size_hint(), 3));
     assert!(rt; entries.next() == Some((a, 1)));
@@ -272,13 +277,15 @@ fn three_counted<'a, P: PtrCore, S: ChainSlots<P, Counted<'a>>>(
     a
 }
 
-// An iterator over three of them is let go after the first one.
-fn lets_go<'a, P: PtrCore + PartialEq, I: Iterator<Item = (P, Counted<'a>)> + Drop>(
+fn lets_go<'a, P: PtrCore + PartialEq, S: ChainSlots<P, Counted<'a>>>(
     rt: &impl Abort,
-    mut entries: I,
-    a: P,
+    alloc: S::Alloc,
     left: &'a Cell<u8>,
 ) {
+    let mut chains = ChainArena::<P, Counted<'a>, S>::new(alloc);
+    let a = three_counted(rt, &mut chains, left);
+    assert!(rt; left.get() == 3);
+    let mut entries = chains.into_iter();
     match entries.next() {
         Some((p, value)) => {
             assert!(rt; p == a);
@@ -292,22 +299,11 @@ fn lets_go<'a, P: PtrCore + PartialEq, I: Iterator<Item = (P, Counted<'a>)> + Dr
     assert!(rt; left.get() == 0);
 }
 
-fn lets_arena_go<'a, P: PtrCore + PartialEq, S: ChainSlots<P, Counted<'a>>>(
-    rt: &impl Abort,
-    alloc: S::Alloc,
-    left: &'a Cell<u8>,
-) {
-    let mut chains = ChainArena::<P, Counted<'a>, S>::new(alloc);
-    let a = three_counted(rt, &mut chains, left);
-    assert!(rt; left.get() == 3);
-    lets_go(rt, chains.into_iter(), a, left);
-}
-
 // One that is let go half-way drops each value that is left, once.
 #[test]
 fn an_arena_by_value_let_go(rt: HostRuntime) {
     let left = Cell::new(0);
-    lets_arena_go::<P0, Three<Counted<'_>>>(&rt, (), &left);
+    lets_go::<P0, Three<Counted<'_>>>(&rt, (), &left);
 }
 
 // Whether these three links are a ring in this order.

@@ -8,7 +8,7 @@ ghost use Rattle.std.specs.Cmp.Rules.{comparing};
 ghost use Rattle.std.specs.Ordering.{nat_cmp, on, flip_args, as_partial_cmp};
 
 use crate::tests::calls::{put_in, store};
-use crate::tests::values::{Counted, counts_down, hashed, hold, shows, shows_long};
+use crate::tests::values::{Counted, are, counts_down, hashed, hold, shows, shows_long};
 use std::alloc::Global;
 use std::cell::Cell;
 use std::cmp::Ordering;
@@ -167,7 +167,8 @@ fn counts<P: PtrCore, S: OrdSlots<P, Pair>>(rt: &impl Abort, alloc: S::Alloc) {
     let mut drain = few.drain();
     assert!(rt; drain.next().is_some());
     assert!(rt; drain.len() == 2);
-    counts_down(rt, drain, 2);
+    assert!(rt; drain.next().is_some());
+    assert!(rt; are(drain.size_hint(), 1));
 }
 
 #[test]
@@ -188,12 +189,14 @@ fn three_counted<'a, P: PtrCore, S: OrdSlots<P, Counting<'a>>>(
     }
 }
 
-// An iterator over them gives the least key first. It is let go then.
-fn lets_go<'a, P: Drop, I: Iterator<Item = (P, Counting<'a>)> + Drop>(
+fn lets_go<'a, P: PtrCore, S: OrdSlots<P, Counting<'a>>>(
     rt: &impl Abort,
-    mut entries: I,
+    alloc: S::Alloc,
     dropped: &'a Cell<u64>,
 ) {
+    let mut arena = SimpleOrdArena::<P, Counting<'a>, S>::new(alloc);
+    three_counted(rt, &mut arena, dropped);
+    let mut entries = arena.into_iter();
     let first = entries.next();
     match &first {
         Some((_, item)) => assert!(rt; *item.k() == 10),
@@ -206,33 +209,32 @@ fn lets_go<'a, P: Drop, I: Iterator<Item = (P, Counting<'a>)> + Drop>(
     assert!(rt; dropped.get() == 321);
 }
 
-fn lets_arena_go<'a, P: PtrCore, S: OrdSlots<P, Counting<'a>>>(
-    rt: &impl Abort,
-    alloc: S::Alloc,
-    dropped: &'a Cell<u64>,
-) {
-    let mut arena = SimpleOrdArena::<P, Counting<'a>, S>::new(alloc);
-    three_counted(rt, &mut arena, dropped);
-    lets_go(rt, arena.into_iter(), dropped);
-}
-
 // An arena by value gives its entries in their order. Let go after the first one, it drops the others, each once.
 #[test]
 fn an_arena_by_value_let_go_half_way(rt: HostRuntime) {
     let dropped = Cell::new(0);
-    lets_arena_go::<P0, Heap<P0, Counting<'_>>>(&rt, rt.alloc(), &dropped);
+    lets_go::<P0, Heap<P0, Counting<'_>>>(&rt, rt.alloc(), &dropped);
+}
+
+// The key of the next entry, if there is one.
+fn next_key<P: Drop, I: Iterator<Item = (P, Pair)> + Drop>(entries: &mut I) -> Option<u64>
+    requires { I.can_next entries.old }
+{
+    match entries.next() {
+        Some((_, item)) => Some(*item.k()),
+        None => None,
+    }
 }
 
 // An iterator gives three keys that rise, and then nothing more.
-fn goes_to_the_end<P: Drop, I: Iterator<Item = (P, Pair)> + Drop>(rt: &impl Abort, mut entries: I) {
-    for key in [10, 20, 30] {
-        match entries.next() {
-            Some((_, item)) => assert!(rt; *item.k() == key),
-            None => panic!(rt; "an entry is not given"),
-        }
-    }
-    assert!(rt; entries.next().is_none());
-    assert!(rt; entries.next().is_none());
+fn goes_to_the_end<P: Drop, I: Iterator<Item = (P, Pair)> + Drop>(rt: &impl Abort, mut entries: I)
+    requires { (items : I) → I.can_next items }
+{
+    assert!(rt; next_key(&mut entries) == Some(10));
+    assert!(rt; next_key(&mut entries) == Some(20));
+    assert!(rt; next_key(&mut entries) == Some(30));
+    assert!(rt; next_key(&mut entries) == None);
+    assert!(rt; next_key(&mut entries) == None);
 }
 
 fn arenas_to_the_end<P: PtrCore, S: OrdSlots<P, Pair, Alloc = ()>>(rt: &impl Abort) {

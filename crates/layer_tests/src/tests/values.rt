@@ -46,7 +46,9 @@ pub fn counts_down<T: Drop, I: Iterator<Item = T> + Drop>(
     rt: &impl Abort,
     mut items: I,
     count: usize,
-) {
+)
+    requires { (items : I) → I.can_next items }
+{
     for given in 0..count {
         assert!(rt; are(items.size_hint(), count.saturating_sub(given)));
         assert!(rt; items.next().is_some());
