@@ -1,13 +1,11 @@
-//! The operations on an arena, as `bench/plain/main.rs` has them.
+//! The operations on an arena, as `bench/plain/main.rs` has them. They are generic in the arena, which is proved in far less time.
 use crate::sequence::{Sequence, with};
 use std::alloc::Global;
-use triple_arena::{ArenaInsertTrait, ArenaTrait, HeapArena};
+use triple_arena::{Arena, ArenaInsertTrait, ArenaSlot, ArenaSlots, ArenaTrait, NonZeroInxVec};
 use triple_arena_ptr::{Advancer, InvalidationResult, P0, PtrCore, ReallocationError};
 
 // `bench/run` also builds the program over `P3`.
 type Pointer = P0;
-
-type Numbers = HeapArena<Pointer, u64, Global>;
 
 /// Runs so many steps of an operation, and answers a checksum.
 ///
@@ -16,18 +14,38 @@ type Numbers = HeapArena<Pointer, u64, Global>;
 /// and `loop` is their loop alone. `advance` and `iterate` walk over that arena again and again. `clone` copies an arena with so
 /// many entries, `drain` empties it. A step of `churn` reads one entry, and removes another or inserts one where it is gone.
 pub fn run(operation: &str, alloc: Global, steps: usize) -> Option<Result<u64, ReallocationError>> {
+    run_over::<NonZeroInxVec<ArenaSlot<Pointer, u64>, Global>>(operation, alloc, steps)
+}
+
+// Over this kind of stack.
+fn run_over<S: ArenaSlots<Pointer, u64, Alloc = Global>>(
+    operation: &str,
+    alloc: Global,
+    steps: usize,
+) -> Option<Result<u64, ReallocationError>> {
     match operation {
-        "insert" => Some(insert(alloc, steps)),
-        "remove" => Some(remove(alloc, steps)),
-        "remove_inx" => Some(remove_inx(alloc, steps)),
-        "get" => Some(get(alloc, steps)),
-        "write" => Some(write(alloc, steps)),
-        "advance" => Some(advance(alloc, steps)),
-        "iterate" => Some(iterate(alloc, steps)),
-        "clone" => Some(clone(alloc, steps)),
-        "drain" => Some(drain(alloc, steps)),
-        "churn" => Some(churn(alloc, steps)),
-        "loop" => Some(read_table(alloc, steps)),
+        "iterate" => Some(iterate::<S>(alloc, steps)),
+        "clone" => Some(clone::<S>(alloc, steps)),
+        "drain" => Some(drain::<S>(alloc, steps)),
+        _ => run_in::<Arena<Pointer, u64, S>>(operation, alloc, steps),
+    }
+}
+
+// In this kind of arena.
+fn run_in<A: ArenaInsertTrait<Pointer, u64, Alloc = Global> + Drop>(
+    operation: &str,
+    alloc: Global,
+    steps: usize,
+) -> Option<Result<u64, ReallocationError>> {
+    match operation {
+        "insert" => Some(insert::<A>(alloc, steps)),
+        "remove" => Some(remove::<A>(alloc, steps)),
+        "remove_inx" => Some(remove_inx::<A>(alloc, steps)),
+        "get" => Some(get::<A>(alloc, steps)),
+        "write" => Some(write::<A>(alloc, steps)),
+        "advance" => Some(advance::<A>(alloc, steps)),
+        "churn" => Some(churn::<A>(alloc, steps)),
+        "loop" => Some(read_table::<A>(alloc, steps)),
         _ => None,
     }
 }
@@ -39,8 +57,11 @@ const TABLE: usize = 4096;
 const THINNED: usize = 3072;
 
 // An arena with this many entries, and their pointers.
-fn filled(alloc: Global, len: usize) -> Result<(Numbers, Vec<Pointer>), ReallocationError> {
-    let mut arena = Numbers::new(alloc);
+fn filled<A: ArenaInsertTrait<Pointer, u64, Alloc = Global> + Drop>(
+    alloc: Global,
+    len: usize,
+) -> Result<(A, Vec<Pointer>), ReallocationError> {
+    let mut arena = A::new(alloc);
     let mut pointers = Vec::with_capacity(alloc, len).map_err(|_| ReallocationError::AllocError)?;
     let mut sequence = Sequence::new();
     for _ in 0..len {
@@ -53,8 +74,10 @@ fn filled(alloc: Global, len: usize) -> Result<(Numbers, Vec<Pointer>), Realloca
 }
 
 // An arena with an entry for each place of a table, and the table of their pointers.
-fn filled_table(alloc: Global) -> Result<(Numbers, [Pointer; TABLE]), ReallocationError> {
-    let mut arena = Numbers::new(alloc);
+fn filled_table<A: ArenaInsertTrait<Pointer, u64, Alloc = Global> + Drop>(
+    alloc: Global,
+) -> Result<(A, [Pointer; TABLE]), ReallocationError> {
+    let mut arena = A::new(alloc);
     let mut table = [Pointer::invalid(); TABLE];
     let mut sequence = Sequence::new();
     for pointer in &mut table {
@@ -63,12 +86,18 @@ fn filled_table(alloc: Global) -> Result<(Numbers, [Pointer; TABLE]), Reallocati
     Ok((arena, table))
 }
 
-fn insert(alloc: Global, steps: usize) -> Result<u64, ReallocationError> {
-    Ok(filled(alloc, steps)?.1.len() as u64)
+fn insert<A: ArenaInsertTrait<Pointer, u64, Alloc = Global> + Drop>(
+    alloc: Global,
+    steps: usize,
+) -> Result<u64, ReallocationError> {
+    Ok(filled::<A>(alloc, steps)?.1.len() as u64)
 }
 
-fn remove(alloc: Global, steps: usize) -> Result<u64, ReallocationError> {
-    let (mut arena, mut pointers) = filled(alloc, steps)?;
+fn remove<A: ArenaInsertTrait<Pointer, u64, Alloc = Global> + Drop>(
+    alloc: Global,
+    steps: usize,
+) -> Result<u64, ReallocationError> {
+    let (mut arena, mut pointers) = filled::<A>(alloc, steps)?;
     let mut sequence = Sequence::new();
     let mut sum = 0u64;
     for _ in 0..steps {
@@ -84,8 +113,11 @@ fn remove(alloc: Global, steps: usize) -> Result<u64, ReallocationError> {
     Ok(sum)
 }
 
-fn remove_inx(alloc: Global, steps: usize) -> Result<u64, ReallocationError> {
-    let (mut arena, mut pointers) = filled(alloc, steps)?;
+fn remove_inx<A: ArenaInsertTrait<Pointer, u64, Alloc = Global> + Drop>(
+    alloc: Global,
+    steps: usize,
+) -> Result<u64, ReallocationError> {
+    let (mut arena, mut pointers) = filled::<A>(alloc, steps)?;
     let mut sequence = Sequence::new();
     let mut sum = 0u64;
     for _ in 0..steps {
@@ -103,16 +135,21 @@ fn remove_inx(alloc: Global, steps: usize) -> Result<u64, ReallocationError> {
 }
 
 // The arena of a table without the entry of each fourth place, and the table.
-fn thinned_table(alloc: Global) -> Result<(Numbers, [Pointer; TABLE]), ReallocationError> {
-    let (mut arena, table) = filled_table(alloc)?;
+fn thinned_table<A: ArenaInsertTrait<Pointer, u64, Alloc = Global> + Drop>(
+    alloc: Global,
+) -> Result<(A, [Pointer; TABLE]), ReallocationError> {
+    let (mut arena, table) = filled_table::<A>(alloc)?;
     for pointer in table.iter().step_by(4) {
         drop(arena.remove(*pointer));
     }
     Ok((arena, table))
 }
 
-fn get(alloc: Global, steps: usize) -> Result<u64, ReallocationError> {
-    let (arena, table) = thinned_table(alloc)?;
+fn get<A: ArenaInsertTrait<Pointer, u64, Alloc = Global> + Drop>(
+    alloc: Global,
+    steps: usize,
+) -> Result<u64, ReallocationError> {
+    let (arena, table) = thinned_table::<A>(alloc)?;
     let mut sequence = Sequence::new();
     let mut sum = 0u64;
     for _ in 0..steps {
@@ -123,8 +160,11 @@ fn get(alloc: Global, steps: usize) -> Result<u64, ReallocationError> {
     Ok(sum)
 }
 
-fn write(alloc: Global, steps: usize) -> Result<u64, ReallocationError> {
-    let (mut arena, table) = thinned_table(alloc)?;
+fn write<A: ArenaInsertTrait<Pointer, u64, Alloc = Global> + Drop>(
+    alloc: Global,
+    steps: usize,
+) -> Result<u64, ReallocationError> {
+    let (mut arena, table) = thinned_table::<A>(alloc)?;
     let mut sequence = Sequence::new();
     let mut sum = 0u64;
     for _ in 0..steps {
@@ -136,8 +176,11 @@ fn write(alloc: Global, steps: usize) -> Result<u64, ReallocationError> {
     Ok(sum)
 }
 
-fn advance(alloc: Global, steps: usize) -> Result<u64, ReallocationError> {
-    let (arena, _table) = thinned_table(alloc)?;
+fn advance<A: ArenaInsertTrait<Pointer, u64, Alloc = Global> + Drop>(
+    alloc: Global,
+    steps: usize,
+) -> Result<u64, ReallocationError> {
+    let (arena, _table) = thinned_table::<A>(alloc)?;
     let mut advancer = arena.advancer();
     let mut sum = 0u64;
     for _ in 0..steps {
@@ -153,8 +196,11 @@ fn advance(alloc: Global, steps: usize) -> Result<u64, ReallocationError> {
     Ok(sum)
 }
 
-fn iterate(alloc: Global, steps: usize) -> Result<u64, ReallocationError> {
-    let (arena, _table) = thinned_table(alloc)?;
+fn iterate<S: ArenaSlots<Pointer, u64, Alloc = Global>>(
+    alloc: Global,
+    steps: usize,
+) -> Result<u64, ReallocationError> {
+    let (arena, _table) = thinned_table::<Arena<Pointer, u64, S>>(alloc)?;
     let mut left = steps;
     let mut sum = 0u64;
     for _ in 0..steps / THINNED + 1 {
@@ -169,8 +215,11 @@ fn iterate(alloc: Global, steps: usize) -> Result<u64, ReallocationError> {
     Ok(sum)
 }
 
-fn clone(alloc: Global, steps: usize) -> Result<u64, ReallocationError> {
-    let (arena, pointers) = filled(alloc, steps)?;
+fn clone<S: ArenaSlots<Pointer, u64, Alloc = Global>>(
+    alloc: Global,
+    steps: usize,
+) -> Result<u64, ReallocationError> {
+    let (arena, pointers) = filled::<Arena<Pointer, u64, S>>(alloc, steps)?;
     let copy = arena.clone(alloc)?;
     match pointers.last() {
         Some(last) => Ok(copy.get(*last).copied().unwrap_or(0)),
@@ -178,8 +227,11 @@ fn clone(alloc: Global, steps: usize) -> Result<u64, ReallocationError> {
     }
 }
 
-fn drain(alloc: Global, steps: usize) -> Result<u64, ReallocationError> {
-    let (mut arena, _pointers) = filled(alloc, steps)?;
+fn drain<S: ArenaSlots<Pointer, u64, Alloc = Global>>(
+    alloc: Global,
+    steps: usize,
+) -> Result<u64, ReallocationError> {
+    let (mut arena, _pointers) = filled::<Arena<Pointer, u64, S>>(alloc, steps)?;
     let mut sum = 0u64;
     for item in arena.drain() {
         sum = with(sum, item.allow().1);
@@ -187,8 +239,11 @@ fn drain(alloc: Global, steps: usize) -> Result<u64, ReallocationError> {
     Ok(sum)
 }
 
-fn churn(alloc: Global, steps: usize) -> Result<u64, ReallocationError> {
-    let (mut arena, mut table) = filled_table(alloc)?;
+fn churn<A: ArenaInsertTrait<Pointer, u64, Alloc = Global> + Drop>(
+    alloc: Global,
+    steps: usize,
+) -> Result<u64, ReallocationError> {
+    let (mut arena, mut table) = filled_table::<A>(alloc)?;
     let mut sequence = Sequence::new();
     let mut sum = 0u64;
     for _ in 0..steps {
@@ -206,8 +261,11 @@ fn churn(alloc: Global, steps: usize) -> Result<u64, ReallocationError> {
     Ok(sum)
 }
 
-fn read_table(alloc: Global, steps: usize) -> Result<u64, ReallocationError> {
-    let (_arena, table) = filled_table(alloc)?;
+fn read_table<A: ArenaInsertTrait<Pointer, u64, Alloc = Global> + Drop>(
+    alloc: Global,
+    steps: usize,
+) -> Result<u64, ReallocationError> {
+    let (_arena, table) = filled_table::<A>(alloc)?;
     let mut sequence = Sequence::new();
     let mut sum = 0u64;
     for _ in 0..steps {

@@ -1,10 +1,11 @@
-//! The operations on links in chains, as `bench/plain/chains.rs` has them.
+//! The operations on links in chains, as `bench/plain/chains.rs` has them. They are generic in the arena, which is proved in far
+//! less time.
 use crate::sequence::{Sequence, with};
 use std::alloc::Global;
-use triple_arena::{Advancer, ArenaTrait, P0, PtrCore};
-use triple_arena_chain::{ChainArenaTrait, ChainInsertionError, HeapChainArena, LinkInsertKind};
-
-type Chains = HeapChainArena<P0, u64, Global>;
+use triple_arena::{Advancer, ArenaSlot, NonZeroInxVec, P0, PtrCore};
+use triple_arena_chain::{
+    ChainArena, ChainArenaTrait, ChainInsertionError, ChainSlots, LinkInsertKind, LinkNoGen,
+};
 
 /// Runs so many steps of an operation, and answers a checksum.
 pub fn run(
@@ -12,12 +13,34 @@ pub fn run(
     alloc: Global,
     steps: usize,
 ) -> Option<Result<u64, ChainInsertionError>> {
+    run_over::<P0, NonZeroInxVec<ArenaSlot<P0, LinkNoGen<P0, u64>>, Global>>(
+        operation, alloc, steps,
+    )
+}
+
+// Over this kind of stack.
+fn run_over<P: PtrCore, S: ChainSlots<P, u64, Alloc = Global>>(
+    operation: &str,
+    alloc: Global,
+    steps: usize,
+) -> Option<Result<u64, ChainInsertionError>> {
     match operation {
-        "queue" => Some(queue(alloc, steps)),
-        "turn" => Some(turn(alloc, steps)),
-        "rotate" => Some(rotate(alloc, steps)),
-        "walk" => Some(walk(alloc, steps)),
-        "iterate" => Some(iterate(alloc, steps)),
+        "iterate" => Some(iterate::<P, S>(alloc, steps)),
+        _ => run_in::<P, ChainArena<P, u64, S>>(operation, alloc, steps),
+    }
+}
+
+// In this kind of arena.
+fn run_in<P: PtrCore, A: ChainArenaTrait<P, u64, Alloc = Global> + Drop>(
+    operation: &str,
+    alloc: Global,
+    steps: usize,
+) -> Option<Result<u64, ChainInsertionError>> {
+    match operation {
+        "queue" => Some(queue::<P, A>(alloc, steps)),
+        "turn" => Some(turn::<P, A>(alloc, steps)),
+        "rotate" => Some(rotate::<P, A>(alloc, steps)),
+        "walk" => Some(walk::<P, A>(alloc, steps)),
         _ => None,
     }
 }
@@ -26,8 +49,11 @@ pub fn run(
 const LEN: usize = 4096;
 
 // A linear chain, with its first and its last link.
-fn filled(alloc: Global, sequence: &mut Sequence) -> Result<(Chains, P0, P0), ChainInsertionError> {
-    let mut chains = Chains::new(alloc);
+fn filled<P: PtrCore, A: ChainArenaTrait<P, u64, Alloc = Global> + Drop>(
+    alloc: Global,
+    sequence: &mut Sequence,
+) -> Result<(A, P, P), ChainInsertionError> {
+    let mut chains = A::new(alloc);
     let first = chains.insert_reallocating(LinkInsertKind::Disconnected, sequence.number())?;
     let mut last = first;
     for _ in 1..LEN {
@@ -37,9 +63,12 @@ fn filled(alloc: Global, sequence: &mut Sequence) -> Result<(Chains, P0, P0), Ch
 }
 
 // Each step puts a number at the end and takes one from the start.
-fn queue(alloc: Global, steps: usize) -> Result<u64, ChainInsertionError> {
+fn queue<P: PtrCore, A: ChainArenaTrait<P, u64, Alloc = Global> + Drop>(
+    alloc: Global,
+    steps: usize,
+) -> Result<u64, ChainInsertionError> {
     let mut sequence = Sequence::new();
-    let (mut chains, first, last) = filled(alloc, &mut sequence)?;
+    let (mut chains, first, last) = filled::<P, A>(alloc, &mut sequence)?;
     let mut first = first.inx();
     let mut last = last.inx();
     let mut sum = 0u64;
@@ -61,9 +90,12 @@ fn queue(alloc: Global, steps: usize) -> Result<u64, ChainInsertionError> {
 }
 
 // Each step goes to the next link of a ring, and reads it.
-fn rotate(alloc: Global, steps: usize) -> Result<u64, ChainInsertionError> {
+fn rotate<P: PtrCore, A: ChainArenaTrait<P, u64, Alloc = Global> + Drop>(
+    alloc: Global,
+    steps: usize,
+) -> Result<u64, ChainInsertionError> {
     let mut sequence = Sequence::new();
-    let (mut chains, first, last) = filled(alloc, &mut sequence)?;
+    let (mut chains, first, last) = filled::<P, A>(alloc, &mut sequence)?;
     let _ = chains.connect(last, first);
     let mut at = first.inx();
     let mut sum = 0u64;
@@ -81,9 +113,12 @@ fn rotate(alloc: Global, steps: usize) -> Result<u64, ChainInsertionError> {
 }
 
 // A walk along the chain by an advancer and a read of each link, again and again.
-fn walk(alloc: Global, steps: usize) -> Result<u64, ChainInsertionError> {
+fn walk<P: PtrCore, A: ChainArenaTrait<P, u64, Alloc = Global> + Drop>(
+    alloc: Global,
+    steps: usize,
+) -> Result<u64, ChainInsertionError> {
     let mut sequence = Sequence::new();
-    let (chains, first, _) = filled(alloc, &mut sequence)?;
+    let (chains, first, _) = filled::<P, A>(alloc, &mut sequence)?;
     let mut sum = 0u64;
     let Some(mut links) = chains.advancer_chain(first) else {
         return Ok(sum);
@@ -110,9 +145,12 @@ fn walk(alloc: Global, steps: usize) -> Result<u64, ChainInsertionError> {
 }
 
 // The same by an iterator.
-fn iterate(alloc: Global, steps: usize) -> Result<u64, ChainInsertionError> {
+fn iterate<P: PtrCore, S: ChainSlots<P, u64, Alloc = Global>>(
+    alloc: Global,
+    steps: usize,
+) -> Result<u64, ChainInsertionError> {
     let mut sequence = Sequence::new();
-    let (chains, first, _) = filled(alloc, &mut sequence)?;
+    let (chains, first, _) = filled::<P, ChainArena<P, u64, S>>(alloc, &mut sequence)?;
     let mut sum = 0u64;
     let mut left = steps;
     for _ in 0..steps / LEN + 1 {
@@ -134,9 +172,12 @@ fn iterate(alloc: Global, steps: usize) -> Result<u64, ChainInsertionError> {
 }
 
 // Each step takes the first link out and puts it at the end.
-fn turn(alloc: Global, steps: usize) -> Result<u64, ChainInsertionError> {
+fn turn<P: PtrCore, A: ChainArenaTrait<P, u64, Alloc = Global> + Drop>(
+    alloc: Global,
+    steps: usize,
+) -> Result<u64, ChainInsertionError> {
     let mut sequence = Sequence::new();
-    let (mut chains, first, last) = filled(alloc, &mut sequence)?;
+    let (mut chains, first, last) = filled::<P, A>(alloc, &mut sequence)?;
     let mut first = first.inx();
     let mut last = last.inx();
     let mut sum = 0u64;

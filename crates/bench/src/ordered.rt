@@ -1,12 +1,18 @@
-//! The operations on an ordered arena, as `bench/plain/ordered.rs` has them.
+//! The operations on an ordered arena, as `bench/plain/ordered.rs` has them. They are generic in the pointer and the stack, which
+//! is proved in far less time.
 use crate::sequence::with;
 use std::alloc::Global;
-use triple_arena::{InvalidationResult, P0};
-use triple_arena_ord::{HeapOrdArena, OrdInsertionError, OrdPair, Probes};
+use triple_arena::{ArenaSlot, InvalidationResult, NonZeroInxVec, P0, PtrCore};
+use triple_arena_chain::LinkNoGen;
+use triple_arena_ord::{
+    OrdInsertionError, OrdPair, OrdSlots, Probes, SimpleOrdArena, SimpleOrdArenaNode,
+};
 
 type Item = OrdPair<u64, u64>;
 
-type Ordered = HeapOrdArena<P0, Item, Global>;
+type Ordered<P, S> = SimpleOrdArena<P, Item, S>;
+
+type Slots = NonZeroInxVec<ArenaSlot<P0, LinkNoGen<P0, SimpleOrdArenaNode<P0, Item>>>, Global>;
 
 /// Fills an arena with so many entries under shuffled keys, runs so many steps of an operation, and answers a checksum.
 ///
@@ -19,7 +25,17 @@ pub fn run(
     len: usize,
     steps: usize,
 ) -> Option<Result<u64, OrdInsertionError>> {
-    let (mut arena, pointers) = match filled(alloc, len) {
+    run_over::<P0, Slots>(operation, alloc, len, steps)
+}
+
+// Over this kind of stack.
+fn run_over<P: PtrCore, S: OrdSlots<P, Item, Alloc = Global>>(
+    operation: &str,
+    alloc: Global,
+    len: usize,
+    steps: usize,
+) -> Option<Result<u64, OrdInsertionError>> {
+    let (mut arena, pointers) = match filled::<P, S>(alloc, len) {
         Ok(filled) => filled,
         Err(refused) => return Some(Err(refused)),
     };
@@ -44,8 +60,11 @@ fn key(n: usize) -> u64 {
 }
 
 // So many entries, and their pointers.
-fn filled(alloc: Global, len: usize) -> Result<(Ordered, Vec<P0>), OrdInsertionError> {
-    let mut arena = Ordered::new(alloc);
+fn filled<P: PtrCore, S: OrdSlots<P, Item, Alloc = Global>>(
+    alloc: Global,
+    len: usize,
+) -> Result<(Ordered<P, S>, Vec<P>), OrdInsertionError> {
+    let mut arena = Ordered::<P, S>::new(alloc);
     let mut pointers = Vec::with_capacity(alloc, len).map_err(|_| OrdInsertionError::AllocError)?;
     for n in 0..len {
         let (p, _) = arena.insert(OrdPair::new(key(n), n as u64))?;
@@ -54,7 +73,11 @@ fn filled(alloc: Global, len: usize) -> Result<(Ordered, Vec<P0>), OrdInsertionE
     Ok((arena, pointers))
 }
 
-fn find(arena: &Ordered, len: usize, steps: usize) -> u64 {
+fn find<P: PtrCore, S: OrdSlots<P, Item, Alloc = Global>>(
+    arena: &Ordered<P, S>,
+    len: usize,
+    steps: usize,
+) -> u64 {
     let mut sum = 0u64;
     let mut n = 0usize;
     for _ in 0..steps {
@@ -71,7 +94,10 @@ fn find(arena: &Ordered, len: usize, steps: usize) -> u64 {
     sum
 }
 
-fn remove(arena: &mut Ordered, steps: usize) -> u64 {
+fn remove<P: PtrCore, S: OrdSlots<P, Item, Alloc = Global>>(
+    arena: &mut Ordered<P, S>,
+    steps: usize,
+) -> u64 {
     let mut sum = 0u64;
     for n in 0..steps {
         if let Some(p) = arena.find_key(&key(n)) {
@@ -83,7 +109,11 @@ fn remove(arena: &mut Ordered, steps: usize) -> u64 {
     sum
 }
 
-fn cancel(arena: &mut Ordered, pointers: &[P0], steps: usize) -> u64 {
+fn cancel<P: PtrCore, S: OrdSlots<P, Item, Alloc = Global>>(
+    arena: &mut Ordered<P, S>,
+    pointers: &[P],
+    steps: usize,
+) -> u64 {
     let mut sum = 0u64;
     for p in pointers.iter().take(steps) {
         if let InvalidationResult::Success(item) = arena.remove(*p) {
@@ -93,7 +123,10 @@ fn cancel(arena: &mut Ordered, pointers: &[P0], steps: usize) -> u64 {
     sum
 }
 
-fn walk(arena: &Ordered, steps: usize) -> u64 {
+fn walk<P: PtrCore, S: OrdSlots<P, Item, Alloc = Global>>(
+    arena: &Ordered<P, S>,
+    steps: usize,
+) -> u64 {
     let mut sum = 0u64;
     let mut left = steps;
     for _ in 0..steps {
@@ -112,7 +145,10 @@ fn walk(arena: &Ordered, steps: usize) -> u64 {
 }
 
 // The most comparisons that the search for a key takes, and those of the searches for all keys together.
-fn comparisons(arena: &Ordered, len: usize) -> (u64, u64) {
+fn comparisons<P: PtrCore, S: OrdSlots<P, Item, Alloc = Global>>(
+    arena: &Ordered<P, S>,
+    len: usize,
+) -> (u64, u64) {
     let mut most = 0u64;
     let mut all = 0u64;
     for n in 0..len {

@@ -1,3 +1,4 @@
+mod calls;
 mod documents;
 mod examples;
 mod order_books;

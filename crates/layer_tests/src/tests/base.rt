@@ -4,16 +4,17 @@
 ghost use Rattle.std.specs.Prelude.{◌≡◌};
 
 use crate::tests::calls::{remove, store};
-use crate::tests::values::{Counted, Scarce, are, hold, shows};
+use crate::tests::values::{Counted, Scarce, are, hold, shows, shows_long};
 use std::alloc::Global;
 use std::cell::Cell;
+use std::fmt::Debug;
 use std::num::{NonZeroU64, NonZeroU128, NonZeroUsize};
 use std::process::Abort;
 use triple_arena::{
     Arena, ArenaCloneFromWith, ArenaDirectInsertEntryTrait, ArenaDirectInsertTrait, ArenaSlot,
     ArenaSlots, ArenaTrait, ArenaTransferTrait, DirectArena, DirectSlot, DirectSlots,
-    InvalidationOption, InvalidationResult, NonZeroInxArray, NonZeroInxLimitedVec, NonZeroInxVec,
-    P0, P1, P4, P5, Ptr, PtrCore,
+    InvalidationOption, InvalidationResult, NonZeroInxArray, NonZeroInxVec, P0, P1, P4, P5, Ptr,
+    PtrCore,
 };
 
 type Two<P, T> = NonZeroInxArray<ArenaSlot<P, T>, 2>;
@@ -48,19 +49,49 @@ fn put<P: PtrCore, T: Drop, S: DirectSlots<P, T>>(
     }
 }
 
+// An arena's text.
+fn arena_shows<P: Ptr, T: Debug + Drop, S: ArenaSlots<P, T>>(
+    rt: &(impl Abort + Alloc),
+    arena: &Arena<P, T, S>,
+    text: &str,
+) {
+    shows(rt, arena, text);
+}
+
+// The word that a pointer points to goes.
+fn takes_word<P: PtrCore, S: ArenaSlots<P, &'static str>>(
+    rt: &impl Abort,
+    arena: &mut Arena<P, &'static str, S>,
+    p: P,
+    word: &str,
+) {
+    match arena.remove(p) {
+        InvalidationResult::Success(taken) => assert!(rt; taken == word),
+        _ => panic!(rt; "a word is not there"),
+    }
+    assert!(rt; arena.get(p).is_none());
+}
+
 fn texts<P: Ptr, S: ArenaSlots<P, &'static str>>(rt: &(impl Abort + Alloc), alloc: S::Alloc) {
     let mut arena = Arena::<P, &'static str, S>::new(alloc);
     let first = store(rt, &mut arena, "test");
     store(rt, &mut arena, "hello");
-    shows(rt, &arena, "{P0[1](2): \"test\", P0[2](2): \"hello\"}");
-    assert!(rt; arena.remove(first) == InvalidationResult::Success("test"));
-    assert!(rt; arena.get(first).is_none());
-    shows(rt, &arena, "{P0[2](2): \"hello\"}");
+    arena_shows(rt, &arena, "{P0[1](2): \"test\", P0[2](2): \"hello\"}");
+    takes_word(rt, &mut arena, first, "test");
+    arena_shows(rt, &arena, "{P0[2](2): \"hello\"}");
 }
 
 #[test]
 fn arenas_of_texts(rt: HostRuntime) {
     texts::<P0, Two<P0, &'static str>>(&rt, ());
+}
+
+fn direct_arena_shows<P: Ptr, T: Debug + Drop, S: DirectSlots<P, T>>(
+    rt: &(impl Abort + Alloc),
+    arena: &DirectArena<P, T, S>,
+    text: &str,
+) {
+    shows(rt, arena, text);
 }
 
 // Of these pointers two have one index, and the third is past the capacity.
@@ -75,7 +106,7 @@ fn direct_texts<P: Ptr, S: DirectSlots<P, &'static str>>(
     assert!(rt; put(&mut arena, p, "x"));
     assert!(rt; !put(&mut arena, other, "y"));
     assert!(rt; !put(&mut arena, beyond, "z"));
-    shows(rt, &arena, "{P0[3](7): \"x\"}");
+    direct_arena_shows(rt, &arena, "{P0[3](7): \"x\"}");
 }
 
 #[test]
@@ -83,13 +114,19 @@ fn direct_arenas_of_texts(rt: HostRuntime) {
     direct_texts::<P0, FourDirect<P0, &'static str>>(&rt, (), at(3, 7), at(3, 9), at(5, 2));
 }
 
+fn arena_shows_long<P: Ptr, S: ArenaSlots<P, u64>>(
+    rt: &(impl Abort + Alloc),
+    arena: &Arena<P, u64, S>,
+    text: &str,
+) {
+    shows_long(rt, arena, text);
+}
+
 fn long_text<P: Ptr, S: ArenaSlots<P, u64>>(rt: &(impl Abort + Alloc), alloc: S::Alloc) {
     let mut arena = Arena::<P, u64, S>::new(alloc);
     let p = store(rt, &mut arena, 7);
-    match format!(in rt.alloc(); "{arena:#?} {p:#?}") {
-        Ok(shown) => assert!(rt; shown.as_str() == "{\n    P0[1](2): 7,\n} P0[1](2)"),
-        Err(_) => panic!(rt; "no memory for a text"),
-    }
+    arena_shows_long(rt, &arena, "{\n    P0[1](2): 7,\n}");
+    shows_long(rt, &p, "P0[1](2)");
 }
 
 // With a line for each entry.
@@ -216,7 +253,7 @@ fn drains<P: PtrCore, S: ArenaSlots<P, u64>>(rt: &impl Abort, alloc: S::Alloc) {
     let mut drain = arena.drain();
     assert!(rt; are(drain.size_hint(), 2));
     assert!(rt; drain.next().is_some());
-    assert!(rt; are(drain.size_hint(), 1));
+    assert!(rt; drain.len() == 1);
     assert!(rt; drain.next().is_some());
     assert!(rt; are(drain.size_hint(), 0));
     assert!(rt; drain.next().is_none());
@@ -293,6 +330,16 @@ fn values_by_pointers(rt: HostRuntime) {
     reads_and_writes_directly::<P0, FourDirect<P0, u64>>(&rt, (), at(3, 7), at(3, 8));
 }
 
+// The removal tells that the generations start again. What the counter is then, it tells.
+fn removes_at_the_end<P: PtrCore, S: ArenaSlots<P, u64>>(
+    rt: &impl Abort,
+    arena: &mut Arena<P, u64, S>,
+    p: P,
+) -> P::Gen {
+    assert!(rt; arena.remove(p) == InvalidationResult::GenerationOverflow(10));
+    arena.generation()
+}
+
 // A removal of an entry with the last generation. It tells the counter behind it.
 fn removes_the_last<P: Ptr, S: ArenaSlots<P, u64>>(
     rt: &(impl Abort + Alloc),
@@ -303,11 +350,10 @@ fn removes_the_last<P: Ptr, S: ArenaSlots<P, u64>>(
     arena.set_generation(last);
     let p = store(rt, &mut arena, 10);
     shows(rt, &p, "P0[1](ffffffffffffffff)");
-    assert!(rt; arena.remove(p) == InvalidationResult::GenerationOverflow(10));
-    let counter = arena.generation();
+    let counter = removes_at_the_end(rt, &mut arena, p);
     let q = store(rt, &mut arena, 20);
-    assert!(rt; arena.get(p).is_none());
-    assert!(rt; arena.get(q) == Some(&20));
+    assert!(rt; read(&arena, p).is_none());
+    assert!(rt; read(&arena, q) == Some(20));
     counter
 }
 
@@ -330,6 +376,13 @@ fn the_last_generation_of_64_bits(rt: HostRuntime) {
     invalidates_the_last::<P0, FourDirect<P0, u64>>(&rt, (), at(2, u64::MAX), at(2, 2));
 }
 
+fn compresses_at_the_end<P: PtrCore, S: ArenaSlots<P, u64>>(
+    rt: &impl Abort,
+    arena: &mut Arena<P, u64, S>,
+) {
+    assert!(rt; arena.compress(false) == InvalidationOption::GenerationOverflow(()));
+}
+
 fn compresses_the_last<P: Ptr, S: ArenaSlots<P, u64>>(
     rt: &(impl Abort + Alloc),
     alloc: S::Alloc,
@@ -339,8 +392,8 @@ fn compresses_the_last<P: Ptr, S: ArenaSlots<P, u64>>(
     arena.set_generation(last);
     let p = store(rt, &mut arena, 10);
     shows(rt, &p, "P4[1](ffffffffffffffffffffffffffffffff)");
-    assert!(rt; arena.compress(false) == InvalidationOption::GenerationOverflow(()));
-    shows(rt, &arena, "{P4[1](2): 10}");
+    compresses_at_the_end(rt, &mut arena);
+    arena_shows(rt, &arena, "{P4[1](2): 10}");
 }
 
 #[test]
@@ -388,12 +441,12 @@ fn moves<P: Ptr, Q: Ptr, S: ArenaSlots<P, u64>, R: ArenaSlots<Q, Moved<P, Q>>>(
     source.set_generation(counter);
     let mut target = Arena::<Q, Moved<P, Q>, R>::new(target_alloc);
     moves_all(rt, &mut source, &mut target, seventh);
-    shows(
+    arena_shows(
         rt,
         &target,
         "{P0[1](7): ((P1[1](2), P0[1](7)), (10, false)), P0[2](7): ((P1[3](2), P0[2](7)), (30, true)), P0[3](7): ((P1[4](2), P0[3](7)), (40, false))}",
     );
-    assert!(rt; source.is_empty());
+    assert!(rt; source.len() == 0);
     source.generation()
 }
 
@@ -414,123 +467,6 @@ fn from_one_pointer_type_to_another(rt: HostRuntime) {
     assert!(rt; counter.get() == 3);
 }
 
-// The entries of a direct arena go to one over another pointer type.
-fn to_direct<P: PtrCore, Q: PtrCore, S: DirectSlots<P, u64>, R: DirectSlots<Q, (u64, bool)>>(
-    rt: &impl Abort,
-    source: &mut DirectArena<P, u64, S>,
-    direct: &mut DirectArena<Q, (u64, bool), R>,
-    generation: Q::Gen,
-) {
-    let moved = direct.transfer_reallocating(generation, source, |_, item, _| item.overflowing());
-    assert!(rt; moved == Ok(()));
-}
-
-// They go on to an arena.
-fn to_arena<P: PtrCore, S: DirectSlots<P, (u64, bool)>, R: ArenaSlots<P, u64>>(
-    rt: &impl Abort,
-    mut direct: DirectArena<P, (u64, bool), S>,
-    arena: &mut Arena<P, u64, R>,
-    generation: P::Gen,
-) {
-    let moved = arena.transfer_reallocating(generation, &mut direct, |_, item, _| item.allow().0);
-    assert!(rt; moved == Ok(()));
-}
-
-// And to a direct arena, with the pointers that they had.
-fn to_last<P: PtrCore, Q: PtrCore, S: ArenaSlots<P, u64>, R: DirectSlots<Q, (P, u64)>>(
-    rt: &impl Abort,
-    mut arena: Arena<P, u64, S>,
-    last: &mut DirectArena<Q, (P, u64), R>,
-    generation: Q::Gen,
-) {
-    let moved = last.transfer_reallocating(
-        generation,
-        &mut arena,
-        |from, item, _| (from, item.allow()),
-    );
-    assert!(rt; moved == Ok(()));
-}
-
-// From there to an arena, and to a direct arena over the first pointer type.
-fn goes_back<P, Q, R, A, L>(
-    rt: &(impl Abort + Alloc),
-    direct: DirectArena<Q, (u64, bool), R>,
-    alloc: A::Alloc,
-    generation: Q::Gen,
-    last_alloc: L::Alloc,
-    seventh: P::Gen,
-)
-where
-    P: Ptr,
-    Q: Ptr,
-    R: DirectSlots<Q, (u64, bool)>,
-    A: ArenaSlots<Q, u64>,
-    L: DirectSlots<P, (Q, u64)>,
-{
-    let mut arena = Arena::<Q, u64, A>::new(alloc);
-    to_arena(rt, direct, &mut arena, generation);
-    let mut last = DirectArena::<P, (Q, u64), L>::new(last_alloc);
-    to_last(rt, arena, &mut last, seventh);
-    shows(rt, &last, "{P0[1](7): (P5[1], 10), P0[2](7): (P5[2], 20)}");
-}
-
-// Two entries of a direct arena.
-fn two_entries<P: PtrCore, S: DirectSlots<P, u64>>(
-    rt: &impl Abort,
-    source: &mut DirectArena<P, u64, S>,
-    pointers: (P, P),
-) {
-    let (first, fourth) = pointers;
-    assert!(rt; put(source, fourth, 20));
-    assert!(rt; put(source, first, 10));
-}
-
-// The entries of a direct arena, which have these two pointers, go all the way.
-fn goes_on<P, Q, S, R, A, L>(
-    rt: &(impl Abort + Alloc),
-    source_alloc: S::Alloc,
-    pointers: (P, P),
-    direct_alloc: R::Alloc,
-    alloc: A::Alloc,
-    generation: Q::Gen,
-    last_alloc: L::Alloc,
-    seventh: P::Gen,
-)
-where
-    P: Ptr,
-    Q: Ptr,
-    S: DirectSlots<P, u64>,
-    R: DirectSlots<Q, (u64, bool)>,
-    A: ArenaSlots<Q, u64>,
-    L: DirectSlots<P, (Q, u64)>,
-{
-    let mut source = DirectArena::<P, u64, S>::new(source_alloc);
-    two_entries(rt, &mut source, pointers);
-    let mut direct = DirectArena::<Q, (u64, bool), R>::new(direct_alloc);
-    to_direct(rt, &mut source, &mut direct, generation);
-    shows(rt, &source, "{}");
-    shows(rt, &direct, "{P5[1]: (10, false), P5[2]: (20, false)}");
-    goes_back::<P, Q, R, A, L>(rt, direct, alloc, generation, last_alloc, seventh);
-}
-
-type Last = NonZeroInxLimitedVec<DirectSlot<P0, (P5, u64)>, Global>;
-
-// Entries go from a direct arena to one without generations, to an arena, and back.
-#[test]
-fn from_one_stack_to_another(rt: HostRuntime) {
-    let pointers = (at(1, 7), at(4, u64::MAX));
-    goes_on::<P0, P5, FourDirect<P0, u64>, HeapDirect<P5, (u64, bool)>, Two<P5, u64>, Last>(
-        &rt,
-        (),
-        pointers,
-        rt.alloc(),
-        (),
-        (),
-        rt.alloc(),
-        seventh(),
-    );
-}
-
 fn copy_shows<P: Ptr, S: ArenaSlots<P, u64>, R: ArenaSlots<P, (P, bool)>>(
     rt: &(impl Abort + Alloc),
     copy: &Arena<P, (P, bool), R>,
@@ -538,7 +474,7 @@ fn copy_shows<P: Ptr, S: ArenaSlots<P, u64>, R: ArenaSlots<P, (P, bool)>>(
 ) {
     assert!(rt; copy.capacity() == 2);
     assert!(rt; copy.generation() == source.generation());
-    shows(rt, copy, "{P1[2](2): (P1[2](2), true)}");
+    arena_shows(rt, copy, "{P1[2](2): (P1[2](2), true)}");
 }
 
 fn copies_onto<P: PtrCore, S: ArenaSlots<P, u64>, R: ArenaSlots<P, (P, bool)>>(
@@ -550,22 +486,10 @@ fn copies_onto<P: PtrCore, S: ArenaSlots<P, u64>, R: ArenaSlots<P, (P, bool)>>(
     assert!(rt; made == Ok(()));
 }
 
-fn mirrors<P: Ptr, S: ArenaSlots<P, (P, bool)>, R: DirectSlots<P, u64>>(
-    rt: &(impl Abort + Alloc),
-    copy: &Arena<P, (P, bool), S>,
-    alloc: R::Alloc,
-) {
-    let mut mirror = DirectArena::<P, u64, R>::new(alloc);
-    let made = mirror.clone_from_with(copy, |_, value| Ok(u64::from(value.1)));
-    assert!(rt; made == Ok(()));
-    shows(rt, &mirror, "{P1[2](2): 1}");
-}
-
-fn copies<P: Ptr, S: ArenaSlots<P, u64>, R: ArenaSlots<P, (P, bool)>, D: DirectSlots<P, u64>>(
+fn copies<P: Ptr, S: ArenaSlots<P, u64>, R: ArenaSlots<P, (P, bool)>>(
     rt: &(impl Abort + Alloc),
     alloc: S::Alloc,
     copy_alloc: R::Alloc,
-    mirror_alloc: D::Alloc,
 ) {
     let mut source = Arena::<P, u64, S>::new(alloc);
     let mut copy = Arena::<P, (P, bool), R>::new(copy_alloc);
@@ -574,18 +498,12 @@ fn copies<P: Ptr, S: ArenaSlots<P, u64>, R: ArenaSlots<P, (P, bool)>, D: DirectS
     remove(rt, &mut source, gone);
     copies_onto(rt, &mut copy, &source);
     copy_shows(rt, &copy, &source);
-    mirrors::<P, R, D>(rt, &copy, mirror_alloc);
 }
 
 // A copy has the pointers of an arena over another stack, with values of another type.
 #[test]
 fn a_copy_over_another_stack(rt: HostRuntime) {
-    copies::<P1, Four<P1, u64>, Heap<P1, (P1, bool)>, HeapDirect<P1, u64>>(
-        &rt,
-        (),
-        rt.alloc(),
-        rt.alloc(),
-    );
+    copies::<P1, Four<P1, u64>, Heap<P1, (P1, bool)>>(&rt, (), rt.alloc());
 }
 
 // Two such numbers.
@@ -664,33 +582,33 @@ fn is_cloned_directly_onto<P: PtrCore, T: Clone, S: DirectSlots<P, T>>(
     assert!(rt; copy.len() == (if made { 2 } else { 0 }));
 }
 
-// A direct arena becomes a clone of an arena.
-fn is_mirrored<P: PtrCore, T: Clone, S: ArenaSlots<P, T>, R: DirectSlots<P, T>>(
+// Two such numbers in a direct arena.
+fn two_scarce_directly<'a, P: PtrCore, S: DirectSlots<P, Scarce<'a>>>(
     rt: &impl Abort,
-    source: &Arena<P, T, S>,
-    mirror: &mut DirectArena<P, T, R>,
+    arena: &mut DirectArena<P, Scarce<'a>, S>,
+    pointers: (P, P),
+    left: &'a Cell<u8>,
 ) {
-    let made = mirror.clone_from_with(source, |_, item| item.clone());
-    assert!(rt; made == Ok(()));
+    let (first, second) = pointers;
+    assert!(rt; arena.reallocate_min_capacity(2).is_ok());
+    assert!(rt; put(arena, first, Scarce { value: 10, left }));
+    assert!(rt; put(arena, second, Scarce { value: 20, left }));
 }
 
-fn clones_directly<'a, P, H, S, R>(rt: &impl Abort, alloc: H, left: &'a Cell<u8>, calls: u8)
-where
-    P: PtrCore,
-    H: Copy,
-    S: ArenaSlots<P, Scarce<'a>, Alloc = H>,
-    R: DirectSlots<P, Scarce<'a>, Alloc = H>,
-{
-    let mut source = Arena::<P, Scarce<'a>, S>::new(alloc);
-    two_scarce(rt, &mut source, left);
-    left.set(2);
-    let mut mirror = DirectArena::<P, Scarce<'a>, R>::new(alloc);
-    is_mirrored(rt, &source, &mut mirror);
+fn clones_directly<'a, P: PtrCore, H: Copy, S: DirectSlots<P, Scarce<'a>, Alloc = H>>(
+    rt: &impl Abort,
+    alloc: H,
+    pointers: (P, P),
+    left: &'a Cell<u8>,
+    calls: u8,
+) {
+    let mut source = DirectArena::<P, Scarce<'a>, S>::new(alloc);
+    two_scarce_directly(rt, &mut source, pointers, left);
     left.set(calls);
-    is_cloned_directly(rt, &mirror, alloc, 2 <= calls);
+    is_cloned_directly(rt, &source, alloc, 2 <= calls);
     left.set(calls);
-    let mut other = DirectArena::<P, Scarce<'a>, R>::new(alloc);
-    is_cloned_directly_onto(rt, &mirror, &mut other, 2 <= calls);
+    let mut copy = DirectArena::<P, Scarce<'a>, S>::new(alloc);
+    is_cloned_directly_onto(rt, &source, &mut copy, 2 <= calls);
 }
 
 #[test]
@@ -698,9 +616,11 @@ fn the_clone_of_each_value_is_refused(rt: HostRuntime) {
     let left = Cell::new(0);
     for calls in 0..4u8 {
         clones::<P0, Global, Heap<P0, Scarce<'_>>>(&rt, rt.alloc(), &left, calls);
-        clones_directly::<P0, Global, Heap<P0, Scarce<'_>>, HeapDirect<P0, Scarce<'_>>>(
+        let pointers = (at(1, 2), at(2, 2));
+        clones_directly::<P0, Global, HeapDirect<P0, Scarce<'_>>>(
             &rt,
             rt.alloc(),
+            pointers,
             &left,
             calls,
         );

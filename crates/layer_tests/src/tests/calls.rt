@@ -10,7 +10,7 @@ pub fn store<P: PtrCore, T: Drop, S: ArenaSlots<P, T>>(
     arena: &mut Arena<P, T, S>,
     value: T,
 ) -> P {
-    match arena.insert(value) {
+    match arena.insert_reallocating(value) {
         Ok(p) => p,
         Err(_) => panic!(rt; "a value is not stored"),
     }

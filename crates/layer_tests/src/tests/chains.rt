@@ -13,8 +13,7 @@ use triple_arena::{
     ArenaSlot, ArenaTrait, NonZeroInxArray, NonZeroInxVec, P0, Ptr, PtrCore, ReallocationError,
 };
 use triple_arena_chain::{
-    ArrayChainArena, ChainArena, ChainArenaTrait, ChainInsertionError, ChainSlots, Link,
-    LinkInsertKind, LinkNoGen,
+    ArrayChainArena, ChainArena, ChainArenaTrait, ChainSlots, Link, LinkInsertKind, LinkNoGen,
 };
 
 type Slot<T> = ArenaSlot<P0, LinkNoGen<P0, T>>;
@@ -31,27 +30,24 @@ fn displays<A: Display>(rt: &(impl Abort + Alloc), value: &A, text: &str) {
     }
 }
 
-// A list of two words, the second one before the first.
-fn two_words<P: Ptr, S: ChainSlots<P, &'static str>>(
-    chains: &mut ChainArena<P, &'static str, S>,
-) -> Result<P, ChainInsertionError> {
-    let p = chains.insert(LinkInsertKind::Disconnected, "test")?;
-    chains.insert(LinkInsertKind::PrevTo(p), "hello")?;
-    Ok(p)
+fn let_go<P: PtrCore, T: Drop, S: ChainSlots<P, T>>(
+    rt: &impl Abort,
+    chains: &mut ChainArena<P, T, S>,
+    p: P,
+) {
+    assert!(rt; chains.remove_link_no_gen(p).is_success());
 }
 
-// The texts of an arena of words without one, with two, and with one.
+// The texts of an arena of words without one, with two of which the second is before the first, and with one.
 fn texts_of_words<P: Ptr, S: ChainSlots<P, &'static str>>(
     rt: &(impl Abort + Alloc),
     mut chains: ChainArena<P, &'static str, S>,
 ) {
     shows(rt, &chains, "{}");
-    let p = match two_words(&mut chains) {
-        Ok(p) => p,
-        Err(_) => panic!(rt; "a word is not stored"),
-    };
+    let p = link(rt, &mut chains, LinkInsertKind::Disconnected, "test");
+    link(rt, &mut chains, LinkInsertKind::PrevTo(p), "hello");
     shows(rt, &chains, "{P0[1](2): \"test\", P0[2](2): \"hello\"}");
-    assert!(rt; chains.remove_link_no_gen(p).is_success());
+    let_go(rt, &mut chains, p);
     shows(rt, &chains, "{P0[2](2): \"hello\"}");
 }
 
@@ -170,12 +166,26 @@ fn ring<P: PtrCore, S: ChainSlots<P, u64>>(
     (a, b, c)
 }
 
-// The bounds of the iterators over three links.
-fn sizes<P: Ptr, S: ChainSlots<P, u64>>(rt: &impl Abort, chains: &ChainArena<P, u64, S>, first: P) {
-    let mut entries = chains.iter();
+// An iterator over three entries, of which this one is the first.
+fn sizes_of_entries<'a, P: PtrCore + PartialEq, I: Iterator<Item = (P, &'a u64)> + Drop>(
+    rt: &impl Abort,
+    mut entries: I,
+    first: P,
+)
+    requires { (items : I) → I.can_next items }
+{
     assert!(rt; hold(entries.size_hint(), 3));
     assert!(rt; entries.next() == Some((first, &1)));
     assert!(rt; hold(entries.size_hint(), 2));
+}
+
+// The bounds of the iterators over three links.
+fn sizes<P: PtrCore + PartialEq, S: ChainSlots<P, u64>>(
+    rt: &impl Abort,
+    chains: &ChainArena<P, u64, S>,
+    first: P,
+) {
+    sizes_of_entries(rt, chains.iter(), first);
     assert!(rt; hold(chains.vals().size_hint(), 3));
     assert!(rt; hold(chains.ptrs().size_hint(), 3));
 }
@@ -190,7 +200,7 @@ fn sizes_of_drain<P: PtrCore, S: ChainSlots<P, u64>>(
     assert!(rt; are(drain.size_hint(), 2));
 }
 
-fn sizes_of_ring<P: Ptr, S: ChainSlots<P, u64>>(rt: &impl Abort, alloc: S::Alloc) {
+fn sizes_of_ring<P: PtrCore + PartialEq, S: ChainSlots<P, u64>>(rt: &impl Abort, alloc: S::Alloc) {
     let mut chains = ChainArena::<P, u64, S>::new(alloc);
     let (a, _, _) = ring(rt, &mut chains);
     sizes(rt, &chains, a);
@@ -203,22 +213,31 @@ fn sizes_of_iterators(rt: HostRuntime) {
     sizes_of_ring::<P0, Three<u64>>(&rt, ());
 }
 
-// An entry is this one.
-fn is_entry<P: Ptr>(rt: &impl Abort, entry: Option<(P, u64)>, p: P, value: u64) {
-    assert!(rt; entry == Some((p, value)));
-}
-
-fn entries_of_ring<P: Ptr, S: ChainSlots<P, u64>>(rt: &impl Abort, alloc: S::Alloc) {
-    let mut chains = ChainArena::<P, u64, S>::new(alloc);
-    let (a, b, c) = ring(rt, &mut chains);
-    let mut entries = chains.into_iter();
+// An iterator gives three entries, and tells how many are left.
+fn gives<P: PtrCore + PartialEq, I: Iterator<Item = (P, u64)> + Drop>(
+    rt: &impl Abort,
+    mut entries: I,
+    wanted: (P, P, P),
+)
+    requires { (items : I) → I.can_next items }
+{
+    let (a, b, c) = wanted;
     assert!(rt; are(entries.size_hint(), 3));
-    is_entry(rt, entries.next(), a, 1);
-    is_entry(rt, entries.next(), b, 2);
+    assert!(rt; entries.next() == Some((a, 1)));
+    assert!(rt; entries.next() == Some((b, 2)));
     assert!(rt; are(entries.size_hint(), 1));
-    is_entry(rt, entries.next(), c, 3);
+    assert!(rt; entries.next() == Some((c, 3)));
     assert!(rt; entries.next().is_none());
     assert!(rt; are(entries.size_hint(), 0));
+}
+
+fn entries_of_ring<P: PtrCore + PartialEq, S: ChainSlots<P, u64>>(
+    rt: &impl Abort,
+    alloc: S::Alloc,
+) {
+    let mut chains = ChainArena::<P, u64, S>::new(alloc);
+    let wanted = ring(rt, &mut chains);
+    gives(rt, chains.into_iter(), wanted);
 }
 
 // A chain arena that is taken gives its pointers and values in the order of the indexes.
@@ -258,7 +277,7 @@ fn three_counted<'a, P: PtrCore, S: ChainSlots<P, Counted<'a>>>(
     a
 }
 
-fn lets_go<'a, P: Ptr, S: ChainSlots<P, Counted<'a>>>(
+fn lets_go<'a, P: PtrCore + PartialEq, S: ChainSlots<P, Counted<'a>>>(
     rt: &impl Abort,
     alloc: S::Alloc,
     left: &'a Cell<u8>,
@@ -371,7 +390,7 @@ fn is_answer<P: PtrCore, T: Drop, S: ChainSlots<P, T>>(
 ) {
     if calls < 2 {
         assert!(rt; answer == Err(ReallocationError::AllocError));
-        assert!(rt; copy.is_empty());
+        assert!(rt; copy.len() == 0);
     } else {
         assert!(rt; answer == Ok(()));
         is_ring_of_two(rt, copy, a, b);

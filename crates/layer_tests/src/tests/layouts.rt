@@ -2,7 +2,7 @@
 use crate::tests::calls::link;
 use std::alloc::Global;
 use std::process::Abort;
-use triple_arena::{ArenaSlot, ArenaTrait, NonZeroInxVec, P0, Ptr, PtrCore, PtrInxCore};
+use triple_arena::{ArenaSlot, ArenaTrait, NonZeroInxVec, P0, PtrCore, PtrInxCore};
 use triple_arena_chain::{ChainArena, ChainArenaTrait, ChainSlots, LinkInsertKind, LinkNoGen};
 
 type Heap = NonZeroInxVec<ArenaSlot<P0, LinkNoGen<P0, u64>>, Global>;
@@ -80,6 +80,10 @@ fn kind<P: PtrCore>(seed: u64, last: P) -> LinkInsertKind<P> {
     }
 }
 
+fn let_go<P: PtrCore, S: ChainSlots<P, u64>>(chains: &mut ChainArena<P, u64, S>, p: P) {
+    let _ = chains.remove(p);
+}
+
 // Links in many lists and rings, by a fixed sequence of draws.
 fn many<P: PtrCore, S: ChainSlots<P, u64>>(rt: &impl Abort, chains: &mut ChainArena<P, u64, S>) {
     let mut seed: u64 = 12345;
@@ -88,7 +92,7 @@ fn many<P: PtrCore, S: ChainSlots<P, u64>>(rt: &impl Abort, chains: &mut ChainAr
         seed = drawn(seed);
         let p = link(rt, chains, kind(seed, last), step);
         if (seed >> 40) % 5 == 0 {
-            let _ = chains.remove(last);
+            let_go(chains, last);
         }
         last = p;
     }
@@ -109,7 +113,7 @@ fn is_laid_out<P: PtrCore, S: ChainSlots<P, u64>>(
 }
 
 // Each link stands where it stood.
-fn is_unmoved<P: Ptr, S: ChainSlots<P, u64>>(
+fn is_unmoved<P: PtrCore + PartialEq, S: ChainSlots<P, u64>>(
     rt: &impl Abort,
     chains: &ChainArena<P, u64, S>,
     before: &ChainArena<P, u64, S>,
@@ -131,15 +135,25 @@ fn copied<P: PtrCore, H: Copy, S: ChainSlots<P, u64, Alloc = H>>(
     }
 }
 
+fn compresses<P: PtrCore, S: ChainSlots<P, u64>>(
+    rt: &impl Abort,
+    chains: &mut ChainArena<P, u64, S>,
+) {
+    assert!(rt; chains.compress_canonical(true).is_success());
+}
+
 // Each chain is a run, and no value gets another one behind it. A second call moves nothing.
-fn lays_out<P: Ptr, H: Copy, S: ChainSlots<P, u64, Alloc = H>>(rt: &impl Abort, alloc: H) {
+fn lays_out<P: PtrCore + PartialEq, H: Copy, S: ChainSlots<P, u64, Alloc = H>>(
+    rt: &impl Abort,
+    alloc: H,
+) {
     let mut chains = ChainArena::<P, u64, S>::new(alloc);
     many(rt, &mut chains);
     let before = copied(rt, &chains, alloc);
-    assert!(rt; chains.compress_canonical(true).is_success());
+    compresses(rt, &mut chains);
     is_laid_out(rt, &chains, &before);
     let first = copied(rt, &chains, alloc);
-    assert!(rt; chains.compress_canonical(true).is_success());
+    compresses(rt, &mut chains);
     is_unmoved(rt, &chains, &first);
 }
 

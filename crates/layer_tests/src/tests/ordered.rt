@@ -8,7 +8,7 @@ ghost use Rattle.std.specs.Cmp.Rules.{comparing};
 ghost use Rattle.std.specs.Ordering.{nat_cmp, on, flip_args, as_partial_cmp};
 
 use crate::tests::calls::{put_in, store};
-use crate::tests::values::{Counted, are, hashed, hold, shows, shows_long};
+use crate::tests::values::{Counted, are, counts_down, hashed, hold, shows, shows_long};
 use std::alloc::Global;
 use std::cell::Cell;
 use std::cmp::Ordering;
@@ -161,30 +161,19 @@ fn bounds<P: PtrCore, S: OrdSlots<P, Pair>>(rt: &impl Abort, few: &SimpleOrdAren
     assert!(rt; hold(few.ptrs().size_hint(), 3));
 }
 
-#[test]
-fn bounds_of_iterators(rt: HostRuntime) {
-    bounds(&rt, &three::<P0, Few<P0, Pair>>(&rt, ()));
-}
-
-fn drains<P: PtrCore, S: OrdSlots<P, Pair>>(rt: &impl Abort, alloc: S::Alloc) {
+fn counts<P: PtrCore, S: OrdSlots<P, Pair>>(rt: &impl Abort, alloc: S::Alloc) {
     let mut few = three::<P, S>(rt, alloc);
+    bounds(rt, &few);
     let mut drain = few.drain();
     assert!(rt; drain.next().is_some());
-    assert!(rt; are(drain.size_hint(), 2));
     assert!(rt; drain.len() == 2);
-}
-
-fn is_counted_down<P: PtrCore, S: OrdSlots<P, Pair>>(rt: &impl Abort, alloc: S::Alloc) {
-    let mut entries = three::<P, S>(rt, alloc).into_iter();
-    assert!(rt; are(entries.size_hint(), 3));
-    assert!(rt; entries.next().is_some());
-    assert!(rt; are(entries.size_hint(), 2));
+    assert!(rt; drain.next().is_some());
+    assert!(rt; are(drain.size_hint(), 1));
 }
 
 #[test]
-fn bounds_of_drains(rt: HostRuntime) {
-    drains::<P0, Few<P0, Pair>>(&rt, ());
-    is_counted_down::<P0, Few<P0, Pair>>(&rt, ());
+fn bounds_of_iterators(rt: HostRuntime) {
+    counts::<P0, Few<P0, Pair>>(&rt, ());
 }
 
 type Counting<'a> = OrdPair<u64, Counted<'a>>;
@@ -227,21 +216,35 @@ fn an_arena_by_value_let_go_half_way(rt: HostRuntime) {
     lets_go::<P0, Heap<P0, Counting<'_>>>(&rt, rt.alloc(), &dropped);
 }
 
-fn goes_to_the_end<P: PtrCore, S: OrdSlots<P, Pair>>(rt: &impl Abort, alloc: S::Alloc) {
-    let mut entries = three::<P, S>(rt, alloc).into_iter();
-    for key in [10, 20, 30] {
-        match entries.next() {
-            Some((_, item)) => assert!(rt; *item.k() == key),
-            None => panic!(rt; "an entry is not given"),
-        }
+// The key of the next entry, if there is one.
+fn next_key<P: Drop, I: Iterator<Item = (P, Pair)> + Drop>(entries: &mut I) -> Option<u64>
+    requires { I.can_next entries.old }
+{
+    match entries.next() {
+        Some((_, item)) => Some(*item.k()),
+        None => None,
     }
-    assert!(rt; entries.next().is_none());
-    assert!(rt; entries.next().is_none());
+}
+
+// An iterator gives three keys that rise, and then nothing more.
+fn goes_to_the_end<P: Drop, I: Iterator<Item = (P, Pair)> + Drop>(rt: &impl Abort, mut entries: I)
+    requires { (items : I) → I.can_next items }
+{
+    assert!(rt; next_key(&mut entries) == Some(10));
+    assert!(rt; next_key(&mut entries) == Some(20));
+    assert!(rt; next_key(&mut entries) == Some(30));
+    assert!(rt; next_key(&mut entries) == None);
+    assert!(rt; next_key(&mut entries) == None);
+}
+
+fn arenas_to_the_end<P: PtrCore, S: OrdSlots<P, Pair, Alloc = ()>>(rt: &impl Abort) {
+    counts_down(rt, three::<P, S>(rt, ()).into_iter(), 3);
+    goes_to_the_end(rt, three::<P, S>(rt, ()).into_iter());
 }
 
 #[test]
 fn an_arena_by_value_to_its_end(rt: HostRuntime) {
-    goes_to_the_end::<P0, Few<P0, Pair>>(&rt, ());
+    arenas_to_the_end::<P0, Few<P0, Pair>>(&rt);
 }
 
 // An item that is replaced is given back.
@@ -340,7 +343,7 @@ fn three_tasks<P: PtrCore, S: OrdSlots<P, Task>>(
 }
 
 // A task that is due at the same time takes the place of the other one, with its pointer.
-fn replaces_lunch<P: Ptr, S: OrdSlots<P, Task>>(
+fn replaces_lunch<P: PtrCore + PartialEq, S: OrdSlots<P, Task>>(
     rt: &impl Abort,
     tasks: &mut SimpleOrdArena<P, Task, S>,
     lunch: P,
@@ -351,7 +354,7 @@ fn replaces_lunch<P: Ptr, S: OrdSlots<P, Task>>(
     assert!(rt; replaced.map(|task| task.name) == Some("lunch"));
 }
 
-fn finds_and_removes<P: Ptr, S: OrdSlots<P, Task>>(
+fn finds_and_removes<P: PtrCore + PartialEq, S: OrdSlots<P, Task>>(
     rt: &impl Abort,
     tasks: &mut SimpleOrdArena<P, Task, S>,
     lunch: P,
@@ -361,7 +364,7 @@ fn finds_and_removes<P: Ptr, S: OrdSlots<P, Task>>(
     assert!(rt; tasks.remove(lunch).is_success());
 }
 
-fn goes_through_a_day<P: Ptr, S: OrdSlots<P, Task>>(
+fn goes_through_a_day<P: PtrCore + PartialEq, S: OrdSlots<P, Task>>(
     rt: &impl Abort,
     mut tasks: SimpleOrdArena<P, Task, S>,
 ) {
@@ -483,25 +486,24 @@ const CASES: [(u64, u64, u64); 6] = [
 
 fn searches<P: PtrCore, S: OrdSlots<P, Falls>>(
     rt: &impl Abort,
-    arena: &SimpleOrdArena<P, Falls, S>,
+    alloc: S::Alloc,
     n: u64,
     list: u64,
     most: u64,
 ) {
-    assert!(rt; SimpleOrdArena::<P, Falls, S>::_check_invariants(arena).is_ok());
-    assert!(rt; digits(arena) == list);
+    let arena = falls::<P, S>(rt, alloc, n);
+    assert!(rt; SimpleOrdArena::<P, Falls, S>::_check_invariants(&arena).is_ok());
+    assert!(rt; digits(&arena) == list);
     for key in 0..9u64 {
-        assert!(rt; finds(rt, arena, key, most) == (1 <= key && key <= n));
-        finds_the_nearest(rt, arena, key, n);
+        assert!(rt; finds(rt, &arena, key, most) == (1 <= key && key <= n));
+        finds_the_nearest(rt, &arena, key, n);
     }
 }
 
 #[test]
 fn keys_in_falling_order(rt: HostRuntime) {
     for (n, list, most) in CASES {
-        let arena = falls::<P0, Heap<P0, Falls>>(&rt, rt.alloc(), n);
-        searches(&rt, &arena, n, list, most);
-        let arena = falls::<P1, Few<P1, Falls>>(&rt, (), n);
-        searches(&rt, &arena, n, list, most);
+        searches::<P0, Heap<P0, Falls>>(&rt, rt.alloc(), n, list, most);
+        searches::<P1, Few<P1, Falls>>(&rt, (), n, list, most);
     }
 }

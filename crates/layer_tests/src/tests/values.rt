@@ -41,6 +41,22 @@ pub fn are(bounds: (usize, Option<usize>), count: usize) -> bool {
     bounds == (count, Some(count))
 }
 
+/// An iterator gives so many items, and its bounds are how many are left.
+pub fn counts_down<T: Drop, I: Iterator<Item = T> + Drop>(
+    rt: &impl Abort,
+    mut items: I,
+    count: usize,
+)
+    requires { (items : I) → I.can_next items }
+{
+    for given in 0..count {
+        assert!(rt; are(items.size_hint(), count.saturating_sub(given)));
+        assert!(rt; items.next().is_some());
+    }
+    assert!(rt; are(items.size_hint(), 0));
+    assert!(rt; items.next().is_none());
+}
+
 /// A value that adds itself to a sum when it is dropped.
 pub struct Counted<'a> {
     pub value: u64,

@@ -3,4 +3,4 @@ use Rattle.bench.proofs.arenas.churn.Given as goal
 
 -- the table keeps its length
 abbrev pub invariant-loop : goal.invariant-loop
-invariant-loop l = length l.table ≡ 4096
+invariant-loop g l = length l.table ≡ 4096
