@@ -2,12 +2,16 @@ pub mod CommandLineLemmas
 pub mod CutLemmas
 pub mod GrammarLemmas
 pub mod LineTextLemmas
+pub mod LinkLemmas
 pub mod NewStopLemmas
 pub mod NumberLemmas
+pub mod RelinkLemmas
 pub mod ReplyLemmas
 pub mod RouteLemmas
 pub mod RunLemmas
+pub mod SameRoutesLemmas
 pub mod SoundLemmas
+pub mod UndoLemmas
 pub mod UnfinishedLemmas
 pub mod WordLemmas
 pub mod WrittenLemmas

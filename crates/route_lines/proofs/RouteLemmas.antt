@@ -20,7 +20,7 @@ total-insert weight new (r ∷ routes) = at (nat_lt (first_ticket new) (first_ti
     at true e = total-append weight new.stops (stop_list (r ∷ routes))
     at false e = omega (arith, e, total-append weight r.stops (stop_list (insert_route new routes)), total-append weight r.stops (stop_list routes))
 
-all_insert_route : (P : Route → Type 0) (new : Route) (routes : List Route) → P new → AllByRecursion P routes → AllByRecursion P (insert_route new routes)
+pub all_insert_route : (P : Route → Type 0) (new : Route) (routes : List Route) → P new → AllByRecursion P routes → AllByRecursion P (insert_route new routes)
 all_insert_route P new [] p h = (p, tt)
 all_insert_route P new (r ∷ routes) p h = at (nat_lt (first_ticket new) (first_ticket r)) (all_insert_route P new routes p h.1)
   where
@@ -68,7 +68,7 @@ all_stops_put P new routes p h = at (length new.stops == 0)
     at false = all_stops_insert P new routes p h
 
 -- a route's first ticket is one of its stops'
-first_counts : (stops : List Stop) → 0 < length stops → 1 ≤ count_of (has_ticket (first_ticket (linear stops))) stops
+pub first_counts : (stops : List Stop) → 0 < length stops → 1 ≤ count_of (has_ticket (first_ticket (linear stops))) stops
 first_counts [] some = absurd (omega (arith, some))
 first_counts (t ∷ stops) some = omega (arith, ap {B = ℕ} (λ b. cond b 1 0) (eq-eqb t.ticket t.ticket refl))
 
@@ -316,7 +316,7 @@ all_linked P s u routes h = at (list_any (has_ticket u) (stops_with s routes))
 -- ---- cuts
 
 -- a route that is found has its stops
-with_found : (s : ℕ) (routes : List Route) (r : Route) → route_of routes s ≡ Some r → r.stops ≡ stops_with s routes
+pub with_found : (s : ℕ) (routes : List Route) (r : Route) → route_of routes s ≡ Some r → r.stops ≡ stops_with s routes
 with_found s routes r e = sym (ap (λ o. option_map_or (λ q. q.stops) o []) e)
 
 pub AreWritten-unlinked : (s : ℕ) (routes : List Route) → AreWritten routes → AreWritten (unlinked s routes)

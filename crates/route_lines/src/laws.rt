@@ -2,6 +2,7 @@
 mod grammar;
 mod places;
 mod replies;
+mod routes;
 mod states;
 
 pub use counted_search::laws::the_bound_is_the_greatest;
@@ -10,6 +11,7 @@ pub use grammar::{
 };
 pub use places::hints_change_no_reply;
 pub use replies::replies_have_short_lines;
+pub use routes::{cuts_undo_joins, swaps_undo_swaps};
 pub use states::{
     changes_keep_states_sound, equal_states_answer_equally, states_are_numbered, states_are_sound,
 };
