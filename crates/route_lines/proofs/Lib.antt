@@ -4,6 +4,7 @@ pub mod GrammarLemmas
 pub mod LineTextLemmas
 pub mod LinkLemmas
 pub mod NewStopLemmas
+pub mod NextStopLemmas
 pub mod NumberLemmas
 pub mod RelinkLemmas
 pub mod ReplyLemmas

@@ -79,7 +79,7 @@ starts_if_no_previous s r none some = at r.is_ring r.stops none some
     at false (x ∷ xs) e k = head x xs (last (before (has_ticket s) (x ∷ xs)) None e)
 
 -- none leads to a stop without a previous one
-none_leads : (s : ℕ) (routes : List Route) → AreWritten routes → previous_stop routes s ≡ None → 1 ≤ count_of (has_ticket s) (stop_list routes) → count_of (leads_to (next_stop routes) s) (stop_list routes) ≡ 0
+pub none_leads : (s : ℕ) (routes : List Route) → AreWritten routes → previous_stop routes s ≡ None → 1 ≤ count_of (has_ticket s) (stop_list routes) → count_of (leads_to (next_stop routes) s) (stop_list routes) ≡ 0
 none_leads s routes written none some = by (found_if_counted s routes some)
   where
     by : (r : Route) × (route_of routes s ≡ Some r) → count_of (leads_to (next_stop routes) s) (stop_list routes) ≡ 0
@@ -176,17 +176,17 @@ none_left next other s x routes written links e some away =
         by (inl g) = omega (arith, ap {B = ℕ} (λ o. cond (is_ticket o x) 1 0) g)
         by (inr g) = omega (arith, ap {B = ℕ} (λ b. cond b 1 0) g)
 
-abbrev traded : ℕ → ℕ → ℕ → ℕ → (ℕ → Option ℕ) → ℕ → Option ℕ
+abbrev pub traded : ℕ → ℕ → ℕ → ℕ → (ℕ → Option ℕ) → ℕ → Option ℕ
 traded s x u y next = relinked u (Some x) (relinked s (Some y) next)
 
 -- the steps of an exchange
-exchange_of : ℕ → ℕ → ℕ → ℕ → List Route → List Route
+pub exchange_of : ℕ → ℕ → ℕ → ℕ → List Route → List Route
 exchange_of s x u y routes = linked u x (linked s y (unlinked u (unlinked s routes)))
 
 abbrev unlinked_next : ℕ → ℕ → (ℕ → Option ℕ) → ℕ → Option ℕ
 unlinked_next s u next = relinked u None (relinked s None next)
 
-Links-exchange : (next : ℕ → Option ℕ) (s x u y : ℕ) (routes : List Route) → AreWritten routes → Links next routes → s ≢ u → next s ≡ Some x → next u ≡ Some y → 1 ≤ count_of (has_ticket s) (stop_list routes) → 1 ≤ count_of (has_ticket u) (stop_list routes)
+pub Links-exchange : (next : ℕ → Option ℕ) (s x u y : ℕ) (routes : List Route) → AreWritten routes → Links next routes → s ≢ u → next s ≡ Some x → next u ≡ Some y → 1 ≤ count_of (has_ticket s) (stop_list routes) → 1 ≤ count_of (has_ticket u) (stop_list routes)
     → Links (traded s x u y next) (exchange_of s x u y routes)
 unfolding exchange_of
 Links-exchange next s x u y routes written links apart e f some other =
@@ -299,12 +299,12 @@ Links-exchange next s x u y routes written links apart e f some other =
         go false true = refl
         go false false = refl
 
-exchange_written : (s x u y : ℕ) (routes : List Route) → AreWritten routes → AreWritten (exchange_of s x u y routes)
+pub exchange_written : (s x u y : ℕ) (routes : List Route) → AreWritten routes → AreWritten (exchange_of s x u y routes)
 unfolding exchange_of
 exchange_written s x u y routes written =
     AreWritten-linked u x (linked s y (unlinked u (unlinked s routes))) (AreWritten-linked s y (unlinked u (unlinked s routes)) (AreWritten-unlinked u (unlinked s routes) (AreWritten-unlinked s routes written)))
 
-exchange_total : (weight : Stop → ℕ) (s x u y : ℕ) (routes : List Route) → AreWritten routes → total weight (stop_list (exchange_of s x u y routes)) ≡ total weight (stop_list routes)
+pub exchange_total : (weight : Stop → ℕ) (s x u y : ℕ) (routes : List Route) → AreWritten routes → total weight (stop_list (exchange_of s x u y routes)) ≡ total weight (stop_list routes)
 unfolding exchange_of
 exchange_total weight s x u y routes written =
     let one = AreWritten-unlinked s routes written in
@@ -321,11 +321,11 @@ exchange_all P s x u y routes h =
     all_linked P u x (linked s y (unlinked u (unlinked s routes))) (all_linked P s y (unlinked u (unlinked s routes)) (all_unlinked P u (unlinked s routes) (all_unlinked P s routes h)))
 
 -- where both stops lead on, an exchange is those steps, unless it is of a stop with itself
-exchanged-apart : (s x u y : ℕ) (routes : List Route) → s ≢ u → next_stop routes s ≡ Some x → next_stop routes u ≡ Some y → exchanged s u routes ≡ exchange_of s x u y routes
+pub exchanged-apart : (s x u y : ℕ) (routes : List Route) → s ≢ u → next_stop routes s ≡ Some x → next_stop routes u ≡ Some y → exchanged s u routes ≡ exchange_of s x u y routes
 unfolding exchange_of
 exchanged-apart s x u y routes apart e f = rw (e, f, ne_eqb s u apart) refl
 
-exchanged-same : (s u x y : ℕ) (routes : List Route) → s ≡ u → next_stop routes s ≡ Some x → next_stop routes u ≡ Some y → exchanged s u routes ≡ routes
+pub exchanged-same : (s u x y : ℕ) (routes : List Route) → s ≡ u → next_stop routes s ≡ Some x → next_stop routes u ≡ Some y → exchanged s u routes ≡ routes
 exchanged-same s u x y routes same e f = rw (e, f, eq-eqb s u same) refl
 
 pub exchanged-exchanged : (s u x y : ℕ) (routes : List Route) → AreWritten routes → next_stop routes s ≡ Some x → next_stop routes u ≡ Some y → 1 ≤ count_of (has_ticket s) (stop_list routes) → 1 ≤ count_of (has_ticket u) (stop_list routes)
@@ -416,12 +416,12 @@ total-exchanged s u routes written =
 -- ---- states
 
 -- a ticket that names a stop, which stays where the stops stay
-record NamesStop (s : State) (t : ℕ) : Type 0 where
-  given : (t == 0) || nat_lt s.last t ≡ false
-  no_place : place_of s.places t ≡ None
-  stop_there : (u : Stop) × (stop_of s.routes t ≡ Some u)
+pub record NamesStop (s : State) (t : ℕ) : Type 0 where
+  pub given : (t == 0) || nat_lt s.last t ≡ false
+  pub no_place : place_of s.places t ≡ None
+  pub stop_there : (u : Stop) × (stop_of s.routes t ≡ Some u)
 
-names_stop : (s : State) (t : ℕ) (u : Stop) → stop_holder s t ≡ Ok u → NamesStop s t
+pub names_stop : (s : State) (t : ℕ) (u : Stop) → stop_holder s t ≡ Ok u → NamesStop s t
 names_stop s t u e = at ((t == 0) || nat_lt s.last t) (place_of s.places t) (stop_of s.routes t) (mark_of s.marks t) refl refl refl (stop_holder-ok s t u e)
   where
     at : (b : Bool) (p : Option Place) (o : Option Stop) (m : Option Mark) → (t == 0) || nat_lt s.last t ≡ b → place_of s.places t ≡ p → stop_of s.routes t ≡ o
@@ -435,7 +435,7 @@ names_stop s t u e = at ((t == 0) || nat_lt s.last t) (place_of s.places t) (sto
 named_stop : (s : State) (t : ℕ) → NamesStop s t → (u : Stop) × (stop_holder s t ≡ Ok u)
 named_stop s t names = (names.stop_there.0, rw (names.given, names.no_place, names.stop_there.1) refl)
 
-stop_counts : (t : ℕ) (xs : List Stop) (u : Stop) → find (has_ticket t) xs ≡ Some u → 1 ≤ count_of (has_ticket t) xs
+pub stop_counts : (t : ℕ) (xs : List Stop) (u : Stop) → find (has_ticket t) xs ≡ Some u → 1 ≤ count_of (has_ticket t) xs
 stop_counts t xs u e = count-any (has_ticket t) xs (some xs e)
   where
     some : (ys : List Stop) → find (has_ticket t) ys ≡ Some u → list_any (has_ticket t) ys ≡ true
@@ -446,7 +446,7 @@ stop_counts t xs u e = count-any (has_ticket t) xs (some xs e)
         go true g h = refl
         go false g h = h g
 
-with_routes : State → List Route → State
+unfoldable pub with_routes : State → List Route → State
 with_routes s routes = record s { routes = routes }
 
 names_with : (s : State) (t : ℕ) (routes : List Route) → NamesStop s t → count_of (has_ticket t) (stop_list routes) ≡ count_of (has_ticket t) (stop_list s.routes) → NamesStop (with_routes s routes) t
@@ -457,7 +457,7 @@ names_with s t routes names same = record {
   stop_there = found_if_any (has_ticket t) (stop_list routes) (any-count (has_ticket t) (stop_list routes) (omega (arith, same, stop_counts t (stop_list s.routes) names.stop_there.0 names.stop_there.1)));
 }
 
-allowed-ok : (b : Bool) → allowed b ≡ Ok tt → b ≡ true
+pub allowed-ok : (b : Bool) → allowed b ≡ Ok tt → b ≡ true
 allowed-ok true e = refl
 allowed-ok false e = cc
 
@@ -469,12 +469,12 @@ none_if : (o : Option ℕ) → is_none o ≡ true → o ≡ None
 none_if None e = refl
 none_if (Some n) e = cc
 
-some_if : (o : Option ℕ) → is_some o ≡ true → (n : ℕ) × (o ≡ Some n)
+pub some_if : (o : Option ℕ) → is_some o ≡ true → (n : ℕ) × (o ≡ Some n)
 some_if (Some n) e = (n, refl)
 some_if None e = cc
 
 -- what is known where `join`, `cut` and `swap` answer `ok`
-joined-ok : (s : State) (t u : ℕ) → joined s t u ≡ Ok tt → NamesStop s t × NamesStop s u × (next_stop s.routes t ≡ None) × (previous_stop s.routes u ≡ None)
+pub joined-ok : (s : State) (t u : ℕ) → joined s t u ≡ Ok tt → NamesStop s t × NamesStop s u × (next_stop s.routes t ≡ None) × (previous_stop s.routes u ≡ None)
 joined-ok s t u e =
     let first = and_then-ok (stop_holder s t) _ tt e in
     let second = and_then-ok (stop_holder s u) _ tt first.2 in
@@ -484,7 +484,7 @@ joined-ok s t u e =
 parted-from : (s : State) (t n : ℕ) → NamesStop s t → next_stop s.routes t ≡ Some n → parted s t ≡ Ok tt
 parted-from s t n names e = rw ((named_stop s t names).1, e) refl
 
-swapped-ok : (s : State) (t u : ℕ) → swapped s t u ≡ Ok tt → NamesStop s t × NamesStop s u × ((n : ℕ) × (next_stop s.routes t ≡ Some n)) × ((m : ℕ) × (next_stop s.routes u ≡ Some m))
+pub swapped-ok : (s : State) (t u : ℕ) → swapped s t u ≡ Ok tt → NamesStop s t × NamesStop s u × ((n : ℕ) × (next_stop s.routes t ≡ Some n)) × ((m : ℕ) × (next_stop s.routes u ≡ Some m))
 swapped-ok s t u e =
     let first = and_then-ok (stop_holder s t) _ tt e in
     let second = and_then-ok (stop_holder s u) _ tt first.2 in
@@ -494,15 +494,15 @@ swapped-ok s t u e =
 swapped-from : (s : State) (t u n m : ℕ) → NamesStop s t → NamesStop s u → next_stop s.routes t ≡ Some n → next_stop s.routes u ≡ Some m → swapped s t u ≡ Ok tt
 swapped-from s t u n m names named e f = rw ((named_stop s t names).1, (named_stop s u named).1, e, f) refl
 
-after_join-ok : (s : State) (t u : ℕ) → joined s t u ≡ Ok tt → after_join s t u ≡ with_routes s (linked t u s.routes)
+pub after_join-ok : (s : State) (t u : ℕ) → joined s t u ≡ Ok tt → after_join s t u ≡ with_routes s (linked t u s.routes)
 unfolding with_routes
 after_join-ok s t u e = ap (λ r. unless_refused s r (λ ok. record s { routes = linked t u s.routes })) e
 
-after_cut-ok : (s : State) (t : ℕ) → parted s t ≡ Ok tt → after_cut s t ≡ with_routes s (unlinked t s.routes)
+pub after_cut-ok : (s : State) (t : ℕ) → parted s t ≡ Ok tt → after_cut s t ≡ with_routes s (unlinked t s.routes)
 unfolding with_routes
 after_cut-ok s t e = ap (λ r. unless_refused s r (λ ok. record s { routes = unlinked t s.routes })) e
 
-after_swap-ok : (s : State) (t u : ℕ) → swapped s t u ≡ Ok tt → after_swap s t u ≡ with_routes s (exchanged t u s.routes)
+pub after_swap-ok : (s : State) (t u : ℕ) → swapped s t u ≡ Ok tt → after_swap s t u ≡ with_routes s (exchanged t u s.routes)
 unfolding with_routes
 after_swap-ok s t u e = ap (λ r. unless_refused s r (λ ok. record s { routes = exchanged t u s.routes })) e
 
