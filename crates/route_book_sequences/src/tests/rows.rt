@@ -75,8 +75,8 @@ fn other_lines_are_bad(rt: HostRuntime) -> Result<(), Fail> {
         b"show 18446744073709551616\n",
         b"all\r\n",
         b"pack \n",
-        // The longest line that a command may have.
-        b"place 18446744073709551615 abcdefghijklmnop near 18446744073709551615\n",
+        // A byte more than the longest command.
+        b"place 18446744073709551615 abcdefghijklmnopq near 18446744073709551615\n",
         // What follows the last LF, though it spells a command with one.
         b"all",
         &[b'a'; 1000],
