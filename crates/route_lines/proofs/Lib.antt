@@ -3,6 +3,7 @@ pub mod CutLemmas
 pub mod GrammarLemmas
 pub mod LineTextLemmas
 pub mod LinkLemmas
+pub mod NewLinkLemmas
 pub mod NewStopLemmas
 pub mod NextStopLemmas
 pub mod NumberLemmas

@@ -12,7 +12,8 @@ pub use grammar::{
 pub use places::hints_change_no_reply;
 pub use replies::replies_have_short_lines;
 pub use routes::{
-    cuts_part_one_stop, cuts_undo_joins, joins_lead_on, swaps_exchange_next_stops, swaps_undo_swaps,
+    cuts_part_one_stop, cuts_undo_joins, extensions_lead_through, joins_lead_on, starts_lead_nowhere,
+    swaps_exchange_next_stops, swaps_undo_swaps,
 };
 pub use states::{
     changes_keep_states_sound, equal_states_answer_equally, states_are_numbered, states_are_sound,

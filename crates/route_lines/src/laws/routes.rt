@@ -1,6 +1,6 @@
 //! What holds of joins, cuts and swaps of routes.
 ghost use Rattle.std.specs.Prelude.{◌≡◌, ◌≢◌, ℕ, Some, None, Ok};
-ghost use Rattle.route_lines.specs.Calls.{after_cut, after_join, after_swap, joined, parted, swapped};
+ghost use Rattle.route_lines.specs.Calls.{after_cut, after_extend, after_join, after_start, after_swap, extended, joined, parted, started, swapped};
 ghost use Rattle.route_lines.specs.Routes.{next_stop};
 ghost use Rattle.route_lines.specs.Sound.{IsSound};
 ghost use Rattle.route_lines.specs.State.{State};
@@ -41,4 +41,23 @@ pub fn swaps_exchange_next_stops()
         → next_stop (after_swap s t u).routes u ≡ next_stop s.routes t }
     ensures others { (s : State) (t u v : ℕ) → IsSound s → swapped s t u ≡ Ok tt → v ≢ t → v ≢ u
         → next_stop (after_swap s t u).routes v ≡ next_stop s.routes v }
+{}
+
+/// After a `start` that answers a ticket no stop follows the new one, and every other stop is followed as before.
+pub fn starts_lead_nowhere()
+    ensures next { (s : State) (at n : ℕ) → IsSound s → started s at ≡ Ok n
+        → next_stop (after_start s at).routes n ≡ None }
+    ensures others { (s : State) (at n v : ℕ) → IsSound s → started s at ≡ Ok n → v ≢ n
+        → next_stop (after_start s at).routes v ≡ next_stop s.routes v }
+{}
+
+/// After an `extend` that answers a ticket the new stop follows the first and is followed as that was, and every other stop
+/// is followed as before.
+pub fn extensions_lead_through()
+    ensures next { (s : State) (t at n : ℕ) → IsSound s → extended s t at ≡ Ok n
+        → next_stop (after_extend s t at).routes t ≡ Some n }
+    ensures new { (s : State) (t at n : ℕ) → IsSound s → extended s t at ≡ Ok n
+        → next_stop (after_extend s t at).routes n ≡ next_stop s.routes t }
+    ensures others { (s : State) (t at n v : ℕ) → IsSound s → extended s t at ≡ Ok n → v ≢ t → v ≢ n
+        → next_stop (after_extend s t at).routes v ≡ next_stop s.routes v }
 {}
