@@ -6,12 +6,14 @@ pub mod LinkLemmas
 pub mod NewStopLemmas
 pub mod NextStopLemmas
 pub mod NumberLemmas
+pub mod PreviousLemmas
 pub mod RelinkLemmas
 pub mod ReplyLemmas
 pub mod RouteLemmas
 pub mod RunLemmas
 pub mod SameRoutesLemmas
 pub mod SoundLemmas
+pub mod TicketLemmas
 pub mod UndoLemmas
 pub mod UnfinishedLemmas
 pub mod WordLemmas

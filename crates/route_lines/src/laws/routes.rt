@@ -1,9 +1,15 @@
 //! What holds of joins, cuts and swaps of routes.
-ghost use Rattle.std.specs.Prelude.{◌≡◌, ◌≢◌, ℕ, Some, None, Ok};
+ghost use Rattle.std.specs.Prelude.{◌≡◌, ◌≢◌, ◌↔◌, ℕ, Some, None, Ok};
 ghost use Rattle.route_lines.specs.Calls.{after_cut, after_join, after_swap, joined, parted, swapped};
-ghost use Rattle.route_lines.specs.Routes.{next_stop};
+ghost use Rattle.route_lines.specs.Routes.{next_stop, previous_stop};
 ghost use Rattle.route_lines.specs.Sound.{IsSound};
 ghost use Rattle.route_lines.specs.State.{State};
+
+/// A stop follows another exactly if that one is its previous one.
+pub fn stops_follow_their_previous_ones()
+    ensures { (s : State) (t u : ℕ) → IsSound s
+        → (next_stop s.routes t ≡ Some u) ↔ (previous_stop s.routes u ≡ Some t) }
+{}
 
 /// A `join` that answers `ok`, then a `cut` of its first stop, leaves the state as it was.
 pub fn cuts_undo_joins()
