@@ -7,13 +7,16 @@ pub mod NewLinkLemmas
 pub mod NewStopLemmas
 pub mod NextStopLemmas
 pub mod NumberLemmas
+pub mod PreviousLemmas
 pub mod RelinkLemmas
 pub mod ReplyLemmas
 pub mod RouteLemmas
 pub mod RunLemmas
 pub mod SameRoutesLemmas
 pub mod SoundLemmas
+pub mod TicketLemmas
 pub mod UndoLemmas
 pub mod UnfinishedLemmas
+pub mod WalkLemmas
 pub mod WordLemmas
 pub mod WrittenLemmas

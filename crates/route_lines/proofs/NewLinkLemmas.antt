@@ -4,11 +4,12 @@ use Rattle.std.specs.List.{AllByRecursion}
 use Rattle.std.proofs.lemmas.Bool.{eq-eqb, eqb-true, ne_eqb, cases_lt}
 use Rattle.route_lines.specs.Calls.{place_holder, stop_holder, next_ticket, started, after_start, extended, after_extend, unless_refused}
 use Rattle.route_lines.specs.Cuts.{up_to, behind}
+use Rattle.route_lines.specs.Leads.{head_or, Leads}
 use Rattle.route_lines.specs.Routes.{has_ticket, linear, has_stop, next_stop, put_behind}
 use Rattle.route_lines.specs.Sound.{total, count_of, AreWritten, IsSound}
 use Rattle.route_lines.specs.State.{State, Stop, Route, stop_list, is_full_of_stops}
 use Rattle.route_lines.proofs.CutLemmas.{up_to_behind, all_append, total-append, count-any, count-none}
-use Rattle.route_lines.proofs.LinkLemmas.{head_or, Leads, Leads-append, Leads-front, Leads-back, Leads-ext, closing_of, Links, Links-next_stop, next_stop-is, relinked, apart_relinked, Links-apart, Leads-up_to}
+use Rattle.route_lines.proofs.LinkLemmas.{Leads-append, Leads-front, Leads-back, Leads-ext, closing_of, Links, Links-next_stop, next_stop-is, relinked, apart_relinked, Links-apart, Leads-up_to}
 use Rattle.route_lines.proofs.NewStopLemmas.{none_above, stop_list-more, AreWritten-more, total-put_behind, AreWritten-put_behind}
 use Rattle.route_lines.proofs.NextStopLemmas.{off_leads_nowhere}
 use Rattle.route_lines.proofs.SoundLemmas.{and_then-ok}

@@ -1,10 +1,12 @@
 //! What holds of the definitions that the contracts cite. The functions do nothing: their contracts are the laws.
+mod calls;
 mod grammar;
 mod places;
 mod replies;
 mod routes;
 mod states;
 
+pub use calls::{new_tickets_come_next, refused_calls_change_nothing};
 pub use counted_search::laws::the_bound_is_the_greatest;
 pub use grammar::{
     commands_have_one_line, lines_have_one_command, spellings_are_found, spellings_are_short_lines,
@@ -12,7 +14,9 @@ pub use grammar::{
 pub use places::hints_change_no_reply;
 pub use replies::replies_have_short_lines;
 pub use routes::{
-    cuts_part_one_stop, cuts_undo_joins, extensions_lead_through, joins_lead_on, starts_lead_nowhere,
+    cuts_part_one_stop, cuts_undo_joins, extensions_lead_through, joins_lead_on,
+    lists_are_walked_both_ways, rings_are_walked_once, starts_lead_nowhere,
+    stops_follow_their_previous_ones,
     swaps_exchange_next_stops, swaps_undo_swaps,
 };
 pub use states::{

@@ -1,9 +1,17 @@
 //! What holds of joins, cuts and swaps of routes.
-ghost use Rattle.std.specs.Prelude.{◌≡◌, ◌≢◌, ℕ, Some, None, Ok};
+ghost use Rattle.std.specs.Prelude.{◌≡◌, ◌≢◌, ◌↔◌, ◌∷◌, ◌++◌, ℕ, List, Some, None, Ok, reverse};
+ghost use Rattle.std.specs.List.{AllByRecursion};
 ghost use Rattle.route_lines.specs.Calls.{after_cut, after_extend, after_join, after_start, after_swap, extended, joined, parted, started, swapped};
-ghost use Rattle.route_lines.specs.Routes.{next_stop};
-ghost use Rattle.route_lines.specs.Sound.{IsSound};
-ghost use Rattle.route_lines.specs.State.{State};
+ghost use Rattle.route_lines.specs.Leads.{Leads};
+ghost use Rattle.route_lines.specs.Routes.{has_ticket, next_stop, previous_stop, walk_from};
+ghost use Rattle.route_lines.specs.Sound.{IsSound, count_of};
+ghost use Rattle.route_lines.specs.State.{State, Stop, stop_of};
+
+/// A stop follows another exactly if that one is its previous one.
+pub fn stops_follow_their_previous_ones()
+    ensures { (s : State) (t u : ℕ) → IsSound s
+        → (next_stop s.routes t ≡ Some u) ↔ (previous_stop s.routes u ≡ Some t) }
+{}
 
 /// A `join` that answers `ok`, then a `cut` of its first stop, leaves the state as it was.
 pub fn cuts_undo_joins()
@@ -60,4 +68,22 @@ pub fn extensions_lead_through()
         → next_stop (after_extend s t at).routes n ≡ next_stop s.routes t }
     ensures others { (s : State) (t at n v : ℕ) → IsSound s → extended s t at ≡ Ok n → v ≢ t → v ≢ n
         → next_stop (after_extend s t at).routes v ≡ next_stop s.routes v }
+{}
+
+/// A list of stops that follow one another, before which none comes and behind which none does, is walked from one of them
+/// to its end, and then backwards from the stop before it.
+pub fn lists_are_walked_both_ways()
+    ensures { (s : State) (front behind : List Stop) (t : Stop) → IsSound s
+        → AllByRecursion (λ x. stop_of s.routes x.ticket ≡ Some x) (front ++ t ∷ behind)
+        → Leads (next_stop s.routes) None (front ++ t ∷ behind)
+        → ((u : ℕ) (x : Stop) (rest : List Stop) → front ++ t ∷ behind ≡ x ∷ rest → next_stop s.routes u ≢ Some x.ticket)
+        → walk_from t.ticket s.routes ≡ (t ∷ behind) ++ reverse front }
+{}
+
+/// Stops that follow one another from one of them round to it again are walked once round.
+pub fn rings_are_walked_once()
+    ensures { (s : State) (t : Stop) (behind : List Stop) → IsSound s
+        → AllByRecursion (λ x. stop_of s.routes x.ticket ≡ Some x) (t ∷ behind)
+        → Leads (next_stop s.routes) (Some t.ticket) (t ∷ behind) → count_of (has_ticket t.ticket) behind ≡ 0
+        → walk_from t.ticket s.routes ≡ t ∷ behind }
 {}
