@@ -1,3 +1,7 @@
-pub mod BookLemmas
-pub mod CallLemmas
+pub mod SettledLemmas
+pub mod HoldLemmas
+pub mod KeyLemmas
+pub mod RewordLemmas
 pub mod PlaceLemmas
+pub mod NewLemmas
+pub mod RoomLemmas

@@ -3,33 +3,59 @@
 use super::rows::REQUESTS;
 use super::streams::Page;
 use refusing_allocator::RefusingAllocator;
-use route_book::{Counts, Placed, Refusal, RoomError, RouteBook, RunFault, Shown, Watched, Word};
+use route_book::{
+    Counts, OnArray, OnHeap, Placed, Refusal, RoomError, RouteBook, RunFault, Shown, Watched, Word,
+};
 use std::alloc::Allocator;
 use std::io;
 use std::io::{ErrorKind, Write};
 use std::test::Fail;
+use triple_arena_ptr::{P0, P1, P5};
 
 #[test]
 fn rooms_that_cannot_be_had(rt: HostRuntime) -> Result<(), Fail> {
-    let past = RouteBook::new(rt.alloc(), usize::MAX, 1, 0);
+    let heap = OnHeap(rt.alloc());
+    let past = RouteBook::<P0, _>::new(&heap, usize::MAX, 1, 0);
     assert!(rt; matches!(past, Err(RoomError::Index)));
-    let huge = RouteBook::new(rt.alloc(), usize::MAX, 0, 0);
+    let huge = RouteBook::<P0, _>::new(&heap, usize::MAX, 0, 0);
     assert!(rt; matches!(huge, Err(RoomError::Memory)));
-    for nth in 1..3 {
+    let long = RouteBook::<P0, _>::new(&heap, 0, usize::MAX, 0);
+    assert!(rt; matches!(long, Err(RoomError::Memory)));
+    for nth in 1..REQUESTS + 1 {
         let heap = RefusingAllocator::new(rt.alloc(), nth);
-        assert!(rt; matches!(RouteBook::new(&heap, 4, 4, 2), Err(RoomError::Memory)));
-        assert!(rt; RouteBook::new(&heap, 4, 4, 2).is_ok());
+        let refused = RouteBook::<P0, _>::new(&OnHeap(&heap), 4, 4, 2);
+        assert!(rt; matches!(refused, Err(RoomError::Memory)));
+        assert!(rt; RouteBook::<P0, _>::new(&OnHeap(&heap), 4, 4, 2).is_ok());
     }
-    assert!(rt; RouteBook::new(rt.alloc(), 0, usize::MAX, 0).is_ok());
     Ok(())
 }
+
+#[test]
+fn rooms_of_other_pointers_and_stacks(rt: HostRuntime) -> Result<(), Fail> {
+    let heap = OnHeap(rt.alloc());
+    assert!(rt; RouteBook::<P1, _>::new(&heap, 200, 50, 5).is_ok());
+    let past = RouteBook::<P1, _>::new(&heap, 200, 50, 6);
+    assert!(rt; matches!(past, Err(RoomError::Index)));
+    assert!(rt; RouteBook::<P1, _>::new(&OnArray::<3>, 1, 1, 1).is_ok());
+    let past = RouteBook::<P1, _>::new(&OnArray::<3>, 2, 1, 1);
+    assert!(rt; matches!(past, Err(RoomError::Stack)));
+    let short = RouteBook::<P5, _>::new(&heap, 0, 0, 0);
+    assert!(rt; matches!(short, Err(RoomError::Generation)));
+    let mut none = RouteBook::<P0, _>::new(&heap, 0, 0, 0)?;
+    let word = Word::new(b"a").ok_or("a word")?;
+    assert_eq!(rt; none.place(1, word), Err(Refusal::Full));
+    Ok(())
+}
+
+/// The requests for memory that make a store of places alone.
+pub(super) const PLACE_REQUESTS: u64 = 3;
 
 /// The keys of seven places, in the order of their tickets.
 const KEYS: [u64; 7] = [40, 20, 60, 10, 30, 50, 70];
 
 /// A store of these places, with room for one more.
-pub(super) fn seven<A: Allocator + Copy>(alloc: A) -> Result<RouteBook<A>, Fail> {
-    let mut book = RouteBook::new(alloc, 8, 0, 0)?;
+pub(super) fn seven<A: Allocator + Copy>(alloc: A) -> Result<RouteBook<P0, OnHeap<A>>, Fail> {
+    let mut book = RouteBook::new(&OnHeap(alloc), 8, 0, 0)?;
     for key in KEYS {
         book.place(key, Word::new(b"a").ok_or("a word")?)?;
     }
@@ -38,7 +64,7 @@ pub(super) fn seven<A: Allocator + Copy>(alloc: A) -> Result<RouteBook<A>, Fail>
 
 #[test]
 fn plain_calls_take_no_memory(rt: HostRuntime) -> Result<(), Fail> {
-    let heap = RefusingAllocator::new(rt.alloc(), REQUESTS + 1);
+    let heap = RefusingAllocator::new(rt.alloc(), PLACE_REQUESTS + 1);
     let mut book = seven(&heap)?;
     let word = Word::new(b"b").ok_or("a word")?;
     assert!(rt; matches!(book.place(60, word.copied()), Ok(Placed::Old(3, _))));
@@ -77,7 +103,7 @@ fn places_come_in_the_order_of_their_keys(rt: HostRuntime) -> Result<(), Fail> {
 
 #[test]
 fn a_line_is_answered(rt: HostRuntime) -> Result<(), Fail> {
-    let mut book = RouteBook::new(rt.alloc(), 1, 0, 0)?;
+    let mut book = RouteBook::<P0, _>::new(&OnHeap(rt.alloc()), 1, 0, 0)?;
     let mut counts = Counts::new();
     let mut writer = Watched::new(Page::new(2));
     for line in ["place 7 oak", "place 8 elm", "show 1", "find 8", "show 2"] {
