@@ -1,8 +1,11 @@
 pub mod CommandLineLemmas
+pub mod CutLemmas
 pub mod GrammarLemmas
 pub mod LineTextLemmas
+pub mod NewStopLemmas
 pub mod NumberLemmas
 pub mod ReplyLemmas
+pub mod RouteLemmas
 pub mod RunLemmas
 pub mod SoundLemmas
 pub mod UnfinishedLemmas

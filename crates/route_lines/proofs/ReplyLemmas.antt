@@ -1,5 +1,5 @@
 -- The lines of a reply, and how long they are.
-use Rattle.std.proofs.Common.{lit≤, ◌≡◌, ◌∙◌, sym, ap, subst, refl, Bool, true, false, ◌||◌, ◌==◌, ℕ, ◌+◌, ◌<◌, ◌≤◌, List, [], ◌∷◌, ◌++◌, length, Option, Some, None, IfSome, Result, Ok, Err, IfOk, cond, find, flat_map, option_map, decimal, codes, nat_lt, append_assoc, append-nil, arith}
+use Rattle.std.proofs.Common.{lit≤, ◌≡◌, ◌∙◌, sym, ap, subst, refl, Bool, true, false, ◌||◌, ◌==◌, ℕ, ◌+◌, ◌<◌, ◌≤◌, List, [], ◌∷◌, ◌++◌, length, Option, Some, None, IfSome, Result, Ok, Err, IfOk, cond, flat_map, option_map, decimal, codes, nat_lt, append_assoc, append-nil, arith}
 use Rattle.std.proofs.lemmas.List.Elements.{All-nil}
 use Rattle.std.specs.List.{AllByRecursion}
 use Rattle.std.specs.Option.{option_or, ok_or}
@@ -16,9 +16,10 @@ use Rattle.route_lines.specs.declared.command.Command.TheVariants.{Place as Plac
 use Rattle.route_lines.specs.declared.placed.Placed.TheVariants.{New}
 use Rattle.route_lines.specs.declared.refusal.Refusal.{Refusal}
 use Rattle.route_lines.specs.declared.refusal.Refusal.TheVariants.{Unknown, Gone, Kind, No, Full}
+use Rattle.route_lines.proofs.CutLemmas.{all_weaker, found_in}
 use Rattle.route_lines.proofs.LineTextLemmas.{LineText, LineText-append, LineText-number, LineText-space, LineText-weaker, LineText-word, HasNoLineEnd-line_text}
 use Rattle.route_lines.proofs.RunLemmas.{whole_lines-cut, rest_of-cut}
-use Rattle.route_lines.proofs.SoundLemmas.{all_weaker, next_ticket}
+use Rattle.route_lines.proofs.SoundLemmas.{ticket_left}
 
 -- ---- a text of short lines
 
@@ -82,15 +83,6 @@ place_text p parts =
     let key = LineText-append (LineText-append ticket (LineText-number p.key parts.key)) LineText-space in
     LineText-append key (LineText-word p.word parts.word)
 
--- what a search finds is one of the list
-found_in : {X : Type 0} (P : X → Type 0) (test : X → Bool) (xs : List X) → AllByRecursion P xs → IfSome (find test xs) P
-found_in P test [] each = tt
-found_in P test (x ∷ xs) each = at (test x) (found_in P test xs each.1)
-  where
-    at : (b : Bool) → IfSome (find test xs) P → IfSome (cond b (Some x) (find test xs)) P
-    at true behind = each.0
-    at false behind = behind
-
 -- ---- a reply
 
 placed_text : (s : State) (key : ℕ) (word : List ℕ) → IsSound s → IsNumbered s → LineText 58 (placed_line (placed s key word))
@@ -98,7 +90,7 @@ placed_text s key word sound numbered = at (with_key key s.places) refl (found_i
   where
     fresh : (b : Bool) → is_full_of_places s ≡ b → LineText 58 (placed_line (cond b (Err Full) (Ok (New (s.last + 1)))))
     fresh true e = refusal_text Full
-    fresh false e = number_text (s.last + 1) (next_ticket s e numbered.last)
+    fresh false e = number_text (s.last + 1) (ticket_left s.last _ e numbered.last)
 
     at : (o : Option Place) → with_key key s.places ≡ o → IfSome o PlaceParts → LineText 58 (placed_line (placed s key word))
     at None e parts = rw e (fresh (is_full_of_places s) refl)

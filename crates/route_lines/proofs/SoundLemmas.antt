@@ -1,24 +1,30 @@
 -- What a store keeps as lines are carried out.
-use Rattle.std.proofs.Common.{◌≡◌, ◌≢◌, ◌∙◌, sym, ap, subst, refl, Bool, true, false, ◌||◌, ◌==◌, ℕ, suc, ◌+◌, ◌<◌, ◌≤◌, List, [], ◌∷◌, length, Option, Some, None, cond, nat_lt, nat_le, arith}
+use Rattle.std.proofs.Common.{◌≡◌, ◌≢◌, ◌∙◌, sym, ap, subst, refl, Bool, true, false, ◌||◌, ◌==◌, ℕ, suc, ◌+◌, ◌<◌, ◌≤◌, List, [], ◌∷◌, ◌++◌, length, Option, Some, None, IfSome, Result, Ok, Err, cond, nat_lt, length-append, arith}
 use Rattle.std.specs.List.{AllByRecursion}
-use Rattle.std.proofs.lemmas.Bool.{false≢true, eq-eqb, ltb-true, ltb-false, leb-false}
-use Rattle.route_lines.specs.State.{Rooms, State, Place, with_key, empty, is_full_of_places, last_ticket}
-use Rattle.route_lines.specs.Calls.{put, reworded, after_place}
+use Rattle.std.specs.Option.{ok_or}
+use Rattle.std.proofs.lemmas.Bool.{false≢true, eq-eqb, eqb-true, ltb-true, ltb-false, leb-false}
+use Rattle.route_lines.specs.State.{Rooms, State, Place, Stop, Route, Mark, Item, place, stop, mark, with_key, stop_list, living, holder, empty, is_full_of_places, is_full_of_stops, is_full_of_marks, last_ticket}
+use Rattle.route_lines.specs.Calls.{put, reworded, place_holder, stop_holder, and_then, next_ticket, unless_refused, after_place, started, after_start, extended, after_extend, joined, after_join, parted, after_cut, swapped, after_swap, marked, after_mark}
+use Rattle.route_lines.specs.Changes.{changed}
 use Rattle.route_lines.specs.Grammar.{command_of}
 use Rattle.route_lines.specs.Reply.{next}
+use Rattle.route_lines.specs.Routes.{has_ticket, linear, put_behind, linked, unlinked, exchanged}
 use Rattle.route_lines.specs.Text.{Line, whole, unended, command_in, after_lines}
 use Rattle.route_lines.specs.Word.{IsWord}
 use Rattle.route_lines.specs.Number.{IsNumber}
-use Rattle.route_lines.specs.Sound.{KeysRise, TicketsDiffer, IsSound, IsNumbered}
+use Rattle.route_lines.specs.Sound.{KeysRise, MarksRise, total, count_of, holders, AreWritten, IsSound, IsNumbered, IsPossible}
+use Rattle.route_lines.specs.declared.change.Change.{Change}
+use Rattle.route_lines.specs.declared.change.Change.TheVariants.{Open, Place as PlaceChange, Start, Extend, Join, Cut, Swap, Mark as MarkChange}
 use Rattle.route_lines.specs.declared.command.Command.{Command}
 use Rattle.route_lines.specs.declared.command.Command.TheVariants.{Place as PlaceLine, Show, Find, All}
+use Rattle.route_lines.specs.declared.refusal.Refusal.{Refusal}
+use Rattle.route_lines.specs.declared.refusal.Refusal.TheVariants.{Unknown, Gone, Kind}
+use Rattle.route_lines.proofs.CutLemmas.{all_weaker, all_append, total-append, length-total}
 use Rattle.route_lines.proofs.GrammarLemmas.{command_of-found}
+use Rattle.route_lines.proofs.NewStopLemmas.{none_above, stop_list-more, AreWritten-more, total-put_behind, all_put_behind, AreWritten-put_behind}
+use Rattle.route_lines.proofs.RouteLemmas.{AreWritten-linked, total-linked, all_linked, AreWritten-unlinked, total-unlinked, all_unlinked, exchanged_keeps}
 
 -- ---- a place more
-
-pub all_weaker : {X : Type 0} (P Q : X → Type 0) (xs : List X) → ((x : X) → P x → Q x) → AllByRecursion P xs → AllByRecursion Q xs
-all_weaker P Q [] f h = tt
-all_weaker P Q (x ∷ xs) f h = (f x h.0, all_weaker P Q xs f h.1)
 
 all_put : (P : Place → Type 0) (new : Place) (ps : List Place) → P new → AllByRecursion P ps → AllByRecursion P (put new ps)
 all_put P new [] p h = (p, tt)
@@ -58,13 +64,13 @@ KeysRise-put new (q ∷ ps) none h =
         let above = ltb-false new.key q.key e in
         (all_put (λ p. q.key < p.key) new ps (omega (arith, above, apart)) h.0, behind)
 
-TicketsDiffer-put : (new : Place) (ps : List Place) → AllByRecursion (λ p. p.ticket ≢ new.ticket) ps → TicketsDiffer ps → TicketsDiffer (put new ps)
-TicketsDiffer-put new [] other h = (tt, tt)
-TicketsDiffer-put new (q ∷ ps) other h = at (nat_lt new.key q.key) (TicketsDiffer-put new ps other.1 h.1)
+count-put : (test : Place → Bool) (new : Place) (ps : List Place) → count_of test (put new ps) ≡ cond (test new) 1 0 + count_of test ps
+count-put test new [] = omega arith
+count-put test new (q ∷ ps) = at (nat_lt new.key q.key) (count-put test new ps)
   where
-    at : (b : Bool) → TicketsDiffer (put new ps) → TicketsDiffer (cond b (new ∷ q ∷ ps) (q ∷ put new ps))
-    at true behind = ((λ e. other.0 (sym e), all_weaker (λ p. p.ticket ≢ new.ticket) (λ p. new.ticket ≢ p.ticket) ps (λ p apart e. apart (sym e)) other.1), h)
-    at false behind = (all_put (λ p. q.ticket ≢ p.ticket) new ps other.0 h.0, behind)
+    at : (b : Bool) → count_of test (put new ps) ≡ cond (test new) 1 0 + count_of test ps → count_of test (cond b (new ∷ q ∷ ps) (q ∷ put new ps)) ≡ cond (test new) 1 0 + count_of test (q ∷ ps)
+    at true behind = refl
+    at false behind = omega (arith, behind)
 
 -- ---- another word
 
@@ -80,10 +86,6 @@ same_key : (p : Place) (b : Bool) (word : List ℕ) → (cond b (record p { word
 same_key p true word = refl
 same_key p false word = refl
 
-same_ticket : (p : Place) (b : Bool) (word : List ℕ) → (cond b (record p { word = word }) p).ticket ≡ p.ticket
-same_ticket p true word = refl
-same_ticket p false word = refl
-
 KeysRise-reworded : (key : ℕ) (word : List ℕ) (ps : List Place) → KeysRise ps → KeysRise (reworded key word ps)
 KeysRise-reworded key word [] h = tt
 KeysRise-reworded key word (p ∷ ps) h = (
@@ -91,37 +93,94 @@ KeysRise-reworded key word (p ∷ ps) h = (
   KeysRise-reworded key word ps h.1,
 )
 
-TicketsDiffer-reworded : (key : ℕ) (word : List ℕ) (ps : List Place) → TicketsDiffer ps → TicketsDiffer (reworded key word ps)
-TicketsDiffer-reworded key word [] h = tt
-TicketsDiffer-reworded key word (p ∷ ps) h = (
-  subst (λ t. AllByRecursion (λ q. t ≢ q.ticket) (reworded key word ps)) (sym (same_ticket p (p.key == key) word)) (all_reworded (λ q. p.ticket ≢ q.ticket) key word ps (λ q apart. apart) h.0),
-  TicketsDiffer-reworded key word ps h.1,
-)
+count-reworded : (key : ℕ) (word : List ℕ) (t : ℕ) (ps : List Place) → count_of (λ p. p.ticket == t) (reworded key word ps) ≡ count_of (λ p. p.ticket == t) ps
+count-reworded key word t [] = refl
+count-reworded key word t (p ∷ ps) = at (p.key == key) (count-reworded key word t ps)
+  where
+    at : (b : Bool) → count_of (λ p. p.ticket == t) (reworded key word ps) ≡ count_of (λ p. p.ticket == t) ps
+        → count_of (λ p. p.ticket == t) (cond b (record p { word = word }) p ∷ reworded key word ps) ≡ count_of (λ p. p.ticket == t) (p ∷ ps)
+    at true h = omega (arith, h)
+    at false h = omega (arith, h)
 
 length-reworded : (key : ℕ) (word : List ℕ) (ps : List Place) → length (reworded key word ps) ≡ length ps
 length-reworded key word [] = refl
 length-reworded key word (p ∷ ps) = ap suc (length-reworded key word ps)
 
--- ---- lines
+-- ---- tests that are passed
 
--- where there is room for a place, there is a ticket for it
-pub next_ticket : (s : State) → is_full_of_places s ≡ false → IsNumber s.last → IsNumber (s.last + 1)
-next_ticket s room small =
-    let other : (s.last == last_ticket) ≡ false = right_false (nat_le s.rooms.places (length s.places)) (s.last == last_ticket) room in
-    let left : s.last ≢ last_ticket = λ same. false≢true (sym other ∙ eq-eqb s.last last_ticket same) in
+right_false : (a b : Bool) → (a || b) ≡ false → b ≡ false
+right_false true b h = cc
+right_false false b h = h
+
+left_false : (a b : Bool) → (a || b) ≡ false → a ≡ false
+left_false true b h = h
+left_false false b h = refl
+
+-- where there is room, there is a ticket
+pub ticket_left : (last : ℕ) (is_full : Bool) → (is_full || (last == last_ticket)) ≡ false → IsNumber last → IsNumber (last + 1)
+ticket_left last is_full room small =
+    let left : last ≢ last_ticket = λ same. false≢true (sym (right_false is_full (last == last_ticket) room) ∙ eq-eqb last last_ticket same) in
     omega (arith, small, left)
+
+pub next_ticket-ok : (s : State) (is_full : Bool) (t : ℕ) → next_ticket s is_full ≡ Ok t → (is_full ≡ false) × (t ≡ s.last + 1)
+next_ticket-ok s true t e = cc
+next_ticket-ok s false t e = (refl, cc)
+
+pub and_then-ok : {X Y : Type 0} (r : Result X Refusal) (test : X → Result Y Refusal) (y : Y) → and_then r test ≡ Ok y → (x : X) × (r ≡ Ok x) × (test x ≡ Ok y)
+and_then-ok (Ok x) test y e = (x, refl, e)
+and_then-ok (Err refusal) test y e = cc
+
+pub keeps_unless_refused : {X : Type 0} (Keeps : State → Type 0) (s : State) (r : Result X Refusal) (after : X → State) → Keeps s → ((x : X) → r ≡ Ok x → Keeps (after x)) → Keeps (unless_refused s r after)
+keeps_unless_refused Keeps s (Ok x) after old new = new x refl
+keeps_unless_refused Keeps s (Err refusal) after old new = old
+
+-- a ticket that has a holder was given
+pub holder-given : (s : State) (t : ℕ) (x : Item) → holder s t ≡ Ok x → t ≤ s.last
+holder-given s t x e = at (t == 0) (nat_lt s.last t) refl e
   where
-    right_false : (a b : Bool) → (a || b) ≡ false → b ≡ false
-    right_false true b h = cc
-    right_false false b h = h
+    at : (a b : Bool) → nat_lt s.last t ≡ b → cond (a || b) (Err Unknown) (ok_or (living s t) Gone) ≡ Ok x → t ≤ s.last
+    at true b is h = cc
+    at false true is h = cc
+    at false false is h = ltb-false s.last t is
+
+pub place_holder-ok : (s : State) (t : ℕ) (p : Place) → place_holder s t ≡ Ok p → holder s t ≡ Ok (place p)
+place_holder-ok s t p e = at (holder s t) refl
+  where
+    at : (r : Result Item Refusal) → holder s t ≡ r → holder s t ≡ Ok (place p)
+    at (Ok (place q)) is = let kind : place_holder s t ≡ Ok q = rw is refl in let same : q ≡ p = cc in is ∙ ap (λ x. Ok (place x)) same
+    at (Ok (stop q)) is = let kind : place_holder s t ≡ Err Kind = rw is refl in cc
+    at (Ok (mark q)) is = let kind : place_holder s t ≡ Err Kind = rw is refl in cc
+    at (Err refusal) is = let kind : place_holder s t ≡ Err refusal = rw is refl in cc
+
+pub stop_holder-ok : (s : State) (t : ℕ) (u : Stop) → stop_holder s t ≡ Ok u → holder s t ≡ Ok (stop u)
+stop_holder-ok s t u e = at (holder s t) refl
+  where
+    at : (r : Result Item Refusal) → holder s t ≡ r → holder s t ≡ Ok (stop u)
+    at (Ok (place q)) is = let kind : stop_holder s t ≡ Err Kind = rw is refl in cc
+    at (Ok (stop q)) is = let kind : stop_holder s t ≡ Ok q = rw is refl in let same : q ≡ u = cc in is ∙ ap (λ x. Ok (stop x)) same
+    at (Ok (mark q)) is = let kind : stop_holder s t ≡ Err Kind = rw is refl in cc
+    at (Err refusal) is = let kind : stop_holder s t ≡ Err refusal = rw is refl in cc
+
+-- ---- a new ticket
+
+given_more : {X : Type 0} (ticket : X → ℕ) (last : ℕ) (xs : List X) → AllByRecursion (λ x. (0 < ticket x) × (ticket x ≤ last)) xs → AllByRecursion (λ x. (0 < ticket x) × (ticket x ≤ last + 1)) xs
+given_more ticket last xs h = all_weaker (λ x. (0 < ticket x) × (ticket x ≤ last)) (λ x. (0 < ticket x) × (ticket x ≤ last + 1)) xs (λ x k. (k.0, omega (arith, k.1))) h
+
+-- no item has it yet
+pub once_more : (s : State) → IsSound s → (t : ℕ) → cond (s.last + 1 == t) 1 0 + holders s t ≤ 1
+once_more s sound t = at (s.last + 1 == t) refl
+  where
+    at : (b : Bool) → (s.last + 1 == t) ≡ b → cond b 1 0 + holders s t ≤ 1
+    at true e =
+        let above : s.last < t = omega (arith, eqb-true (s.last + 1) t e) in
+        omega (arith, none_above (λ (p : Place). p.ticket) s.last t s.places sound.given above, none_above (λ (u : Stop). u.ticket) s.last t (stop_list s.routes) sound.given_stops above, none_above (λ (m : Mark). m.ticket) s.last t s.marks sound.given_marks above)
+    at false e = omega (arith, sound.once t)
+
+-- ---- each call keeps a state sound
 
 IsSound-after_place : (s : State) (key : ℕ) (word : List ℕ) → IsWord word → IsSound s → IsSound (after_place s key word)
 IsSound-after_place s key word is_word sound = at (with_key key s.places) refl
   where
-    left_false : (a b : Bool) → (a || b) ≡ false → a ≡ false
-    left_false true b h = h
-    left_false false b h = refl
-
     new : Place
     new = record { ticket = s.last + 1; key = key; word = word }
 
@@ -130,45 +189,196 @@ IsSound-after_place s key word is_word sound = at (with_key key s.places) refl
     full false e none =
         let less = leb-false s.rooms.places (length s.places) (left_false _ _ e) in
         record {
+          given = all_put (λ p. (0 < p.ticket) × (p.ticket ≤ s.last + 1)) new s.places (omega arith, omega arith) (given_more (λ (p : Place). p.ticket) s.last s.places sound.given);
+          given_stops = given_more (λ (t : Stop). t.ticket) s.last (stop_list s.routes) sound.given_stops;
+          given_marks = given_more (λ (m : Mark). m.ticket) s.last s.marks sound.given_marks;
+          once = λ t. omega (arith, once_more s sound t, count-put (λ p. p.ticket == t) new s.places);
           keys = KeysRise-put new s.places none sound.keys;
-          given = all_put (λ p. (0 < p.ticket) × (p.ticket ≤ s.last + 1)) new s.places (omega arith, omega arith)
-              (all_weaker (λ p. (0 < p.ticket) × (p.ticket ≤ s.last)) (λ p. (0 < p.ticket) × (p.ticket ≤ s.last + 1)) s.places (λ p h. (h.0, omega (arith, h.1))) sound.given);
-          tickets = TicketsDiffer-put new s.places (all_weaker (λ p. (0 < p.ticket) × (p.ticket ≤ s.last)) (λ p. p.ticket ≢ s.last + 1) s.places (λ p h e. omega (arith, h.1, e)) sound.given) sound.tickets;
           words = all_put (λ p. IsWord p.word) new s.places is_word sound.words;
+          routes = sound.routes;
+          marks = sound.marks;
           fits = omega (arith, length-put new s.places, less);
+          stops_fit = sound.stops_fit;
+          marks_fit = sound.marks_fit;
         }
 
     at : (o : Option Place) → with_key key s.places ≡ o → IsSound (after_place s key word)
     at None e = rw e (full (is_full_of_places s) refl e)
     at (Some p) e = rw e (record {
-      keys = KeysRise-reworded key word s.places sound.keys;
       given = all_reworded (λ q. (0 < q.ticket) × (q.ticket ≤ s.last)) key word s.places (λ q h. h) sound.given;
-      tickets = TicketsDiffer-reworded key word s.places sound.tickets;
+      given_stops = sound.given_stops;
+      given_marks = sound.given_marks;
+      once = λ t. omega (arith, sound.once t, count-reworded key word t s.places);
+      keys = KeysRise-reworded key word s.places sound.keys;
       words = all_reworded (λ q. IsWord q.word) key word s.places (λ q h. is_word) sound.words;
+      routes = sound.routes;
+      marks = sound.marks;
       fits = rw (length-reworded key word s.places) sound.fits;
+      stops_fit = sound.stops_fit;
+      marks_fit = sound.marks_fit;
     })
 
--- what each `place` keeps, every line keeps
-kept_by_lines : (Keeps : State → Type 0) → ((s : State) (key : ℕ) (word : List ℕ) → IsNumber key → IsWord word → Keeps s → Keeps (after_place s key word))
-    → (s : State) (lines : List Line) → Keeps s → Keeps (after_lines s lines)
-kept_by_lines Keeps place s [] keeps = keeps
-kept_by_lines Keeps place s (line ∷ lines) keeps = kept_by_lines Keeps place (next s (command_in line)) lines (by_line line)
-  where
-    by_line : (line : Line) → Keeps (next s (command_in line))
-    by_line (unended bytes) = keeps
-    by_line (whole bytes) = at (command_of bytes) refl
-      where
-        at : (o : Option Command) → command_of bytes ≡ o → Keeps (next s o)
-        at None e = keeps
-        at (Some (PlaceLine key word)) e = let spelled = command_of-found bytes (PlaceLine key word) e in place s key word spelled.0 spelled.1 keeps
-        at (Some (Show ticket)) e = keeps
-        at (Some (Find key)) e = keeps
-        at (Some All) e = keeps
+-- a stop more, under the next ticket
+record IsMore (s : State) (new : Stop) (routes : List Route) : Type 1 where
+  written : AreWritten routes
+  total : (weight : Stop → ℕ) → total weight (stop_list routes) ≤ weight new + total weight (stop_list s.routes)
+  all : (P : Stop → Type 0) → P new → AllByRecursion P (stop_list s.routes) → AllByRecursion P (stop_list routes)
 
-pub IsSound-from_empty : (rooms : Rooms) (last : ℕ) (lines : List Line) → IsSound (after_lines (empty rooms last) lines)
-IsSound-from_empty rooms last lines =
-    kept_by_lines IsSound (λ s key word small is_word. IsSound-after_place s key word is_word) (empty rooms last) lines
-    (record { keys = tt; given = tt; tickets = tt; words = tt; fits = omega arith })
+IsSound-more_stops : (s : State) (new : Stop) (routes : List Route) → new.ticket ≡ s.last + 1 → is_full_of_stops s ≡ false → IsMore s new routes → IsSound s → IsSound (record s { last = s.last + 1; routes = routes })
+IsSound-more_stops s new routes is room more sound =
+    let less = leb-false s.rooms.stops (length (stop_list s.routes)) (left_false _ _ room) in
+    record {
+      given = given_more (λ (p : Place). p.ticket) s.last s.places sound.given;
+      given_stops = more.all (λ t. (0 < t.ticket) × (t.ticket ≤ s.last + 1)) (omega (arith, is), omega (arith, is)) (given_more (λ (t : Stop). t.ticket) s.last (stop_list s.routes) sound.given_stops);
+      given_marks = given_more (λ (m : Mark). m.ticket) s.last s.marks sound.given_marks;
+      once = λ t. omega (arith, once_more s sound t, more.total (λ u. cond (has_ticket t u) 1 0), ap {B = ℕ} (λ n. cond (n == t) 1 0) is);
+      keys = sound.keys;
+      words = sound.words;
+      routes = more.written;
+      marks = sound.marks;
+      fits = sound.fits;
+      stops_fit = omega (arith, less, more.total (λ u. 1), length-total (stop_list routes), length-total (stop_list s.routes));
+      marks_fit = sound.marks_fit;
+    }
+
+more_by_start : (s : State) (new : Stop) → new.ticket ≡ s.last + 1 → IsSound s → IsMore s new (s.routes ++ linear (new ∷ []) ∷ [])
+more_by_start s new is sound = record {
+  written = AreWritten-more s.last s.routes new sound.given_stops (omega (arith, is)) sound.routes;
+  total = λ weight. omega (arith, ap (total weight) (stop_list-more s.routes new), total-append weight (stop_list s.routes) (new ∷ []));
+  all = λ P p h. subst (AllByRecursion P) (sym (stop_list-more s.routes new)) (all_append P (stop_list s.routes) (new ∷ []) h (p, tt));
+}
+
+more_by_extend : (s : State) (t : ℕ) (new : Stop) → new.ticket ≡ s.last + 1 → IsSound s → IsMore s new (put_behind t new s.routes)
+more_by_extend s t new is sound = record {
+  written = AreWritten-put_behind s.last t new s.routes sound.given_stops (omega (arith, is)) sound.routes;
+  total = λ weight. total-put_behind weight t new s.routes (sound.routes.once t);
+  all = λ P p h. all_put_behind P t new s.routes p h;
+}
+
+-- the same stops on other routes
+record IsSame (s : State) (routes : List Route) : Type 1 where
+  written : AreWritten routes
+  total : (weight : Stop → ℕ) → total weight (stop_list routes) ≡ total weight (stop_list s.routes)
+  all : (P : Stop → Type 0) → AllByRecursion P (stop_list s.routes) → AllByRecursion P (stop_list routes)
+
+IsSound-same_stops : (s : State) (routes : List Route) → IsSame s routes → IsSound s → IsSound (record s { routes = routes })
+IsSound-same_stops s routes same sound = record {
+  given = sound.given;
+  given_stops = same.all (λ t. (0 < t.ticket) × (t.ticket ≤ s.last)) sound.given_stops;
+  given_marks = sound.given_marks;
+  once = λ t. omega (arith, sound.once t, same.total (λ u. cond (has_ticket t u) 1 0));
+  keys = sound.keys;
+  words = sound.words;
+  routes = same.written;
+  marks = sound.marks;
+  fits = sound.fits;
+  stops_fit = omega (arith, sound.stops_fit, same.total (λ u. 1), length-total (stop_list routes), length-total (stop_list s.routes));
+  marks_fit = sound.marks_fit;
+}
+
+same_by_nothing : (s : State) → IsSound s → IsSame s s.routes
+same_by_nothing s sound = record { written = sound.routes; total = λ weight. refl; all = λ P h. h }
+
+same_by_cut : (s : State) (t : ℕ) (routes : List Route) → IsSame s routes → IsSame s (unlinked t routes)
+same_by_cut s t routes same = record {
+  written = AreWritten-unlinked t routes same.written;
+  total = λ weight. total-unlinked weight t routes same.written ∙ same.total weight;
+  all = λ P h. all_unlinked P t routes (same.all P h);
+}
+
+same_by_join : (s : State) (t u : ℕ) (routes : List Route) → IsSame s routes → IsSame s (linked t u routes)
+same_by_join s t u routes same = record {
+  written = AreWritten-linked t u routes same.written;
+  total = λ weight. total-linked weight t u routes same.written ∙ same.total weight;
+  all = λ P h. all_linked P t u routes (same.all P h);
+}
+
+same_by_swap : (s : State) (t u : ℕ) → IsSound s → IsSame s (exchanged t u s.routes)
+same_by_swap s t u sound = exchanged_keeps (IsSame s) t u s.routes (same_by_cut s) (same_by_join s) (same_by_nothing s sound)
+
+MarksRise-more : (last : ℕ) (new : Mark) (marks : List Mark) → AllByRecursion (λ m. (0 < m.ticket) × (m.ticket ≤ last)) marks → last < new.ticket → MarksRise marks → MarksRise (marks ++ new ∷ [])
+MarksRise-more last new [] given above h = (tt, tt)
+MarksRise-more last new (m ∷ marks) given above h =
+    (all_append (λ n. m.ticket < n.ticket) marks (new ∷ []) h.0 (omega (arith, given.0.1, above), tt), MarksRise-more last new marks given.1 above h.1)
+
+IsSound-after_start : (s : State) (at : ℕ) → IsSound s → IsSound (after_start s at)
+IsSound-after_start s at sound = keeps_unless_refused IsSound s (started s at) _ sound (λ t e.
+    let passed = and_then-ok (place_holder s at) _ t e in
+    let ticket = next_ticket-ok s (is_full_of_stops s) t passed.2 in
+    let new : Stop = record { ticket = t; place = Some at } in
+    subst (λ n. IsSound (record s { last = n; routes = s.routes ++ linear (new ∷ []) ∷ [] })) (sym ticket.1)
+    (IsSound-more_stops s new (s.routes ++ linear (new ∷ []) ∷ []) ticket.1 ticket.0 (more_by_start s new ticket.1 sound) sound))
+
+IsSound-after_extend : (s : State) (t at : ℕ) → IsSound s → IsSound (after_extend s t at)
+IsSound-after_extend s t at sound = keeps_unless_refused IsSound s (extended s t at) _ sound (λ n e.
+    let first = and_then-ok (stop_holder s t) _ n e in
+    let second = and_then-ok (place_holder s at) _ n first.2 in
+    let ticket = next_ticket-ok s (is_full_of_stops s) n second.2 in
+    let new : Stop = record { ticket = n; place = Some at } in
+    subst (λ m. IsSound (record s { last = m; routes = put_behind t new s.routes })) (sym ticket.1)
+    (IsSound-more_stops s new (put_behind t new s.routes) ticket.1 ticket.0 (more_by_extend s t new ticket.1 sound) sound))
+
+IsSound-after_join : (s : State) (t u : ℕ) → IsSound s → IsSound (after_join s t u)
+IsSound-after_join s t u sound =
+    keeps_unless_refused IsSound s (joined s t u) _ sound (λ ok e. IsSound-same_stops s (linked t u s.routes) (same_by_join s t u s.routes (same_by_nothing s sound)) sound)
+
+IsSound-after_cut : (s : State) (t : ℕ) → IsSound s → IsSound (after_cut s t)
+IsSound-after_cut s t sound =
+    keeps_unless_refused IsSound s (parted s t) _ sound (λ ok e. IsSound-same_stops s (unlinked t s.routes) (same_by_cut s t s.routes (same_by_nothing s sound)) sound)
+
+IsSound-after_swap : (s : State) (t u : ℕ) → IsSound s → IsSound (after_swap s t u)
+IsSound-after_swap s t u sound =
+    keeps_unless_refused IsSound s (swapped s t u) _ sound (λ ok e. IsSound-same_stops s (exchanged t u s.routes) (same_by_swap s t u sound) sound)
+
+IsSound-after_mark : (s : State) (at t : ℕ) → IsSound s → IsSound (after_mark s at t)
+IsSound-after_mark s at t sound = keeps_unless_refused IsSound s (marked s at t) _ sound (λ n e.
+    let first = and_then-ok (place_holder s at) _ n e in
+    let second = and_then-ok (stop_holder s t) _ n first.2 in
+    let ticket = next_ticket-ok s (is_full_of_marks s) n second.2 in
+    let new : Mark = record { ticket = n; place = Some at; stop = Some t } in
+    subst (λ m. IsSound (record s { last = m; marks = s.marks ++ new ∷ [] })) (sym ticket.1) (more new ticket.0 ticket.1))
+  where
+    more : (new : Mark) → is_full_of_marks s ≡ false → new.ticket ≡ s.last + 1 → IsSound (record s { last = s.last + 1; marks = s.marks ++ new ∷ [] })
+    more new room is =
+        let less = leb-false s.rooms.marks (length s.marks) (left_false _ _ room) in
+        record {
+          given = given_more (λ (p : Place). p.ticket) s.last s.places sound.given;
+          given_stops = given_more (λ (u : Stop). u.ticket) s.last (stop_list s.routes) sound.given_stops;
+          given_marks = all_append (λ m. (0 < m.ticket) × (m.ticket ≤ s.last + 1)) s.marks (new ∷ []) (given_more (λ (m : Mark). m.ticket) s.last s.marks sound.given_marks) ((omega (arith, is), omega (arith, is)), tt);
+          once = λ u. omega (arith, once_more s sound u, total-append (λ (m : Mark). cond (m.ticket == u) 1 0) s.marks (new ∷ []), ap {B = ℕ} (λ k. cond (k == u) 1 0) is);
+          keys = sound.keys;
+          words = sound.words;
+          routes = sound.routes;
+          marks = MarksRise-more s.last new s.marks sound.given_marks (omega (arith, is)) sound.marks;
+          fits = sound.fits;
+          stops_fit = sound.stops_fit;
+          marks_fit = omega (arith, less, length-append s.marks (new ∷ []));
+        }
+
+IsSound-empty : (rooms : Rooms) (last : ℕ) → IsSound (empty rooms last)
+IsSound-empty rooms last = record {
+  given = tt;
+  given_stops = tt;
+  given_marks = tt;
+  once = λ t. omega arith;
+  keys = tt;
+  words = tt;
+  routes = record { once = λ t. omega arith; each = tt; rise = tt };
+  marks = tt;
+  fits = omega arith;
+  stops_fit = omega arith;
+  marks_fit = omega arith;
+}
+
+pub IsSound-changed : (s : State) (change : Change) → IsPossible change → IsSound s → IsSound (changed s change)
+IsSound-changed s (Open places stops marks last) is sound = IsSound-empty _ last
+IsSound-changed s (PlaceChange key word) is sound = IsSound-after_place s key word is.1 sound
+IsSound-changed s (Start at) is sound = IsSound-after_start s at sound
+IsSound-changed s (Extend t at) is sound = IsSound-after_extend s t at sound
+IsSound-changed s (Join t u) is sound = IsSound-after_join s t u sound
+IsSound-changed s (Cut t) is sound = IsSound-after_cut s t sound
+IsSound-changed s (Swap t u) is sound = IsSound-after_swap s t u sound
+IsSound-changed s (MarkChange at t) is sound = IsSound-after_mark s at t sound
 
 -- ---- numbers
 
@@ -181,7 +391,7 @@ IsNumbered-after_place s key word small numbered = at (with_key key s.places) re
     full : (b : Bool) → is_full_of_places s ≡ b → IsNumbered (cond b s (record s { last = s.last + 1; places = put new s.places }))
     full true e = numbered
     full false e = record {
-      last = next_ticket s e numbered.last;
+      last = ticket_left s.last _ e numbered.last;
       keys = all_put (λ p. IsNumber p.key) new s.places small numbered.keys;
       stops = numbered.stops;
       marks = numbered.marks;
@@ -196,7 +406,93 @@ IsNumbered-after_place s key word small numbered = at (with_key key s.places) re
       marks = numbered.marks;
     })
 
+-- a ticket of a place, or of a stop, is below 2^64
+place_number : (s : State) (t : ℕ) (p : Place) → IsNumbered s → place_holder s t ≡ Ok p → IsNumber t
+place_number s t p numbered e = omega (arith, numbered.last, holder-given s t (place p) (place_holder-ok s t p e))
+
+stop_number : (s : State) (t : ℕ) (u : Stop) → IsNumbered s → stop_holder s t ≡ Ok u → IsNumber t
+stop_number s t u numbered e = omega (arith, numbered.last, holder-given s t (stop u) (stop_holder-ok s t u e))
+
+IsNumbered-more_stops : (s : State) (last : ℕ) (routes : List Route) → IsNumber last → IsNumbered s → AllByRecursion (λ t. IfSome t.place IsNumber) (stop_list routes) → IsNumbered (record s { last = last; routes = routes })
+IsNumbered-more_stops s last routes small numbered stops = record { last = small; keys = numbered.keys; stops = stops; marks = numbered.marks }
+
+IsNumbered-after_start : (s : State) (at : ℕ) → IsNumbered s → IsNumbered (after_start s at)
+IsNumbered-after_start s at numbered = keeps_unless_refused IsNumbered s (started s at) _ numbered (λ t e.
+    let passed = and_then-ok (place_holder s at) _ t e in
+    let ticket = next_ticket-ok s (is_full_of_stops s) t passed.2 in
+    let new : Stop = record { ticket = t; place = Some at } in
+    IsNumbered-more_stops s t (s.routes ++ linear (new ∷ []) ∷ []) (subst IsNumber (sym ticket.1) (ticket_left s.last _ ticket.0 numbered.last)) numbered
+    (subst (AllByRecursion (λ u. IfSome u.place IsNumber)) (sym (stop_list-more s.routes new)) (all_append (λ u. IfSome u.place IsNumber) (stop_list s.routes) (new ∷ []) numbered.stops (place_number s at passed.0 numbered passed.1, tt))))
+
+IsNumbered-after_extend : (s : State) (t at : ℕ) → IsNumbered s → IsNumbered (after_extend s t at)
+IsNumbered-after_extend s t at numbered = keeps_unless_refused IsNumbered s (extended s t at) _ numbered (λ n e.
+    let first = and_then-ok (stop_holder s t) _ n e in
+    let second = and_then-ok (place_holder s at) _ n first.2 in
+    let ticket = next_ticket-ok s (is_full_of_stops s) n second.2 in
+    let new : Stop = record { ticket = n; place = Some at } in
+    IsNumbered-more_stops s n (put_behind t new s.routes) (subst IsNumber (sym ticket.1) (ticket_left s.last _ ticket.0 numbered.last)) numbered
+    (all_put_behind (λ u. IfSome u.place IsNumber) t new s.routes (place_number s at second.0 numbered second.1) numbered.stops))
+
+IsNumbered-after_join : (s : State) (t u : ℕ) → IsNumbered s → IsNumbered (after_join s t u)
+IsNumbered-after_join s t u numbered =
+    keeps_unless_refused IsNumbered s (joined s t u) _ numbered (λ ok e. IsNumbered-more_stops s s.last (linked t u s.routes) numbered.last numbered (all_linked (λ x. IfSome x.place IsNumber) t u s.routes numbered.stops))
+
+IsNumbered-after_cut : (s : State) (t : ℕ) → IsNumbered s → IsNumbered (after_cut s t)
+IsNumbered-after_cut s t numbered =
+    keeps_unless_refused IsNumbered s (parted s t) _ numbered (λ ok e. IsNumbered-more_stops s s.last (unlinked t s.routes) numbered.last numbered (all_unlinked (λ x. IfSome x.place IsNumber) t s.routes numbered.stops))
+
+IsNumbered-after_swap : (s : State) (t u : ℕ) → IsNumbered s → IsNumbered (after_swap s t u)
+IsNumbered-after_swap s t u numbered =
+    keeps_unless_refused IsNumbered s (swapped s t u) _ numbered (λ ok e. IsNumbered-more_stops s s.last (exchanged t u s.routes) numbered.last numbered
+    (exchanged_keeps (λ routes. AllByRecursion (λ x. IfSome x.place IsNumber) (stop_list routes)) t u s.routes (all_unlinked (λ x. IfSome x.place IsNumber)) (all_linked (λ x. IfSome x.place IsNumber)) numbered.stops))
+
+IsNumbered-after_mark : (s : State) (at t : ℕ) → IsNumbered s → IsNumbered (after_mark s at t)
+IsNumbered-after_mark s at t numbered = keeps_unless_refused IsNumbered s (marked s at t) _ numbered (λ n e.
+    let first = and_then-ok (place_holder s at) _ n e in
+    let second = and_then-ok (stop_holder s t) _ n first.2 in
+    let ticket = next_ticket-ok s (is_full_of_marks s) n second.2 in
+    let new : Mark = record { ticket = n; place = Some at; stop = Some t } in
+    record {
+      last = subst IsNumber (sym ticket.1) (ticket_left s.last _ ticket.0 numbered.last);
+      keys = numbered.keys;
+      stops = numbered.stops;
+      marks = all_append (λ m. IfSome m.place IsNumber × IfSome m.stop IsNumber) s.marks (new ∷ []) numbered.marks ((place_number s at first.0 numbered first.1, stop_number s t second.0 numbered second.1), tt);
+    })
+
+pub IsNumbered-empty : (rooms : Rooms) (last : ℕ) → IsNumber last → IsNumbered (empty rooms last)
+IsNumbered-empty rooms last small = record { last = small; keys = tt; stops = tt; marks = tt }
+
+pub IsNumbered-changed : (s : State) (change : Change) → IsPossible change → IsNumbered s → IsNumbered (changed s change)
+IsNumbered-changed s (Open places stops marks last) is numbered = IsNumbered-empty _ last is
+IsNumbered-changed s (PlaceChange key word) is numbered = IsNumbered-after_place s key word is.0 numbered
+IsNumbered-changed s (Start at) is numbered = IsNumbered-after_start s at numbered
+IsNumbered-changed s (Extend t at) is numbered = IsNumbered-after_extend s t at numbered
+IsNumbered-changed s (Join t u) is numbered = IsNumbered-after_join s t u numbered
+IsNumbered-changed s (Cut t) is numbered = IsNumbered-after_cut s t numbered
+IsNumbered-changed s (Swap t u) is numbered = IsNumbered-after_swap s t u numbered
+IsNumbered-changed s (MarkChange at t) is numbered = IsNumbered-after_mark s at t numbered
+
+-- ---- lines
+
+-- what each possible change keeps, every line keeps
+kept_by_lines : (Keeps : State → Type 0) → ((s : State) (change : Change) → IsPossible change → Keeps s → Keeps (changed s change))
+    → (s : State) (lines : List Line) → Keeps s → Keeps (after_lines s lines)
+kept_by_lines Keeps kept s [] keeps = keeps
+kept_by_lines Keeps kept s (line ∷ lines) keeps = kept_by_lines Keeps kept (next s (command_in line)) lines (by_line line)
+  where
+    by_line : (line : Line) → Keeps (next s (command_in line))
+    by_line (unended bytes) = keeps
+    by_line (whole bytes) = at (command_of bytes) refl
+      where
+        at : (o : Option Command) → command_of bytes ≡ o → Keeps (next s o)
+        at None e = keeps
+        at (Some (PlaceLine key word)) e = let spelled = command_of-found bytes (PlaceLine key word) e in kept s (PlaceChange key word) (spelled.0, spelled.1) keeps
+        at (Some (Show ticket)) e = keeps
+        at (Some (Find key)) e = keeps
+        at (Some All) e = keeps
+
+pub IsSound-from_empty : (rooms : Rooms) (last : ℕ) (lines : List Line) → IsSound (after_lines (empty rooms last) lines)
+IsSound-from_empty rooms last lines = kept_by_lines IsSound IsSound-changed (empty rooms last) lines (IsSound-empty rooms last)
+
 pub IsNumbered-from_empty : (rooms : Rooms) (last : ℕ) (lines : List Line) → IsNumber last → IsNumbered (after_lines (empty rooms last) lines)
-IsNumbered-from_empty rooms last lines small =
-    kept_by_lines IsNumbered (λ s key word number is_word. IsNumbered-after_place s key word number) (empty rooms last) lines
-    (record { last = small; keys = tt; stops = tt; marks = tt })
+IsNumbered-from_empty rooms last lines small = kept_by_lines IsNumbered IsNumbered-changed (empty rooms last) lines (IsNumbered-empty rooms last small)

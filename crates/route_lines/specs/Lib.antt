@@ -1,10 +1,12 @@
 pub mod Calls
 pub mod Changes
 pub mod CommandLine
+pub mod Cuts
 pub mod Grammar
 pub mod Number
 pub mod Reply
 pub mod ReplyText
+pub mod Routes
 pub mod Run
 pub mod Searches
 pub mod Sound

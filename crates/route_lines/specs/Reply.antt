@@ -1,6 +1,6 @@
 -- The text that answers a command, and the state after it. Each reply line ends with an LF.
 use Rattle.std.specs.Prelude.{ℕ, ◌++◌, ◌∷◌, List, [], Option, None, Some, Result, Ok, Err, codes, decimal, flat_map}
-use Rattle.route_lines.specs.State.{State, Place}
+use Rattle.route_lines.specs.State.{State, Place, Stop}
 use Rattle.route_lines.specs.Calls.{placed, after_place, shown, found}
 use Rattle.route_lines.specs.declared.command.Command.{Command}
 use Rattle.route_lines.specs.declared.command.Command.TheVariants.{Place as PlaceLine, Show, Find, All}
@@ -41,12 +41,38 @@ abbrev pub found_line : Option ℕ → List ℕ
 found_line (Some ticket) = decimal ticket
 found_line None = codes "none"
 
+-- a new ticket
+abbrev pub ticket_line : Result ℕ Refusal → List ℕ
+ticket_line (Ok ticket) = decimal ticket
+ticket_line (Err refusal) = refusal_line refusal
+
+-- that a line is carried out
+abbrev pub done_line : Result Unit Refusal → List ℕ
+done_line (Ok done) = codes "ok"
+done_line (Err refusal) = refusal_line refusal
+
+-- the ticket of a place next to another, or that there is none
+abbrev pub neighbor_line : Result (Option ℕ) Refusal → List ℕ
+neighbor_line (Ok found) = found_line found
+neighbor_line (Err refusal) = refusal_line refusal
+
 abbrev pub place_line : Place → List ℕ
 place_line p = decimal p.ticket ++ codes " " ++ decimal p.key ++ codes " " ++ p.word
 
 -- every place in the order of the keys, then `end`
 abbrev pub places_text : List Place → List ℕ
 places_text places = flat_map (λ p. ended (place_line p)) places ++ ended (codes "end")
+
+abbrev pub stop_line : Stop → List ℕ
+stop_line t = decimal t.ticket ++ codes " " ++ reference_text t.place
+
+-- every stop of a walk, then `end`
+abbrev pub stops_text : List Stop → List ℕ
+stops_text stops = flat_map (λ t. ended (stop_line t)) stops ++ ended (codes "end")
+
+abbrev pub walk_text : Result (List Stop) Refusal → List ℕ
+walk_text (Ok stops) = stops_text stops
+walk_text (Err refusal) = ended (refusal_line refusal)
 
 -- the reply to a command, where there is one, from this state
 abbrev pub reply : State → Option Command → List ℕ

@@ -48,12 +48,25 @@ pub data Item : Type 0 where
 abbrev pub with_key : ℕ → List Place → Option Place
 with_key key places = find (λ p. p.key == key) places
 
+-- the stops of all routes
+abbrev pub stop_list : List Route → List Stop
+stop_list routes = flat_map (λ r. r.stops) routes
+
+-- the place, the stop and the mark that has the ticket
+abbrev pub place_of : List Place → ℕ → Option Place
+place_of places ticket = find (λ p. p.ticket == ticket) places
+
+abbrev pub stop_of : List Route → ℕ → Option Stop
+stop_of routes ticket = find (λ t. t.ticket == ticket) (stop_list routes)
+
+abbrev pub mark_of : List Mark → ℕ → Option Mark
+mark_of marks ticket = find (λ m. m.ticket == ticket) marks
+
 -- the living item that has the ticket
 abbrev pub living : State → ℕ → Option Item
 living s ticket =
-    option_or (option_map place (find (λ p. p.ticket == ticket) s.places))
-    (option_or (option_map stop (find (λ t. t.ticket == ticket) (flat_map (λ r. r.stops) s.routes)))
-    (option_map mark (find (λ m. m.ticket == ticket) s.marks)))
+    option_or (option_map place (place_of s.places ticket))
+    (option_or (option_map stop (stop_of s.routes ticket)) (option_map mark (mark_of s.marks ticket)))
 
 -- the item that has the ticket: a ticket is unknown where it was never given, and gone where its item has ended
 abbrev pub holder : State → ℕ → Result Item Refusal
@@ -64,9 +77,15 @@ holder s ticket =
 abbrev pub last_ticket : ℕ
 last_ticket = 18446744073709551615
 
--- no place more: as many live as the room holds, or every ticket was given
+-- no place, stop or mark more: as many live as the room holds, or every ticket was given
 abbrev pub is_full_of_places : State → Bool
 is_full_of_places s = nat_le s.rooms.places (length s.places) || (s.last == last_ticket)
+
+abbrev pub is_full_of_stops : State → Bool
+is_full_of_stops s = nat_le s.rooms.stops (length (stop_list s.routes)) || (s.last == last_ticket)
+
+abbrev pub is_full_of_marks : State → Bool
+is_full_of_marks s = nat_le s.rooms.marks (length s.marks) || (s.last == last_ticket)
 
 -- a store with nothing in it
 abbrev pub empty : Rooms → ℕ → State

@@ -1,3 +1,4 @@
+//! The arguments of a program, and what it says of a store that it cannot make.
 ghost use Rattle.std.specs.Prelude.{◌≡◌, map, string_bytes};
 ghost use Rattle.std.specs.Option.{option_map};
 ghost use Rattle.route_lines.specs.Number.{number_of};

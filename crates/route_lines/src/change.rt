@@ -1,3 +1,4 @@
+//! What changes a store's state.
 use crate::word::Word;
 
 /// A change of a store's state, for proofs alone.
@@ -7,4 +8,16 @@ pub enum Change {
     Open(usize, usize, usize, u64),
     /// A place with this key and word, or another word for the place that has the key.
     Place(u64, Word),
+    /// A stop at this place, alone on a linear route.
+    Start(u64),
+    /// Directly behind this stop, a stop at this place.
+    Extend(u64, u64),
+    /// The second stop follows the first.
+    Join(u64, u64),
+    /// No stop follows this one.
+    Cut(u64),
+    /// The two stops exchange the stops that follow them.
+    Swap(u64, u64),
+    /// A mark of this place and this stop.
+    Mark(u64, u64),
 }

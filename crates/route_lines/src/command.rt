@@ -1,3 +1,4 @@
+//! What a line asks of a store.
 use crate::word::Word;
 
 /// What a line asks of a store: one variant for each form of line.

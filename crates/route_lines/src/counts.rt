@@ -1,3 +1,4 @@
+//! What calls on a store took.
 ghost use Rattle.std.specs.Prelude.{◌≡◌, ℕ};
 
 use triple_arena_ptr::Probes;

@@ -1,3 +1,4 @@
+//! Why a run ends early.
 use std::io;
 use thiserror::Error;
 

@@ -1,3 +1,4 @@
+//! The state that a store holds, for proofs alone.
 ghost use Rattle.std.specs.Borrow.{ftrue};
 ghost use Rattle.std.specs.Prelude.{◌≡◌};
 ghost use Rattle.route_lines.specs.State.{State, nothing};

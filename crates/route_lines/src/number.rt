@@ -1,3 +1,4 @@
+//! Numbers as a line writes them.
 ghost use Rattle.route_lines.specs.Number.{IsNumber, number_of};
 ghost use Rattle.std.specs.Char.{digit_value};
 ghost use Rattle.std.specs.Prelude.{◌≡◌, ◌+◌, ◌*◌, ◌^◌, ◌<◌, ◌↔◌, ℕ, IfNone, IfSome, IsTrue, SomeIff, decimal, length, slice_index};

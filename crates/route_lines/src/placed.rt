@@ -1,3 +1,4 @@
+//! What `place` answers.
 use crate::word::Word;
 
 /// What `place` did.

@@ -1,3 +1,4 @@
+//! Why a call is refused, and why a store cannot be made.
 use thiserror::Error;
 
 /// Why a call on a store was refused. A refused call changes nothing.

@@ -1,5 +1,6 @@
+//! The text of a reply, gathered before it is written.
 ghost use Rattle.std.specs.Prelude.{◌≡◌, ℕ, ◌+◌, ◌≤◌, ◌++◌, ◌↔◌, [], ◌∷◌, IsTrue, length, codes, decimal};
-ghost use Rattle.route_lines.specs.Reply.{ended, refusal_line, reference_text, placed_line, shown_line, found_line, place_line};
+ghost use Rattle.route_lines.specs.Reply.{ended, refusal_line, reference_text, placed_line, shown_line, found_line, ticket_line, done_line, neighbor_line, place_line, stop_line};
 ghost use Rattle.route_lines.specs.ReplyText.{HasRoom};
 
 use crate::placed::Placed;
@@ -83,7 +84,8 @@ impl ReplyText {
         self.push_bytes(b"\n");
     }
 
-    fn push_refusal(&mut self, refusal: Refusal)
+    /// Why a call was refused.
+    pub fn push_refusal(&mut self, refusal: Refusal)
         requires { HasRoom self.old 59 }
         ensures { self.new ≡ self.old ++ ended (refusal_line refusal) }
     {
@@ -186,5 +188,50 @@ impl ReplyText {
         self.push_number(key);
         self.push_bytes(b" ");
         self.push_word_line(word);
+    }
+
+    /// The new ticket that `start`, `extend` and `mark` answered.
+    pub fn push_ticket(&mut self, ticket: Result<u64, Refusal>)
+        requires { HasRoom self.old 59 }
+        ensures { self.new ≡ self.old ++ ended (ticket_line ticket) }
+    {
+        match ticket {
+            Ok(ticket) => self.push_ticket_line(ticket),
+            Err(refusal) => self.push_refusal(refusal),
+        }
+    }
+
+    /// What `join`, `cut` and `swap` answered.
+    pub fn push_done(&mut self, done: Result<(), Refusal>)
+        requires { HasRoom self.old 59 }
+        ensures { self.new ≡ self.old ++ ended (done_line done) }
+    {
+        match done {
+            Ok(()) => self.push_line(b"ok"),
+            Err(refusal) => self.push_refusal(refusal),
+        }
+    }
+
+    /// What `after` and `before` answered.
+    pub fn push_neighbor(&mut self, neighbor: Result<Option<u64>, Refusal>)
+        requires { HasRoom self.old 59 }
+        ensures { self.new ≡ self.old ++ ended (neighbor_line neighbor) }
+    {
+        match neighbor {
+            Ok(found) => self.push_found(found),
+            Err(refusal) => self.push_refusal(refusal),
+        }
+    }
+
+    /// A stop, as `walk` lists it.
+    pub fn push_stop(&mut self, ticket: u64, place: Option<u64>)
+        requires { HasRoom self.old 59 }
+        ensures { self.new ≡ self.old ++ ended
+            (stop_line (record { ticket = ticket; place = place })) }
+    {
+        self.push_number(ticket);
+        self.push_bytes(b" ");
+        self.push_reference(place);
+        self.push_bytes(b"\n");
     }
 }

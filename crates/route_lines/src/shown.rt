@@ -1,3 +1,4 @@
+//! What `show` answers.
 use crate::word::Word;
 
 /// What stands under a ticket. A reference is the ticket of a living item, or `None` where that item is gone.

@@ -1,3 +1,4 @@
+//! Lines that come in pieces.
 ghost use Rattle.std.specs.Prelude.{◌≡◌, ℕ, ◌++◌, ◌∷◌, ◌↔◌, List, [], IfNone, IfSome, IsTrue};
 ghost use Rattle.route_lines.specs.Unfinished.{HasNoLineEnd};
 

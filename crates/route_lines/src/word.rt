@@ -1,3 +1,4 @@
+//! Words of a line.
 ghost use Rattle.route_lines.specs.Word.{IsWord, is_word, is_word_byte, word_of};
 ghost use Rattle.std.specs.Fmt.{padded};
 ghost use Rattle.std.specs.Prelude.{◌≡◌, ◌↔◌, ⊤, IfSome, IsSome, List, ℕ, Some};

@@ -1,3 +1,4 @@
+//! What holds of replies.
 ghost use Rattle.std.specs.Prelude.{◌≡◌, ◌≤◌, Option, [], length};
 ghost use Rattle.std.specs.List.{AllByRecursion};
 ghost use Rattle.route_lines.specs.declared.command.Command.{Command};

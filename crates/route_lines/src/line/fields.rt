@@ -1,3 +1,4 @@
+//! The fields of a line.
 ghost use Rattle.route_lines.specs.Grammar.{fields_of};
 ghost use Rattle.std.specs.Prelude.{◌≡◌, ◌∷◌, [], MatchOption};
 

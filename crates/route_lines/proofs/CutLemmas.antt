@@ -1,0 +1,113 @@
+-- Lists cut at an item, and what their items weigh.
+use Rattle.std.proofs.Common.{◌≡◌, ap, subst, refl, Bool, true, false, ◌||◌, ℕ, ◌+◌, ◌≤◌, List, [], ◌∷◌, ◌++◌, length, Some, IfSome, cond, find, filter, arith}
+use Rattle.std.specs.List.{AllByRecursion, list_any}
+use Rattle.std.proofs.lemmas.Bool.{false≢true}
+use Rattle.route_lines.specs.Cuts.{before, onward, up_to, behind}
+use Rattle.route_lines.specs.Sound.{total, count_of}
+
+pub before_onward : {X : Type 0} (test : X → Bool) (xs : List X) → before test xs ++ onward test xs ≡ xs
+before_onward test [] = refl
+before_onward test (x ∷ xs) = at (test x) (before_onward test xs)
+  where
+    at : (b : Bool) → before test xs ++ onward test xs ≡ xs → cond b [] (x ∷ before test xs) ++ cond b (x ∷ xs) (onward test xs) ≡ x ∷ xs
+    at true e = refl
+    at false e = ap (λ ys. x ∷ ys) e
+
+pub up_to_behind : {X : Type 0} (test : X → Bool) (xs : List X) → up_to test xs ++ behind test xs ≡ xs
+up_to_behind test [] = refl
+up_to_behind test (x ∷ xs) = at (test x) (up_to_behind test xs)
+  where
+    at : (b : Bool) → up_to test xs ++ behind test xs ≡ xs → cond b (x ∷ []) (x ∷ up_to test xs) ++ cond b xs (behind test xs) ≡ x ∷ xs
+    at true e = refl
+    at false e = ap (λ ys. x ∷ ys) e
+
+-- ---- all items
+
+pub all_weaker : {X : Type 0} (P Q : X → Type 0) (xs : List X) → ((x : X) → P x → Q x) → AllByRecursion P xs → AllByRecursion Q xs
+all_weaker P Q [] f h = tt
+all_weaker P Q (x ∷ xs) f h = (f x h.0, all_weaker P Q xs f h.1)
+
+pub all_append : {X : Type 0} (P : X → Type 0) (xs ys : List X) → AllByRecursion P xs → AllByRecursion P ys → AllByRecursion P (xs ++ ys)
+all_append P [] ys h k = k
+all_append P (x ∷ xs) ys h k = (h.0, all_append P xs ys h.1 k)
+
+pub all_front : {X : Type 0} (P : X → Type 0) (xs ys : List X) → AllByRecursion P (xs ++ ys) → AllByRecursion P xs
+all_front P [] ys h = tt
+all_front P (x ∷ xs) ys h = (h.0, all_front P xs ys h.1)
+
+pub all_back : {X : Type 0} (P : X → Type 0) (xs ys : List X) → AllByRecursion P (xs ++ ys) → AllByRecursion P ys
+all_back P [] ys h = h
+all_back P (x ∷ xs) ys h = all_back P xs ys h.1
+
+pub all_filter : {X : Type 0} (P : X → Type 0) (test : X → Bool) (xs : List X) → AllByRecursion P xs → AllByRecursion P (filter test xs)
+all_filter P test [] h = tt
+all_filter P test (x ∷ xs) h = at (test x) (all_filter P test xs h.1)
+  where
+    at : (b : Bool) → AllByRecursion P (filter test xs) → AllByRecursion P (cond b (x ∷ filter test xs) (filter test xs))
+    at true k = (h.0, k)
+    at false k = k
+
+-- what a search finds is one of the list, and passes
+pub found_in : {X : Type 0} (P : X → Type 0) (test : X → Bool) (xs : List X) → AllByRecursion P xs → IfSome (find test xs) P
+found_in P test [] each = tt
+found_in P test (x ∷ xs) each = at (test x) (found_in P test xs each.1)
+  where
+    at : (b : Bool) → IfSome (find test xs) P → IfSome (cond b (Some x) (find test xs)) P
+    at true behind = each.0
+    at false behind = behind
+
+pub found_passes : {X : Type 0} (test : X → Bool) (xs : List X) (x : X) → find test xs ≡ Some x → test x ≡ true
+found_passes test [] x e = cc
+found_passes test (y ∷ xs) x e = at (test y) refl e (found_passes test xs x)
+  where
+    at : (b : Bool) → test y ≡ b → cond b (Some y) (find test xs) ≡ Some x → (find test xs ≡ Some x → test x ≡ true) → test x ≡ true
+    at true is e h = let same : y ≡ x = cc in subst (λ z. test z ≡ true) same is
+    at false is e h = h e
+
+pub found_if_any : {X : Type 0} (test : X → Bool) (xs : List X) → list_any test xs ≡ true → (x : X) × (find test xs ≡ Some x)
+found_if_any test [] e = absurd (false≢true e)
+found_if_any {X} test (x ∷ xs) e = at (test x) e (found_if_any test xs)
+  where
+    at : (b : Bool) → (b || list_any test xs) ≡ true → (list_any test xs ≡ true → (y : X) × (find test xs ≡ Some y)) → (y : X) × (cond b (Some x) (find test xs) ≡ Some y)
+    at true e h = (x, refl)
+    at false e h = h e
+
+-- ---- weights
+
+pub total-append : {X : Type 0} (weight : X → ℕ) (xs ys : List X) → total weight (xs ++ ys) ≡ total weight xs + total weight ys
+total-append weight [] ys = omega arith
+total-append weight (x ∷ xs) ys = omega (arith, total-append weight xs ys)
+
+pub length-total : {X : Type 0} (xs : List X) → length xs ≡ total (λ x. 1) xs
+length-total [] = refl
+length-total (x ∷ xs) = omega (arith, length-total xs)
+
+pub count-any : {X : Type 0} (test : X → Bool) (xs : List X) → list_any test xs ≡ true → 1 ≤ count_of test xs
+count-any test [] e = absurd (false≢true e)
+count-any test (x ∷ xs) e = at (test x) e (count-any test xs)
+  where
+    at : (b : Bool) → (b || list_any test xs) ≡ true → (list_any test xs ≡ true → 1 ≤ count_of test xs) → 1 ≤ cond b 1 0 + count_of test xs
+    at true e h = omega arith
+    at false e h = omega (arith, h e)
+
+pub count-none : {X : Type 0} (test : X → Bool) (xs : List X) → list_any test xs ≡ false → count_of test xs ≡ 0
+count-none test [] e = refl
+count-none test (x ∷ xs) e = at (test x) e (count-none test xs)
+  where
+    at : (b : Bool) → (b || list_any test xs) ≡ false → (list_any test xs ≡ false → count_of test xs ≡ 0) → cond b 1 0 + count_of test xs ≡ 0
+    at true e h = cc
+    at false e h = omega (arith, h e)
+
+pub none-count : {X : Type 0} (test : X → Bool) (xs : List X) → count_of test xs ≡ 0 → list_any test xs ≡ false
+none-count test xs e = at (list_any test xs) refl
+  where
+    at : (b : Bool) → list_any test xs ≡ b → list_any test xs ≡ false
+    at true is = absurd (omega (arith, e, count-any test xs is))
+    at false is = is
+
+pub any-count : {X : Type 0} (test : X → Bool) (xs : List X) → 1 ≤ count_of test xs → list_any test xs ≡ true
+any-count test xs some = at (list_any test xs) refl
+  where
+    at : (b : Bool) → list_any test xs ≡ b → list_any test xs ≡ true
+    at true is = is
+    at false is = absurd (omega (arith, some, count-none test xs is))
