@@ -14,10 +14,10 @@ use Rattle.ticket_book.specs.declared.entry.Kind.TheVariants.{Place as OfPlace, 
 use Rattle.route_lines.specs.declared.refusal.Refusal.TheVariants.{Gone, Unknown}
 use Rattle.ticket_book.specs.Tickets.{Entry, AreBelow, lookup}
 use Rattle.route_book.specs.Item.{StopView, MarkView}
-use Rattle.route_lines.specs.State.{State, Place, Stop, Route, Mark, Item, place, stop, mark, living, holder}
+use Rattle.route_lines.specs.State.{State, Place, Stop, Route, Mark, Item, place, stop, mark, living, holder, place_of, stop_of, mark_of}
 use Rattle.route_lines.specs.Calls.{put}
 use Rattle.route_book.proofs.SettledLemmas.{found_added, settled_added, up_to_added}
-use Rattle.route_book.specs.Holds.{Found, found_by, state_stop, state_mark, place_under, stop_under, mark_under, item_under, place_at, stop_at, mark_at, IsFilled, entry, Rise, IsSettled, stops_along, IsRoute, AreRoutes, IsHeld, place_of, stop_of, mark_of, stop_list}
+use Rattle.route_book.specs.Holds.{Found, found_by, state_stop, state_mark, place_under, stop_under, mark_under, item_under, place_at, stop_at, mark_at, IsFilled, entry, Rise, IsSettled, stops_along, IsRoute, AreRoutes, IsHeld}
 
 no_some : {X : Type 0} {x : X} → ◌≡◌ {A = Option X} None (Some x) → ⊥
 no_some e = absurd (cc)

@@ -11,9 +11,9 @@ use Rattle.ticket_book.specs.declared.entry.Kind.TheVariants.{Place as OfPlace, 
 use Rattle.ticket_book.specs.Tickets.{Entry, lookup}
 use Rattle.route_lines.specs.Calls.{reworded}
 use Rattle.route_lines.specs.Sound.{KeysRise}
-use Rattle.route_lines.specs.State.{State, Place, Route, with_key}
+use Rattle.route_lines.specs.State.{State, Place, Route, place_of, stop_of, mark_of}
 use Rattle.route_book.specs.Item.{StopView, MarkView}
-use Rattle.route_book.specs.Holds.{Found, found_by, state_stop, state_mark, place_under, stop_under, mark_under, place_at, stop_at, mark_at, IsFilled, entry, IsSettled, AreUpTo, stops_along, IsRoute, AreRoutes, IsHeld, place_of, stop_of, mark_of}
+use Rattle.route_book.specs.Holds.{Found, found_by, state_stop, state_mark, place_under, stop_under, mark_under, place_at, stop_at, mark_at, IsFilled, entry, IsSettled, AreUpTo, stops_along, IsRoute, AreRoutes, IsHeld}
 use Rattle.route_book.proofs.KeyLemmas.{along}
 
 some_same : {X : Type 0} {x y : X} → ◌≡◌ {A = Option X} (Some x) (Some y) → x ≡ y

@@ -6,9 +6,9 @@ use Rattle.triple_arena_chain.specs.Links.{ends_in, values_in}
 use Rattle.triple_arena_ord.specs.Ordered.{Ordered, entry_in, ordered_entries, size_in}
 use Rattle.ticket_book.specs.Tickets.{Entry}
 use Rattle.route_lines.specs.Sound.{KeysRise}
-use Rattle.route_lines.specs.State.{State, Rooms, Place, Mark}
+use Rattle.route_lines.specs.State.{State, Rooms, Place, Mark, mark_of, stop_list}
 use Rattle.route_book.specs.Item.{StopView, MarkView}
-use Rattle.route_book.specs.Holds.{Found, IsHeld, mark_of, stop_list}
+use Rattle.route_book.specs.Holds.{Found, IsHeld}
 
 -- the state, and what the arenas hold
 pub record Book (I : Type 0) : Type 0 where

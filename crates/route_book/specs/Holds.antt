@@ -1,5 +1,5 @@
 -- How the arenas and the ticket book stand for a state. What pointers find are plain functions here: no arena, slot or tree.
-use Rattle.std.specs.Prelude.{◌≡◌, ◌⊎◌, ℕ, ◌+◌, ◌<◌, ◌≤◌, ◌==◌, if◌then◌else◌, List, [], ◌∷◌, ◌++◌, Option, Some, None, Ok, IsSome, IfSome, find, flat_map}
+use Rattle.std.specs.Prelude.{◌≡◌, ◌⊎◌, ℕ, ◌+◌, ◌<◌, ◌≤◌, ◌==◌, if◌then◌else◌, List, [], ◌∷◌, ◌++◌, Option, Some, None, Ok, IsSome, IfSome}
 use Rattle.std.specs.Option.{option_map, option_to_list}
 use Rattle.triple_arena.specs.Entries.{value_if}
 use Rattle.triple_arena_chain.specs.Chains.{Ends}
@@ -7,23 +7,8 @@ use Rattle.triple_arena_chain.specs.Lists.{Linear, Cyclic, IsChainOf}
 use Rattle.ticket_book.specs.declared.entry.Kind.{Kind}
 use Rattle.ticket_book.specs.declared.entry.Kind.TheVariants.{Place as OfPlace, Stop as OfStop, Mark as OfMark}
 use Rattle.ticket_book.specs.Tickets.{Entry, lookup}
-use Rattle.route_lines.specs.State.{State, Place, Stop, Route, Mark, Item, place, stop, mark, holder}
+use Rattle.route_lines.specs.State.{State, Place, Stop, Route, Mark, Item, place, stop, mark, holder, place_of, stop_of, mark_of}
 use Rattle.route_book.specs.Item.{StopView, MarkView}
-
--- ---- the items of a state by their tickets
-
-abbrev pub place_of : List Place → ℕ → Option Place
-place_of places ticket = find (λ p. p.ticket == ticket) places
-
--- the stops of all routes
-abbrev pub stop_list : List Route → List Stop
-stop_list routes = flat_map (λ r. r.stops) routes
-
-abbrev pub stop_of : List Route → ℕ → Option Stop
-stop_of routes ticket = find (λ t. t.ticket == ticket) (stop_list routes)
-
-abbrev pub mark_of : List Mark → ℕ → Option Mark
-mark_of marks ticket = find (λ m. m.ticket == ticket) marks
 
 -- ---- what pointers find
 
