@@ -68,7 +68,7 @@ put_gap (x ∷ xs) zs p below above =
     rw (le-ltb p.key x.key (omega (arith, less))) (ap (λ l. x ∷ l) (put_gap xs zs p below.1 above))
 
 -- the places behind one that is above a key
-above_behind : (xs zs : List Place) (y : Place) (key : ℕ) → KeysRise (xs ++ y ∷ zs) → key < y.key → AllByRecursion (λ (q : Place). key < q.key) (y ∷ zs)
+pub above_behind : (xs zs : List Place) (y : Place) (key : ℕ) → KeysRise (xs ++ y ∷ zs) → key < y.key → AllByRecursion (λ (q : Place). key < q.key) (y ∷ zs)
 above_behind (x ∷ xs) zs y key rise less = above_behind xs zs y key rise.1 less
 above_behind [] zs y key rise less = (less, weaker zs rise.0)
   where
@@ -77,7 +77,7 @@ above_behind [] zs y key rise less = (less, weaker zs rise.0)
     weaker (q ∷ qs) all = ((let more = all.0 in omega (arith, more, less)), weaker qs all.1)
 
 -- and those before one that is below it
-below_before : (xs zs : List Place) (y : Place) (key : ℕ) → KeysRise (xs ++ y ∷ zs) → y.key < key → AllByRecursion (λ (q : Place). q.key < key) (xs ++ y ∷ [])
+pub below_before : (xs zs : List Place) (y : Place) (key : ℕ) → KeysRise (xs ++ y ∷ zs) → y.key < key → AllByRecursion (λ (q : Place). q.key < key) (xs ++ y ∷ [])
 below_before [] zs y key rise less = (less, tt)
 below_before (x ∷ xs) zs y key rise less =
     ((let more = at xs rise.0 in omega (arith, more, less)), below_before xs zs y key rise.1 less)
@@ -87,7 +87,7 @@ below_before (x ∷ xs) zs y key rise less =
     at (q ∷ qs) all = at qs all.1
 
 -- a place stands once
-split_once : (xs vs ys zs : List Place) (y : Place) → KeysRise (xs ++ y ∷ ys) → xs ++ y ∷ ys ≡ vs ++ y ∷ zs → (xs ≡ vs) × (ys ≡ zs)
+pub split_once : (xs vs ys zs : List Place) (y : Place) → KeysRise (xs ++ y ∷ ys) → xs ++ y ∷ ys ≡ vs ++ y ∷ zs → (xs ≡ vs) × (ys ≡ zs)
 split_once [] [] ys zs y rise same = (refl, cc)
 split_once [] (v ∷ vs) ys zs y rise same =
     let first : y ≡ v = cc in
@@ -115,13 +115,13 @@ split_once (x ∷ xs) (v ∷ vs) ys zs y rise same =
 abbrev pub along : (ℕ → Option (ℕ × Place)) → List ℕ → List Place
 along at w = map (λ x. x.1.1) (entries_along at w)
 
-along_some : (at : ℕ → Option (ℕ × Place)) (i : ℕ) (w : List ℕ) (e : ℕ × Place) → at i ≡ Some e → along at (i ∷ w) ≡ e.1 ∷ along at w
+pub along_some : (at : ℕ → Option (ℕ × Place)) (i : ℕ) (w : List ℕ) (e : ℕ × Place) → at i ≡ Some e → along at (i ∷ w) ≡ e.1 ∷ along at w
 along_some at i w e is = rw is refl
 
 along_none : (at : ℕ → Option (ℕ × Place)) (i : ℕ) (w : List ℕ) → at i ≡ None → along at (i ∷ w) ≡ along at w
 along_none at i w is = rw is refl
 
-along-append : (at : ℕ → Option (ℕ × Place)) (v w : List ℕ) → along at (v ++ w) ≡ along at v ++ along at w
+pub along-append : (at : ℕ → Option (ℕ × Place)) (v w : List ℕ) → along at (v ++ w) ≡ along at v ++ along at w
 along-append at [] w = refl
 along-append at (i ∷ v) w = by (at i) refl (along-append at v w)
   where
@@ -177,7 +177,7 @@ keys_above at key (j ∷ w) all = by (at j) refl all.0 (keys_above at key w all.
 
 module _ {I : Type 0} (number : I → ℕ) (o : Ordered I Place) where
   -- each index of the list is live
-  live_along : (b : Option ℕ) (w : List ℕ) → Stands (ends_in number o.chains) b w None → AllIn (λ j. IsSome (entry_in o j)) w
+  pub live_along : (b : Option ℕ) (w : List ℕ) → Stands (ends_in number o.chains) b w None → AllIn (λ j. IsSome (entry_in o j)) w
   live_along b [] stands = tt
   live_along b (j ∷ w) stands = (live (entry_at o.chains j) refl stands.0, live_along (Some j) w stands.1)
     where
@@ -186,12 +186,12 @@ module _ {I : Type 0} (number : I → ℕ) (o : Ordered I Place) where
       live (Some c) is ends = rw is refl
 
   -- the entry where a search ended, and the key that it has
-  record Asked (key i g : ℕ) (d : Ordering) : Type 0 where
-    item : Place
-    is : entry_in o i ≡ Some (g, item)
-    way : nat_cmp key item.key ≡ d
+  pub record Asked (key i g : ℕ) (d : Ordering) : Type 0 where
+    pub item : Place
+    pub is : entry_in o i ≡ Some (g, item)
+    pub way : nat_cmp key item.key ≡ d
 
-  asked : {P : Type 0} (index generation : P → ℕ) (key : ℕ) (p : P) (d : Ordering) → Answers index generation (asked_at nat_cmp (λ (q : Place). q.key) key o) o p d → Asked key (index p) (generation p) d
+  pub asked : {P : Type 0} (index generation : P → ℕ) (key : ℕ) (p : P) (d : Ordering) → Answers index generation (asked_at nat_cmp (λ (q : Place). q.key) key o) o p d → Asked key (index p) (generation p) d
   asked index generation key p d answers = by (entry_in o (index p)) refl answers.live answers.way
     where
       by : (x : Option (ℕ × Place)) → entry_in o (index p) ≡ x → option_map (λ (e : ℕ × Place). e.0) (entry_in o (index p)) ≡ Some (generation p)
@@ -202,7 +202,7 @@ module _ {I : Type 0} (number : I → ℕ) (o : Ordered I Place) where
           record { item = e.1; is = is ∙ ap (λ g. Some (g, e.1)) same; way = sym (rw is refl) ∙ way }
 
   -- the list around an entry
-  split_at : (i g : ℕ) (e : Place) (front back : List ℕ) → order_in number o ≡ front ++ i ∷ back → entry_in o i ≡ Some (g, e)
+  pub split_at : (i g : ℕ) (e : Place) (front back : List ℕ) → order_in number o ≡ front ++ i ∷ back → entry_in o i ≡ Some (g, e)
       → in_order number o ≡ along (entry_in o) front ++ e ∷ along (entry_in o) back
   split_at i g e front back is at =
       ap (along (entry_in o)) is ∙ along-append (entry_in o) front (i ∷ back) ∙ ap (λ l. along (entry_in o) front ++ l) (along_some (entry_in o) i back (g, e) at)
@@ -225,13 +225,13 @@ module _ {I : Type 0} (number : I → ℕ) (o : Ordered I Place) where
   key_missing key other = none_along (entry_in o) key other (order_in number o)
 
   -- the places around a gap: all with lesser keys, then all with greater ones
-  record IsGap (key : ℕ) (front back : List Place) : Type 0 where
-    below : AllByRecursion (λ (q : Place). q.key < key) front
-    above : AllByRecursion (λ (q : Place). key < q.key) back
-    is : in_order number o ≡ front ++ back
+  pub record IsGap (key : ℕ) (front back : List Place) : Type 0 where
+    pub below : AllByRecursion (λ (q : Place). q.key < key) front
+    pub above : AllByRecursion (λ (q : Place). key < q.key) back
+    pub is : in_order number o ≡ front ++ back
 
   -- a search that ended before an entry with a greater key, and one that ended after an entry with a lesser key
-  gap_less : (key i g : ℕ) (e : Place) (before after : List ℕ) → KeysRise (in_order number o) → entry_in o i ≡ Some (g, e) → nat_cmp key e.key ≡ Less
+  pub gap_less : (key i g : ℕ) (e : Place) (before after : List ℕ) → KeysRise (in_order number o) → entry_in o i ≡ Some (g, e) → nat_cmp key e.key ≡ Less
       → order_in number o ≡ before ++ i ∷ after → AllIn (λ j. asked_at nat_cmp (λ (q : Place). q.key) key o j ≡ Greater) before
       → IsGap key (along (entry_in o) before) (e ∷ along (entry_in o) after)
   gap_less key i g e before after rise at way is greater =
@@ -242,7 +242,7 @@ module _ {I : Type 0} (number : I → ℕ) (o : Ordered I Place) where
         is = split;
       }
 
-  gap_greater : (key i g : ℕ) (e : Place) (before after : List ℕ) → KeysRise (in_order number o) → entry_in o i ≡ Some (g, e) → nat_cmp key e.key ≡ Greater
+  pub gap_greater : (key i g : ℕ) (e : Place) (before after : List ℕ) → KeysRise (in_order number o) → entry_in o i ≡ Some (g, e) → nat_cmp key e.key ≡ Greater
       → order_in number o ≡ before ++ i ∷ after → AllIn (λ j. asked_at nat_cmp (λ (q : Place). q.key) key o j ≡ Less) after
       → IsGap key (along (entry_in o) before ++ e ∷ []) (along (entry_in o) after)
   gap_greater key i g e before after rise at way is less =

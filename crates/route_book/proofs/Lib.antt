@@ -5,3 +5,4 @@ pub mod RewordLemmas
 pub mod PlaceLemmas
 pub mod NewLemmas
 pub mod RoomLemmas
+pub mod NeighborLemmas
