@@ -6,3 +6,6 @@ pub mod PlaceLemmas
 pub mod NewLemmas
 pub mod RoomLemmas
 pub mod NeighborLemmas
+pub mod StopLemmas
+pub mod StartLemmas
+pub mod MarkLemmas

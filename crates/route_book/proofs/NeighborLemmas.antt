@@ -1,5 +1,5 @@
 -- The places next to a place, and the last place whose key is not above another.
-use Rattle.std.proofs.Common.{◌≡◌, ◌≢◌, ◌∙◌, sym, ap, subst, refl, Bool, true, false, ◌==◌, nat_le, if◌then◌else◌, ℕ, ◌+◌, ◌<◌, ◌≤◌, List, [], ◌∷◌, ◌++◌, map, reverse, Option, Some, None, IsSome, is_some, true≢false, option_map, arith, inl, inr, find}
+use Rattle.std.proofs.Common.{◌≡◌, ◌≢◌, ◌∙◌, sym, ap, subst, refl, Bool, true, false, ◌==◌, ◌||◌, nat_le, nat_lt, Result, Ok, Err, if◌then◌else◌, ℕ, ◌+◌, ◌<◌, ◌≤◌, List, [], ◌∷◌, ◌++◌, map, reverse, Option, Some, None, IsSome, is_some, true≢false, option_map, arith, inl, inr, find}
 use Rattle.std.specs.Borrow.{Bor}
 use Rattle.std.specs.List.{AllByRecursion}
 use Rattle.std.specs.Option.{option_or}
@@ -18,7 +18,10 @@ use Rattle.triple_arena_ord.specs.Ordered.{Ordered, IsOrdered, entry_in, order_i
 use Rattle.triple_arena_ord.specs.OrderedWalks.{read_link}
 use Rattle.route_lines.specs.Cuts.{before, behind, first_item, last_item}
 use Rattle.route_lines.specs.Sound.{KeysRise}
-use Rattle.route_lines.specs.State.{Place, place_of}
+use Rattle.route_lines.specs.Calls.{place_holder, place_after, place_before}
+use Rattle.route_lines.specs.State.{State, Place, Stop, Mark, place_of, stop_of, mark_of}
+use Rattle.route_lines.specs.declared.refusal.Refusal.{Refusal}
+use Rattle.route_lines.specs.declared.refusal.Refusal.TheVariants.{Unknown, Gone, Kind}
 use Rattle.route_book.specs.Book.{in_order}
 use Rattle.route_book.proofs.KeyLemmas.{along, along_some, along-append, live_along, split_at, split_once}
 
@@ -60,7 +63,7 @@ cut_before : (xs zs : List Place) (y : Place) (t : ℕ) → y.ticket ≡ t → A
 cut_before [] zs y t is all = rw (eq-eqb y.ticket t is) refl
 cut_before (x ∷ xs) zs y t is all = rw (ne_eqb x.ticket t all.0) (ap (λ l. x ∷ l) (cut_before xs zs y t is all.1))
 
-has_ticket : (ps : List Place) (t : ℕ) (p : Place) → place_of ps t ≡ Some p → p.ticket ≡ t
+pub has_ticket : (ps : List Place) (t : ℕ) (p : Place) → place_of ps t ≡ Some p → p.ticket ≡ t
 has_ticket [] t p is = absurd (let no : ◌≡◌ {A = Option Place} None (Some p) = is in cc)
 has_ticket (q ∷ ps) t p is = elim (eqb_tells q.ticket t) [
   | inl same ↦
@@ -220,3 +223,30 @@ module _ {I : Type 0} (number : I → ℕ) (o : Ordered I Place) (ordered : IsOr
       by : (w : List ℕ) → first_or w None ≡ None → first_item (along (entry_in o) w) ≡ None
       by [] first = refl
       by (x ∷ w) first = absurd (let no : ◌≡◌ {A = Option ℕ} (Some x) None = first in cc)
+
+-- ---- what the calls answer
+
+module _ (s : State) (t : ℕ) (q : Place) (held : place_holder s t ≡ Ok q) where
+  pub held_place : place_of s.places t ≡ Some q
+  held_place = by ((t == 0) || nat_lt s.last t) refl (place_of s.places t) refl (stop_of s.routes t) refl (mark_of s.marks t) refl
+    where
+      no_ok : {e : Refusal} → place_holder s t ≡ Err e → place_of s.places t ≡ Some q
+      no_ok err = absurd (let no : ◌≡◌ {A = Result Place Refusal} (Ok q) (Err _) = sym held ∙ err in cc)
+
+      by : (a : Bool) → ((t == 0) || nat_lt s.last t) ≡ a → (b : Option Place) → place_of s.places t ≡ b → (c : Option Stop) → stop_of s.routes t ≡ c → (d : Option Mark) → mark_of s.marks t ≡ d
+          → place_of s.places t ≡ Some q
+      by true one b two c three d four = no_ok {e = Unknown} (rw one refl)
+      by false one None two None three None four = no_ok {e = Gone} (rw (one, two, three, four) refl)
+      by false one None two None three (Some m) four = no_ok {e = Kind} (rw (one, two, three, four) refl)
+      by false one None two (Some u) three d four = no_ok {e = Kind} (rw (one, two, three) refl)
+      by false one (Some p) two c three d four =
+          let there : place_holder s t ≡ Ok p = rw (one, two) refl in
+          let same : ◌≡◌ {A = Result Place Refusal} (Ok p) (Ok q) = sym there ∙ held in
+          two ∙ ap Some (let is : p ≡ q = cc in is)
+
+  module _ (xs zs : List Place) (is : s.places ≡ xs ++ q ∷ zs) (rise : KeysRise s.places) where
+    pub after_is : place_after s t ≡ Ok (option_map (λ (p : Place). p.ticket) (first_item zs))
+    after_is = rw held (ap (λ l. Ok (option_map (λ (p : Place). p.ticket) (first_item l))) (around s.places xs zs q t rise is held_place).1)
+
+    pub before_is : place_before s t ≡ Ok (option_map (λ (p : Place). p.ticket) (last_item xs))
+    before_is = rw held (ap (λ l. Ok (option_map (λ (p : Place). p.ticket) (last_item l))) (around s.places xs zs q t rise is held_place).0)

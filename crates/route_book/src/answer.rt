@@ -6,6 +6,7 @@ ghost use Rattle.counted_search.specs.Searches.{most_comparisons};
 ghost use Rattle.route_lines.specs.Searches.{CountsWithin, place_count, living_count};
 ghost use Rattle.route_lines.specs.Watched.{inner_of, failed_of};
 ghost use Rattle.route_lines.specs.Written.{AppendsBeginning};
+ghost use Rattle.route_book.specs.Book.{KeepsItems};
 
 use crate::backing::BookBacking;
 use crate::book::RouteBook;
@@ -29,6 +30,7 @@ impl<P: PtrCore, B: BookBacking<P>> RouteBook<P, B> {
         counts: &mut Counts,
     ) -> io::Result<()>
         ensures state { self.new.state ≡ next self.old.state (command_of line.now) }
+        ensures kept { KeepsItems self.old self.new }
         ensures ok { OnOk result (Appends (W.contents (inner_of writer.old))
             (W.contents (inner_of writer.new)) (reply self.old.state (command_of line.now))) }
         ensures ok_failed { OnOk result (failed_of writer.new ≡ failed_of writer.old) }
@@ -52,6 +54,7 @@ impl<P: PtrCore, B: BookBacking<P>> RouteBook<P, B> {
         counts: &mut Counts,
     ) -> io::Result<()>
         ensures state { self.new.state ≡ next self.old.state command }
+        ensures kept { KeepsItems self.old self.new }
         ensures ok { OnOk result (Appends (W.contents (inner_of writer.old))
             (W.contents (inner_of writer.new)) (reply self.old.state command)) }
         ensures ok_failed { OnOk result (failed_of writer.new ≡ failed_of writer.old) }

@@ -18,9 +18,9 @@ mod backing;
 mod book;
 mod command_line;
 mod items;
-mod making;
+mod parts;
+mod place_arena;
 mod places;
-mod placing;
 mod running;
 
 pub use backing::{BookBacking, MarkSlot, OnArray, OnFixed, OnHeap, OnLimited, PlaceSlot, StopSlot};

@@ -1,0 +1,24 @@
+use Rattle.std.proofs.Common.{inl, inr}
+use Rattle.route_lines.proofs.CommandLineLemmas.{answers-whole_lines, begins-to_answer, on_read, on_write, on_too_long}
+use Rattle.route_book.proofs.command_line.answer_input.Goals as goal
+
+pub returns-in-Err-Read-clause-fault : goal.returns-in-Err-Read-clause-fault
+returns-in-Err-Read-clause-fault g c one rooms new =
+    let fault = c.in-Err-Read.ensures in
+    let is = c.in-Err-Read.field-0-is in
+    let read = on_read _ _ _ is fault.read in
+    inl (answers-whole_lines rooms _ _ _ _ _ _ _ _ read.0 new read.1 read.2, inl ((on_read _ _ _ is fault.read_failed).0), c.tell.ensures)
+
+pub returns-in-Err-Write-clause-fault : goal.returns-in-Err-Write-clause-fault
+returns-in-Err-Write-clause-fault g c one rooms new =
+    let fault = c.in-Err-Write.ensures in
+    let is = c.in-Err-Write.field-0-is in
+    let write = on_write _ _ _ is fault.write in
+    inr (begins-to_answer rooms _ _ _ _ _ _ _ _ write.0 new write.1 write.2, (on_write _ _ _ is fault.write_failed).0, c.tell-in-Err-Write.ensures)
+
+pub returns-clause-fault : goal.returns-clause-fault
+returns-clause-fault g c one rooms new =
+    let fault = c.in-Err-TooLong.ensures in
+    let is = c.in-Err-TooLong.field-0-is in
+    let read = on_too_long _ _ is fault.too_long in
+    inl (answers-whole_lines rooms _ _ _ _ _ _ _ _ read.0 new read.1 read.2, inr (on_too_long _ _ is fault.many_reads).0, c.tell-in-Err-TooLong.ensures)
