@@ -17,7 +17,7 @@ use Rattle.route_book.specs.Item.{StopView, MarkView}
 use Rattle.route_lines.specs.State.{State, Place, Stop, Route, Mark, Item, place, stop, mark, living, holder, place_of, stop_of, mark_of}
 use Rattle.route_lines.specs.Calls.{put}
 use Rattle.route_book.proofs.SettledLemmas.{found_added, settled_added, up_to_added}
-use Rattle.route_book.specs.Holds.{Found, found_by, state_stop, state_mark, place_under, stop_under, mark_under, item_under, place_at, stop_at, mark_at, IsFilled, entry, Rise, IsSettled, stops_along, IsRoute, AreRoutes, IsHeld}
+use Rattle.route_book.specs.Holds.{Found, found_by, state_stop, state_mark, place_under, stop_under, mark_under, item_under, place_at, stop_at, mark_at, IsFilled, IsItem, entry, Rise, IsSettled, stops_along, IsRoute, AreRoutes, IsHeld}
 
 no_some : {X : Type 0} {x : X} → ◌≡◌ {A = Option X} None (Some x) → ⊥
 no_some e = absurd (cc)
@@ -81,6 +81,11 @@ module _ (s : State) (f : Found) (order : List Place) (ends : ℕ → Option End
         let some = some_under e.kind e.index e.generation (h.filled t e found) in
         let l = living_under e.kind e.index e.generation (h.places t ∙ ap (place_at f) found) (h.stops t ∙ ap (stop_at f) found) (h.marks t ∙ ap (mark_at f) found) ∙ some.1 in
         (some.0, (rw (known, l) refl, some.1))
+
+    pub is_item : (e : Entry) (kind : Kind) (i g : ℕ) → lookup book t ≡ Some e → kind ≡ e.kind → i ≡ e.index → g ≡ e.generation → IsItem s f t kind i g
+    is_item e kind i g found one two three =
+        let there = holder_found e found in
+        record { item = there.0; living = there.1.0; under = ap (λ k. item_under f k i g) one ∙ ap (λ n. item_under f e.kind n g) two ∙ ap (λ n. item_under f e.kind e.index n) three ∙ there.1.1 }
 
 pub holder_unknown : (s : State) (t : ℕ) → ((t == 0) || nat_lt s.last t) ≡ true → holder s t ≡ Err Unknown
 holder_unknown s t is = rw is refl

@@ -282,6 +282,22 @@ module _ {I : Type 0} (number : I → ℕ) (o : Ordered I Place) where
       no_order [] none = refl
       no_order (x ∷ w) none = absurd (omega (arith, none))
 
+module _ {I : Type 0} (number : I → ℕ) (o : Ordered I Place) where
+  -- where a search by key ended is live
+  pub answers_live : {P : Type 0} (index generation : P → ℕ) (key : ℕ) (p : P) (d : Ordering) → Answers index generation (asked_at nat_cmp (λ (q : Place). q.key) key o) o p d
+      → IsSome (value_if (generation p) (entry_in o (index p)))
+  answers_live index generation key p d answers =
+      let a = asked number o index generation key p d answers in
+      let there : value_if (generation p) (entry_in o (index p)) ≡ Some a.item = ap (value_if (generation p)) a.is ∙ rw (eq-eqb (generation p) (generation p) refl) refl in
+      subst IsSome (sym there) refl
+
+  -- a search that ended at no equal key
+  pub search_missing : {P : Type 0} (index generation : P → ℕ) (key : ℕ) (parted : Type 0) (r : Option (P × Ordering)) → parted → IsOrdered number o → KeysRise (in_order number o)
+      → IsSimilar index generation number (asked_at nat_cmp (λ (q : Place). q.key) key o) parted r o → ((p : P) → r ≢ Some (p, Equal)) → with_key key (in_order number o) ≡ None
+  search_missing index generation key parted None is_parted ordered rise similar other = none_missing number o index generation key parted ordered similar
+  search_missing index generation key parted (Some a) is_parted ordered rise similar other =
+      gap_missing number o index generation key parted a.0 a.1 is_parted rise (λ same. other a.0 (ap (λ d. Some (a.0, d)) same)) similar
+
 -- a place more, where a search for its key ended
 module _ {I : Type 0} (number : I → ℕ) (old new : Ordered I Place) (i g : ℕ) (p : Place) (ordered : IsOrdered number old) (rise : KeysRise (in_order number old)) (added : IsAdded number i g p old new) where
   here : entry_in new i ≡ Some (g, p)

@@ -19,7 +19,7 @@ use Rattle.route_lines.specs.State.{State, Rooms, Place, Stop, Route, Mark, plac
 use Rattle.route_lines.specs.declared.refusal.Refusal.TheVariants.{Full}
 use Rattle.route_book.specs.Item.{StopView, MarkView}
 use Rattle.route_book.specs.Holds.{Found, AreRoutes, IsRoute, entry, state_mark, state_stop, stops_along, place_at, stop_at, mark_at, place_under, stop_under, mark_under, IsFilled, IsLive, IsSettled, IsHeld}
-use Rattle.route_book.specs.Book.{MarksDiffer, found_in, in_order, IsBook, IsWithin}
+use Rattle.route_book.specs.Book.{MarksDiffer, found_in, in_order, IsBook, IsWithin, KeepsItems}
 use Rattle.route_book.proofs.HoldLemmas.{some_same, Rise-add, lookup_none, lookup_added, lookup_other, lookup_kept}
 use Rattle.route_book.proofs.SettledLemmas.{live_settled}
 
@@ -246,3 +246,21 @@ module _ {I : Type 0} (number : I → ℕ) (rooms : Rooms) (last : ℕ) (s : Sta
     marks_differ = MarksDiffer-behind s.marks m b.marks_differ
         (no_mark_yet s (found_in places stops marks) (in_order number places) (ends_in number stops) book b.held v i g (entry_at marks') vacant entries next live_place live_stop m named);
   })
+
+-- each item keeps its pointer where a mark is added
+pub kept_mark : {I : Type 0} (s s' : State) (places : Ordered I Place) (stops : Content (IndexLink I StopView)) (marks marks' : Content MarkView) (v : MarkView) (i g : ℕ)
+    → entry_at marks i ≡ None → ((k : ℕ) → entry_at marks' k ≡ with_entry (entry_at marks) i (g, v) k)
+    → KeepsItems {I = I} (record { state = s; places = places; stops = stops; marks = marks }) (record { state = s'; places = places; stops = stops; marks = marks' })
+kept_mark s s' places stops marks marks' v i g vacant entries = record {
+  places = λ j n p is. (p, (is, (refl, refl)));
+  stops = λ j n t is. is;
+  marks = stays;
+  place_counter = refl;
+  stop_counter = refl;
+}
+  where
+    stays : (j n : ℕ) (u : MarkView) → entry_at marks j ≡ Some (n, u) → entry_at marks' j ≡ Some (n, u)
+    stays j n u is = elim (eqb_tells j i) [
+      | inl same ↦ absurd (let no : ◌≡◌ {A = Option (ℕ × MarkView)} None (Some (n, u)) = sym vacant ∙ sym (ap (entry_at marks) same.1) ∙ is in cc)
+      | inr other ↦ entries j ∙ rw other.0 is
+    ]

@@ -1,5 +1,5 @@
 -- What `place` makes of what ties a store's parts.
-use Rattle.std.proofs.Common.{◌≡◌, ◌≢◌, ◌∙◌, sym, ap, subst, refl, Bool, true, false, ◌==◌, ◌||◌, if◌then◌else◌, nat_lt, ℕ, ◌+◌, ◌<◌, ◌≤◌, List, [], ◌∷◌, ◌++◌, length, map, Option, Some, None, Ok, Err, arith, length-append, inl, inr, cond}
+use Rattle.std.proofs.Common.{◌≡◌, ◌≢◌, ◌∙◌, sym, ap, subst, refl, Bool, true, false, ◌==◌, ◌||◌, if◌then◌else◌, nat_lt, ℕ, ◌+◌, ◌<◌, ◌≤◌, List, [], ◌∷◌, ◌++◌, length, map, Option, Some, None, IsSome, Ok, Err, arith, length-append, inl, inr, cond}
 use Rattle.std.specs.List.{AllByRecursion}
 use Rattle.std.specs.Option.{option_map}
 use Rattle.std.proofs.lemmas.Bool.{false≢true, eq-eqb, leb-false, ltb-true, ltb-false}
@@ -165,6 +165,28 @@ module _ {I : Type 0} (number : I → ℕ) (rooms : Rooms) (last : ℕ) (s : Sta
           marks_differ = b.marks_differ;
         })
 
+-- the ticket book has room for one more where no room was full
+module _ {I : Type 0} (number : I → ℕ) (rooms : Rooms) (last : ℕ) (s : State) (places : Ordered I Place) (stops : Content (IndexLink I StopView)) (marks : Content MarkView)
+    (book : List Entry) (b : IsBook number rooms last s places stops marks book) (capacity : ℕ) (fits : rooms.places + rooms.stops + rooms.marks ≤ capacity) where
+  pub room_for_place : is_full_of_places s ≡ false → length book < capacity
+  room_for_place free =
+      let less = not_full s free in let r = ap (λ (r : Rooms). r.places) b.within.rooms_are in let n = b.within.place_count in
+      let e = b.entries in let t = b.within.stops_fit in let m = b.within.marks_fit in
+      omega (arith, less, r, n, e, t, m, fits)
+
+  -- and its arena has
+  pub arena_room : is_full_of_places s ≡ false → size_in places < arena_capacity places.chains
+  arena_room free =
+      let less = not_full s free in let r = ap (λ (r : Rooms). r.places) b.within.rooms_are in let n = b.within.place_count in let room = b.within.place_room in
+      omega (arith, less, r, n, room)
+
+some_of : {T : Type 0} (o : Option T) → IsSome o → (x : T) × (o ≡ Some x)
+some_of None is = absurd (let no : false ≡ true = is in false≢true no)
+some_of (Some x) is = (x, refl)
+
+pub the_place : (o r : Option Place) → IsSome o → o ≡ r → (p : Place) × ((o ≡ Some p) × (r ≡ Some p))
+the_place o r is same = let x = some_of o is in (x.0, (x.1, sym same ∙ x.1))
+
 -- ---- what stays
 
 module _ {I : Type 0} (s s' : State) (places places' : Ordered I Place) (stops : Content (IndexLink I StopView)) (marks : Content MarkView) (number : I → ℕ) where
@@ -177,9 +199,10 @@ module _ {I : Type 0} (s s' : State) (places places' : Ordered I Place) (stops :
   pub kept_added : (p : Place) (i g : ℕ) → IsAdded number i g p places places' → places'.chains.counter ≡ places.chains.counter → KeepsItems old new
   kept_added p i g added counter = record {
     places = λ j n q is. (q, (stays j n q is, (refl, refl)));
+    stops = λ j n v is. is;
+    marks = λ j n v is. is;
     place_counter = counter;
-    stops = refl;
-    marks = refl;
+    stop_counter = refl;
   }
     where
       stays : (j n : ℕ) (q : Place) → entry_in places j ≡ Some (n, q) → entry_in places' j ≡ Some (n, q)
@@ -191,9 +214,10 @@ module _ {I : Type 0} (s s' : State) (places places' : Ordered I Place) (stops :
   pub kept_reworded : (p : Place) (word : List ℕ) (i g : ℕ) → IsReplaced number i g (record p { word = word }) p places places' → KeepsItems old new
   kept_reworded p word i g replaced = record {
     places = stays;
+    stops = λ j n v is. is;
+    marks = λ j n v is. is;
     place_counter = replaced.kept.counter;
-    stops = refl;
-    marks = refl;
+    stop_counter = refl;
   }
     where
       stays : (j n : ℕ) (q : Place) → entry_in places j ≡ Some (n, q) → (r : Place) × ((entry_in places' j ≡ Some (n, r)) × ((r.ticket ≡ q.ticket) × (r.key ≡ q.key)))
@@ -208,4 +232,10 @@ module _ {I : Type 0} (s s' : State) (places places' : Ordered I Place) (stops :
       ]
 
 pub kept_same : {I : Type 0} (b : Book I) → KeepsItems b b
-kept_same b = record { places = λ i g p is. (p, (is, (refl, refl))); place_counter = refl; stops = refl; marks = refl }
+kept_same b = record {
+  places = λ i g p is. (p, (is, (refl, refl)));
+  stops = λ i g v is. is;
+  marks = λ i g v is. is;
+  place_counter = refl;
+  stop_counter = refl;
+}

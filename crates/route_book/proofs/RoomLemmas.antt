@@ -2,7 +2,9 @@
 use Rattle.std.proofs.Common.{◌≡◌, ◌∙◌, sym, ap, subst, refl, Bool, true, false, ◌==◌, nat_lt, if◌then◌else◌, ℕ, ◌+◌, ◌-◌, ◌^◌, ◌<◌, ◌≤◌, ◌↔◌, Option, Some, None, arith, inl, inr, min, cond}
 use Rattle.std.proofs.lemmas.Bool.{false≢true, true≢false, ltb-false, cases_lt, lt-ltb, le-ltb}
 use Rattle.triple_arena_ptr.specs.Index.{max_index_of}
-use Rattle.triple_arena_stack.specs.Room.{Room, IsBeyond}
+use Rattle.triple_arena_stack.specs.Room.{Room, IsBeyond, capacity}
+use Rattle.triple_arena.specs.Content.{Content, arena_capacity, empty}
+use Rattle.triple_arena.specs.DirectContent.{DirectContent, empty as no_pointers, arena_capacity as mirror_capacity}
 use Rattle.triple_arena.specs.ArenaRoom.{index_limit, room_of}
 use Rattle.route_lines.specs.declared.refusal.RoomError.{RoomError}
 use Rattle.route_lines.specs.declared.refusal.RoomError.TheVariants.{Generation, Index, Stack}
@@ -53,3 +55,11 @@ module _ (last : Option ℕ) (greatest : ℕ) (limit : Option ℕ) (total : ℕ)
   part_fits room same r n is within =
       let indexed = ltb-false (max_index_of greatest) total is_accepted.indexed in
       in_index r.limit n (omega (arith, indexed, within)) (λ beyond. not_beyond limit is_accepted.stacked n within ((same n).0 (subst (λ q. IsBeyond q.limit n) is beyond)))
+
+-- a mirror has room for an arena whose stack is made for as many
+pub mirror_fits : {T U : Type 0} (c : Content T) (d : DirectContent U) (counter greatest : ℕ) (r q : Room) → c ≡ empty counter (room_of greatest r) → d ≡ no_pointers (room_of greatest q) → r ≡ q
+    → arena_capacity c ≤ mirror_capacity d
+mirror_fits c d counter greatest r q one two same =
+    let arena = ap arena_capacity one ∙ ap (λ (x : Room). capacity (room_of greatest x)) same in
+    let mirror = ap mirror_capacity two in
+    omega (arith, arena, mirror)

@@ -1,7 +1,8 @@
 -- What `start` makes of what ties a store's parts.
-use Rattle.std.proofs.Common.{◌≡◌, ◌≢◌, ◌∙◌, sym, ap, subst, refl, Bool, true, false, ◌==◌, ◌||◌, if◌then◌else◌, ℕ, ◌+◌, ◌<◌, ◌≤◌, List, [], ◌∷◌, ◌++◌, length, Option, Some, None, IsSome, IfSome, Ok, Err, arith, length-append, find, flat_map, append_assoc}
+use Rattle.std.proofs.Common.{◌≡◌, ◌≢◌, ◌∙◌, sym, ap, subst, refl, Bool, true, false, ◌==◌, ◌||◌, if◌then◌else◌, ℕ, ◌+◌, ◌<◌, ◌≤◌, List, [], ◌∷◌, ◌++◌, length, Option, Some, None, IsSome, IfSome, Ok, Err, arith, length-append, find, flat_map, append_assoc, inl, inr}
 use Rattle.std.specs.Option.{option_map, option_or}
 use Rattle.std.proofs.lemmas.Bool.{ne_eqb, eq-eqb, leb-false}
+use Rattle.std.proofs.lemmas.Bool.Decides.{eqb_tells}
 use Rattle.std.proofs.lemmas.List.Folds.{find-append}
 use Rattle.triple_arena.specs.Entries.{value_if, with_entry}
 use Rattle.triple_arena.specs.Content.{Content, entry_at, live_count, arena_capacity}
@@ -18,7 +19,7 @@ use Rattle.route_lines.specs.State.{State, Rooms, Place, Stop, Route, place_of, 
 use Rattle.route_lines.specs.declared.refusal.Refusal.TheVariants.{Full}
 use Rattle.route_book.specs.Item.{StopView, MarkView}
 use Rattle.route_book.specs.Holds.{entry, state_stop, IsHeld}
-use Rattle.route_book.specs.Book.{found_in, in_order, IsBook, IsWithin}
+use Rattle.route_book.specs.Book.{found_in, in_order, IsBook, IsWithin, KeepsItems}
 use Rattle.route_book.proofs.NeighborLemmas.{held_place, has_ticket}
 use Rattle.route_book.proofs.StopLemmas.{stop_added, start_route, no_stop_yet}
 
@@ -123,3 +124,21 @@ module _ {I : Type 0} (number : I → ℕ) (rooms : Rooms) (last : ℕ) (s : Sta
       first u is =
           let mine : find (λ (x : Stop). x.ticket == u) own.stops ≡ Some (record { ticket = s.last + 1; place = Some t }) = rw (eq-eqb (s.last + 1) u (sym is)) refl in
           in_list u ∙ ap (λ o. option_or o (find (λ (x : Stop). x.ticket == u) own.stops)) (ap (stop_of s.routes) is ∙ no_more) ∙ mine ∙ ap Some (sym stop_is)
+
+-- each item keeps its pointer where a stop is added
+pub kept_stop : {I : Type 0} (number : I → ℕ) (s s' : State) (places : Ordered I Place) (stops stops' : Content (IndexLink I StopView)) (marks : Content MarkView) (v : StopView) (i g : ℕ)
+    → ((k : ℕ) → values_in stops' k ≡ with_entry (values_in stops) i (g, v) k) → values_in stops i ≡ None → stops'.counter ≡ stops.counter
+    → KeepsItems {I = I} (record { state = s; places = places; stops = stops; marks = marks }) (record { state = s'; places = places; stops = stops'; marks = marks })
+kept_stop number s s' places stops stops' marks v i g entries vacant counter = record {
+  places = λ j n p is. (p, (is, (refl, refl)));
+  stops = stays;
+  marks = λ j n m is. is;
+  place_counter = refl;
+  stop_counter = counter;
+}
+  where
+    stays : (j n : ℕ) (u : StopView) → values_in stops j ≡ Some (n, u) → values_in stops' j ≡ Some (n, u)
+    stays j n u is = elim (eqb_tells j i) [
+      | inl same ↦ absurd (let no : ◌≡◌ {A = Option (ℕ × StopView)} None (Some (n, u)) = sym vacant ∙ sym (ap (values_in stops) same.1) ∙ is in cc)
+      | inr other ↦ entries j ∙ rw other.0 is
+    ]

@@ -65,6 +65,7 @@ module _ {I : Type 0} where
   pub record KeepsItems (old new : Book I) : Type 0 where
     pub places : (i g : ℕ) (p : Place) → entry_in old.places i ≡ Some (g, p)
         → (q : Place) × ((entry_in new.places i ≡ Some (g, q)) × ((q.ticket ≡ p.ticket) × (q.key ≡ p.key)))
+    pub stops : (i g : ℕ) (t : StopView) → values_in old.stops i ≡ Some (g, t) → values_in new.stops i ≡ Some (g, t)
+    pub marks : (i g : ℕ) (m : MarkView) → entry_at old.marks i ≡ Some (g, m) → entry_at new.marks i ≡ Some (g, m)
     pub place_counter : new.places.chains.counter ≡ old.places.chains.counter
-    pub stops : new.stops ≡ old.stops
-    pub marks : new.marks ≡ old.marks
+    pub stop_counter : new.stops.counter ≡ old.stops.counter

@@ -5,7 +5,7 @@ ghost use Rattle.triple_arena.specs.Content.{entry_at, live_count};
 ghost use Rattle.triple_arena.specs.Entries.{value_if};
 ghost use Rattle.triple_arena_chain.specs.Links.{ends_in, values_in};
 ghost use Rattle.triple_arena_ord.specs.Ordered.{entry_in};
-ghost use Rattle.route_lines.specs.Calls.{place_holder};
+ghost use Rattle.route_lines.specs.Calls.{place_holder, stop_holder};
 ghost use Rattle.route_lines.specs.Searches.{living_count};
 ghost use Rattle.route_lines.specs.State.{Place as PlaceView, holder, is_full_of_places, mark_of, stop_list, stop_of};
 ghost use Rattle.route_book.specs.Book.{found_of, in_order};
@@ -14,7 +14,9 @@ ghost use Rattle.route_book.specs.Item.{MarkView, StopView};
 
 mod asking;
 mod making;
+mod marks;
 mod placing;
+mod stops;
 
 use crate::backing::BookBacking;
 use crate::items::{Mark, Place, Stop};
@@ -101,6 +103,23 @@ impl<P: PtrCore, B: BookBacking<P>> RouteBook<P, B> {
         match found.0 {
             Kind::Place => Ok(found.1),
             Kind::Stop => Err(Refusal::Kind),
+            Kind::Mark => Err(Refusal::Kind),
+        }
+    }
+
+    // The pointer to the living stop that has a ticket.
+    pub(crate) fn find_stop(&self, ticket: u64, probes: &mut Probes) -> Result<P, Refusal>
+        ensures refused { IfErr result (λ e. stop_holder self.now.state ticket ≡ Err e) }
+        ensures found { IfOk result (λ p. (stop : StopView)
+            × (value_if (P.generation p) (values_in self.now.stops (P.index p)) ≡ Some stop)
+            × (stop_holder self.now.state ticket ≡ Ok (state_stop (found_of self.now) stop))) }
+        ensures bound { probes.new ≤ probes.old + most_comparisons (living_count self.now.state) }
+        ensures rises { probes.old ≤ probes.new }
+    {
+        let found = self.find_item(ticket, probes)?;
+        match found.0 {
+            Kind::Stop => Ok(found.1),
+            Kind::Place => Err(Refusal::Kind),
             Kind::Mark => Err(Refusal::Kind),
         }
     }

@@ -102,6 +102,13 @@ impl<P: PtrCore> Model for Stop<P> {
 }
 
 impl<P: PtrCore> Stop<P> {
+    pub(crate) fn new(ticket: u64, place: Ref<P>) -> Self
+        ensures ticket { result.ticket ≡ ticket }
+        ensures place { result.place ≡ option_map (λ p. (P.index p, P.generation p)) (pointer_of place) }
+    {
+        Stop { ticket, place }
+    }
+
     /// The ticket.
     pub fn ticket(&self) -> u64
         ensures { result ≡ self.now.ticket }
@@ -139,6 +146,18 @@ impl<P: PtrCore> Model for Mark<P> {
 }
 
 impl<P: PtrCore> Mark<P> {
+    pub(crate) fn new(ticket: u64, place: Ref<P>, stop: Ref<P>) -> Self
+        ensures ticket { result.ticket ≡ ticket }
+        ensures place { result.place ≡ option_map (λ p. (P.index p, P.generation p)) (pointer_of place) }
+        ensures stop { result.stop ≡ option_map (λ p. (P.index p, P.generation p)) (pointer_of stop) }
+    {
+        Mark {
+            ticket,
+            place,
+            stop,
+        }
+    }
+
     /// The ticket.
     pub fn ticket(&self) -> u64
         ensures { result ≡ self.now.ticket }

@@ -1,5 +1,5 @@
 -- How many comparisons a search makes follows from where its ticket stands among the entries.
-use Rattle.std.proofs.Common.{◌≡◌, ◌∙◌, sym, ap, subst, refl, Bool, true, false, ◌==◌, nat_lt, if◌then◌else◌, ℕ, ◌+◌, ◌<◌, ◌≤◌, List, [], ◌∷◌, ◌++◌, map, Option, Some, None, arith, inl, inr}
+use Rattle.std.proofs.Common.{◌≡◌, ◌∙◌, sym, ap, subst, refl, Bool, true, false, ◌==◌, nat_lt, if◌then◌else◌, ℕ, ◌+◌, ◌<◌, ◌≤◌, List, [], ◌∷◌, ◌++◌, map, length, Option, Some, None, arith, inl, inr}
 use Rattle.std.specs.List.{AllByRecursion}
 use Rattle.std.specs.Cmp.{nat_cmp_is}
 use Rattle.std.specs.Ordering.{nat_cmp}
@@ -7,9 +7,11 @@ use Rattle.std.specs.declared.cmp.Ordering.{Ordering}
 use Rattle.std.specs.declared.cmp.Ordering.TheVariants.{Less, Greater}
 use Rattle.std.proofs.lemmas.Bool.{cases_lt, lt-ltb, le-ltb}
 use Rattle.std.proofs.lemmas.Bool.Decides.{eqb_tells}
+use Rattle.std.proofs.lemmas.List.{length-map}
+use Rattle.counted_search.specs.Searches.{most_comparisons}
 use Rattle.rank_tree.specs.Search.{AllIn, asked_down, led_by}
 use Rattle.rank_tree.specs.Tree.{Tree, leaf, node, walk}
-use Rattle.triple_arena_ord.specs.Ordered.{Ordered, asked_of, entry_in, order_in, tree_in}
+use Rattle.triple_arena_ord.specs.Ordered.{Ordered, asked_of, entry_in, order_in, ordered_entries, size_in, tree_in}
 use Rattle.ticket_book.specs.InArena.{asked_beside, asked_in, entries_of}
 use Rattle.ticket_book.specs.Tickets.{Entry, TicketsRise, asked_among}
 use Rattle.ticket_book.proofs.TicketLemmas.{along}
@@ -102,3 +104,13 @@ asked_there number o t rise = asked_is (asked_in number o) (entries_of number o)
     each : (xs : List Entry) → AllByRecursion (λ (x : Entry). 0 ≤ x.ticket) xs
     each [] = tt
     each (x ∷ xs) = (omega arith, each xs)
+
+-- and it is within the bound
+pub asked_within : {I : Type 0} (number : I → ℕ) (o : Ordered I Entry) (t old new : ℕ) → TicketsRise (entries_of number o) → new ≡ old + asked_in number o t
+    → new ≤ old + most_comparisons (size_in o) → length (ordered_entries number o) ≡ size_in o
+    → asked_among (asked_in number o 0) (entries_of number o) (asked_beside number o) t ≤ most_comparisons (length (entries_of number o))
+asked_within number o t old new rise ticks bound count =
+    let is = asked_there number o t rise in
+    let size : length (entries_of number o) ≡ size_in o = length-map (ordered_entries number o) (λ x. x.1.1) ∙ count in
+    let most : most_comparisons (length (entries_of number o)) ≡ most_comparisons (size_in o) = ap most_comparisons size in
+    omega (arith, is, most, ticks, bound)

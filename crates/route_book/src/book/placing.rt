@@ -31,6 +31,7 @@ impl<P: PtrCore, B: BookBacking<P>> RouteBook<P, B> {
         ensures result { result ≡ placed self.old.state key word }
         ensures state { self.new.state ≡ after_place self.old.state key word }
         ensures kept { KeepsItems self.old self.new }
+        ensures others { (self.new.stops ≡ self.old.stops) × (self.new.marks ≡ self.old.marks) }
     {
         self.place_counted(key, word, &mut Counts::new())
     }
@@ -45,6 +46,7 @@ impl<P: PtrCore, B: BookBacking<P>> RouteBook<P, B> {
         ensures result { result ≡ placed self.old.state key word }
         ensures state { self.new.state ≡ after_place self.old.state key word }
         ensures kept { KeepsItems self.old self.new }
+        ensures others { (self.new.stops ≡ self.old.stops) × (self.new.marks ≡ self.old.marks) }
         ensures counts { CountsWithin counts.old counts.new
             (most_comparisons (place_count self.old.state)) 0 0 }
     {
@@ -82,6 +84,7 @@ impl<P: PtrCore, B: BookBacking<P>> RouteBook<P, B> {
         ensures result { Ok result ≡ placed self.old.state key word }
         ensures state { self.new.state ≡ after_place self.old.state key word }
         ensures kept { KeepsItems self.old self.new }
+        ensures others { (self.new.stops ≡ self.old.stops) × (self.new.marks ≡ self.old.marks) }
     {
         let change = Change::Place(key, word);
         self.held = self.held.changed(&change);
@@ -107,6 +110,7 @@ impl<P: PtrCore, B: BookBacking<P>> RouteBook<P, B> {
         ensures result { result ≡ placed self.old.state key word }
         ensures state { self.new.state ≡ after_place self.old.state key word }
         ensures kept { KeepsItems self.old self.new }
+        ensures others { (self.new.stops ≡ self.old.stops) × (self.new.marks ≡ self.old.marks) }
     {
         if self.is_full_of_places() {
             return Err(Refusal::Full);
