@@ -98,16 +98,6 @@ module _ (s : State) (f : Found) (order : List Place) (ends : ℕ → Option End
   pub mark_listed : (i g : ℕ) (v : MarkView) → f.marks i ≡ Some (g, v) → mark_of s.marks v.ticket ≡ Some (state_mark f v)
   mark_listed i g v is = h.marks v.ticket ∙ ap (mark_at f) (h.marks_in i g v is) ∙ ap (λ o. option_map (state_mark f) (value_if g o)) is ∙ rw (eq-eqb g g refl) refl
 
--- the item that a pointer of a kind finds
-pub place_item : (f : Found) (i g : ℕ) (item : Item) (o : Option Place) → item_under f OfPlace i g ≡ Some item → value_if g (f.places i) ≡ o → option_map place o ≡ Some item
-place_item f i g item o under is = ap (option_map place) (sym is) ∙ under
-
-pub stop_item : (f : Found) (i g : ℕ) (item : Item) (o : Option StopView) → item_under f OfStop i g ≡ Some item → value_if g (f.stops i) ≡ o → option_map (λ v. stop (state_stop f v)) o ≡ Some item
-stop_item f i g item o under is = ap (option_map (λ v. stop (state_stop f v))) (sym is) ∙ under
-
-pub mark_item : (f : Found) (i g : ℕ) (item : Item) (o : Option MarkView) → item_under f OfMark i g ≡ Some item → value_if g (f.marks i) ≡ o → option_map (λ v. mark (state_mark f v)) o ≡ Some item
-mark_item f i g item o under is = ap (option_map (λ v. mark (state_mark f v))) (sym is) ∙ under
-
 -- the book
 pub lookup_given : (book : List Entry) (low last t : ℕ) (e : Entry) → Rise low book last → lookup book t ≡ Some e → (e.ticket ≡ t) × (low < t) × (t ≤ last)
 lookup_given [] low last t e rise is = absurd (no_some is)

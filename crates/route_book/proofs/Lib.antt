@@ -9,3 +9,4 @@ pub mod NeighborLemmas
 pub mod StopLemmas
 pub mod StartLemmas
 pub mod MarkLemmas
+pub mod ItemLemmas

@@ -1,13 +1,13 @@
 //! A place more, or another word for one.
-ghost use Rattle.std.specs.Prelude.{◌≡◌, ◌≢◌, ◌+◌, ◌≤◌, Some, Ok, IsSome};
+ghost use Rattle.std.specs.Prelude.{◌≡◌, ◌≢◌, ◌+◌, Some, Ok, IsSome};
 ghost use Rattle.std.specs.Ordering.{nat_cmp};
 ghost use Rattle.std.specs.declared.cmp.Ordering.{Ordering as Way};
 ghost use Rattle.counted_search.specs.Searches.{most_comparisons};
 ghost use Rattle.triple_arena.specs.Entries.{value_if};
 ghost use Rattle.triple_arena_ord.specs.Found.{IsSimilar};
 ghost use Rattle.triple_arena_ord.specs.Ordered.{IsAscending, asked_at, entry_in};
-ghost use Rattle.route_lines.specs.Calls.{placed, after_place};
-ghost use Rattle.route_lines.specs.Searches.{CountsWithin, place_count};
+ghost use Rattle.route_lines.specs.Calls.{placed, after_place, placed_near, after_place_near};
+ghost use Rattle.route_lines.specs.Searches.{CountsWithin, place_count, living_count};
 ghost use Rattle.route_lines.specs.State.{Place as PlaceView, with_key};
 ghost use Rattle.route_book.specs.Book.{KeepsItems};
 
@@ -19,7 +19,7 @@ use route_lines::{Change, Counts, Placed, Refusal, Word};
 use std::cmp::Ordering;
 use ticket_book::Kind;
 use triple_arena_ord::laws::entries_stand_in_the_list;
-use triple_arena_ptr::{Probes, PtrCore};
+use triple_arena_ptr::PtrCore;
 use unreached::unreached;
 
 impl<P: PtrCore, B: BookBacking<P>> RouteBook<P, B> {
@@ -50,30 +50,68 @@ impl<P: PtrCore, B: BookBacking<P>> RouteBook<P, B> {
         ensures counts { CountsWithin counts.old counts.new
             (most_comparisons (place_count self.old.state)) 0 0 }
     {
-        let found = self.search_key(key, &mut counts.key);
-        match equal_at(found) {
-            Some(at) => Ok(self.replace_word(at, key, word)),
-            None => self.add_place(found, key, word),
-        }
+        let found = self
+            .places
+            .find_similar_key_counted(&key, &mut counts.key);
+        self.place_found(found, key, word)
     }
 
-    // Where the search for a key ends, and what the key compares as there.
-    pub(crate) fn search_key(&self, key: u64, probes: &mut Probes) -> Option<(P, Ordering)>
-        ensures similar { IsSimilar P.index P.generation P.Inx.number
-            (asked_at nat_cmp (λ (p : PlaceView). p.key) key self.now.places)
-            (IsAscending P.Inx.number nat_cmp (λ (p : PlaceView). p.key) self.now.places) result self.now.places }
-        ensures equal { (p : P) → result ≡ Some (p, Way.Equal)
-            → value_if (P.generation p) (entry_in self.now.places (P.index p)) ≡ with_key key self.now.state.places }
-        ensures live { (p : P) → result ≡ Some (p, Way.Equal)
-            → IsSome (value_if (P.generation p) (entry_in self.now.places (P.index p))) }
-        ensures missing { ((p : P) → result ≢ Some (p, Way.Equal)) → with_key key self.now.state.places ≡ None }
-        ensures bound { probes.new ≤ probes.old + most_comparisons (place_count self.now.state) }
-        ensures rises { probes.old ≤ probes.new }
+    /// The same, with a hint: the search begins at the place with the ticket `near`.
+    ///
+    /// Before all else it is refused where `near` is no living place: `Unknown`, `Gone` or `Kind`.
+    pub fn place_near(&mut self, key: u64, word: Word, near: u64) -> Result<Placed, Refusal>
+        ensures result { result ≡ placed_near self.old.state key word near }
+        ensures state { self.new.state ≡ after_place_near self.old.state key word near }
+        ensures kept { KeepsItems self.old self.new }
+        ensures others { (self.new.stops ≡ self.old.stops) × (self.new.marks ≡ self.old.marks) }
+    {
+        self.place_near_counted(key, word, near, &mut Counts::new())
+    }
+
+    /// The same, with the comparisons of its searches counted as `key` and `first`. At most 7 are made along the list.
+    pub fn place_near_counted(
+        &mut self,
+        key: u64,
+        word: Word,
+        near: u64,
+        counts: &mut Counts,
+    ) -> Result<Placed, Refusal>
+        ensures result { result ≡ placed_near self.old.state key word near }
+        ensures state { self.new.state ≡ after_place_near self.old.state key word near }
+        ensures kept { KeepsItems self.old self.new }
+        ensures others { (self.new.stops ≡ self.old.stops) × (self.new.marks ≡ self.old.marks) }
+        ensures counts { CountsWithin counts.old counts.new
+            (most_comparisons (place_count self.old.state) + 7) (most_comparisons (living_count self.old.state)) 0 }
+    {
+        let at = self.find_place(near, &mut counts.first)?;
+        let found = self
+            .places
+            .find_similar_key_linear_counted(at.inx(), 7, &key, &mut counts.key);
+        self.place_found(found, key, word)
+    }
+
+    // A place with the key, where a search for the key ended here.
+    fn place_found(
+        &mut self,
+        found: Option<(P, Ordering)>,
+        key: u64,
+        word: Word,
+    ) -> Result<Placed, Refusal>
+        requires { IsSimilar P.index P.generation P.Inx.number
+            (asked_at nat_cmp (λ (p : PlaceView). p.key) key self.old.places)
+            (IsAscending P.Inx.number nat_cmp (λ (p : PlaceView). p.key) self.old.places) found self.old.places }
+        ensures result { result ≡ placed self.old.state key word }
+        ensures state { self.new.state ≡ after_place self.old.state key word }
+        ensures kept { KeepsItems self.old self.new }
+        ensures others { (self.new.stops ≡ self.old.stops) × (self.new.marks ≡ self.old.marks) }
     {
         entries_stand_in_the_list::<P, Place>();
         // The list is as it must be.
         let _ = self.places.len();
-        self.places.find_similar_key_counted(&key, probes)
+        match equal_at(found) {
+            Some(at) => Ok(self.replace_word(at, key, word)),
+            None => self.add_place(found, key, word),
+        }
     }
 
     // Another word for the place that has the key.

@@ -4,13 +4,16 @@ use super::rows::REQUESTS;
 use super::streams::Page;
 use refusing_allocator::RefusingAllocator;
 use route_book::{
-    Counts, OnArray, OnHeap, Placed, Refusal, RoomError, RouteBook, RunFault, Shown, Watched, Word,
+    BookBacking, Counts, OnArray, OnFixed, OnHeap, OnLimited, Placed, Refusal, RoomError, RouteBook,
+    RunFault, Shown, Watched, Word,
 };
 use std::alloc::Allocator;
 use std::io;
 use std::io::{ErrorKind, Write};
+use std::process::Abort;
 use std::test::Fail;
-use triple_arena_ptr::{P0, P1, P5};
+use triple_arena::ArenaTrait;
+use triple_arena_ptr::{P0, P1, P5, PtrCore};
 
 #[test]
 fn rooms_that_cannot_be_had(rt: HostRuntime) -> Result<(), Fail> {
@@ -99,6 +102,50 @@ fn places_come_in_the_order_of_their_keys(rt: HostRuntime) -> Result<(), Fail> {
     }
     assert!(rt; listed.next().is_none());
     Ok(())
+}
+
+#[test]
+fn places_have_neighbors(rt: HostRuntime) -> Result<(), Fail> {
+    let mut book = RouteBook::<P0, _>::new(&OnHeap(rt.alloc()), 4, 4, 2)?;
+    assert_eq!(rt; book.floor(4), None);
+    assert_eq!(rt; book.place(3, Word::new(b"x").ok_or("a word")?), Ok(Placed::New(1)));
+    assert_eq!(rt; (book.floor(4), book.floor(3), book.floor(2)), (Some(1), Some(1), None));
+    assert_eq!(rt; (book.after(1), book.before(1)), (Ok(None), Ok(None)));
+    assert_eq!(rt; book.after(2), Err(Refusal::Unknown));
+    let book = seven(rt.alloc())?;
+    assert_eq!(rt; (book.floor(45), book.floor(39), book.floor(99)), (Some(1), Some(5), Some(7)));
+    assert_eq!(rt; (book.after(5), book.before(5)), (Ok(Some(1)), Ok(Some(2))));
+    assert_eq!(rt; (book.after(7), book.before(4)), (Ok(None), Ok(None)));
+    Ok(())
+}
+
+// A place, a stop at it and a mark of both.
+fn items<P: PtrCore, B: BookBacking<P>>(
+    rt: &impl Abort,
+    mut book: RouteBook<P, B>,
+) -> Result<(), Fail> {
+    assert_eq!(rt; book.place(1, Word::new(b"a").ok_or("a word")?), Ok(Placed::New(1)));
+    assert_eq!(rt; book.start(1), Ok(2));
+    assert_eq!(rt; book.mark(1, 2), Ok(3));
+    assert_eq!(rt; book.show(2), Ok(Shown::Stop { place: Some(1) }));
+    assert_eq!(rt; book.show(3), Ok(Shown::Mark { place: Some(1), stop: Some(2) }));
+    assert_eq!(rt; book.start(2), Err(Refusal::Kind));
+    assert_eq!(rt; book.start(4), Err(Refusal::Unknown));
+    assert_eq!(rt; book.mark(1, 1), Err(Refusal::Kind));
+    assert_eq!(rt; book.mark(1, 2), Err(Refusal::Full));
+    assert_eq!(rt; book.start(1), Ok(4));
+    assert_eq!(rt; book.start(1), Err(Refusal::Full));
+    let lent = (book.places_arena().len(), book.stops_arena().len(), book.marks_arena().len());
+    assert_eq!(rt; lent, (1, 2, 1));
+    Ok(())
+}
+
+#[test]
+fn items_stand_in_each_backing(rt: HostRuntime) -> Result<(), Fail> {
+    items(&rt, RouteBook::<P0, _>::new(&OnHeap(rt.alloc()), 1, 2, 1)?)?;
+    items(&rt, RouteBook::<P1, _>::new(&OnLimited(rt.alloc()), 1, 2, 1)?)?;
+    items(&rt, RouteBook::<P1, _>::new(&OnFixed(rt.alloc()), 1, 2, 1)?)?;
+    items(&rt, RouteBook::<P0, _>::new(&OnArray::<4>, 1, 2, 1)?)
 }
 
 #[test]
