@@ -1,3 +1,12 @@
-pub mod BookLemmas
-pub mod CallLemmas
+pub mod SettledLemmas
+pub mod HoldLemmas
+pub mod KeyLemmas
+pub mod RewordLemmas
 pub mod PlaceLemmas
+pub mod NewLemmas
+pub mod RoomLemmas
+pub mod NeighborLemmas
+pub mod StopLemmas
+pub mod StartLemmas
+pub mod MarkLemmas
+pub mod ItemLemmas

@@ -1,3 +1,6 @@
+pub mod Item
+pub mod Rooms
+pub mod Holds
 pub mod Book
 pub use Rattle.route_lines.specs.Calls
 pub use Rattle.route_lines.specs.CommandLine

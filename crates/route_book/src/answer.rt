@@ -6,15 +6,19 @@ ghost use Rattle.counted_search.specs.Searches.{most_comparisons};
 ghost use Rattle.route_lines.specs.Searches.{CountsWithin, place_count, living_count};
 ghost use Rattle.route_lines.specs.Watched.{inner_of, failed_of};
 ghost use Rattle.route_lines.specs.Written.{AppendsBeginning};
+ghost use Rattle.route_book.specs.Book.{KeepsItems};
 
+use crate::backing::BookBacking;
 use crate::book::RouteBook;
+use crate::items::Place;
 use crate::places::Places;
 use route_lines::{Command, Counts, ReplyText, Watched, make_room, read_line, send};
-use std::alloc::Allocator;
 use std::io;
 use std::io::Write;
+use triple_arena_ord::OrdSlots;
+use triple_arena_ptr::PtrCore;
 
-impl<A: Allocator> RouteBook<A> {
+impl<P: PtrCore, B: BookBacking<P>> RouteBook<P, B> {
     /// Carries out one line, given without its LF, and writes its reply.
     ///
     /// An `Err` is that of the write that failed, or `WriteZero` where one took nothing. The line is carried out all
@@ -26,6 +30,7 @@ impl<A: Allocator> RouteBook<A> {
         counts: &mut Counts,
     ) -> io::Result<()>
         ensures state { self.new.state ≡ next self.old.state (command_of line.now) }
+        ensures kept { KeepsItems self.old self.new }
         ensures ok { OnOk result (Appends (W.contents (inner_of writer.old))
             (W.contents (inner_of writer.new)) (reply self.old.state (command_of line.now))) }
         ensures ok_failed { OnOk result (failed_of writer.new ≡ failed_of writer.old) }
@@ -49,6 +54,7 @@ impl<A: Allocator> RouteBook<A> {
         counts: &mut Counts,
     ) -> io::Result<()>
         ensures state { self.new.state ≡ next self.old.state command }
+        ensures kept { KeepsItems self.old self.new }
         ensures ok { OnOk result (Appends (W.contents (inner_of writer.old))
             (W.contents (inner_of writer.new)) (reply self.old.state command)) }
         ensures ok_failed { OnOk result (failed_of writer.new ≡ failed_of writer.old) }
@@ -75,8 +81,8 @@ impl<A: Allocator> RouteBook<A> {
 }
 
 // A line for each place and `end`, in as few writes as the text's room allows.
-fn write_places<W: Write>(
-    places: Places<'_>,
+fn write_places<P: PtrCore, S: OrdSlots<P, Place>, W: Write>(
+    places: Places<'_, P, S>,
     text: &mut ReplyText,
     writer: &mut Watched<W>,
 ) -> io::Result<()>

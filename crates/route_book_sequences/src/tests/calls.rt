@@ -3,33 +3,62 @@
 use super::rows::REQUESTS;
 use super::streams::Page;
 use refusing_allocator::RefusingAllocator;
-use route_book::{Counts, Placed, Refusal, RoomError, RouteBook, RunFault, Shown, Watched, Word};
+use route_book::{
+    BookBacking, Counts, OnArray, OnFixed, OnHeap, OnLimited, Placed, Refusal, RoomError, RouteBook,
+    RunFault, Shown, Watched, Word,
+};
 use std::alloc::Allocator;
 use std::io;
 use std::io::{ErrorKind, Write};
+use std::process::Abort;
 use std::test::Fail;
+use triple_arena::ArenaTrait;
+use triple_arena_ptr::{P0, P1, P5, PtrCore};
 
 #[test]
 fn rooms_that_cannot_be_had(rt: HostRuntime) -> Result<(), Fail> {
-    let past = RouteBook::new(rt.alloc(), usize::MAX, 1, 0);
+    let heap = OnHeap(rt.alloc());
+    let past = RouteBook::<P0, _>::new(&heap, usize::MAX, 1, 0);
     assert!(rt; matches!(past, Err(RoomError::Index)));
-    let huge = RouteBook::new(rt.alloc(), usize::MAX, 0, 0);
+    let huge = RouteBook::<P0, _>::new(&heap, usize::MAX, 0, 0);
     assert!(rt; matches!(huge, Err(RoomError::Memory)));
-    for nth in 1..3 {
+    let long = RouteBook::<P0, _>::new(&heap, 0, usize::MAX, 0);
+    assert!(rt; matches!(long, Err(RoomError::Memory)));
+    for nth in 1..REQUESTS + 1 {
         let heap = RefusingAllocator::new(rt.alloc(), nth);
-        assert!(rt; matches!(RouteBook::new(&heap, 4, 4, 2), Err(RoomError::Memory)));
-        assert!(rt; RouteBook::new(&heap, 4, 4, 2).is_ok());
+        let refused = RouteBook::<P0, _>::new(&OnHeap(&heap), 4, 4, 2);
+        assert!(rt; matches!(refused, Err(RoomError::Memory)));
+        assert!(rt; RouteBook::<P0, _>::new(&OnHeap(&heap), 4, 4, 2).is_ok());
     }
-    assert!(rt; RouteBook::new(rt.alloc(), 0, usize::MAX, 0).is_ok());
     Ok(())
 }
+
+#[test]
+fn rooms_of_other_pointers_and_stacks(rt: HostRuntime) -> Result<(), Fail> {
+    let heap = OnHeap(rt.alloc());
+    assert!(rt; RouteBook::<P1, _>::new(&heap, 200, 50, 5).is_ok());
+    let past = RouteBook::<P1, _>::new(&heap, 200, 50, 6);
+    assert!(rt; matches!(past, Err(RoomError::Index)));
+    assert!(rt; RouteBook::<P1, _>::new(&OnArray::<3>, 1, 1, 1).is_ok());
+    let past = RouteBook::<P1, _>::new(&OnArray::<3>, 2, 1, 1);
+    assert!(rt; matches!(past, Err(RoomError::Stack)));
+    let short = RouteBook::<P5, _>::new(&heap, 0, 0, 0);
+    assert!(rt; matches!(short, Err(RoomError::Generation)));
+    let mut none = RouteBook::<P0, _>::new(&heap, 0, 0, 0)?;
+    let word = Word::new(b"a").ok_or("a word")?;
+    assert_eq!(rt; none.place(1, word), Err(Refusal::Full));
+    Ok(())
+}
+
+/// The requests for memory that make a store of places alone.
+pub(super) const PLACE_REQUESTS: u64 = 3;
 
 /// The keys of seven places, in the order of their tickets.
 const KEYS: [u64; 7] = [40, 20, 60, 10, 30, 50, 70];
 
 /// A store of these places, with room for one more.
-pub(super) fn seven<A: Allocator + Copy>(alloc: A) -> Result<RouteBook<A>, Fail> {
-    let mut book = RouteBook::new(alloc, 8, 0, 0)?;
+pub(super) fn seven<A: Allocator + Copy>(alloc: A) -> Result<RouteBook<P0, OnHeap<A>>, Fail> {
+    let mut book = RouteBook::new(&OnHeap(alloc), 8, 0, 0)?;
     for key in KEYS {
         book.place(key, Word::new(b"a").ok_or("a word")?)?;
     }
@@ -38,7 +67,7 @@ pub(super) fn seven<A: Allocator + Copy>(alloc: A) -> Result<RouteBook<A>, Fail>
 
 #[test]
 fn plain_calls_take_no_memory(rt: HostRuntime) -> Result<(), Fail> {
-    let heap = RefusingAllocator::new(rt.alloc(), REQUESTS + 1);
+    let heap = RefusingAllocator::new(rt.alloc(), PLACE_REQUESTS + 1);
     let mut book = seven(&heap)?;
     let word = Word::new(b"b").ok_or("a word")?;
     assert!(rt; matches!(book.place(60, word.copied()), Ok(Placed::Old(3, _))));
@@ -76,8 +105,52 @@ fn places_come_in_the_order_of_their_keys(rt: HostRuntime) -> Result<(), Fail> {
 }
 
 #[test]
+fn places_have_neighbors(rt: HostRuntime) -> Result<(), Fail> {
+    let mut book = RouteBook::<P0, _>::new(&OnHeap(rt.alloc()), 4, 4, 2)?;
+    assert_eq!(rt; book.floor(4), None);
+    assert_eq!(rt; book.place(3, Word::new(b"x").ok_or("a word")?), Ok(Placed::New(1)));
+    assert_eq!(rt; (book.floor(4), book.floor(3), book.floor(2)), (Some(1), Some(1), None));
+    assert_eq!(rt; (book.after(1), book.before(1)), (Ok(None), Ok(None)));
+    assert_eq!(rt; book.after(2), Err(Refusal::Unknown));
+    let book = seven(rt.alloc())?;
+    assert_eq!(rt; (book.floor(45), book.floor(39), book.floor(99)), (Some(1), Some(5), Some(7)));
+    assert_eq!(rt; (book.after(5), book.before(5)), (Ok(Some(1)), Ok(Some(2))));
+    assert_eq!(rt; (book.after(7), book.before(4)), (Ok(None), Ok(None)));
+    Ok(())
+}
+
+// A place, a stop at it and a mark of both.
+fn items<P: PtrCore, B: BookBacking<P>>(
+    rt: &impl Abort,
+    mut book: RouteBook<P, B>,
+) -> Result<(), Fail> {
+    assert_eq!(rt; book.place(1, Word::new(b"a").ok_or("a word")?), Ok(Placed::New(1)));
+    assert_eq!(rt; book.start(1), Ok(2));
+    assert_eq!(rt; book.mark(1, 2), Ok(3));
+    assert_eq!(rt; book.show(2), Ok(Shown::Stop { place: Some(1) }));
+    assert_eq!(rt; book.show(3), Ok(Shown::Mark { place: Some(1), stop: Some(2) }));
+    assert_eq!(rt; book.start(2), Err(Refusal::Kind));
+    assert_eq!(rt; book.start(4), Err(Refusal::Unknown));
+    assert_eq!(rt; book.mark(1, 1), Err(Refusal::Kind));
+    assert_eq!(rt; book.mark(1, 2), Err(Refusal::Full));
+    assert_eq!(rt; book.start(1), Ok(4));
+    assert_eq!(rt; book.start(1), Err(Refusal::Full));
+    let lent = (book.places_arena().len(), book.stops_arena().len(), book.marks_arena().len());
+    assert_eq!(rt; lent, (1, 2, 1));
+    Ok(())
+}
+
+#[test]
+fn items_stand_in_each_backing(rt: HostRuntime) -> Result<(), Fail> {
+    items(&rt, RouteBook::<P0, _>::new(&OnHeap(rt.alloc()), 1, 2, 1)?)?;
+    items(&rt, RouteBook::<P1, _>::new(&OnLimited(rt.alloc()), 1, 2, 1)?)?;
+    items(&rt, RouteBook::<P1, _>::new(&OnFixed(rt.alloc()), 1, 2, 1)?)?;
+    items(&rt, RouteBook::<P0, _>::new(&OnArray::<4>, 1, 2, 1)?)
+}
+
+#[test]
 fn a_line_is_answered(rt: HostRuntime) -> Result<(), Fail> {
-    let mut book = RouteBook::new(rt.alloc(), 1, 0, 0)?;
+    let mut book = RouteBook::<P0, _>::new(&OnHeap(rt.alloc()), 1, 0, 0)?;
     let mut counts = Counts::new();
     let mut writer = Watched::new(Page::new(2));
     for line in ["place 7 oak", "place 8 elm", "show 1", "find 8", "show 2"] {

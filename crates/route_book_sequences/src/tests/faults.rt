@@ -1,13 +1,14 @@
 //! Runs over readers and writers that fail. The store answers later runs.
 
 use super::streams::{Full, Page, Pieces};
-use route_book::{Counts, RouteBook, RunFault, Watched, run};
+use route_book::{Counts, OnHeap, RouteBook, RunFault, Watched, run};
 use std::io::ErrorKind;
 use std::process::Abort;
 use std::test::Fail;
+use triple_arena_ptr::P0;
 
 // A later run over the store answers the input with this text.
-fn answers(rt: &impl Abort, book: &mut RouteBook, input: &[u8], text: &str) -> Result<(), Fail> {
+fn answers(rt: &impl Abort, book: &mut RouteBook<P0, OnHeap>, input: &[u8], text: &str) -> Result<(), Fail> {
     let mut writer = Watched::new(Page::new(usize::MAX));
     run(
         book,
@@ -22,7 +23,7 @@ fn answers(rt: &impl Abort, book: &mut RouteBook, input: &[u8], text: &str) -> R
 #[test]
 fn a_line_that_is_cut_by_a_failed_read_has_no_reply(rt: HostRuntime) -> Result<(), Fail> {
     for (step, calls) in [(1, 14), (2, 8), (3, 6), (usize::MAX, 2)] {
-        let mut book = RouteBook::new(rt.alloc(), 4, 4, 2)?;
+        let mut book = RouteBook::<P0, _>::new(&OnHeap(rt.alloc()), 4, 4, 2)?;
         let mut reader = Watched::new(Pieces::broken(b"place 1 a\npla", step));
         let mut writer = Watched::new(Page::new(1));
         let outcome = run(&mut book, &mut reader, &mut writer, &mut Counts::new());
@@ -41,7 +42,7 @@ fn a_line_that_is_cut_by_a_failed_read_has_no_reply(rt: HostRuntime) -> Result<(
 // A run whose writer comes to its end, and the kind of its fault.
 fn write_fault(
     rt: &impl Abort,
-    book: &mut RouteBook,
+    book: &mut RouteBook<P0, OnHeap>,
     writer: Page,
     text: &str,
 ) -> Result<ErrorKind, Fail> {
@@ -69,7 +70,7 @@ fn the_line_whose_reply_is_cut_is_carried_out(rt: HostRuntime) -> Result<(), Fai
         (Full::Fails, usize::MAX, ErrorKind::BrokenPipe),
         (Full::TakesNone, usize::MAX, ErrorKind::WriteZero),
     ] {
-        let mut book = RouteBook::new(rt.alloc(), 4, 4, 2)?;
+        let mut book = RouteBook::<P0, _>::new(&OnHeap(rt.alloc()), 4, 4, 2)?;
         let mut writer = Page::new(step);
         writer.room = 3;
         writer.full = full;
@@ -86,7 +87,7 @@ fn an_answer_hands_on_what_its_write_gave(rt: HostRuntime) -> Result<(), Fail> {
         (Full::Fails, ErrorKind::BrokenPipe),
         (Full::TakesNone, ErrorKind::WriteZero),
     ] {
-        let mut book = RouteBook::new(rt.alloc(), 4, 4, 2)?;
+        let mut book = RouteBook::<P0, _>::new(&OnHeap(rt.alloc()), 4, 4, 2)?;
         let mut writer = Page::new(usize::MAX);
         writer.room = 2;
         writer.full = full;
@@ -105,7 +106,7 @@ fn an_answer_hands_on_what_its_write_gave(rt: HostRuntime) -> Result<(), Fail> {
 
 #[test]
 fn all_lines_are_carried_out_where_the_flush_fails(rt: HostRuntime) -> Result<(), Fail> {
-    let mut book = RouteBook::new(rt.alloc(), 4, 4, 2)?;
+    let mut book = RouteBook::<P0, _>::new(&OnHeap(rt.alloc()), 4, 4, 2)?;
     let mut writer = Page::new(usize::MAX);
     writer.flush_fails = true;
     assert!(rt; write_fault(&rt, &mut book, writer, "1\n2\n3\n")? == ErrorKind::BrokenPipe);

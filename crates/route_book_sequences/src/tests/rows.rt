@@ -2,9 +2,10 @@
 
 use super::streams::{Page, Pieces};
 use refusing_allocator::RefusingAllocator;
-use route_book::{Counts, RouteBook, Watched, run};
+use route_book::{Counts, OnHeap, RouteBook, Watched, run};
 use std::process::Abort;
 use std::test::Fail;
+use triple_arena_ptr::P0;
 
 // How many bytes the reader gives a time, and the writer takes.
 const STEPS: [(usize, usize); 5] = [
@@ -15,8 +16,8 @@ const STEPS: [(usize, usize); 5] = [
     (usize::MAX, 1),
 ];
 
-/// The requests for memory that make a store.
-pub(super) const REQUESTS: u64 = 2;
+/// The requests for memory that make a store of places, stops and marks.
+pub(super) const REQUESTS: u64 = 7;
 
 // A new store answers the input with this text, however the bytes are cut. Once it is made no memory is taken.
 fn answers(
@@ -27,7 +28,7 @@ fn answers(
 ) -> Result<(), Fail> {
     for (read, taken) in STEPS {
         let heap = RefusingAllocator::new(rt.alloc(), REQUESTS + 1);
-        let mut book = RouteBook::new_after(&heap, 4, 4, 2, last)?;
+        let mut book = RouteBook::<P0, _>::new_after(&OnHeap(&heap), 4, 4, 2, last)?;
         let mut reader = Watched::new(Pieces::new(input, read));
         let mut writer = Watched::new(Page::new(taken));
         run(&mut book, &mut reader, &mut writer, &mut Counts::new())?;

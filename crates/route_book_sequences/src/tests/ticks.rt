@@ -1,13 +1,12 @@
 //! How many comparisons each call, and each line, ticks.
 
-use super::calls::seven;
-use super::rows::REQUESTS;
+use super::calls::{PLACE_REQUESTS, seven};
 use super::streams::{Page, Pieces};
 use refusing_allocator::RefusingAllocator;
-use route_book::{Counts, RouteBook, Watched, Word, run};
-use std::alloc::Allocator;
+use route_book::{BookBacking, Counts, RouteBook, Watched, Word, run};
 use std::process::Abort;
 use std::test::Fail;
+use triple_arena_ptr::PtrCore;
 
 // So many comparisons with keys and with first tickets, and nothing else counted.
 fn ticked(rt: &impl Abort, counts: &Counts, (keys, firsts): (u64, u64), call: &str) {
@@ -20,8 +19,8 @@ fn ticked(rt: &impl Abort, counts: &Counts, (keys, firsts): (u64, u64), call: &s
     );
 }
 
-// The comparisons with which a search by halves finds each of seven: the middle one is looked at first, then the middle
-// one of the three before or behind it, then the one that is left. One that is not there costs three.
+// The comparisons with which a search finds each of seven, whose tree has no gap: the middle one is the root, and the middle one
+// of the three on either side is its child. One that is not there costs three.
 const LOOKS: [u64; 7] = [3, 2, 3, 1, 3, 2, 3];
 
 // The keys are 10, 20, .., 70, and the tickets 1 to 7.
@@ -55,14 +54,14 @@ const LINES: [(&str, u64, u64); 9] = [
     ("show 8\n", 0, 0),
     ("all\n", 0, 0),
     ("bad\n", 0, 0),
-    // A new place; and then none more, above eight others: the fifth of them is looked at, the seventh, the eighth.
+    // A new place, which stands below the last of the seven; and then none more, behind it.
     ("place 80 b\n", 3, 0),
-    ("place 90 b\n", 3, 0),
+    ("place 90 b\n", 4, 0),
 ];
 
 // What a line ticks, carried out alone.
-fn ticks_of_line<A: Allocator>(
-    book: &mut RouteBook<A>,
+fn ticks_of_line<P: PtrCore, B: BookBacking<P>>(
+    book: &mut RouteBook<P, B>,
     line: &str,
     by_run: bool,
 ) -> Result<Counts, Fail> {
@@ -81,7 +80,7 @@ fn ticks_of_line<A: Allocator>(
 #[test]
 fn lines_tick_each_comparison(rt: HostRuntime) -> Result<(), Fail> {
     for by_run in [false, true] {
-        let heap = RefusingAllocator::new(rt.alloc(), REQUESTS + 1);
+        let heap = RefusingAllocator::new(rt.alloc(), PLACE_REQUESTS + 1);
         let mut book = seven(&heap)?;
         for (line, keys, firsts) in LINES {
             let counts = ticks_of_line(&mut book, line, by_run)?;

@@ -1,14 +1,15 @@
 //! How many calls on its streams an input costs.
 
 use super::streams::{Page, Pieces};
-use route_book::{Counts, RouteBook, Watched, run};
+use route_book::{Counts, OnHeap, RouteBook, Watched, run};
 use std::io::ErrorKind;
 use std::test::Fail;
+use triple_arena_ptr::P0;
 
 #[test]
 fn a_line_costs_one_write(rt: HostRuntime) -> Result<(), Fail> {
     let input = b"place 50 oak\nplace 30 elm\nplace 70 ash\nall\nplace 50 fir\nshow 1\n";
-    let mut book = RouteBook::new(rt.alloc(), 4, 4, 2)?;
+    let mut book = RouteBook::<P0, _>::new(&OnHeap(rt.alloc()), 4, 4, 2)?;
     let mut reader = Watched::new(Pieces::new(input, usize::MAX));
     let mut writer = Watched::new(Page::new(usize::MAX));
     run(&mut book, &mut reader, &mut writer, &mut Counts::new())?;
@@ -30,7 +31,7 @@ fn a_reply_longer_than_the_buffer_costs_two(rt: HostRuntime) -> Result<(), Fail>
         input.push_str(line.as_str())?;
     }
     input.push_str("all\n")?;
-    let mut book = RouteBook::new(rt.alloc(), PLACES, 0, 0)?;
+    let mut book = RouteBook::<P0, _>::new(&OnHeap(rt.alloc()), PLACES, 0, 0)?;
     let mut reader = Watched::new(Pieces::new(input.as_bytes(), usize::MAX));
     let mut writer = Watched::new(Page::new(usize::MAX));
     run(&mut book, &mut reader, &mut writer, &mut Counts::new())?;
