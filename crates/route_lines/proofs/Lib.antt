@@ -14,6 +14,7 @@ pub mod RouteLemmas
 pub mod RunLemmas
 pub mod SameRoutesLemmas
 pub mod SoundLemmas
+pub mod StayLemmas
 pub mod TicketLemmas
 pub mod UndoLemmas
 pub mod UnfinishedLemmas

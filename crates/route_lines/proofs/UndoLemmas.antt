@@ -19,7 +19,7 @@ use Rattle.route_lines.proofs.SoundLemmas.{and_then-ok, stop_holder-ok}
 
 -- ---- the place of each stop
 
-own_stop : (xs : List Stop) → ((s : ℕ) → count_of (has_ticket s) xs ≤ 1) → AllByRecursion (λ t. find (has_ticket t.ticket) xs ≡ Some t) xs
+pub own_stop : (xs : List Stop) → ((s : ℕ) → count_of (has_ticket s) xs ≤ 1) → AllByRecursion (λ t. find (has_ticket t.ticket) xs ≡ Some t) xs
 own_stop [] once = tt
 own_stop (x ∷ xs) once = (
   rw (eq-eqb x.ticket x.ticket refl) refl,

@@ -1,11 +1,11 @@
 //! What holds of joins, cuts and swaps of routes.
-ghost use Rattle.std.specs.Prelude.{◌≡◌, ◌≢◌, ◌↔◌, ◌∷◌, ◌++◌, ℕ, List, Some, None, Ok, reverse};
+ghost use Rattle.std.specs.Prelude.{◌≡◌, ◌≢◌, ◌↔◌, ◌+◌, ◌∷◌, ◌++◌, ℕ, List, Some, None, Ok, length, reverse};
 ghost use Rattle.std.specs.List.{AllByRecursion};
 ghost use Rattle.route_lines.specs.Calls.{after_cut, after_extend, after_join, after_start, after_swap, extended, joined, parted, started, swapped};
 ghost use Rattle.route_lines.specs.Leads.{Leads};
 ghost use Rattle.route_lines.specs.Routes.{has_ticket, next_stop, previous_stop, walk_from};
 ghost use Rattle.route_lines.specs.Sound.{IsSound, count_of};
-ghost use Rattle.route_lines.specs.State.{State, Stop, stop_of};
+ghost use Rattle.route_lines.specs.State.{State, Stop, stop_list, stop_of};
 
 /// A stop follows another exactly if that one is its previous one.
 pub fn stops_follow_their_previous_ones()
@@ -68,6 +68,33 @@ pub fn extensions_lead_through()
         → next_stop (after_extend s t at).routes n ≡ next_stop s.routes t }
     ensures others { (s : State) (t at n v : ℕ) → IsSound s → extended s t at ≡ Ok n → v ≢ t → v ≢ n
         → next_stop (after_extend s t at).routes v ≡ next_stop s.routes v }
+{}
+
+/// A join, a cut and a swap leave the stop of each ticket, and the number of stops, as they were.
+pub fn stops_stay_as_routes_change()
+    ensures joined { (s : State) (t u k : ℕ) → IsSound s
+        → stop_of (after_join s t u).routes k ≡ stop_of s.routes k }
+    ensures parted { (s : State) (t k : ℕ) → IsSound s
+        → stop_of (after_cut s t).routes k ≡ stop_of s.routes k }
+    ensures swapped { (s : State) (t u k : ℕ) → IsSound s
+        → stop_of (after_swap s t u).routes k ≡ stop_of s.routes k }
+    ensures joined_count { (s : State) (t u : ℕ) → IsSound s
+        → length (stop_list (after_join s t u).routes) ≡ length (stop_list s.routes) }
+    ensures parted_count { (s : State) (t : ℕ) → IsSound s
+        → length (stop_list (after_cut s t).routes) ≡ length (stop_list s.routes) }
+    ensures swapped_count { (s : State) (t u : ℕ) → IsSound s
+        → length (stop_list (after_swap s t u).routes) ≡ length (stop_list s.routes) }
+{}
+
+/// After an `extend` that answers a ticket the new stop stands under it, each other stop under its own, and there is one
+/// stop more.
+pub fn extensions_add_one_stop()
+    ensures new { (s : State) (t at n : ℕ) → IsSound s → extended s t at ≡ Ok n
+        → stop_of (after_extend s t at).routes n ≡ Some (record { ticket = n; place = Some at }) }
+    ensures others { (s : State) (t at n k : ℕ) → IsSound s → extended s t at ≡ Ok n → k ≢ n
+        → stop_of (after_extend s t at).routes k ≡ stop_of s.routes k }
+    ensures count { (s : State) (t at n : ℕ) → IsSound s → extended s t at ≡ Ok n
+        → length (stop_list (after_extend s t at).routes) ≡ length (stop_list s.routes) + 1 }
 {}
 
 /// A list of stops that follow one another, before which none comes and behind which none does, is walked from one of them
