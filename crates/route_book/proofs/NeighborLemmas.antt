@@ -9,6 +9,7 @@ use Rattle.std.proofs.lemmas.List.{reverse-append}
 use Rattle.std.proofs.lemmas.List.Folds.{find-append}
 use Rattle.rank_tree.specs.Search.{AllIn}
 use Rattle.triple_arena.specs.Content.{entry_at}
+use Rattle.triple_arena.specs.Entries.{value_if}
 use Rattle.triple_arena_chain.specs.Chains.{Ends, Stands, On, first_or, last_or}
 use Rattle.triple_arena_chain.specs.Links.{ends_in}
 use Rattle.triple_arena_chain.specs.declared.link.IndexLink.{IndexLink}
@@ -223,6 +224,82 @@ module _ {I : Type 0} (number : I → ℕ) (o : Ordered I Place) (ordered : IsOr
       by : (w : List ℕ) → first_or w None ≡ None → first_item (along (entry_in o) w) ≡ None
       by [] first = refl
       by (x ∷ w) first = absurd (let no : ◌≡◌ {A = Option ℕ} (Some x) None = first in cc)
+
+-- ---- what the links of a place tell
+
+module _ {P I G : Type 0} (index generation : P → ℕ) (number : I → ℕ) (numbered : G → ℕ) (o : Ordered I Place) (ordered : IsOrdered number o) (rise : KeysRise (in_order number o))
+    (at : P) (live : IsSome (value_if (generation at) (entry_in o (index at)))) (ons : (i : ℕ) → IsSome (entry_in o i) → On (order_in number o) i)
+    (link : G × IndexLink I (Bor Place)) (i : ℕ) (same : i ≡ index at) (read : option_map (λ e. (numbered e.0, read_link e.1)) (Some link) ≡ option_map bare (entry_at o.chains i)) where
+  record Stood : Type 0 where
+    item : Place
+    is : entry_in o (index at) ≡ Some (generation at, item)
+    on : On (order_in number o) (index at)
+    value : value_if (generation at) (entry_in o (index at)) ≡ Some item
+
+  stood : Stood
+  stood = by (entry_in o (index at)) refl live
+    where
+      by : (c : Option (ℕ × Place)) → entry_in o (index at) ≡ c → IsSome (value_if (generation at) (entry_in o (index at))) → Stood
+      by None none some = absurd (true≢false (sym (subst (λ c. IsSome (value_if (generation at) c)) none some)))
+      by (Some e) there some = elim (eqb_tells e.0 (generation at)) [
+        | inl own ↦
+            let is : entry_in o (index at) ≡ Some (generation at, e.1) = there ∙ ap (λ g. Some (g, e.1)) own.1 in
+            record { item = e.1; is = is; on = ons (index at) (rw is refl); value = ap (value_if (generation at)) is ∙ rw (eq-eqb (generation at) (generation at) refl) refl }
+        | inr other ↦ absurd (true≢false (sym (subst (λ b. IsSome (if b then Some e.1 else None)) other.0 (subst (λ c. IsSome (value_if (generation at) c)) there some))))
+      ]
+
+  links : (option_map number link.1.prev ≡ last_or None stood.on.front) × (option_map number link.1.next ≡ first_or stood.on.back None)
+  links = links_are number o ordered rise (index at) (generation at) stood.item stood.is stood.on numbered link (Some link) refl (subst (λ k. option_map (λ e. (numbered e.0, read_link e.1)) (Some link) ≡ option_map bare (entry_at o.chains k)) same read)
+
+  own_parts : (front back : List Place) (p : Place) → value_if (generation at) (entry_in o (index at)) ≡ Some p → in_order number o ≡ front ++ p ∷ back → in_order number o ≡ front ++ stood.item ∷ back
+  own_parts front back p value is =
+      let one : p ≡ stood.item = some_same (sym value ∙ stood.value) in is ∙ ap (λ q. front ++ q ∷ back) one
+
+  entry_of : (c : Option (ℕ × Place)) (q : Place) → option_map (λ (e : ℕ × Place). e.1) c ≡ Some q → (h : ℕ) × (c ≡ Some (h, q))
+  entry_of None q is = absurd (let no : ◌≡◌ {A = Option Place} None (Some q) = is in cc)
+  entry_of (Some e) q is = (e.0, ap (λ (x : Place). Some (e.0, x)) (some_same is))
+
+  pub next_is_live : (j : I) → link.1.next ≡ Some j → IsSome (entry_in o (number j))
+  next_is_live j is = next_live number o ordered rise (index at) (generation at) stood.item stood.is stood.on (number j) (sym links.1 ∙ ap (option_map number) is)
+
+  pub next_ticket : (j : I) (q : Place) → link.1.next ≡ Some j → option_map (λ (e : ℕ × Place). e.1) (entry_in o (number j)) ≡ Some q
+      → (front back : List Place) (p : Place) → value_if (generation at) (entry_in o (index at)) ≡ Some p → in_order number o ≡ front ++ p ∷ back → Some q.ticket ≡ option_map (λ (x : Place). x.ticket) (first_item back)
+  next_ticket j q is there front back p value whole =
+      let e = entry_of (entry_in o (number j)) q there in
+      sym (ap (option_map (λ (x : Place). x.ticket)) (next_some number o ordered rise (index at) (generation at) stood.item stood.is stood.on front back (number j) e.0 q (own_parts front back p value whole) (sym links.1 ∙ ap (option_map number) is) e.1))
+
+  pub next_missing : link.1.next ≡ None → (front back : List Place) (p : Place) → value_if (generation at) (entry_in o (index at)) ≡ Some p → in_order number o ≡ front ++ p ∷ back → None ≡ option_map (λ (x : Place). x.ticket) (first_item back)
+  next_missing is front back p value whole =
+      sym (ap (option_map (λ (x : Place). x.ticket)) (next_none number o ordered rise (index at) (generation at) stood.item stood.is stood.on front back (own_parts front back p value whole) (sym links.1 ∙ ap (option_map number) is)))
+
+  pub previous_is_live : (j : I) → link.1.prev ≡ Some j → IsSome (entry_in o (number j))
+  previous_is_live j is = previous_live number o ordered rise (index at) (generation at) stood.item stood.is stood.on (number j) (sym links.0 ∙ ap (option_map number) is)
+
+  pub previous_ticket : (j : I) (q : Place) → link.1.prev ≡ Some j → option_map (λ (e : ℕ × Place). e.1) (entry_in o (number j)) ≡ Some q
+      → (front back : List Place) (p : Place) → value_if (generation at) (entry_in o (index at)) ≡ Some p → in_order number o ≡ front ++ p ∷ back → Some q.ticket ≡ option_map (λ (x : Place). x.ticket) (last_item front)
+  previous_ticket j q is there front back p value whole =
+      let e = entry_of (entry_in o (number j)) q there in
+      sym (ap (option_map (λ (x : Place). x.ticket)) (previous_some number o ordered rise (index at) (generation at) stood.item stood.is stood.on front back (number j) e.0 q (own_parts front back p value whole) (sym links.0 ∙ ap (option_map number) is) e.1))
+
+  pub previous_missing : link.1.prev ≡ None → (front back : List Place) (p : Place) → value_if (generation at) (entry_in o (index at)) ≡ Some p → in_order number o ≡ front ++ p ∷ back → None ≡ option_map (λ (x : Place). x.ticket) (last_item front)
+  previous_missing is front back p value whole =
+      sym (ap (option_map (λ (x : Place). x.ticket)) (previous_none number o ordered rise (index at) (generation at) stood.item stood.is stood.on front back (own_parts front back p value whole) (sym links.0 ∙ ap (option_map number) is)))
+
+-- a place that is found stands between two parts of the list
+pub place_parts : {I : Type 0} (number : I → ℕ) (o : Ordered I Place) (i g : ℕ) (p : Place) → value_if g (entry_in o i) ≡ Some p → (IsSome (entry_in o i) → On (order_in number o) i)
+    → (front : List Place) × ((back : List Place) × (in_order number o ≡ front ++ p ∷ back))
+place_parts number o i g p value on = by (entry_in o i) refl
+  where
+    by : (c : Option (ℕ × Place)) → entry_in o i ≡ c → (front : List Place) × ((back : List Place) × (in_order number o ≡ front ++ p ∷ back))
+    by None none = absurd (let no : ◌≡◌ {A = Option Place} None (Some p) = sym (ap (value_if g) none) ∙ value in cc)
+    by (Some e) there = elim (eqb_tells e.0 g) [
+      | inr other ↦ absurd (let none : value_if g (entry_in o i) ≡ None = ap (value_if g) there ∙ rw other.0 refl in let no : ◌≡◌ {A = Option Place} None (Some p) = sym none ∙ value in cc)
+      | inl own ↦
+          let some : value_if g (entry_in o i) ≡ Some e.1 = ap (value_if g) there ∙ rw own.0 refl in
+          let same : e.1 ≡ p = some_same (sym some ∙ value) in
+          let stands = on (rw there refl) in
+          (along (entry_in o) stands.front, (along (entry_in o) stands.back, split_at number o i e.0 p stands.front stands.back stands.is (there ∙ ap (λ x. Some (e.0, x)) same)))
+    ]
 
 -- ---- what the calls answer
 

@@ -46,4 +46,9 @@ where
         let (_, place) = self.entries.next()?;
         Some((place.ticket(), place.key_number(), place.word()))
     }
+
+    // How many are left is not known before the end.
+    fn size_hint(&self) -> (usize, Option<usize>) {
+        (0, None)
+    }
 }
