@@ -1,14 +1,11 @@
 -- What a look at the ticket book means for the state, and what one item more or less makes of what is held.
 use Rattle.std.proofs.Common.{◌≡◌, ◌≢◌, ◌∙◌, sym, ap, subst, refl, Bool, true, false, not, ◌==◌, ◌||◌, nat_lt, nat_le, if◌then◌else◌, ℕ, zero, suc, ◌+◌, ◌-◌, ◌<◌, ◌≤◌, ◌⊎◌, inl, inr, List, [], ◌∷◌, ◌++◌, length, Option, Some, None, IsSome, IfSome, is_some, true≢false, Result, Ok, Err, arith, find}
-use Rattle.std.specs.Option.{option_map, option_or, option_to_list}
+use Rattle.std.specs.Option.{option_map, option_or}
 use Rattle.std.proofs.lemmas.Bool.{ne_eqb, eq-eqb, le-ltb}
 use Rattle.std.proofs.lemmas.Bool.Decides.{eqb_tells}
 use Rattle.std.proofs.lemmas.List.Folds.{find-append}
 use Rattle.triple_arena.specs.Entries.{value_if, with_entry}
-use Rattle.triple_arena_chain.specs.Chains.{Ends, Off, On, IsLinear}
-use Rattle.triple_arena_chain.specs.ChainLaws.{off_or_on}
-use Rattle.triple_arena_chain.specs.Lists.{Chain, Linear, Cyclic, members, IsChainOf}
-use Rattle.triple_arena_chain.specs.ListLaws.{live_in, off_or_not}
+use Rattle.triple_arena_chain.specs.Chains.{Ends}
 use Rattle.ticket_book.specs.declared.entry.Kind.{Kind}
 use Rattle.ticket_book.specs.declared.entry.Kind.TheVariants.{Place as OfPlace, Stop as OfStop, Mark as OfMark}
 use Rattle.route_lines.specs.declared.refusal.Refusal.TheVariants.{Gone, Unknown}
@@ -17,7 +14,7 @@ use Rattle.route_book.specs.Item.{StopView, MarkView}
 use Rattle.route_lines.specs.State.{State, Place, Stop, Route, Mark, Item, place, stop, mark, living, holder, place_of, stop_of, mark_of}
 use Rattle.route_lines.specs.Calls.{put}
 use Rattle.route_book.proofs.SettledLemmas.{found_added, settled_added, up_to_added}
-use Rattle.route_book.specs.Holds.{Found, found_by, state_stop, state_mark, place_under, stop_under, mark_under, item_under, place_at, stop_at, mark_at, IsFilled, IsItem, entry, Rise, IsSettled, stops_along, IsRoute, AreRoutes, IsHeld}
+use Rattle.route_book.specs.Holds.{Found, found_by, state_stop, state_mark, place_under, stop_under, mark_under, item_under, place_at, stop_at, mark_at, IsFilled, IsItem, entry, Rise, IsSettled, IsHeld}
 
 no_some : {X : Type 0} {x : X} → ◌≡◌ {A = Option X} None (Some x) → ⊥
 no_some e = absurd (cc)
@@ -274,25 +271,6 @@ module _ (s : State) (f : Found) (order order' : List Place) (ends : ℕ → Opt
       let k = kept x.kind x.index x.generation (h.filled t x is) in
       record { place = sym k.place; stop = sym k.stop; mark = sym k.mark }
 
-  along_kept : (is : List ℕ) → stops_along now is ≡ stops_along f is
-  along_kept [] = refl
-  along_kept (j ∷ is) =
-      ap (λ l. l ++ stops_along now is) (ap option_to_list (by (f.stops j) refl))
-      ∙ ap (λ l. option_to_list (option_map (λ x. state_stop f x.1) (f.stops j)) ++ l) (along_kept is)
-    where
-      by : (o : Option (ℕ × StopView)) → f.stops j ≡ o → option_map (λ x. state_stop now x.1) o ≡ option_map (λ x. state_stop f x.1) o
-      by None is = refl
-      by (Some x) is =
-          ap (λ (r : Option Place). Some (record { ticket = x.1.ticket; place = option_map (λ (q : Place). q.ticket) r }))
-          (found_kept x.1.place (h.stop_place j x.0 x.1 is))
-
-  routes_kept : (rs : List Route) → AreRoutes f ends rs → AreRoutes now ends rs
-  routes_kept [] all = tt
-  routes_kept (r ∷ rs) all = (
-    record { chain = all.0.chain; is_chain = all.0.is_chain; stops = all.0.stops ∙ sym (along_kept all.0.chain) },
-    routes_kept rs all.1,
-  )
-
   found_here : value_if g (at i) ≡ Some p
   found_here = ap (value_if g) here ∙ rw (eq-eqb g g refl) refl
 
@@ -312,7 +290,7 @@ module _ (s : State) (f : Found) (order order' : List Place) (ends : ℕ → Opt
     stops = λ t. stops_now t (look t);
     marks = λ t. marks_now t (look t);
     in_order = ap (put p) h.in_order ∙ sym placed;
-    routes = routes_kept s.routes h.routes;
+    routes = h.routes;
   }
     where
       filled : (t : ℕ) (x : Entry) → lookup more t ≡ Some x → Look t → IsFilled now x.kind x.index x.generation

@@ -6,7 +6,11 @@ pub mod PlaceLemmas
 pub mod NewLemmas
 pub mod RoomLemmas
 pub mod NeighborLemmas
+pub mod FollowLemmas
+pub mod StopWalkLemmas
+pub mod LinkLemmas
 pub mod StopLemmas
 pub mod StartLemmas
 pub mod MarkLemmas
 pub mod ItemLemmas
+pub mod RelinkLemmas

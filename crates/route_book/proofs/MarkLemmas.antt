@@ -1,6 +1,6 @@
 -- What `mark` makes of what is held, and of what ties a store's parts.
 use Rattle.std.proofs.Common.{◌≡◌, ◌≢◌, ◌∙◌, sym, ap, subst, refl, Bool, true, false, ◌==◌, ◌||◌, if◌then◌else◌, ℕ, ◌+◌, ◌<◌, ◌≤◌, List, [], ◌∷◌, ◌++◌, length, Option, Some, None, IsSome, IfSome, true≢false, Ok, Err, arith, length-append, find, inl, inr}
-use Rattle.std.specs.Option.{option_map, option_or, option_to_list}
+use Rattle.std.specs.Option.{option_map, option_or}
 use Rattle.std.proofs.lemmas.Bool.{ne_eqb, eq-eqb, leb-false}
 use Rattle.std.proofs.lemmas.Bool.Decides.{eqb_tells}
 use Rattle.std.proofs.lemmas.List.Folds.{find-append}
@@ -18,7 +18,7 @@ use Rattle.route_lines.specs.Calls.{place_holder, stop_holder, marked, after_mar
 use Rattle.route_lines.specs.State.{State, Rooms, Place, Stop, Route, Mark, place_of, stop_of, mark_of, is_full_of_marks, last_ticket}
 use Rattle.route_lines.specs.declared.refusal.Refusal.TheVariants.{Full}
 use Rattle.route_book.specs.Item.{StopView, MarkView}
-use Rattle.route_book.specs.Holds.{Found, AreRoutes, IsRoute, entry, state_mark, state_stop, stops_along, place_at, stop_at, mark_at, place_under, stop_under, mark_under, IsFilled, IsLive, IsSettled, IsHeld}
+use Rattle.route_book.specs.Holds.{Found, entry, state_mark, state_stop, place_at, stop_at, mark_at, place_under, stop_under, mark_under, IsFilled, IsLive, IsSettled, IsHeld}
 use Rattle.route_book.specs.Book.{MarksDiffer, found_in, in_order, IsBook, IsWithin, KeepsItems}
 use Rattle.route_book.proofs.HoldLemmas.{some_same, Rise-add, lookup_none, lookup_added, lookup_other, lookup_kept}
 use Rattle.route_book.proofs.SettledLemmas.{live_settled}
@@ -126,20 +126,9 @@ module _ (s : State) (f : Found) (order : List Place) (ends : ℕ → Option End
     stops = λ t. stops_now t (look t);
     marks = λ t. marks_now t (look t);
     in_order = h.in_order;
-    routes = routes_kept s.routes h.routes;
+    routes = h.routes;
   }
     where
-      along_kept : (is : List ℕ) → stops_along now is ≡ stops_along f is
-      along_kept [] = refl
-      along_kept (j ∷ is) = ap (λ l. option_to_list (option_map (λ x. state_stop f x.1) (f.stops j)) ++ l) (along_kept is)
-
-      routes_kept : (rs : List Route) → AreRoutes f ends rs → AreRoutes now ends rs
-      routes_kept [] all = tt
-      routes_kept (r ∷ rs) all = (
-        record { chain = all.0.chain; is_chain = all.0.is_chain; stops = all.0.stops ∙ sym (along_kept all.0.chain) },
-        routes_kept rs all.1,
-      )
-
       filled : (t : ℕ) (x : Entry) → lookup more t ≡ Some x → Look t → IsFilled now x.kind x.index x.generation
       filled t x is (new at' found none) =
           let same : e ≡ x = some_same (sym found ∙ is) in

@@ -61,7 +61,7 @@ module _ {I : Type 0} (number : I → ℕ) (rooms : Rooms) (last : ℕ) (places 
       stops = λ t. refl;
       marks = λ t. refl;
       in_order = sym (ap (along (entry_in places)) no_order);
-      routes = tt;
+      routes = λ i g x is. absurd (never _ (none_stopped i) is);
     };
     keys_rise = tt;
     within = record {

@@ -13,7 +13,7 @@ use Rattle.route_lines.specs.Calls.{reworded}
 use Rattle.route_lines.specs.Sound.{KeysRise}
 use Rattle.route_lines.specs.State.{State, Place, Route, place_of, stop_of, mark_of}
 use Rattle.route_book.specs.Item.{StopView, MarkView}
-use Rattle.route_book.specs.Holds.{Found, found_by, state_stop, state_mark, place_under, stop_under, mark_under, place_at, stop_at, mark_at, IsFilled, entry, IsSettled, AreUpTo, stops_along, IsRoute, AreRoutes, IsHeld}
+use Rattle.route_book.specs.Holds.{Found, found_by, state_stop, state_mark, place_under, stop_under, mark_under, place_at, stop_at, mark_at, IsFilled, entry, IsSettled, AreUpTo, IsHeld}
 use Rattle.route_book.proofs.KeyLemmas.{along}
 
 some_same : {X : Type 0} {x y : X} → ◌≡◌ {A = Option X} (Some x) (Some y) → x ≡ y
@@ -225,23 +225,6 @@ module _ (s : State) (f : Found) (order order' : List Place) (ends : ℕ → Opt
       by OfStop = refl
       by OfMark = map_marks (value_if e.generation (f.marks e.index))
 
-  along_kept : (is : List ℕ) → stops_along now is ≡ stops_along f is
-  along_kept [] = refl
-  along_kept (j ∷ is) =
-      ap (λ l. l ++ stops_along now is) (ap option_to_list (by (f.stops j)))
-      ∙ ap (λ l. option_to_list (option_map (λ x. state_stop f x.1) (f.stops j)) ++ l) (along_kept is)
-    where
-      by : (o : Option (ℕ × StopView)) → option_map (λ x. state_stop now x.1) o ≡ option_map (λ x. state_stop f x.1) o
-      by None = refl
-      by (Some x) = ap Some (stop_same x.1)
-
-  routes_kept : (rs : List Route) → AreRoutes f ends rs → AreRoutes now ends rs
-  routes_kept [] all = tt
-  routes_kept (r ∷ rs) all = (
-    record { chain = all.0.chain; is_chain = all.0.is_chain; stops = all.0.stops ∙ sym (along_kept all.0.chain) },
-    routes_kept rs all.1,
-  )
-
   -- the entry that an entry was
   was_at : (j n : ℕ) (q : Place) → at j ≡ Some (n, q) → (o : Place) × ((f.places j ≡ Some (n, o)) × (q.ticket ≡ o.ticket))
   was_at j n q is = by (f.places j) refl
@@ -271,5 +254,5 @@ module _ (s : State) (f : Found) (order order' : List Place) (ends : ℕ → Opt
     stops = λ t. h.stops t ∙ sym (stop_now (lookup book t));
     marks = λ t. h.marks t ∙ sym (mark_now (lookup book t));
     in_order = ap (reworded p.key word) h.in_order ∙ sym order_is;
-    routes = routes_kept s.routes h.routes;
+    routes = h.routes;
   }

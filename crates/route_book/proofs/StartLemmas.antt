@@ -7,6 +7,7 @@ use Rattle.std.proofs.lemmas.List.Folds.{find-append}
 use Rattle.triple_arena.specs.Entries.{value_if, with_entry}
 use Rattle.triple_arena.specs.Content.{Content, entry_at, live_count, arena_capacity}
 use Rattle.triple_arena_stack.specs.Room.{capacity}
+use Rattle.triple_arena_chain.specs.Chains.{IsAgreed}
 use Rattle.triple_arena_chain.specs.declared.link.IndexLink.{IndexLink}
 use Rattle.triple_arena_chain.specs.declared.place.Place.TheVariants.{Between}
 use Rattle.triple_arena_chain.specs.Links.{ends_in, values_in, entry_ends, valued, IsPlaced}
@@ -14,14 +15,17 @@ use Rattle.triple_arena_ord.specs.Ordered.{Ordered, entry_in, size_in}
 use Rattle.ticket_book.specs.declared.entry.Kind.TheVariants.{Stop as OfStop}
 use Rattle.ticket_book.specs.Tickets.{Entry}
 use Rattle.route_lines.specs.Calls.{place_holder, started, after_start}
-use Rattle.route_lines.specs.Routes.{linear}
+use Rattle.route_lines.specs.Routes.{linear, next_stop}
 use Rattle.route_lines.specs.State.{State, Rooms, Place, Stop, Route, place_of, stop_list, stop_of, is_full_of_stops, last_ticket}
 use Rattle.route_lines.specs.declared.refusal.Refusal.TheVariants.{Full}
 use Rattle.route_book.specs.Item.{StopView, MarkView}
+use Rattle.route_book.specs.Follows.{LeadAs}
 use Rattle.route_book.specs.Holds.{entry, state_stop, IsHeld}
 use Rattle.route_book.specs.Book.{found_in, in_order, IsBook, IsWithin, KeepsItems}
 use Rattle.route_book.proofs.NeighborLemmas.{held_place, has_ticket}
-use Rattle.route_book.proofs.StopLemmas.{stop_added, start_route, no_stop_yet}
+use Rattle.route_book.proofs.FollowLemmas.{lead_started}
+use Rattle.route_book.proofs.LinkLemmas.{live_ends, unknown}
+use Rattle.route_book.proofs.StopLemmas.{stop_added, no_stop_yet}
 
 left_false : (a b : Bool) → (a || b) ≡ false → a ≡ false
 left_false true b h = h
@@ -52,7 +56,8 @@ module _ {I : Type 0} (number : I → ℕ) (rooms : Rooms) (last : ℕ) (s : Sta
     (book : List Entry) (b : IsBook number rooms last s places stops marks book)
     (t : ℕ) (p : Place) (held : place_holder s t ≡ Ok p) (free : is_full_of_stops s ≡ false) (pi pg : ℕ) (found : value_if pg (entry_in places pi) ≡ Some p)
     (v : StopView) (i g : ℕ) (ticket : v.ticket ≡ last + 1) (to : v.place ≡ Some (pi, pg))
-    (put : IsPlaced number (Between None None) i g v stops stops') (same_room : stops'.room ≡ stops.room) where
+    (put : IsPlaced number (Between None None) i g v stops stops') (same_room : stops'.room ≡ stops.room) (agreed : IsAgreed (ends_in number stops))
+    (nowhere : next_stop (after_start s t).routes (s.last + 1) ≡ None) (as_before : (u : ℕ) → u ≢ s.last + 1 → next_stop (after_start s t).routes u ≡ next_stop s.routes u) where
   abbrev own : Route
   own = linear (record { ticket = s.last + 1; place = Some t } ∷ [])
 
@@ -79,8 +84,7 @@ module _ {I : Type 0} (number : I → ℕ) (rooms : Rooms) (last : ℕ) (s : Sta
     held = subst (λ c. IsHeld now (record { places = entry_in places; stops = values_in stops'; marks = entry_at marks; place_counter = places.chains.counter; stop_counter = c })
         (in_order number places) (ends_in number stops') (book ++ entry v.ticket OfStop i g ∷ [])) (sym put.counter) (stop_added s (found_in places stops marks) (in_order number places) (ends_in number stops) (ends_in number stops') book b.held v i g (values_in stops') vacant put.values
               next put.generation live (s.routes ++ own ∷ []) others first
-              (start_route s (found_in places stops marks) (in_order number places) (ends_in number stops) (ends_in number stops') book b.held v i g (values_in stops') vacant put.values
-                  next put.generation live (s.routes ++ own ∷ []) absent (λ c is. put.lists.others c is tt tt) own refl (ap (λ x. x ∷ []) (sym stop_is)) (put.lists.inside [] [] refl refl tt)));
+              lead);
     keys_rise = b.keys_rise;
     within = record {
       rooms_are = b.within.rooms_are;
@@ -107,6 +111,16 @@ module _ {I : Type 0} (number : I → ℕ) (rooms : Rooms) (last : ℕ) (s : Sta
 
       live : IfSome v.place (λ q. IsSome (value_if q.1 (entry_in places q.0)))
       live = subst (λ r. IfSome r (λ q. IsSome (value_if q.1 (entry_in places q.0)))) (sym to) (subst IsSome (sym found) refl)
+
+      routes_are : (after_start s t).routes ≡ s.routes ++ own ∷ []
+      routes_are = ap (λ (z : State). z.routes) (started_new s t p held free).1
+
+      lead : LeadAs (λ (x : StopView). x.ticket) (values_in stops') (ends_in number stops') (next_stop (s.routes ++ own ∷ []))
+      lead =
+          lead_started (λ (x : StopView). x.ticket) (values_in stops) (ends_in number stops) (ends_in number stops') (next_stop s.routes) (next_stop (s.routes ++ own ∷ [])) b.held.routes
+          (values_in stops') i g v agreed (live_ends number stops) absent (unknown s (found_in places stops marks) (in_order number places) (ends_in number stops) book b.held v next) put.values
+          (ap (next_stop (s.routes ++ own ∷ [])) next ∙ sym (ap (λ rs. next_stop rs (s.last + 1)) routes_are) ∙ nowhere)
+          (λ u other. sym (ap (λ rs. next_stop rs u) routes_are) ∙ as_before u (λ is. other (is ∙ sym next))) put.ends
 
       in_list : (u : ℕ) → stop_of (s.routes ++ own ∷ []) u ≡ option_or (stop_of s.routes u) (find (λ (x : Stop). x.ticket == u) own.stops)
       in_list u = ap (find (λ (x : Stop). x.ticket == u)) (stop_list-append s.routes own) ∙ find-append (λ (x : Stop). x.ticket == u) (stop_list s.routes) own.stops

@@ -1,21 +1,20 @@
 -- What one stop more makes of what is held.
 use Rattle.std.proofs.Common.{◌≡◌, ◌≢◌, ◌∙◌, sym, ap, subst, refl, Bool, true, false, not, ◌==◌, ◌||◌, nat_lt, nat_le, if◌then◌else◌, ℕ, zero, suc, ◌+◌, ◌-◌, ◌<◌, ◌≤◌, ◌⊎◌, inl, inr, List, [], ◌∷◌, ◌++◌, length, Option, Some, None, IsSome, IfSome, true≢false, Result, Ok, Err, arith, find}
-use Rattle.std.specs.Option.{option_map, option_or, option_to_list}
+use Rattle.std.specs.Option.{option_map}
 use Rattle.std.proofs.lemmas.Bool.{ne_eqb, eq-eqb, le-ltb}
 use Rattle.std.proofs.lemmas.Bool.Decides.{eqb_tells}
 use Rattle.std.proofs.lemmas.List.Folds.{find-append}
 use Rattle.triple_arena.specs.Entries.{value_if, with_entry}
-use Rattle.triple_arena_chain.specs.Chains.{Ends, Off, On, IsLinear}
-use Rattle.triple_arena_chain.specs.ChainLaws.{off_or_on}
-use Rattle.triple_arena_chain.specs.Lists.{Chain, Linear, Cyclic, members, IsChainOf}
-use Rattle.triple_arena_chain.specs.ListLaws.{live_in, off_or_not}
+use Rattle.triple_arena_chain.specs.Chains.{Ends}
 use Rattle.ticket_book.specs.declared.entry.Kind.{Kind}
 use Rattle.ticket_book.specs.declared.entry.Kind.TheVariants.{Place as OfPlace, Stop as OfStop, Mark as OfMark}
 use Rattle.ticket_book.specs.Tickets.{Entry, lookup}
 use Rattle.route_book.specs.Item.{StopView, MarkView}
+use Rattle.route_lines.specs.Routes.{next_stop}
 use Rattle.route_lines.specs.State.{State, Place, Stop, Route, Mark, place_of, stop_of, mark_of, stop_list}
 use Rattle.route_book.proofs.SettledLemmas.{found_added, settled_added, up_to_added, live_settled}
-use Rattle.route_book.specs.Holds.{Found, found_by, state_stop, state_mark, place_under, stop_under, mark_under, place_at, stop_at, mark_at, IsFilled, entry, Rise, IsLive, IsSettled, stops_along, IsRoute, AreRoutes, IsHeld}
+use Rattle.route_book.specs.Follows.{LeadAs}
+use Rattle.route_book.specs.Holds.{Found, found_by, state_stop, state_mark, place_under, stop_under, mark_under, place_at, stop_at, mark_at, IsFilled, entry, Rise, IsLive, IsSettled, IsHeld}
 
 use Rattle.route_book.proofs.HoldLemmas.{some_same, lookup_given, Rise-add, lookup_none, lookup_added, lookup_other, lookup_kept}
 
@@ -107,8 +106,8 @@ module _ (s : State) (f : Found) (order : List Place) (ends ends' : ℕ → Opti
   no_stop_yet t is = h.stops t ∙ ap (λ u. stop_at f (lookup book u)) is ∙ ap (stop_at f) (lookup_none book s.last e h.rise next)
 
   pub stop_added : ((t : ℕ) → t ≢ s.last + 1 → stop_of routes t ≡ stop_of s.routes t) → ((t : ℕ) → t ≡ s.last + 1 → stop_of routes t ≡ Some (state_stop f v))
-      → AreRoutes now ends' routes → IsHeld after_stop now order ends' more
-  stop_added others own are = record {
+      → LeadAs (λ (x : StopView). x.ticket) at ends' (next_stop routes) → IsHeld after_stop now order ends' more
+  stop_added others own lead = record {
     rise = Rise-add book 0 s.last e h.rise next;
     filled = λ t x is. filled t x is (look t);
     places_in = λ j k q is. lookup_kept book s.last e h.rise next q.ticket _ (h.places_in j k q is);
@@ -123,7 +122,7 @@ module _ (s : State) (f : Found) (order : List Place) (ends ends' : ℕ → Opti
     stops = λ t. stops_now t (look t);
     marks = λ t. marks_now t (look t);
     in_order = h.in_order;
-    routes = are;
+    routes = lead;
   }
     where
       filled : (t : ℕ) (x : Entry) → lookup more t ≡ Some x → Look t → IsFilled now x.kind x.index x.generation
@@ -163,41 +162,3 @@ module _ (s : State) (f : Found) (order : List Place) (ends ends' : ℕ → Opti
       marks_now : (t : ℕ) → Look t → mark_of s.marks t ≡ mark_at now (lookup more t)
       marks_now t (new is found none) = h.marks t ∙ ap (mark_at f) none ∙ ap (mark_at now) (sym found)
       marks_now t (old other found) = h.marks t ∙ (at_kept t (lookup book t) refl).mark ∙ ap (mark_at now) (sym found)
-
-  -- the stops of a chain that has not the new one
-  pub along_kept : (is : List ℕ) → Off is i → stops_along now is ≡ stops_along f is
-  along_kept [] off = refl
-  along_kept (j ∷ is) off =
-      ap (λ l. l ++ stops_along now is) (ap (λ (o : Option (ℕ × StopView)). option_to_list (option_map (λ x. state_stop f x.1) o)) (there j off.0))
-      ∙ ap (λ l. option_to_list (option_map (λ x. state_stop f x.1) (f.stops j)) ++ l) (along_kept is off.1)
-
-  -- a chain that stays has not the new one
-  module _ (absent : ends i ≡ None) (others : (c : Chain) → IsChainOf ends c → IsChainOf ends' c) where
-    off_new : (c : Chain) → IsChainOf ends c → Off (members c) i
-    off_new c is = off_or_not (members c) i (λ on. true≢false (sym (subst IsSome absent (live_in ends c i is on))))
-
-    routes_kept : (rs : List Route) → AreRoutes f ends rs → AreRoutes now ends' rs
-    routes_kept [] all = tt
-    routes_kept (r ∷ rs) all = (
-      record { chain = all.0.chain; is_chain = others _ all.0.is_chain; stops = all.0.stops ∙ sym (along_kept all.0.chain (by r.is_ring all.0.is_chain)) },
-      routes_kept rs all.1,
-    )
-      where
-        by : (b : Bool) → IsChainOf ends (if b then Cyclic all.0.chain else Linear all.0.chain) → Off all.0.chain i
-        by true is = off_new (Cyclic all.0.chain) is
-        by false is = off_new (Linear all.0.chain) is
-
-    -- alone in a route of its own, behind the others
-    pub start_route : (own : Route) → own.is_ring ≡ false → own.stops ≡ state_stop f v ∷ [] → IsLinear ends' (i ∷ []) → AreRoutes now ends' (s.routes ++ own ∷ [])
-    start_route own linear is alone = behind s.routes (routes_kept s.routes h.routes)
-      where
-        mine : IsRoute now ends' own
-        mine = record {
-          chain = i ∷ [];
-          is_chain = subst (λ b. IsChainOf ends' (if b then Cyclic (i ∷ []) else Linear (i ∷ []))) (sym linear) alone;
-          stops = is ∙ sym (ap (λ (o : Option (ℕ × StopView)). option_to_list (option_map (λ x. state_stop f x.1) o) ++ []) here);
-        }
-
-        behind : (rs : List Route) → AreRoutes now ends' rs → AreRoutes now ends' (rs ++ own ∷ [])
-        behind [] all = (mine, tt)
-        behind (r ∷ rs) all = (all.0, behind rs all.1)

@@ -1,13 +1,14 @@
 -- How the arenas and the ticket book stand for a state. What pointers find are plain functions here: no arena, slot or tree.
-use Rattle.std.specs.Prelude.{◌≡◌, ◌⊎◌, ℕ, ◌+◌, ◌<◌, ◌≤◌, ◌==◌, if◌then◌else◌, List, [], ◌∷◌, ◌++◌, Option, Some, None, Ok, IsSome, IfSome}
-use Rattle.std.specs.Option.{option_map, option_to_list}
+use Rattle.std.specs.Prelude.{◌≡◌, ◌⊎◌, ℕ, ◌+◌, ◌<◌, ◌≤◌, List, [], ◌∷◌, Option, Some, None, Ok, IsSome, IfSome}
+use Rattle.std.specs.Option.{option_map}
 use Rattle.triple_arena.specs.Entries.{value_if}
 use Rattle.triple_arena_chain.specs.Chains.{Ends}
-use Rattle.triple_arena_chain.specs.Lists.{Linear, Cyclic, IsChainOf}
 use Rattle.ticket_book.specs.declared.entry.Kind.{Kind}
 use Rattle.ticket_book.specs.declared.entry.Kind.TheVariants.{Place as OfPlace, Stop as OfStop, Mark as OfMark}
 use Rattle.ticket_book.specs.Tickets.{Entry, lookup}
-use Rattle.route_lines.specs.State.{State, Place, Stop, Route, Mark, Item, place, stop, mark, holder, place_of, stop_of, mark_of}
+use Rattle.route_lines.specs.Routes.{next_stop}
+use Rattle.route_lines.specs.State.{State, Place, Stop, Mark, Item, place, stop, mark, holder, place_of, stop_of, mark_of}
+use Rattle.route_book.specs.Follows.{LeadAs}
 use Rattle.route_book.specs.Item.{StopView, MarkView}
 
 -- ---- what pointers find
@@ -105,21 +106,6 @@ IsSettled at counter r = IfSome r (λ p. IsSome (value_if p.1 (at p.0)) ⊎ (p.1
 abbrev pub AreUpTo : {T : Type 0} → (ℕ → Option (ℕ × T)) → ℕ → Type 0
 AreUpTo {T} at counter = (i g : ℕ) (t : T) → at i ≡ Some (g, t) → g ≤ counter
 
--- the stops at the indexes of a chain
-abbrev pub stops_along : Found → List ℕ → List Stop
-stops_along f [] = []
-stops_along f (i ∷ is) = option_to_list (option_map (λ e. state_stop f e.1) (f.stops i)) ++ stops_along f is
-
--- a route is a chain of the stops
-pub record IsRoute (f : Found) (ends : ℕ → Option Ends) (r : Route) : Type 0 where
-  pub chain : List ℕ
-  pub is_chain : IsChainOf ends (if r.is_ring then Cyclic chain else Linear chain)
-  pub stops : r.stops ≡ stops_along f chain
-
-abbrev pub AreRoutes : Found → (ℕ → Option Ends) → List Route → Type 0
-AreRoutes f ends [] = Unit {0}
-AreRoutes f ends (r ∷ routes) = IsRoute f ends r × AreRoutes f ends routes
-
 -- the state is what the arenas and the book hold: `order` the places along their list, `ends` the interlinks of the stops
 pub record IsHeld (s : State) (f : Found) (order : List Place) (ends : ℕ → Option Ends) (book : List Entry) : Type 0 where
   pub rise : Rise 0 book s.last
@@ -139,6 +125,7 @@ pub record IsHeld (s : State) (f : Found) (order : List Place) (ends : ℕ → O
   pub places : (t : ℕ) → place_of s.places t ≡ place_at f (lookup book t)
   pub stops : (t : ℕ) → stop_of s.routes t ≡ stop_at f (lookup book t)
   pub marks : (t : ℕ) → mark_of s.marks t ≡ mark_at f (lookup book t)
-  -- and in the same lists
+  -- the places in the same order
   pub in_order : s.places ≡ order
-  pub routes : AreRoutes f ends s.routes
+  -- and each stop leads to the one at the next of its index
+  pub routes : LeadAs (λ (v : StopView). v.ticket) f.stops ends (next_stop s.routes)

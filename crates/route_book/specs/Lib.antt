@@ -1,5 +1,6 @@
 pub mod Item
 pub mod Rooms
+pub mod Follows
 pub mod Holds
 pub mod Book
 pub use Rattle.route_lines.specs.Calls
