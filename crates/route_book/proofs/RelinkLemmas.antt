@@ -1,10 +1,11 @@
 -- What `join`, `cut` and `swap` answer, and what they make of what ties a store's parts.
-use Rattle.std.proofs.Common.{◌≡◌, ◌≢◌, ◌↔◌, ◌∙◌, sym, ap, subst, refl, Bool, true, false, ◌||◌, ◌==◌, ℕ, List, [], ◌∷◌, ◌++◌, length, Option, Some, None, IsSome, is_some, is_none, true≢false, Result, Ok, Err, find, cond}
+use Rattle.std.proofs.Common.{◌≡◌, ◌≢◌, ◌↔◌, ◌∙◌, sym, ap, subst, refl, Bool, true, false, ◌||◌, ◌==◌, ℕ, ◌≤◌, List, [], ◌∷◌, ◌++◌, length, Option, Some, None, IsSome, is_some, is_none, true≢false, Result, Ok, Err, find, cond}
 use Rattle.std.specs.List.{list_any}
 use Rattle.std.specs.Option.{option_map, option_or, option_and_then}
 use Rattle.std.proofs.lemmas.List.Folds.{find-append}
 use Rattle.triple_arena.specs.Entries.{value_if}
-use Rattle.triple_arena.specs.Content.{Content, live_count}
+use Rattle.triple_arena.specs.Content.{Content, arena_capacity}
+use Rattle.triple_arena_stack.specs.Room.{capacity}
 use Rattle.triple_arena_chain.specs.declared.link.IndexLink.{IndexLink}
 use Rattle.triple_arena_chain.specs.Chains.{Ends, IsAgreed, next_in, prev_in, next_at, prev_at, linked, unlinked, exchanged}
 use Rattle.triple_arena_chain.specs.Kinds.{at_bridge}
@@ -22,9 +23,9 @@ use Rattle.route_lines.specs.declared.refusal.Refusal.TheVariants.{No}
 use Rattle.route_book.specs.Follows.{ticket_at, LeadAs}
 use Rattle.route_book.specs.Item.{StopView, MarkView}
 use Rattle.route_book.specs.Holds.{state_stop}
-use Rattle.route_book.specs.Book.{found_in, in_order, IsBook}
+use Rattle.route_book.specs.Book.{Book, found_in, found_of, in_order, IsBook, KeepsItems}
 use Rattle.route_book.proofs.FollowLemmas.{lead_joined, lead_parted, lead_exchanged}
-use Rattle.route_book.proofs.LinkLemmas.{IsAt, is_at, live_values, distinct, stop_index, found_ticket, held_ticket, relinked_kept}
+use Rattle.route_book.proofs.LinkLemmas.{IsAt, is_at, live_values, distinct, stop_index, found_ticket, held_ticket, relinked_kept, kept_links}
 use Rattle.route_book.proofs.StopWalkLemmas.{leads_back}
 
 -- ---- a ticket that leads on names a stop
@@ -66,6 +67,10 @@ some_of (Some x) some = (x, refl)
 none_of : {X : Type 0} (o : Option X) → (IsSome o → ⊥) → o ≡ None
 none_of None none = refl
 none_of (Some x) none = absurd (none refl)
+
+-- a mirror still has room where the arena keeps its room
+pub still_mirrored : {T : Type 0} (c c' : Content T) (n : ℕ) → c'.room ≡ c.room → arena_capacity c ≤ n → arena_capacity c' ≤ n
+still_mirrored c c' n same fits = subst (λ r. capacity r ≤ n) (sym same) fits
 
 -- ---- a stop that a ticket names
 
@@ -315,3 +320,110 @@ module _ {I : Type 0} (number : I → ℕ) (rooms : Rooms) (last : ℕ) (s : Sta
 
         other_ticket : w.ticket ≡ u
         other_ticket = ticket agreed u j h w other
+
+  -- ---- the same of the store that the calls see
+
+  module _ (k : Book I) (view : record { state = s; places = places; stops = stops; marks = marks } ≡ k) where
+    abbrev pub NamedIn : Book I → ℕ → ℕ → ℕ → Type 0
+    NamedIn x t i g = (v : StopView) × ((value_if g (values_in x.stops i) ≡ Some v) × (stop_holder x.state t ≡ Ok (state_stop (found_of x) v)))
+
+    pub named_in : (t i g : ℕ) → NamedIn k t i g → (v : StopView) × IsNamed t i g v
+    named_in t i g n = let m = subst (λ x. NamedIn x t i g) (sym view) n in (m.0, record { found = m.1.0; held = m.1.1 })
+
+    -- each item keeps its pointer
+    pub relinked_keeps : (s' : State) (stops' : Content (IndexLink I StopView)) (wanted : ℕ → Option Ends) → IsRelinked number wanted stops stops'
+        → KeepsItems k (record { state = s'; places = places; stops = stops'; marks = marks })
+    relinked_keeps s' stops' wanted re = subst (λ x. KeepsItems x (record { state = s'; places = places; stops = stops'; marks = marks })) view (kept_links s s' places stops stops' marks re.values re.kept)
+
+    pub refused_keeps : (stops' : Content (IndexLink I StopView)) → stops' ≡ stops → KeepsItems k (record { state = s; places = places; stops = stops'; marks = marks })
+    refused_keeps stops' same =
+        subst (λ x. KeepsItems x (record { state = s; places = places; stops = stops'; marks = marks })) view
+        (subst (λ c. KeepsItems {I = I} (record { state = s; places = places; stops = stops; marks = marks }) (record { state = s; places = places; stops = c; marks = marks })) (sym same) stays)
+      where
+        stays : KeepsItems {I = I} (record { state = s; places = places; stops = stops; marks = marks }) (record { state = s; places = places; stops = stops; marks = marks })
+        stays = record { places = λ i g p is. (p, (is, (refl, refl))); stops = λ i g v is. is; marks = λ i g m is. is; place_counter = refl; stop_counter = refl }
+
+    module _ (agreed : IsAgreed (ends_in number stops)) (t i g : ℕ) (from : NamedIn k t i g) where
+      abbrev own_view : StopView
+      own_view = (named_in t i g from).0
+
+      own_named : IsNamed t i g own_view
+      own_named = (named_in t i g from).1
+
+      pub told_parted : IsSome (next_in (ends_found number stops i g)) → Ok tt ≡ parted k.state t
+      told_parted some = sym (parted_ok agreed t i g own_view own_named some) ∙ ap (λ (x : Book I). parted x.state t) view
+
+      pub told_whole : (IsSome (next_in (ends_found number stops i g)) → ⊥) → (Err No ≡ parted k.state t) × (s ≡ after_cut k.state t)
+      told_whole none =
+          let no_next = parted_no agreed t i g own_view own_named none in
+          (sym no_next.0 ∙ ap (λ (x : Book I). parted x.state t) view, sym no_next.1 ∙ ap (λ (x : Book I). after_cut x.state t) view)
+
+      -- the interlinks after a cut
+      pub parted_links : (stops' : Content (IndexLink I StopView)) → IsSome (next_in (ends_found number stops i g))
+          → ((q : ℕ) → next_at (ends_in number stops) i ≡ Some q → IsRelinked number (unlinked (ends_in number stops) i q) stops stops')
+          → (q : ℕ) × IsRelinked number (unlinked (ends_in number stops) i q) stops stops'
+      parted_links stops' some relinked = let n = some_of (next_in (ends_found number stops i g)) some in (n.0, relinked n.0 (sym (next_same agreed t i g own_view own_named) ∙ n.1))
+
+      pub cut_leaves : (z : State) (stops' : Content (IndexLink I StopView)) → z ≡ after_cut s t → IsSome (next_in (ends_found number stops i g))
+          → ((q : ℕ) → next_at (ends_in number stops) i ≡ Some q → IsRelinked number (unlinked (ends_in number stops) i q) stops stops')
+          → (parted s t ≡ Ok tt → next_stop (after_cut s t).routes t ≡ None) → ((x : ℕ) → parted s t ≡ Ok tt → x ≢ t → next_stop (after_cut s t).routes x ≡ next_stop s.routes x)
+          → ((x : ℕ) → stop_of (after_cut s t).routes x ≡ stop_of s.routes x) → length (stop_list (after_cut s t).routes) ≡ length (stop_list s.routes)
+          → IsBook number rooms last z places stops' marks book
+      cut_leaves z stops' is some relinked own others stay count =
+          let ok = parted_ok agreed t i g own_view own_named some in
+          subst (λ x. IsBook number rooms last x places stops' marks book) (sym is)
+          (cut_kept agreed t i g own_view own_named stops' some relinked (own ok) (λ x apart. others x ok apart) stay count)
+
+      module _ (u j h : ℕ) (by : NamedIn k u j h) where
+        abbrev other_view : StopView
+        other_view = (named_in u j h by).0
+
+        other_named : IsNamed u j h other_view
+        other_named = (named_in u j h by).1
+
+        pub told_swapped : IsSome (next_in (ends_found number stops i g)) × IsSome (next_in (ends_found number stops j h)) → Ok tt ≡ swapped k.state t u
+        told_swapped some = sym (swapped_ok agreed t i g own_view own_named u j h other_view other_named some.0 some.1) ∙ ap (λ (x : Book I). swapped x.state t u) view
+
+        pub told_unswapped : (IsSome (next_in (ends_found number stops i g)) × IsSome (next_in (ends_found number stops j h)) → ⊥) → (Err No ≡ swapped k.state t u) × (s ≡ after_swap k.state t u)
+        told_unswapped none =
+            let no_next = swapped_no agreed t i g own_view own_named u j h other_view other_named none in
+            (sym no_next.0 ∙ ap (λ (x : Book I). swapped x.state t u) view, sym no_next.1 ∙ ap (λ (x : Book I). after_swap x.state t u) view)
+
+        -- the interlinks after a swap
+        pub swapped_links : (stops' : Content (IndexLink I StopView)) → IsSome (next_in (ends_found number stops i g)) × IsSome (next_in (ends_found number stops j h))
+            → ((m n : ℕ) → next_at (ends_in number stops) i ≡ Some m → next_at (ends_in number stops) j ≡ Some n → IsRelinked number (exchanged (ends_in number stops) i j m n) stops stops')
+            → (m : ℕ) × ((n : ℕ) × IsRelinked number (exchanged (ends_in number stops) i j m n) stops stops')
+        swapped_links stops' some relinked =
+            let m = some_of (next_in (ends_found number stops i g)) some.0 in
+            let n = some_of (next_in (ends_found number stops j h)) some.1 in
+            (m.0, (n.0, relinked m.0 n.0 (sym (next_same agreed t i g own_view own_named) ∙ m.1) (sym (next_same agreed u j h other_view other_named) ∙ n.1)))
+
+        pub swap_leaves : (z : State) (stops' : Content (IndexLink I StopView)) → z ≡ after_swap s t u → IsSome (next_in (ends_found number stops i g)) × IsSome (next_in (ends_found number stops j h))
+            → ((m n : ℕ) → next_at (ends_in number stops) i ≡ Some m → next_at (ends_in number stops) j ≡ Some n → IsRelinked number (exchanged (ends_in number stops) i j m n) stops stops')
+            → (swapped s t u ≡ Ok tt → next_stop (after_swap s t u).routes t ≡ next_stop s.routes u) → (swapped s t u ≡ Ok tt → next_stop (after_swap s t u).routes u ≡ next_stop s.routes t)
+            → ((x : ℕ) → swapped s t u ≡ Ok tt → x ≢ t → x ≢ u → next_stop (after_swap s t u).routes x ≡ next_stop s.routes x)
+            → ((x : ℕ) → stop_of (after_swap s t u).routes x ≡ stop_of s.routes x) → length (stop_list (after_swap s t u).routes) ≡ length (stop_list s.routes)
+            → IsBook number rooms last z places stops' marks book
+        swap_leaves z stops' is some relinked own second others stay count =
+            let ok = swapped_ok agreed t i g own_view own_named u j h other_view other_named some.0 some.1 in
+            subst (λ x. IsBook number rooms last x places stops' marks book) (sym is)
+            (swap_kept agreed t i g own_view own_named u j h other_view other_named stops' some.0 some.1 relinked (own ok) (second ok) (λ x apart off. others x ok apart off) stay count)
+
+        module _ (both : (x y : ℕ) → (next_stop s.routes x ≡ Some y) ↔ (previous_stop s.routes y ≡ Some x)) where
+          pub told_joined : IsSome (at_bridge i j (ends_found number stops i g) (ends_found number stops j h)) → Ok tt ≡ joined k.state t u
+          told_joined some = sym (joined_ok agreed t i g own_view own_named u j h other_view other_named both some) ∙ ap (λ (x : Book I). joined x.state t u) view
+
+          pub told_apart : (IsSome (at_bridge i j (ends_found number stops i g) (ends_found number stops j h)) → ⊥) → (Err No ≡ joined k.state t u) × (s ≡ after_join k.state t u)
+          told_apart none =
+              let refused = joined_no agreed t i g own_view own_named u j h other_view other_named both none in
+              (sym refused.0 ∙ ap (λ (x : Book I). joined x.state t u) view, sym refused.1 ∙ ap (λ (x : Book I). after_join x.state t u) view)
+
+          pub join_leaves : (z : State) (stops' : Content (IndexLink I StopView)) → z ≡ after_join s t u → IsSome (at_bridge i j (ends_found number stops i g) (ends_found number stops j h))
+              → IsRelinked number (linked (ends_in number stops) i j) stops stops'
+              → (joined s t u ≡ Ok tt → next_stop (after_join s t u).routes t ≡ Some u) → ((x : ℕ) → joined s t u ≡ Ok tt → x ≢ t → next_stop (after_join s t u).routes x ≡ next_stop s.routes x)
+              → ((x : ℕ) → stop_of (after_join s t u).routes x ≡ stop_of s.routes x) → length (stop_list (after_join s t u).routes) ≡ length (stop_list s.routes)
+              → IsBook number rooms last z places stops' marks book
+          join_leaves z stops' is some re own others stay count =
+              let ok = joined_ok agreed t i g own_view own_named u j h other_view other_named both some in
+              subst (λ x. IsBook number rooms last x places stops' marks book) (sym is)
+              (join_kept agreed t i g own_view own_named u j h other_view other_named stops' re (own ok) (λ x apart. others x ok apart) stay count)

@@ -6,16 +6,19 @@ ghost use Rattle.triple_arena.specs.Entries.{value_if};
 ghost use Rattle.triple_arena_chain.specs.Links.{ends_in, values_in};
 ghost use Rattle.triple_arena_ord.specs.Ordered.{entry_in};
 ghost use Rattle.route_lines.specs.Calls.{place_holder, stop_holder};
+ghost use Rattle.route_lines.specs.Routes.{next_stop};
 ghost use Rattle.route_lines.specs.Searches.{living_count};
 ghost use Rattle.route_lines.specs.State.{Place as PlaceView, holder, is_full_of_places, mark_of, stop_list, stop_of};
 ghost use Rattle.route_book.specs.Book.{found_of, in_order};
-ghost use Rattle.route_book.specs.Holds.{AreRoutes, IsItem, state_mark, state_stop};
+ghost use Rattle.route_book.specs.Follows.{LeadAs};
+ghost use Rattle.route_book.specs.Holds.{IsItem, state_mark, state_stop};
 ghost use Rattle.route_book.specs.Item.{MarkView, StopView};
 
 mod asking;
 mod making;
 mod marks;
 mod placing;
+mod routes;
 mod stops;
 
 use crate::backing::BookBacking;
@@ -55,6 +58,7 @@ impl<P: PtrCore, B: BookBacking<P>> Model for RouteBook<P, B> {
     ghost use Rattle.triple_arena.specs.Content.{arena_capacity};
     ghost use Rattle.triple_arena.specs.DirectContent.{arena_capacity as mirror_capacity};
     ghost use Rattle.route_book.specs.Book.{Book, IsBook};
+    ghost use Rattle.route_lines.specs.Sound.{IsSound};
     ghost use Rattle.route_book.specs.Rooms.{counts_short};
 
     ghost Value = { Book P.Inx };
@@ -64,6 +68,7 @@ impl<P: PtrCore, B: BookBacking<P>> Model for RouteBook<P, B> {
     ghost invariant = { λ b. record {
       book : IsBook P.Inx.number (record { places = b.place_room; stops = b.stop_room; marks = b.mark_room }) b.last
           b.held.state b.places b.stops b.marks b.tickets.entries;
+      sound : IsSound b.held.state;
       counts : counts_short P.Gen.last ≡ false;
       room : b.place_room + b.stop_room + b.mark_room ≤ b.tickets.capacity;
       place_mirror : arena_capacity b.places.chains ≤ mirror_capacity b.place_mirror;
@@ -139,11 +144,12 @@ impl<P: PtrCore, B: BookBacking<P>> RouteBook<P, B> {
         &self.places
     }
 
-    /// The arena of the stops. Its chains, read by ticket, are the routes of the state, and a reference finds the place that
-    /// the state names.
+    /// The arena of the stops. Each leads to the one that follows it on the routes of the state, and a reference finds the
+    /// place that the state names.
     pub fn stops_arena(&self) -> &ChainArena<P, Stop<P>, B::Stops>
         ensures content { result.now ≡ self.now.stops }
-        ensures routes { AreRoutes (found_of self.now) (ends_in P.Inx.number result.now) self.now.state.routes }
+        ensures routes { LeadAs (λ (t : StopView). t.ticket) (values_in result.now) (ends_in P.Inx.number result.now)
+            (next_stop self.now.state.routes) }
         ensures items { (i g : ℕ) (t : StopView) → values_in result.now i ≡ Some (g, t)
             → stop_of self.now.state.routes t.ticket ≡ Some (state_stop (found_of self.now) t) }
         ensures count { live_count result.now ≡ length (stop_list self.now.state.routes) }

@@ -1,6 +1,7 @@
 //! Stops and their routes.
 ghost use Rattle.std.specs.Prelude.{◌≡◌};
 ghost use Rattle.counted_search.specs.Searches.{most_comparisons};
+ghost use Rattle.triple_arena_chain.specs.Links.{IsChained};
 ghost use Rattle.route_lines.specs.Calls.{started, after_start};
 ghost use Rattle.route_lines.specs.Searches.{CountsWithin, living_count};
 ghost use Rattle.route_lines.specs.State.{is_full_of_stops};
@@ -18,8 +19,9 @@ use unreached::unreached;
 
 impl<P: PtrCore, B: BookBacking<P>> RouteBook<P, B> {
     // Whether no further stop can be had.
-    fn is_full_of_stops(&self) -> bool
-        ensures { result ≡ is_full_of_stops self.now.state }
+    pub(crate) fn is_full_of_stops(&self) -> bool
+        ensures is { result ≡ is_full_of_stops self.now.state }
+        ensures chained { IsChained P.Inx.number self.now.stops }
     {
         self.stops.len() >= self.stop_room || self.last == u64::MAX
     }
