@@ -14,3 +14,4 @@ pub mod StartLemmas
 pub mod MarkLemmas
 pub mod ItemLemmas
 pub mod RelinkLemmas
+pub mod ListedLemmas
