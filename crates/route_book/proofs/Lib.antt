@@ -11,6 +11,8 @@ pub mod StopWalkLemmas
 pub mod LinkLemmas
 pub mod StopLemmas
 pub mod StartLemmas
+pub mod ExtendLemmas
 pub mod MarkLemmas
 pub mod ItemLemmas
 pub mod RelinkLemmas
+pub mod WalkedLemmas
