@@ -9,10 +9,10 @@ use Rattle.triple_arena_chain.specs.Kinds.{after_link}
 use Rattle.triple_arena_chain.specs.declared.link.IndexLink.{IndexLink}
 use Rattle.triple_arena_chain.specs.declared.place.Place.{Place as LinkPlace}
 use Rattle.triple_arena_chain.specs.declared.place.Place.TheVariants.{Between}
-use Rattle.triple_arena_chain.specs.Links.{ends_in, ends_found, entry_ends, values_in, valued, IsPlaced}
+use Rattle.triple_arena_chain.specs.Links.{ends_in, ends_found, entry_ends, values_in, valued, IsChained, IsPlaced}
 use Rattle.triple_arena_ord.specs.Ordered.{Ordered, entry_in, size_in}
 use Rattle.ticket_book.specs.declared.entry.Kind.TheVariants.{Stop as OfStop}
-use Rattle.ticket_book.specs.Tickets.{Entry}
+use Rattle.ticket_book.specs.Tickets.{Entry, AreBelow}
 use Rattle.route_lines.specs.Calls.{place_holder, stop_holder, extended, after_extend, unless_refused}
 use Rattle.route_lines.specs.Routes.{next_stop, put_behind}
 use Rattle.route_lines.specs.State.{State, Rooms, Place, Stop, Route, stop_list, stop_of, is_full_of_stops}
@@ -23,6 +23,7 @@ use Rattle.route_book.specs.Item.{StopView, MarkView}
 use Rattle.route_book.specs.Holds.{entry, state_stop, IsHeld}
 use Rattle.route_book.specs.Book.{Book, found_in, found_of, in_order, IsBook, IsWithin, KeepsItems}
 use Rattle.route_book.proofs.FollowLemmas.{lead_extended}
+use Rattle.route_book.proofs.HoldLemmas.{below_next}
 use Rattle.route_book.proofs.LinkLemmas.{IsAt, is_at, distinct, held_ticket, live_ends, unknown}
 use Rattle.route_book.proofs.NeighborLemmas.{held_place, has_ticket}
 use Rattle.route_book.proofs.StartLemmas.{stops_not_full, kept_stop}
@@ -149,3 +150,49 @@ module _ {I : Type 0} (number : I → ℕ) (rooms : Rooms) (last : ℕ) (s : Sta
     -- each item keeps its pointer
     pub extend_keeps : (s' : State) → KeepsItems {I = I} (record { state = s; places = places; stops = stops; marks = marks }) (record { state = s'; places = places; stops = stops'; marks = marks })
     extend_keeps s' = kept_stop number s s' places stops stops' marks w n h put.values vacant put.counter
+
+-- ---- the same of the store that the calls see
+
+-- the next ticket is above those of the book
+pub next_above : {I : Type 0} (number : I → ℕ) (rooms : Rooms) (last : ℕ) (s : State) (places : Ordered I Place) (stops : Content (IndexLink I StopView)) (marks : Content MarkView)
+    (book : List Entry) → IsBook number rooms last s places stops marks book → AreBelow book (last + 1)
+next_above number rooms last s places stops marks book b = subst (λ n. AreBelow book (n + 1)) b.last_is (below_next book 0 s.last b.held.rise)
+
+module _ {I : Type 0} (number : I → ℕ) (rooms : Rooms) (last : ℕ) (s : State) (places : Ordered I Place) (stops : Content (IndexLink I StopView)) (marks : Content MarkView)
+    (book : List Entry) (b : IsBook number rooms last s places stops marks book) (k : Book I) (view : record { state = s; places = places; stops = stops; marks = marks } ≡ k)
+    (t i g : ℕ) (from : (v : StopView) × (value_if g (values_in k.stops i) ≡ Some v) × (stop_holder k.state t ≡ Ok (state_stop (found_of k) v)))
+    (pt pi pg : ℕ) (at : (p : Place) × (value_if pg (entry_in k.places pi) ≡ Some p) × (place_holder k.state pt ≡ Ok p)) (free : false ≡ is_full_of_stops k.state) where
+  abbrev stop : (v : StopView) × (value_if g (values_in stops i) ≡ Some v) × (stop_holder s t ≡ Ok (state_stop (found_in places stops marks) v))
+  stop = subst (λ (x : Book I). (v : StopView) × (value_if g (values_in x.stops i) ≡ Some v) × (stop_holder x.state t ≡ Ok (state_stop (found_of x) v))) (sym view) from
+
+  abbrev place : (p : Place) × (value_if pg (entry_in places pi) ≡ Some p) × (place_holder s pt ≡ Ok p)
+  place = subst (λ (x : Book I). (p : Place) × (value_if pg (entry_in x.places pi) ≡ Some p) × (place_holder x.state pt ≡ Ok p)) (sym view) at
+
+  abbrev room : is_full_of_stops s ≡ false
+  room = ap (λ (x : Book I). is_full_of_stops x.state) view ∙ sym free
+
+  pub extend_has_room : IsSome (after_link i (ends_found number stops i g)) × (live_count stops < arena_capacity stops)
+  extend_has_room = extend_fits number rooms last s places stops marks book b t i g stop.0 stop.1 stop.2 pt place.0 place.2 room
+
+  module _ (chained : IsChained number k.stops) (w : StopView) (n h : ℕ) (ticket : w.ticket ≡ last + 1) (to : w.place ≡ Some (pi, pg))
+      (stops' : Content (IndexLink I StopView)) (placed : IfSome (after_link i (ends_found number stops i g)) (λ place. IsPlaced number place n h w stops stops')) (same_room : stops'.room ≡ stops.room) where
+    abbrev agreed : IsAgreed (ends_in number stops)
+    agreed = (subst (λ (x : Book I). IsChained number x.stops) (sym view) chained).agreed
+
+    pub extend_leaves : (z : State) (book' : List Entry) → z ≡ after_extend s t pt → book' ≡ book ++ entry (last + 1) OfStop n h ∷ []
+        → ((m : ℕ) → extended s t pt ≡ Ok m → next_stop (after_extend s t pt).routes t ≡ Some m) → ((m : ℕ) → extended s t pt ≡ Ok m → next_stop (after_extend s t pt).routes m ≡ next_stop s.routes t)
+        → ((m x : ℕ) → extended s t pt ≡ Ok m → x ≢ t → x ≢ m → next_stop (after_extend s t pt).routes x ≡ next_stop s.routes x)
+        → ((m : ℕ) → extended s t pt ≡ Ok m → stop_of (after_extend s t pt).routes m ≡ Some (record { ticket = m; place = Some pt }))
+        → ((m x : ℕ) → extended s t pt ≡ Ok m → x ≢ m → stop_of (after_extend s t pt).routes x ≡ stop_of s.routes x)
+        → ((m : ℕ) → extended s t pt ≡ Ok m → length (stop_list (after_extend s t pt).routes) ≡ length (stop_list s.routes) + 1)
+        → IsBook number rooms (last + 1) z places stops' marks book'
+    extend_leaves z book' is more leads through leads_others own others count =
+        subst (λ l. IsBook number rooms (last + 1) z places stops' marks l) (ap (λ m. book ++ entry m OfStop n h ∷ []) ticket ∙ sym more)
+        (subst (λ x. IsBook number rooms (last + 1) x places stops' marks (book ++ entry w.ticket OfStop n h ∷ [])) (sym is)
+         (extend_kept number rooms last s places stops marks book b t i g stop.0 stop.1 stop.2 pt place.0 place.2 room agreed pi pg place.1 w n h ticket to stops' placed same_room
+          (leads (s.last + 1)) (through (s.last + 1)) (λ x. leads_others (s.last + 1) x) (own (s.last + 1)) (λ x. others (s.last + 1) x) (count (s.last + 1))))
+
+    pub extend_keeps_in : (s' : State) → KeepsItems k (record { state = s'; places = places; stops = stops'; marks = marks })
+    extend_keeps_in s' =
+        subst (λ x. KeepsItems x (record { state = s'; places = places; stops = stops'; marks = marks })) view
+        (extend_keeps number rooms last s places stops marks book b t i g stop.0 stop.1 stop.2 pt place.0 place.2 room agreed pi pg place.1 w n h ticket to stops' placed same_room s')

@@ -16,3 +16,4 @@ pub mod MarkLemmas
 pub mod ItemLemmas
 pub mod RelinkLemmas
 pub mod WalkedLemmas
+pub mod ChainLemmas

@@ -26,7 +26,9 @@ use unreached::unreached;
 #[derive(Drop)]
 pub struct Walk<'a, P: PtrCore, S: OrdSlots<P, Place>, C: ChainSlots<P, Stop<P>>>
 where
+    P: 'a,
     P::Inx: 'a,
+    P::Gen: 'a,
 {
     stops: IterChain<'a, P, Stop<P>, C>,
     places: &'a SimpleOrdArena<P, Place, S>,
@@ -34,7 +36,9 @@ where
 
 impl<'a, P: PtrCore, S: OrdSlots<P, Place>, C: ChainSlots<P, Stop<P>>> Model for Walk<'a, P, S, C>
 where
+    P: 'a,
     P::Inx: 'a,
+    P::Gen: 'a,
 {
     ghost use Rattle.std.specs.Prelude.{List, map};
     ghost use Rattle.triple_arena_ord.specs.Ordered.{entry_in};
@@ -48,7 +52,9 @@ where
 
 impl<'a, P: PtrCore, S: OrdSlots<P, Place>, C: ChainSlots<P, Stop<P>>> Iterator for Walk<'a, P, S, C>
 where
+    P: 'a,
     P::Inx: 'a,
+    P::Gen: 'a,
 {
     ghost use Rattle.route_lines.specs.Calls.{listed_stop};
 
