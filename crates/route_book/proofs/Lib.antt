@@ -11,7 +11,10 @@ pub mod StopWalkLemmas
 pub mod LinkLemmas
 pub mod StopLemmas
 pub mod StartLemmas
+pub mod ExtendLemmas
 pub mod MarkLemmas
 pub mod ItemLemmas
 pub mod RelinkLemmas
 pub mod ListedLemmas
+pub mod WalkedLemmas
+pub mod ChainLemmas

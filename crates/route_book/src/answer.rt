@@ -10,10 +10,8 @@ ghost use Rattle.route_lines.specs.Written.{AppendsBeginning};
 ghost use Rattle.route_book.specs.Book.{KeepsItems};
 
 use crate::backing::BookBacking;
-use crate::book::RouteBook;
+use crate::book::{RouteBook, Walk};
 use crate::items::{Place, Stop};
-use crate::places::Places;
-use crate::walk::Walk;
 use route_lines::{Command, Counts, ReplyText, Watched, make_room, read_line, send};
 use std::io;
 use std::io::Write;
@@ -66,16 +64,10 @@ impl<P: PtrCore, B: BookBacking<P>> RouteBook<P, B> {
         text.clear();
         match command {
             None => text.push_line(b"bad"),
-            Some(Command::Place {
-                key,
-                word,
-                near: None,
-            }) => text.push_placed(&self.place_counted(key, word, counts)),
-            Some(Command::Place {
-                key,
-                word,
-                near: Some(near),
-            }) => text.push_placed(&self.place_near_counted(key, word, near, counts)),
+            Some(Command::Place { key, word, near }) => match near {
+                None => text.push_placed(&self.place_counted(key, word, counts)),
+                Some(near) => text.push_placed(&self.place_near_counted(key, word, near, counts)),
+            },
             Some(Command::Show { ticket }) => text.push_shown(&self.show_counted(ticket, counts)),
             Some(Command::Find { key }) => text.push_found(self.find_counted(key, counts)),
             Some(Command::Floor { key }) => text.push_found(self.floor_counted(key, counts)),
@@ -83,7 +75,7 @@ impl<P: PtrCore, B: BookBacking<P>> RouteBook<P, B> {
             Some(Command::Before { ticket }) => {
                 text.push_neighbor(self.before_counted(ticket, counts));
             }
-            Some(Command::All) => return write_places(self.places(), text, writer),
+            Some(Command::All) => return write_places(self, text, writer),
             Some(Command::Start { place }) => text.push_ticket(self.start_counted(place, counts)),
             Some(Command::Extend { stop, place }) => {
                 text.push_ticket(self.extend_counted(stop, place, counts));
@@ -132,20 +124,20 @@ impl<P: PtrCore, B: BookBacking<P>> RouteBook<P, B> {
 }
 
 // A line for each place and `end`, in as few writes as the text's room allows.
-fn write_places<P: PtrCore, S: OrdSlots<P, Place>, W: Write>(
-    places: Places<'_, P, S>,
+fn write_places<P: PtrCore, B: BookBacking<P>, W: Write>(
+    book: &RouteBook<P, B>,
     text: &mut ReplyText,
     writer: &mut Watched<W>,
 ) -> io::Result<()>
     requires { text.old ≡ [] }
     ensures ok { OnOk result (Appends (W.contents (inner_of writer.old))
-        (W.contents (inner_of writer.new)) (places_text places.entry)) }
+        (W.contents (inner_of writer.new)) (places_text book.now.state.places)) }
     ensures ok_failed { OnOk result (failed_of writer.new ≡ failed_of writer.old) }
     ensures err { OnErr result (AppendsBeginning (W.contents (inner_of writer.old))
-        (W.contents (inner_of writer.new)) (places_text places.entry)) }
+        (W.contents (inner_of writer.new)) (places_text book.now.state.places)) }
     ensures err_failed { OnErr result (failed_of writer.new ≡ failed_of writer.old + 1) }
 {
-    for (ticket, key, word) in places {
+    for (ticket, key, word) in book.places() {
         make_room(text, writer)?;
         text.push_place(ticket, key, word);
     }
@@ -155,8 +147,8 @@ fn write_places<P: PtrCore, S: OrdSlots<P, Place>, W: Write>(
 }
 
 // A line for each stop of a walk and `end`, as for places.
-fn write_stops<P: PtrCore, S: OrdSlots<P, Place>, T: ChainSlots<P, Stop<P>>, W: Write>(
-    stops: Walk<'_, P, S, T>,
+fn write_stops<P: PtrCore, S: OrdSlots<P, Place>, C: ChainSlots<P, Stop<P>>, W: Write>(
+    stops: Walk<'_, P, S, C>,
     text: &mut ReplyText,
     writer: &mut Watched<W>,
 ) -> io::Result<()>

@@ -20,6 +20,9 @@ mod marks;
 mod placing;
 mod routes;
 mod stops;
+mod walking;
+
+pub use walking::Walk;
 
 use crate::backing::BookBacking;
 use crate::items::{Mark, Place, Stop};

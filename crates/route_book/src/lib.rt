@@ -24,7 +24,7 @@ mod places;
 mod running;
 
 pub use backing::{BookBacking, MarkSlot, OnArray, OnFixed, OnHeap, OnLimited, PlaceSlot, StopSlot};
-pub use book::RouteBook;
+pub use book::{RouteBook, Walk};
 pub use command_line::program;
 pub use items::{Mark, Place, Ref, Stop};
 pub use places::Places;

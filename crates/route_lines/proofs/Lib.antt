@@ -1,3 +1,4 @@
+pub mod AlongLemmas
 pub mod CommandLineLemmas
 pub mod CutLemmas
 pub mod GrammarLemmas

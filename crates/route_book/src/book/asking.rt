@@ -159,7 +159,7 @@ impl<P: PtrCore, B: BookBacking<P>> RouteBook<P, B> {
 }
 
 // The ticket of the place that a reference finds.
-fn place_ticket<P: PtrCore, S: OrdSlots<P, Place>>(
+pub(crate) fn place_ticket<P: PtrCore, S: OrdSlots<P, Place>>(
     places: &SimpleOrdArena<P, Place, S>,
     to: Ref<P>,
 ) -> Option<u64>

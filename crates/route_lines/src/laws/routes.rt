@@ -1,8 +1,9 @@
 //! What holds of joins, cuts and swaps of routes.
-ghost use Rattle.std.specs.Prelude.{◌≡◌, ◌≢◌, ◌↔◌, ◌+◌, ◌∷◌, ◌++◌, ℕ, List, Some, None, Ok, length, reverse};
+ghost use Rattle.std.specs.Prelude.{◌≡◌, ◌≢◌, ◌↔◌, ◌+◌, ◌∷◌, ◌++◌, ℕ, List, Some, None, IfSome, Ok, false, length, reverse};
 ghost use Rattle.std.specs.List.{AllByRecursion};
 ghost use Rattle.route_lines.specs.Calls.{after_cut, after_extend, after_join, after_start, after_swap, extended, joined, parted, started, swapped};
-ghost use Rattle.route_lines.specs.Leads.{Leads};
+ghost use Rattle.route_lines.specs.Cuts.{first_item};
+ghost use Rattle.route_lines.specs.Leads.{Leads, closes_at};
 ghost use Rattle.route_lines.specs.Routes.{has_ticket, next_stop, previous_stop, walk_from};
 ghost use Rattle.route_lines.specs.Sound.{IsSound, count_of};
 ghost use Rattle.route_lines.specs.State.{State, Stop, stop_list, stop_of};
@@ -95,6 +96,18 @@ pub fn extensions_add_one_stop()
         → stop_of (after_extend s t at).routes k ≡ stop_of s.routes k }
     ensures count { (s : State) (t at n : ℕ) → IsSound s → extended s t at ≡ Ok n
         → length (stop_list (after_extend s t at).routes) ≡ length (stop_list s.routes) + 1 }
+{}
+
+/// Along each route every stop is followed by the one behind it, the last stop of a ring by its first one, and the last stop
+/// of another route by none. No stop comes before the first one of a route that is no ring, and each stop stands under its
+/// ticket.
+pub fn routes_lead_along()
+    ensures next { (s : State) → IsSound s
+        → AllByRecursion (λ r. Leads (next_stop s.routes) (closes_at r) r.stops) s.routes }
+    ensures first { (s : State) → IsSound s → AllByRecursion (λ r. r.is_ring ≡ false
+        → IfSome (first_item r.stops) (λ t. previous_stop s.routes t.ticket ≡ None)) s.routes }
+    ensures stops { (s : State) → IsSound s
+        → AllByRecursion (λ t. stop_of s.routes t.ticket ≡ Some t) (stop_list s.routes) }
 {}
 
 /// A list of stops that follow one another, before which none comes and behind which none does, is walked from one of them

@@ -21,7 +21,7 @@ invariant_of-self g c =
       counts = c.self.invariant.counts;
       room = c.self.invariant.room;
       place_mirror = c.self.invariant.place_mirror;
-      stop_mirror = still_mirrored _ _ _ re.1.1.kept.room c.self.invariant.stop_mirror;
+      stop_mirror = still_mirrored _ _ _ re.1.1.kept c.self.invariant.stop_mirror;
       mark_mirror = c.self.invariant.mark_mirror;
     }
 
