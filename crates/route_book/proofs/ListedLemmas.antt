@@ -1,7 +1,7 @@
 -- A list that is written in pieces: a line for each item, and then `end`.
-use Rattle.std.proofs.Common.{◌≡◌, ◌∙◌, ◌++◌, [], ◌∷◌, ℕ, List, Option, flat_map, codes, ap, sym, append-nil, append_assoc}
+use Rattle.std.proofs.Common.{◌≡◌, ◌∙◌, ◌++◌, [], ◌∷◌, ℕ, List, Option, flat_map, codes, ap, refl, sym, append-nil, append_assoc}
 use Rattle.std.specs.Io.KnownBytes.{Appends}
-use Rattle.std.proofs.KnownBytes.{Appends-trans}
+use Rattle.std.proofs.KnownBytes.{Appends-nil, Appends-trans}
 use Rattle.route_lines.specs.Reply.{ended}
 use Rattle.route_lines.specs.Written.{AppendsBeginning}
 use Rattle.route_lines.proofs.WrittenLemmas.{begun}
@@ -12,6 +12,10 @@ module _ {X : Type 0} (line : X → List ℕ) where
 
   abbrev pub list_text : List X → List ℕ
   list_text items = lines_of items ++ ended (codes "end")
+
+  -- nothing is gathered yet
+  pub none_yet : (held : Option (List ℕ)) (all left : List X) (text : List ℕ) → left ≡ all → text ≡ [] → (sent : List ℕ) × (lines_of all ≡ (sent ++ text) ++ lines_of left) × Appends held held sent
+  none_yet held all left text same empty = ([], ap lines_of (sym same) ∙ ap (λ t. t ++ lines_of left) (sym empty), Appends-nil held)
 
   -- the line of one more item is gathered
   pub line_more : (all left rest : List X) (x : X) (sent text gone kept new : List ℕ) → lines_of all ≡ (sent ++ text) ++ lines_of left → left ≡ x ∷ rest → text ≡ gone ++ kept → new ≡ kept ++ ended (line x) → lines_of all ≡ ((sent ++ gone) ++ new) ++ lines_of rest

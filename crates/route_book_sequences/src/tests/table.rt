@@ -1,10 +1,10 @@
 //! Inputs of whole lines, and the text with which a new store answers each.
 
 /// The rooms of places, stops and marks, the last ticket that counts as given, the input, and its text.
-pub(super) type Row = ([usize; 3], u64, &'static str, &'static str);
+pub(super) type Row<'a> = ([usize; 3], u64, &'a str, &'a str);
 
 /// What each rule of the line language shows at its lines. None of them removes anything.
-pub(super) const ROWS: [Row; 24] = [
+pub(super) const ROWS: [Row<'static>; 24] = [
     // Places are made, listed by key and shown; a key that is there gets another word.
     (
         [4, 4, 2],

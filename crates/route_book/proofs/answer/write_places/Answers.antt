@@ -1,10 +1,16 @@
-use Rattle.std.proofs.Common.{◌∙◌, ◌++◌}
+use Rattle.std.proofs.Common.{◌∙◌, ◌++◌, refl}
 use Rattle.std.proofs.KnownBytes.{Appends-trans}
 use Rattle.std.proofs.lemmas.Result.{on_err_weaker}
 use Rattle.route_lines.specs.Reply.{place_line}
 use Rattle.route_lines.proofs.WrittenLemmas.{on_err}
-use Rattle.route_book.proofs.ListedLemmas.{line_more, broken_off, broken_off_last}
+use Rattle.route_book.proofs.ListedLemmas.{none_yet, line_more, broken_off, broken_off_last}
 use Rattle.route_book.proofs.answer.write_places.Goals as goal
+
+pub loop-ticket-init : goal.loop-ticket-init
+loop-ticket-init g c = record {
+  gathered = none_yet place_line _ c.args.book.now.state.places _ _ (c.into_iter-ticket-iterator.ensures ∙ c.places.ensures) c.requires;
+  failed = refl;
+}
 
 pub returns-in_err-make_room-clause-err : goal.returns-in_err-make_room-clause-err
 returns-in_err-make_room-clause-err g c =
