@@ -18,3 +18,4 @@ pub mod RelinkLemmas
 pub mod ListedLemmas
 pub mod WalkedLemmas
 pub mod ChainLemmas
+pub mod KeptLemmas

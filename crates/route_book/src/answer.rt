@@ -1,4 +1,4 @@
-ghost use Rattle.std.specs.Prelude.{◌≡◌, ◌+◌, [], OnOk, OnErr};
+ghost use Rattle.std.specs.Prelude.{◌≡◌, ◌≢◌, ◌+◌, ℕ, [], Some, OnOk, OnErr};
 ghost use Rattle.std.specs.Io.KnownBytes.{Appends};
 ghost use Rattle.route_lines.specs.Grammar.{command_of};
 ghost use Rattle.counted_search.specs.Searches.{most_comparisons};
@@ -7,6 +7,7 @@ ghost use Rattle.route_lines.specs.Reply.{reply, next, places_text, stops_text, 
 ghost use Rattle.route_lines.specs.Searches.{CountsFor, CountsWithin, living_count};
 ghost use Rattle.route_lines.specs.Watched.{inner_of, failed_of};
 ghost use Rattle.route_lines.specs.Written.{AppendsBeginning};
+ghost use Rattle.route_lines.specs.declared.command.Command.{Command as Asked};
 ghost use Rattle.route_book.specs.Book.{KeepsItems};
 
 use crate::backing::BookBacking;
@@ -62,37 +63,50 @@ impl<P: PtrCore, B: BookBacking<P>> RouteBook<P, B> {
         ensures counts { CountsFor self.old.state command counts.old counts.new }
     {
         text.clear();
+        let Some(command) = command else {
+            text.push_line(b"bad");
+            return send(writer, text.as_slice());
+        };
         match command {
-            None => text.push_line(b"bad"),
-            Some(Command::Place { key, word, near }) => match near {
+            Command::All => write_places(self, text, writer),
+            Command::Walk { stop } => self.write_walk(stop, text, writer, counts),
+            command => {
+                self.push_reply(command, text, counts);
+                send(writer, text.as_slice())
+            }
+        }
+    }
+
+    // Carries out a command whose reply is one line, and gathers it. The two others do nothing here.
+    fn push_reply(&mut self, command: Command, text: &mut ReplyText, counts: &mut Counts)
+        requires { text.old ≡ [] }
+        ensures state { self.new.state ≡ next self.old.state (Some command) }
+        ensures kept { KeepsItems self.old self.new }
+        ensures text { command ≢ Asked.All → ((stop : ℕ) → command ≢ Asked.Walk stop)
+            → text.new ≡ reply self.old.state (Some command) }
+        ensures counts { CountsFor self.old.state (Some command) counts.old counts.new }
+    {
+        match command {
+            Command::Place { key, word, near } => match near {
                 None => text.push_placed(&self.place_counted(key, word, counts)),
                 Some(near) => text.push_placed(&self.place_near_counted(key, word, near, counts)),
             },
-            Some(Command::Show { ticket }) => text.push_shown(&self.show_counted(ticket, counts)),
-            Some(Command::Find { key }) => text.push_found(self.find_counted(key, counts)),
-            Some(Command::Floor { key }) => text.push_found(self.floor_counted(key, counts)),
-            Some(Command::After { ticket }) => text.push_neighbor(self.after_counted(ticket, counts)),
-            Some(Command::Before { ticket }) => {
-                text.push_neighbor(self.before_counted(ticket, counts));
-            }
-            Some(Command::All) => return write_places(self, text, writer),
-            Some(Command::Start { place }) => text.push_ticket(self.start_counted(place, counts)),
-            Some(Command::Extend { stop, place }) => {
+            Command::Show { ticket } => text.push_shown(&self.show_counted(ticket, counts)),
+            Command::Find { key } => text.push_found(self.find_counted(key, counts)),
+            Command::Floor { key } => text.push_found(self.floor_counted(key, counts)),
+            Command::After { ticket } => text.push_neighbor(self.after_counted(ticket, counts)),
+            Command::Before { ticket } => text.push_neighbor(self.before_counted(ticket, counts)),
+            Command::Start { place } => text.push_ticket(self.start_counted(place, counts)),
+            Command::Extend { stop, place } => {
                 text.push_ticket(self.extend_counted(stop, place, counts));
             }
-            Some(Command::Join { stop, next }) => {
-                text.push_done(self.join_counted(stop, next, counts));
-            }
-            Some(Command::Cut { stop }) => text.push_done(self.cut_counted(stop, counts)),
-            Some(Command::Swap { stop, other }) => {
-                text.push_done(self.swap_counted(stop, other, counts));
-            }
-            Some(Command::Walk { stop }) => return self.write_walk(stop, text, writer, counts),
-            Some(Command::Mark { place, stop }) => {
-                text.push_ticket(self.mark_counted(place, stop, counts));
-            }
+            Command::Join { stop, next } => text.push_done(self.join_counted(stop, next, counts)),
+            Command::Cut { stop } => text.push_done(self.cut_counted(stop, counts)),
+            Command::Swap { stop, other } => text.push_done(self.swap_counted(stop, other, counts)),
+            Command::Mark { place, stop } => text.push_ticket(self.mark_counted(place, stop, counts)),
+            Command::All => {}
+            Command::Walk { stop: _ } => {}
         }
-        send(writer, text.as_slice())
     }
 
     // The stops of a walk, or why it is refused.
