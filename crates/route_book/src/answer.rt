@@ -13,6 +13,7 @@ ghost use Rattle.route_book.specs.Book.{KeepsItems};
 use crate::backing::BookBacking;
 use crate::book::{RouteBook, Walk};
 use crate::items::{Place, Stop};
+use crate::places::Places;
 use route_lines::{Command, Counts, ReplyText, Watched, make_room, read_line, send};
 use std::io;
 use std::io::Write;
@@ -68,7 +69,7 @@ impl<P: PtrCore, B: BookBacking<P>> RouteBook<P, B> {
             return send(writer, text.as_slice());
         };
         match command {
-            Command::All => write_places(self, text, writer),
+            Command::All => write_places(self.places(), text, writer),
             Command::Walk { stop } => self.write_walk(stop, text, writer, counts),
             command => {
                 self.push_reply(command, text, counts);
@@ -138,20 +139,25 @@ impl<P: PtrCore, B: BookBacking<P>> RouteBook<P, B> {
 }
 
 // A line for each place and `end`, in as few writes as the text's room allows.
-fn write_places<P: PtrCore, B: BookBacking<P>, W: Write>(
-    book: &RouteBook<P, B>,
+fn write_places<'a, P: PtrCore, S: OrdSlots<P, Place>, W: Write>(
+    places: Places<'a, P, S>,
     text: &mut ReplyText,
     writer: &mut Watched<W>,
 ) -> io::Result<()>
+where
+    P: 'a,
+    P::Inx: 'a,
+    P::Gen: 'a,
+    S: 'a,
     requires { text.old ≡ [] }
     ensures ok { OnOk result (Appends (W.contents (inner_of writer.old))
-        (W.contents (inner_of writer.new)) (places_text book.now.state.places)) }
+        (W.contents (inner_of writer.new)) (places_text places.entry)) }
     ensures ok_failed { OnOk result (failed_of writer.new ≡ failed_of writer.old) }
     ensures err { OnErr result (AppendsBeginning (W.contents (inner_of writer.old))
-        (W.contents (inner_of writer.new)) (places_text book.now.state.places)) }
+        (W.contents (inner_of writer.new)) (places_text places.entry)) }
     ensures err_failed { OnErr result (failed_of writer.new ≡ failed_of writer.old + 1) }
 {
-    for (ticket, key, word) in book.places() {
+    for (ticket, key, word) in places {
         make_room(text, writer)?;
         text.push_place(ticket, key, word);
     }

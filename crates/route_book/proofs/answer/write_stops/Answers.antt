@@ -8,7 +8,7 @@ use Rattle.route_book.proofs.answer.write_stops.Goals as goal
 
 pub loop-ticket-init : goal.loop-ticket-init
 loop-ticket-init g c = record {
-  gathered = none_yet stop_line _ c.args.stops _ _ (c.into_iter-ticket-iterator.ensures) c.requires;
+  gathered = none_yet stop_line _ c.args.stops _ _ c.into_iter-ticket-iterator.ensures.into_iter_gives c.requires;
   failed = refl;
 }
 
