@@ -13,7 +13,8 @@ pub mod StopLemmas
 pub mod StartLemmas
 pub mod ExtendLemmas
 pub mod MarkLemmas
+pub mod NewItemLemmas
 pub mod ItemLemmas
 pub mod RelinkLemmas
-pub mod WalkedLemmas
 pub mod ChainLemmas
+pub mod WalkedLemmas
