@@ -6,7 +6,6 @@ ghost use Rattle.counted_search.specs.Searches.{most_comparisons};
 ghost use Rattle.route_lines.specs.Searches.{CountsWithin, place_count, living_count};
 ghost use Rattle.route_lines.specs.Watched.{inner_of, failed_of};
 ghost use Rattle.route_lines.specs.Written.{AppendsBeginning};
-ghost use Rattle.route_book.specs.Book.{KeepsItems};
 
 use crate::backing::BookBacking;
 use crate::book::RouteBook;
@@ -30,7 +29,6 @@ impl<P: PtrCore, B: BookBacking<P>> RouteBook<P, B> {
         counts: &mut Counts,
     ) -> io::Result<()>
         ensures state { self.new.state ≡ next self.old.state (command_of line.now) }
-        ensures kept { KeepsItems self.old self.new }
         ensures ok { OnOk result (Appends (W.contents (inner_of writer.old))
             (W.contents (inner_of writer.new)) (reply self.old.state (command_of line.now))) }
         ensures ok_failed { OnOk result (failed_of writer.new ≡ failed_of writer.old) }
@@ -54,7 +52,6 @@ impl<P: PtrCore, B: BookBacking<P>> RouteBook<P, B> {
         counts: &mut Counts,
     ) -> io::Result<()>
         ensures state { self.new.state ≡ next self.old.state command }
-        ensures kept { KeepsItems self.old self.new }
         ensures ok { OnOk result (Appends (W.contents (inner_of writer.old))
             (W.contents (inner_of writer.new)) (reply self.old.state command)) }
         ensures ok_failed { OnOk result (failed_of writer.new ≡ failed_of writer.old) }
@@ -82,7 +79,7 @@ impl<P: PtrCore, B: BookBacking<P>> RouteBook<P, B> {
 
 // A line for each place and `end`, in as few writes as the text's room allows.
 fn write_places<P: PtrCore, S: OrdSlots<P, Place>, W: Write>(
-    places: Places<'_, P, S>,
+    mut places: Places<'_, P, S>,
     text: &mut ReplyText,
     writer: &mut Watched<W>,
 ) -> io::Result<()>
@@ -94,7 +91,7 @@ fn write_places<P: PtrCore, S: OrdSlots<P, Place>, W: Write>(
         (W.contents (inner_of writer.new)) (places_text places.entry)) }
     ensures err_failed { OnErr result (failed_of writer.new ≡ failed_of writer.old + 1) }
 {
-    for (ticket, key, word) in places {
+    while let Some((ticket, key, word)) = places.next() {
         make_room(text, writer)?;
         text.push_place(ticket, key, word);
     }
