@@ -8,6 +8,7 @@ ghost use Rattle.route_book.specs.Rooms.{refusal_of};
 use crate::backing::BookBacking;
 use crate::book::RouteBook;
 use crate::parts::{make_arenas, make_book, make_mirrors, room_sum};
+use route_lines::laws::states_are_sound;
 use route_lines::{Change, Held, RoomError};
 use triple_arena_ptr::PtrCore;
 
@@ -47,6 +48,7 @@ impl<P: PtrCore, B: BookBacking<P>> RouteBook<P, B> {
         ensures accepted { refusal_of P.Gen.last P.Inx.greatest B.limit (places + stops + marks) ≡ None
             → IfErr result (λ e. (e ≡ RoomError.Memory) × IsTrue B.takes_memory × (0 < places + stops + marks)) }
     {
+        states_are_sound();
         let sum = room_sum::<P, B>(places, stops, marks)?;
         let arenas = make_arenas(backing, places, stops, marks)?;
         let tickets = make_book(backing.book_memory(), sum)?;

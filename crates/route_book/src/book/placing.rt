@@ -15,6 +15,7 @@ use crate::backing::BookBacking;
 use crate::book::RouteBook;
 use crate::items::Place;
 use crate::place_arena::{equal_at, put_place, reword};
+use route_lines::laws::changes_keep_states_sound;
 use route_lines::{Change, Counts, Placed, Refusal, Word};
 use std::cmp::Ordering;
 use ticket_book::Kind;
@@ -124,6 +125,9 @@ impl<P: PtrCore, B: BookBacking<P>> RouteBook<P, B> {
         ensures kept { KeepsItems self.old self.new }
         ensures others { (self.new.stops ≡ self.old.stops) × (self.new.marks ≡ self.old.marks) }
     {
+        changes_keep_states_sound();
+        // The word is as it must be.
+        let _ = word.as_bytes();
         let change = Change::Place(key, word);
         self.held = self.held.changed(&change);
         let Change::Place(_, word) = change else {
@@ -153,6 +157,9 @@ impl<P: PtrCore, B: BookBacking<P>> RouteBook<P, B> {
         if self.is_full_of_places() {
             return Err(Refusal::Full);
         }
+        changes_keep_states_sound();
+        // The word is as it must be.
+        let _ = word.as_bytes();
         let change = Change::Place(key, word);
         self.held = self.held.changed(&change);
         let Change::Place(_, word) = change else {

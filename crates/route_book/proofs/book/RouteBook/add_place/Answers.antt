@@ -9,8 +9,9 @@ use Rattle.triple_arena_ord.specs.Ordered.{IsAscending, asked_at, entry_in, orde
 use Rattle.ticket_book.specs.declared.entry.Kind.TheVariants.{Place as OfPlace}
 use Rattle.ticket_book.specs.Tickets.{AreBelow}
 use Rattle.route_lines.specs.Calls.{after_place, placed}
-use Rattle.route_lines.specs.Sound.{KeysRise}
+use Rattle.route_lines.specs.Sound.{IsSound, KeysRise}
 use Rattle.route_lines.specs.State.{Place, is_full_of_places, with_key}
+use Rattle.route_lines.specs.declared.change.Change.TheVariants.{Place as PlaceChange}
 use Rattle.route_book.specs.Book.{Book, KeepsItems, IsBook, in_order}
 use Rattle.route_book.specs.Holds.{entry}
 use Rattle.route_book.proofs.HoldLemmas.{below_next}
@@ -46,6 +47,7 @@ invariant_of-self g c =
     record {
       book = subst (λ e. IsBook g.P.Inx.PtrInxCore.number _ (c.self.inside.last + 1) c.changed-self-inside.result.state c.put_place-at.new.arena c.self.inside.stops c.self.inside.marks e)
           (ap (λ t. c.self.inside.tickets.entries ++ entry t OfPlace (g.P.PtrCore.index c.put_place-at.result) (g.P.PtrCore.generation c.put_place-at.result) ∷ []) ticket ∙ sym c.add.ensures.entries) of_state;
+      sound = subst IsSound (sym c.changed-self-inside.ensures) (c.changes_keep_states_sound.ensures.sound c.self.inside.held.state (PlaceChange c.args.key c.args.word) (c.ranges.key.fits, c.as_bytes.ensures.word) c.self.invariant.sound);
       counts = c.self.invariant.counts;
       room = omega (arith, room, more);
       place_mirror = subst (λ r. capacity r ≤ mirror_capacity c.self.inside.place_mirror) (sym put.same_room) c.self.invariant.place_mirror;

@@ -1,4 +1,5 @@
-use Rattle.std.proofs.Common.{◌≡◌, ◌∙◌, sym, arith}
+use Rattle.std.proofs.Common.{◌≡◌, ◌∙◌, [], subst, sym, arith}
+use Rattle.route_lines.specs.Sound.{IsSound}
 use Rattle.route_book.proofs.NewLemmas.{new_kept}
 use Rattle.route_book.proofs.RoomLemmas.{counts_long, mirror_fits, part_fits}
 use Rattle.route_book.proofs.book.RouteBook.new_after.Goals as goal
@@ -56,6 +57,7 @@ invariant_of-result g c =
     let law = g.met.B.BookBacking in
     record {
       book = rw (c.changed.ensures, c.in_ok-tickets.ensures.empty) kept;
+      sound = subst IsSound (sym c.changed.ensures) (c.states_are_sound.ensures (record { places = c.args.places; stops = c.args.stops; marks = c.args.marks }) c.args.last []);
       counts = counts_long g.P.Gen.PtrGenCore.last g.P.Inx.PtrInxCore.greatest g.B.BookBacking.limit c.in_ok-sum.sum c.in_ok-sum.ensures.accepted;
       room = omega (arith, sum, fits);
       place_mirror = mirror_fits _ _ _ _ _ _ made.places mirrors.places (law.places_room c.args.places ∙ sym (law.mirror_room c.args.places));
