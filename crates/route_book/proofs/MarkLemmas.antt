@@ -152,7 +152,7 @@ module _ (s : State) (f : Found) (order : List Place) (ends : ℕ → Option End
             let both : Some (g, v) ≡ Some (k, q) = sym here ∙ sym (ap at same.1) ∙ is in
             let pair : (g, v) ≡ (k, q) = some_same both in
             let known : lookup more v.ticket ≡ Some (entry v.ticket OfMark j g) =
-                ap (lookup more) next ∙ lookup_added book s.last e h.rise next ∙ ap (λ n. Some (entry v.ticket OfMark n g)) (sym same.1)
+            ap (lookup more) next ∙ lookup_added book s.last e h.rise next ∙ ap (λ n. Some (entry v.ticket OfMark n g)) (sym same.1)
             in subst (λ (x : ℕ × MarkView). lookup more x.1.ticket ≡ Some (entry x.1.ticket OfMark j x.0)) pair known
         | inr other ↦ lookup_kept book s.last e h.rise next q.ticket _ (h.marks_in j k q (sym (there j other.1) ∙ is))
       ]
@@ -191,9 +191,10 @@ MarksDiffer-behind (x ∷ ms) m differ none = elim (eqb_tells x.ticket m.ticket)
   | inl same ↦ absurd (let found : mark_of (x ∷ ms) m.ticket ≡ Some x = rw same.0 refl in let no : ◌≡◌ {A = Option Mark} None (Some x) = sym none ∙ found in cc)
   | inr other ↦
       let skip : mark_of (x ∷ ms) m.ticket ≡ mark_of ms m.ticket = rw other.0 refl in
-      let mine : mark_of (m ∷ []) x.ticket ≡ None = rw (ne_eqb m.ticket x.ticket (λ is. other.1 (sym is))) refl in
-      (find-append (λ (y : Mark). y.ticket == x.ticket) ms (m ∷ []) ∙ ap (λ o. option_or o (mark_of (m ∷ []) x.ticket)) differ.0 ∙ mine,
-        MarksDiffer-behind ms m differ.1 (sym skip ∙ none))
+      let mine : mark_of (m ∷ []) x.ticket ≡ None = rw (ne_eqb m.ticket x.ticket (λ is. other.1 (sym is))) refl in (
+        find-append (λ (y : Mark). y.ticket == x.ticket) ms (m ∷ []) ∙ ap (λ o. option_or o (mark_of (m ∷ []) x.ticket)) differ.0 ∙ mine,
+        MarksDiffer-behind ms m differ.1 (sym skip ∙ none),
+      )
 ]
 
 left_false : (a b : Bool) → (a || b) ≡ false → a ≡ false

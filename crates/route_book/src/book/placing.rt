@@ -50,9 +50,7 @@ impl<P: PtrCore, B: BookBacking<P>> RouteBook<P, B> {
         ensures counts { CountsWithin counts.old counts.new
             (most_comparisons (place_count self.old.state)) 0 0 }
     {
-        let found = self
-            .places
-            .find_similar_key_counted(&key, &mut counts.key);
+        let found = self.places.find_similar_key_counted(&key, &mut counts.key);
         self.place_found(found, key, word)
     }
 

@@ -17,7 +17,7 @@ pub returns-in-Some-clause-order : goal.returns-in-Some-clause-order
 returns-in-Some-clause-order g c =
     let is : c.args.found ≡ Some (c.in-Some.end.0, c.in-Some.end.1) = c.in-Some.is in
     let similar = subst (λ r. IsSimilar g.P.PtrCore.index g.P.PtrCore.generation g.P.Inx.PtrInxCore.number (asked_at nat_cmp (λ (p : Place). p.key) c.args.place.key c.args.arena.now)
-            (IsAscending g.P.Inx.PtrInxCore.number nat_cmp (λ (p : Place). p.key) c.args.arena.now) r c.args.arena.now) is c.requires.found in
+    (IsAscending g.P.Inx.PtrInxCore.number nat_cmp (λ (p : Place). p.key) c.args.arena.now) r c.args.arena.now) is c.requires.found in
     let at = c.put.ensures.stands in
     let place = at.1 ∙ ap (λ k. Some (k, c.in-Some.end.1)) c.inx.ensures in
     put_beside g.P.Inx.PtrInxCore.number c.args.arena.now c.put.new.arena (g.P.PtrCore.index c.put.result) (g.P.PtrCore.generation c.put.result) c.args.place c.len.ensures.ordered c.requires.rise c.put.ensures.added

@@ -37,10 +37,10 @@ invariant_of-self g c =
     let free = ap (λ (b : Book g.row.P-Inx.Denot). is_full_of_places b.state) c.self.view_is ∙ sym c.is_full_of_places.ensures ∙ c.if-is_full_of_places.false in
     let put = c.put_place-at.ensures in
     let kept = place_kept g.P.Inx.PtrInxCore.number (record { places = c.self.inside.place_room; stops = c.self.inside.stop_room; marks = c.self.inside.mark_room }) c.self.inside.last c.self.inside.held.state c.self.inside.places c.put_place-at.new.arena c.self.inside.stops c.self.inside.marks _ b c.new.result ticket unkeyed free
-            (g.P.PtrCore.index c.put_place-at.result) (g.P.PtrCore.generation c.put_place-at.result) put.added put.order put.same_room put.counter in
+    (g.P.PtrCore.index c.put_place-at.result) (g.P.PtrCore.generation c.put_place-at.result) put.added put.order put.same_room put.counter in
     let of_state = subst (λ z. IsBook g.P.Inx.PtrInxCore.number (record { places = c.self.inside.place_room; stops = c.self.inside.stop_room; marks = c.self.inside.mark_room }) (c.self.inside.last + 1) z c.put_place-at.new.arena c.self.inside.stops c.self.inside.marks
-            (c.self.inside.tickets.entries ++ entry c.new.result.ticket OfPlace (g.P.PtrCore.index c.put_place-at.result) (g.P.PtrCore.generation c.put_place-at.result) ∷ []))
-            (ap (λ k. after_place c.self.inside.held.state k c.new.result.word) key ∙ ap (after_place c.self.inside.held.state c.args.key) word ∙ sym c.changed-self-inside.ensures) kept in
+    (c.self.inside.tickets.entries ++ entry c.new.result.ticket OfPlace (g.P.PtrCore.index c.put_place-at.result) (g.P.PtrCore.generation c.put_place-at.result) ∷ []))
+    (ap (λ k. after_place c.self.inside.held.state k c.new.result.word) key ∙ ap (after_place c.self.inside.held.state c.args.key) word ∙ sym c.changed-self-inside.ensures) kept in
     let room = c.self.invariant.room in
     let more = c.add.ensures.capacity in
     record {
