@@ -15,6 +15,7 @@ ghost use Rattle.route_book.specs.Item.{MarkView, StopView};
 mod asking;
 mod making;
 mod placing;
+mod stops;
 
 use crate::backing::BookBacking;
 use crate::items::{Mark, Place, Stop};
