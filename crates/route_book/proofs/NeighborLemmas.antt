@@ -157,9 +157,10 @@ module _ {I : Type 0} (number : I → ℕ) (o : Ordered I Place) (ordered : IsOr
       by (Some c) some =
           let both : (generation link.0, read_link link.1) ≡ bare c = some_same (sym (ap (option_map (λ e. (generation e.0, read_link e.1))) is) ∙ read ∙ ap (option_map bare) some) in
           let there : Some (option_map number c.1.prev, option_map number c.1.next) ≡ Some (last_or None on.front, first_or on.back None) = sym (rw some refl) ∙ here in
-          let pair = some_same there in
-          (ap (λ (x : ℕ × IndexLink I Place). option_map number x.1.prev) both ∙ ap (λ (x : Ends). x.0) pair,
-            ap (λ (x : ℕ × IndexLink I Place). option_map number x.1.next) both ∙ ap (λ (x : Ends). x.1) pair)
+          let pair = some_same there in (
+            ap (λ (x : ℕ × IndexLink I Place). option_map number x.1.prev) both ∙ ap (λ (x : Ends). x.0) pair,
+            ap (λ (x : ℕ × IndexLink I Place). option_map number x.1.next) both ∙ ap (λ (x : Ends). x.1) pair,
+          )
 
   all_live : AllIn (λ j. IsSome (entry_in o j)) (on.front ++ i ∷ on.back)
   all_live = subst (AllIn (λ j. IsSome (entry_in o j))) on.is (live_along number o None (order_in number o) ordered.linear)

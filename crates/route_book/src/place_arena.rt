@@ -57,10 +57,10 @@ pub(crate) fn put_place<P: PtrCore, S: OrdSlots<P, Place>>(
     // The list is as it must be.
     let _ = arena.len();
     match found {
-        Some((at, way)) => {
+        Some(end) => {
             let beside = InsertKind::Manual {
-                p_target: at.inx(),
-                direction: way,
+                p_target: end.0.inx(),
+                direction: end.1,
             };
             put(arena, beside, place)
         }

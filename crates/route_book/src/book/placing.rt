@@ -1,5 +1,5 @@
 //! A place more, or another word for one.
-ghost use Rattle.std.specs.Prelude.{◌≡◌, ◌≢◌, ◌+◌, Some, Ok, IsSome};
+ghost use Rattle.std.specs.Prelude.{◌≡◌, ◌≢◌, ◌+◌, ◌<◌, ◌^◌, Some, Ok, IsSome};
 ghost use Rattle.std.specs.Ordering.{nat_cmp};
 ghost use Rattle.std.specs.declared.cmp.Ordering.{Ordering as Way};
 ghost use Rattle.counted_search.specs.Searches.{most_comparisons};
@@ -51,9 +51,7 @@ impl<P: PtrCore, B: BookBacking<P>> RouteBook<P, B> {
         ensures counts { CountsWithin counts.old counts.new
             (most_comparisons (place_count self.old.state)) 0 0 }
     {
-        let found = self
-            .places
-            .find_similar_key_counted(&key, &mut counts.key);
+        let found = self.places.find_similar_key_counted(&key, &mut counts.key);
         self.place_found(found, key, word)
     }
 
@@ -98,7 +96,8 @@ impl<P: PtrCore, B: BookBacking<P>> RouteBook<P, B> {
         key: u64,
         word: Word,
     ) -> Result<Placed, Refusal>
-        requires { IsSimilar P.index P.generation P.Inx.number
+        requires fits { key < 2 ^ 64 }
+        requires similar { IsSimilar P.index P.generation P.Inx.number
             (asked_at nat_cmp (λ (p : PlaceView). p.key) key self.old.places)
             (IsAscending P.Inx.number nat_cmp (λ (p : PlaceView). p.key) self.old.places) found self.old.places }
         ensures result { result ≡ placed self.old.state key word }

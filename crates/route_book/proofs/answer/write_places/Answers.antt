@@ -1,7 +1,7 @@
-use Rattle.std.proofs.Common.{◌≡◌, ◌∙◌, ◌++◌, [], ◌∷◌, ℕ, List, Option, flat_map, codes, ap, sym, append-nil, append_assoc}
+use Rattle.std.proofs.Common.{◌≡◌, ◌∙◌, ◌++◌, [], ◌∷◌, ℕ, List, Option, flat_map, codes, ap, sym, subst, append-nil, append_assoc}
 use Rattle.std.specs.Io.KnownBytes.{Appends}
 use Rattle.std.proofs.KnownBytes.{Appends-trans}
-use Rattle.std.proofs.lemmas.Result.{on_err_weaker}
+use Rattle.std.proofs.lemmas.Result.{on_err_weaker, on_ok_weaker}
 use Rattle.route_lines.specs.State.{Place}
 use Rattle.route_lines.specs.Reply.{ended, place_line, places_text}
 use Rattle.route_lines.specs.Written.{AppendsBeginning}
@@ -38,6 +38,16 @@ broken_off_last a b c d all left sent text gone kept new before none split line 
     ∙ sym (append-nil ((sent ++ gone) ++ new)))
     (Appends-trans a b c sent gone written moved) begins
 
+-- the whole text is written with the last piece
+written_last : (a b c d : Option (List ℕ)) (all left : List Place) (sent text gone kept new : List ℕ) → lines_of all ≡ (sent ++ text) ++ lines_of left → left ≡ [] → text ≡ gone ++ kept → new ≡ kept ++ ended (codes "end") → Appends a b sent → Appends b c gone → Appends c d new → Appends a d (places_text all)
+written_last a b c d all left sent text gone kept new before none split line written moved last =
+    let whole : places_text all ≡ (sent ++ gone) ++ new =
+    ap (λ t. t ++ ended (codes "end"))
+    (before ∙ ap (λ ps. (sent ++ text) ++ lines_of ps) none ∙ append-nil (sent ++ text) ∙ ap (λ t. sent ++ t) split ∙ sym (append_assoc sent gone kept))
+    ∙ append_assoc (sent ++ gone) kept (ended (codes "end"))
+    ∙ ap (λ t. (sent ++ gone) ++ t) (sym line) in
+    subst (Appends a d) (sym whole) (Appends-trans a c d (sent ++ gone) new (Appends-trans a b c sent gone written moved) last)
+
 pub returns-in_err-make_room-clause-err : goal.returns-in_err-make_room-clause-err
 returns-in_err-make_room-clause-err g c =
     let before = c.loop-ticket.invariant.gathered in
@@ -62,4 +72,11 @@ returns-clause-err g c =
     let before = c.loop-ticket.invariant.gathered in
     let room = c.in_ok-make_room-2.ensures.ok in
     on_err_weaker c.send.result
-    (broken_off_last _ _ _ _ c.args.places c.loop-ticket.places before.0 _ room.0 _ _ before.1 c.in-None.ensures.steps.0 room.1 (c.as_slice.ensures ∙ c.push_line.ensures) before.2 room.2) c.send.ensures.err
+    (broken_off_last _ _ _ _ c.args.places c.loop-ticket.places before.0 _ room.0 _ _ before.1 c.in_default.ensures.steps.0 room.1 (c.as_slice.ensures ∙ c.push_line.ensures) before.2 room.2) c.send.ensures.err
+
+pub returns-clause-ok : goal.returns-clause-ok
+returns-clause-ok g c =
+    let before = c.loop-ticket.invariant.gathered in
+    let room = c.in_ok-make_room-2.ensures.ok in
+    on_ok_weaker c.send.result
+    (written_last _ _ _ _ c.args.places c.loop-ticket.places before.0 _ room.0 _ _ before.1 c.in_default.ensures.steps.0 room.1 (c.as_slice.ensures ∙ c.push_line.ensures) before.2 room.2) c.send.ensures.ok

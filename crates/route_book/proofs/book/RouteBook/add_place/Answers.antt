@@ -37,15 +37,15 @@ invariant_of-self g c =
     let unkeyed = ap (λ k. with_key k c.self.inside.held.state.places) key ∙ ap (λ (b : Book g.row.P-Inx.Denot). with_key c.args.key b.state.places) c.self.view_is ∙ c.requires.missing in
     let free = ap (λ (b : Book g.row.P-Inx.Denot). is_full_of_places b.state) c.self.view_is ∙ sym c.is_full_of_places.ensures ∙ c.if-is_full_of_places.false in
     let put = c.put_place-at.ensures in
-    let kept = place_kept g.P.Inx.PtrInxCore.number _ _ _ c.self.inside.places c.put_place-at.new.arena c.self.inside.stops c.self.inside.marks _ b c.new.result ticket unkeyed free
-            (g.P.PtrCore.index c.put_place-at.result) (g.P.PtrCore.generation c.put_place-at.result) put.added put.order put.same_room put.counter in
-    let of_state = subst (λ z. IsBook g.P.Inx.PtrInxCore.number _ (c.self.inside.last + 1) z c.put_place-at.new.arena c.self.inside.stops c.self.inside.marks
-            (c.self.inside.tickets.entries ++ entry c.new.result.ticket OfPlace (g.P.PtrCore.index c.put_place-at.result) (g.P.PtrCore.generation c.put_place-at.result) ∷ []))
-            (ap (λ k. after_place c.self.inside.held.state k c.new.result.word) key ∙ ap (after_place c.self.inside.held.state c.args.key) word ∙ sym c.changed-self-inside.ensures) kept in
+    let kept = place_kept g.P.Inx.PtrInxCore.number (record { places = c.self.inside.place_room; stops = c.self.inside.stop_room; marks = c.self.inside.mark_room }) c.self.inside.last c.self.inside.held.state c.self.inside.places c.put_place-at.new.arena c.self.inside.stops c.self.inside.marks _ b c.new.result ticket unkeyed free
+    (g.P.PtrCore.index c.put_place-at.result) (g.P.PtrCore.generation c.put_place-at.result) put.added put.order put.same_room put.counter in
+    let of_state = subst (λ z. IsBook g.P.Inx.PtrInxCore.number (record { places = c.self.inside.place_room; stops = c.self.inside.stop_room; marks = c.self.inside.mark_room }) (c.self.inside.last + 1) z c.put_place-at.new.arena c.self.inside.stops c.self.inside.marks
+    (c.self.inside.tickets.entries ++ entry c.new.result.ticket OfPlace (g.P.PtrCore.index c.put_place-at.result) (g.P.PtrCore.generation c.put_place-at.result) ∷ []))
+    (ap (λ k. after_place c.self.inside.held.state k c.new.result.word) key ∙ ap (after_place c.self.inside.held.state c.args.key) word ∙ sym c.changed-self-inside.ensures) kept in
     let room = c.self.invariant.room in
     let more = c.add.ensures.capacity in
     record {
-      book = subst (λ e. IsBook g.P.Inx.PtrInxCore.number _ (c.self.inside.last + 1) c.changed-self-inside.result.state c.put_place-at.new.arena c.self.inside.stops c.self.inside.marks e)
+      book = subst (λ e. IsBook g.P.Inx.PtrInxCore.number (record { places = c.self.inside.place_room; stops = c.self.inside.stop_room; marks = c.self.inside.mark_room }) (c.self.inside.last + 1) c.changed-self-inside.result.state c.put_place-at.new.arena c.self.inside.stops c.self.inside.marks e)
           (ap (λ t. c.self.inside.tickets.entries ++ entry t OfPlace (g.P.PtrCore.index c.put_place-at.result) (g.P.PtrCore.generation c.put_place-at.result) ∷ []) ticket ∙ sym c.add.ensures.entries) of_state;
       sound = subst IsSound (sym c.changed-self-inside.ensures) (c.changes_keep_states_sound.ensures.sound c.self.inside.held.state (PlaceChange c.args.key c.args.word) (c.ranges.key.fits, c.as_bytes.ensures.word) c.self.invariant.sound);
       counts = c.self.invariant.counts;

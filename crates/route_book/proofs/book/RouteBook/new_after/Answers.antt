@@ -51,7 +51,7 @@ invariant_of-result g c =
     let made = c.in_ok-arenas.ensures in
     let mirrors = c.in_ok-mirrors.ensures in
     let kept = new_kept g.P.Inx.PtrInxCore.number (record { places = c.args.places; stops = c.args.stops; marks = c.args.marks }) c.args.last _ _ _ _ _ _ _ _ _
-            made.places made.stops made.marks made.ordered made.places_fit made.stops_fit made.marks_fit in
+    made.places made.stops made.marks made.ordered made.places_fit made.stops_fit made.marks_fit in
     let sum = c.in_ok-sum.ensures.sum in
     let fits = c.in_ok-tickets.ensures.fits in
     let law = g.met.B.BookBacking in

@@ -25,10 +25,10 @@ invariant_of-self g c =
     let p = the_place _ _ live found in
     let replaced = c.reword-old.ensures.replaced p.0 p.1.0 in
     let word : c.in-Place.word ≡ c.args.word = (let is = c.in-Place.is in cc) in
-    let kept = reword_kept g.P.Inx.PtrInxCore.number _ _ _ c.self.inside.places c.reword-old.new.arena c.self.inside.stops c.self.inside.marks _ b p.0 c.args.key c.in-Place.word p.1.1 _ _ replaced in
+    let kept = reword_kept g.P.Inx.PtrInxCore.number (record { places = c.self.inside.place_room; stops = c.self.inside.stop_room; marks = c.self.inside.mark_room }) c.self.inside.last c.self.inside.held.state c.self.inside.places c.reword-old.new.arena c.self.inside.stops c.self.inside.marks _ b p.0 c.args.key c.in-Place.word p.1.1 _ _ replaced in
     let room = c.self.invariant.room in
     record {
-      book = subst (λ z. IsBook g.P.Inx.PtrInxCore.number _ _ z c.reword-old.new.arena c.self.inside.stops c.self.inside.marks c.self.inside.tickets.entries)
+      book = subst (λ z. IsBook g.P.Inx.PtrInxCore.number (record { places = c.self.inside.place_room; stops = c.self.inside.stop_room; marks = c.self.inside.mark_room }) c.self.inside.last z c.reword-old.new.arena c.self.inside.stops c.self.inside.marks c.self.inside.tickets.entries)
           (ap (after_place c.self.inside.held.state c.args.key) word ∙ sym c.changed-self-inside.ensures) kept;
       sound = subst IsSound (sym c.changed-self-inside.ensures) (c.changes_keep_states_sound.ensures.sound c.self.inside.held.state (PlaceChange c.args.key c.args.word) (c.ranges.key.fits, c.as_bytes.ensures.word) c.self.invariant.sound);
       counts = c.self.invariant.counts;
