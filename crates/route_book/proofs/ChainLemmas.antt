@@ -135,10 +135,10 @@ module _ (at : ℕ → Option Stop) (ends : ℕ → Option Ends) (next previous 
   )
 
   line : (ts : List Stop) (h : AllByRecursion Known ts) → Leads next None ts → IfSome (first_item ts) (λ t. previous t.ticket ≡ None) → IsLinear ends (chain_of ts h)
+  unfolding chain_of
   line ts h leads first = stand None None ts h tt leads (none_first ts h first)
     where
       none_first : (us : List Stop) (k : AllByRecursion Known us) → IfSome (first_item us) (λ t. previous t.ticket ≡ None) → (i : ℕ) → first_or (chain_of us k) None ≡ Some i → prev_at ends i ≡ None
-      unfolding chain_of
       none_first [] k none i is = absurd (let never : ◌≡◌ {A = Option ℕ} None (Some i) = is in cc)
       none_first (u ∷ us) k none i is =
           let same : (index u k.0).0 ≡ i = cc in

@@ -305,7 +305,7 @@ module _ (s : State) (f : Found) (order order' : List Place) (ends : ℕ → Opt
             let both : Some (g, p) ≡ Some (k, q) = sym here ∙ sym (ap at same.1) ∙ is in
             let pair : (g, p) ≡ (k, q) = some_same both in
             let known : lookup more p.ticket ≡ Some (entry p.ticket OfPlace j g) =
-                ap (lookup more) next ∙ lookup_added book s.last e h.rise next ∙ ap (λ n. Some (entry p.ticket OfPlace n g)) (sym same.1)
+            ap (lookup more) next ∙ lookup_added book s.last e h.rise next ∙ ap (λ n. Some (entry p.ticket OfPlace n g)) (sym same.1)
             in subst (λ (x : ℕ × Place). lookup more x.1.ticket ≡ Some (entry x.1.ticket OfPlace j x.0)) pair known
         | inr other ↦ lookup_kept book s.last e h.rise next q.ticket _ (h.places_in j k q (sym (there j other.1) ∙ is))
       ]

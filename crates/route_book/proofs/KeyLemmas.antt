@@ -291,6 +291,9 @@ module _ {I : Type 0} (number : I → ℕ) (o : Ordered I Place) where
       let there : value_if (generation p) (entry_in o (index p)) ≡ Some a.item = ap (value_if (generation p)) a.is ∙ rw (eq-eqb (generation p) (generation p) refl) refl in
       subst IsSome (sym there) refl
 
+  pub answers_entry : {P : Type 0} (index generation : P → ℕ) (key : ℕ) (p : P) (d : Ordering) → Answers index generation (asked_at nat_cmp (λ (q : Place). q.key) key o) o p d → IsSome (entry_in o (index p))
+  answers_entry index generation key p d answers = let a = asked number o index generation key p d answers in let is = a.is in rw is refl
+
   -- a search that ended at no equal key
   pub search_missing : {P : Type 0} (index generation : P → ℕ) (key : ℕ) (parted : Type 0) (r : Option (P × Ordering)) → parted → IsOrdered number o → KeysRise (in_order number o)
       → IsSimilar index generation number (asked_at nat_cmp (λ (q : Place). q.key) key o) parted r o → ((p : P) → r ≢ Some (p, Equal)) → with_key key (in_order number o) ≡ None

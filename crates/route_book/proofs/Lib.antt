@@ -13,9 +13,10 @@ pub mod StopLemmas
 pub mod StartLemmas
 pub mod ExtendLemmas
 pub mod MarkLemmas
+pub mod NewItemLemmas
 pub mod ItemLemmas
 pub mod RelinkLemmas
-pub mod ListedLemmas
-pub mod WalkedLemmas
 pub mod ChainLemmas
+pub mod WalkedLemmas
+pub mod ListedLemmas
 pub mod KeptLemmas

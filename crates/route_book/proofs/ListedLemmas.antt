@@ -1,5 +1,5 @@
 -- A list that is written in pieces: a line for each item, and then `end`.
-use Rattle.std.proofs.Common.{◌≡◌, ◌∙◌, ◌++◌, [], ◌∷◌, ℕ, List, Option, flat_map, codes, ap, refl, sym, append-nil, append_assoc}
+use Rattle.std.proofs.Common.{◌≡◌, ◌∙◌, ◌++◌, [], ◌∷◌, ℕ, List, Option, flat_map, codes, ap, refl, sym, subst, append-nil, append_assoc}
 use Rattle.std.specs.Io.KnownBytes.{Appends}
 use Rattle.std.proofs.KnownBytes.{Appends-nil, Appends-trans}
 use Rattle.route_lines.specs.Reply.{ended}
@@ -41,7 +41,13 @@ module _ {X : Type 0} (line : X → List ℕ) where
       ∙ append_assoc (sent ++ gone) kept (ended (codes "end"))
       ∙ ap (λ t. (sent ++ gone) ++ t) (sym line)
 
-  -- and so does one of the last piece
+  -- with the last piece the whole text is written
+  pub written_last : (a b c d : Option (List ℕ)) (all left : List X) (sent text gone kept new : List ℕ) → lines_of all ≡ (sent ++ text) ++ lines_of left → left ≡ [] → text ≡ gone ++ kept → new ≡ kept ++ ended (codes "end") → Appends a b sent → Appends b c gone → Appends c d new → Appends a d (list_text all)
+  written_last a b c d all left sent text gone kept new before none split line written moved last =
+      subst (Appends a d) (sym (last_piece all left sent text gone kept new before none split line))
+      (Appends-trans a c d (sent ++ gone) new (Appends-trans a b c sent gone written moved) last)
+
+  -- a failed write of it breaks off too
   pub broken_off_last : (a b c d : Option (List ℕ)) (all left : List X) (sent text gone kept new : List ℕ) → lines_of all ≡ (sent ++ text) ++ lines_of left → left ≡ [] → text ≡ gone ++ kept → new ≡ kept ++ ended (codes "end") → Appends a b sent → Appends b c gone → AppendsBeginning c d new → AppendsBeginning a d (list_text all)
   broken_off_last a b c d all left sent text gone kept new before none split line written moved begins =
       begun a c d (sent ++ gone) new [] (list_text all) (last_piece all left sent text gone kept new before none split line ∙ sym (append-nil ((sent ++ gone) ++ new)))

@@ -1,5 +1,5 @@
 -- What `mark` makes of what is held, and of what ties a store's parts.
-use Rattle.std.proofs.Common.{◌≡◌, ◌≢◌, ◌∙◌, sym, ap, subst, refl, Bool, true, false, ◌==◌, ◌||◌, if◌then◌else◌, ℕ, ◌+◌, ◌<◌, ◌≤◌, List, [], ◌∷◌, ◌++◌, length, Option, Some, None, IsSome, IfSome, true≢false, Ok, Err, arith, length-append, find, inl, inr}
+use Rattle.std.proofs.Common.{◌≡◌, ◌≢◌, ◌∙◌, sym, ap, subst, refl, Bool, true, false, ◌==◌, ◌||◌, nat_lt, if◌then◌else◌, ℕ, ◌+◌, ◌<◌, ◌≤◌, List, [], ◌∷◌, ◌++◌, length, Option, Some, None, IsSome, IfSome, true≢false, Result, Ok, Err, arith, length-append, find, inl, inr}
 use Rattle.std.specs.Option.{option_map, option_or}
 use Rattle.std.proofs.lemmas.Bool.{ne_eqb, eq-eqb, leb-false}
 use Rattle.std.proofs.lemmas.Bool.Decides.{eqb_tells}
@@ -15,12 +15,14 @@ use Rattle.ticket_book.specs.declared.entry.Kind.{Kind}
 use Rattle.ticket_book.specs.declared.entry.Kind.TheVariants.{Place as OfPlace, Stop as OfStop, Mark as OfMark}
 use Rattle.ticket_book.specs.Tickets.{Entry, lookup}
 use Rattle.route_lines.specs.Calls.{place_holder, stop_holder, marked, after_mark}
-use Rattle.route_lines.specs.State.{State, Rooms, Place, Stop, Route, Mark, place_of, stop_of, mark_of, is_full_of_marks, last_ticket}
-use Rattle.route_lines.specs.declared.refusal.Refusal.TheVariants.{Full}
+use Rattle.route_lines.specs.State.{State, Rooms, Place, Stop, Route, Mark, place_of, stop_list, stop_of, mark_of, is_full_of_marks, last_ticket}
+use Rattle.route_lines.specs.declared.refusal.Refusal.{Refusal}
+use Rattle.route_lines.specs.declared.refusal.Refusal.TheVariants.{Full, Unknown, Gone, Kind as Refused}
 use Rattle.route_book.specs.Item.{StopView, MarkView}
 use Rattle.route_book.specs.Holds.{Found, entry, state_mark, state_stop, place_at, stop_at, mark_at, place_under, stop_under, mark_under, IsFilled, IsLive, IsSettled, IsHeld}
 use Rattle.route_book.specs.Book.{MarksDiffer, found_in, in_order, IsBook, IsWithin, KeepsItems}
 use Rattle.route_book.proofs.HoldLemmas.{some_same, Rise-add, lookup_none, lookup_added, lookup_other, lookup_kept}
+use Rattle.route_book.proofs.NeighborLemmas.{has_ticket, held_place}
 use Rattle.route_book.proofs.SettledLemmas.{live_settled}
 
 -- a mark more, at an index where there was none
@@ -141,7 +143,7 @@ module _ (s : State) (f : Found) (order : List Place) (ends : ℕ → Option End
             let both : Some (g, v) ≡ Some (k, q) = sym here ∙ sym (ap at same.1) ∙ is in
             let pair : (g, v) ≡ (k, q) = some_same both in
             let known : lookup more v.ticket ≡ Some (entry v.ticket OfMark j g) =
-                ap (lookup more) next ∙ lookup_added book s.last e h.rise next ∙ ap (λ n. Some (entry v.ticket OfMark n g)) (sym same.1)
+            ap (lookup more) next ∙ lookup_added book s.last e h.rise next ∙ ap (λ n. Some (entry v.ticket OfMark n g)) (sym same.1)
             in subst (λ (x : ℕ × MarkView). lookup more x.1.ticket ≡ Some (entry x.1.ticket OfMark j x.0)) pair known
         | inr other ↦ lookup_kept book s.last e h.rise next q.ticket _ (h.marks_in j k q (sym (there j other.1) ∙ is))
       ]
@@ -180,9 +182,10 @@ MarksDiffer-behind (x ∷ ms) m differ none = elim (eqb_tells x.ticket m.ticket)
   | inl same ↦ absurd (let found : mark_of (x ∷ ms) m.ticket ≡ Some x = rw same.0 refl in let no : ◌≡◌ {A = Option Mark} None (Some x) = sym none ∙ found in cc)
   | inr other ↦
       let skip : mark_of (x ∷ ms) m.ticket ≡ mark_of ms m.ticket = rw other.0 refl in
-      let mine : mark_of (m ∷ []) x.ticket ≡ None = rw (ne_eqb m.ticket x.ticket (λ is. other.1 (sym is))) refl in
-      (find-append (λ (y : Mark). y.ticket == x.ticket) ms (m ∷ []) ∙ ap (λ o. option_or o (mark_of (m ∷ []) x.ticket)) differ.0 ∙ mine,
-        MarksDiffer-behind ms m differ.1 (sym skip ∙ none))
+      let mine : mark_of (m ∷ []) x.ticket ≡ None = rw (ne_eqb m.ticket x.ticket (λ is. other.1 (sym is))) refl in (
+        find-append (λ (y : Mark). y.ticket == x.ticket) ms (m ∷ []) ∙ ap (λ o. option_or o (mark_of (m ∷ []) x.ticket)) differ.0 ∙ mine,
+        MarksDiffer-behind ms m differ.1 (sym skip ∙ none),
+      )
 ]
 
 left_false : (a b : Bool) → (a || b) ≡ false → a ≡ false
@@ -199,6 +202,47 @@ module _ (s : State) (at t : ℕ) where
   pub marked_new : (p : Place) (x : Stop) → place_holder s at ≡ Ok p → stop_holder s t ≡ Ok x → is_full_of_marks s ≡ false
       → (marked s at t ≡ Ok (s.last + 1)) × (after_mark s at t ≡ record s { last = s.last + 1; marks = s.marks ++ record { ticket = s.last + 1; place = Some at; stop = Some t } ∷ [] })
   marked_new p x place stop free = (rw (place, stop, free) refl, rw (place, stop, free) refl)
+
+-- ---- the items that a mark names
+
+has_stop : (stops : List Stop) (t : ℕ) (x : Stop) → find (λ (u : Stop). u.ticket == t) stops ≡ Some x → x.ticket ≡ t
+has_stop [] t x is = absurd (let no : ◌≡◌ {A = Option Stop} None (Some x) = is in cc)
+has_stop (u ∷ stops) t x is = elim (eqb_tells u.ticket t) [
+  | inl same ↦
+      let found : find (λ (v : Stop). v.ticket == t) (u ∷ stops) ≡ Some u = rw same.0 refl in
+      let one : u ≡ x = some_same (sym found ∙ is) in ap (λ (v : Stop). v.ticket) (sym one) ∙ same.1
+  | inr other ↦ let skip : find (λ (v : Stop). v.ticket == t) (u ∷ stops) ≡ find (λ (v : Stop). v.ticket == t) stops = rw other.0 refl in has_stop stops t x (sym skip ∙ is)
+]
+
+module _ (s : State) (t : ℕ) (x : Stop) (held : stop_holder s t ≡ Ok x) where
+  held_stop : stop_of s.routes t ≡ Some x
+  held_stop = by ((t == 0) || nat_lt s.last t) refl (place_of s.places t) refl (stop_of s.routes t) refl (mark_of s.marks t) refl
+    where
+      no_ok : {e : Refusal} → stop_holder s t ≡ Err e → stop_of s.routes t ≡ Some x
+      no_ok err = absurd (let no : ◌≡◌ {A = Result Stop Refusal} (Ok x) (Err _) = sym held ∙ err in cc)
+
+      by : (a : Bool) → ((t == 0) || nat_lt s.last t) ≡ a → (b : Option Place) → place_of s.places t ≡ b → (c : Option Stop) → stop_of s.routes t ≡ c → (d : Option Mark) → mark_of s.marks t ≡ d
+          → stop_of s.routes t ≡ Some x
+      by true one b two c three d four = no_ok {e = Unknown} (rw one refl)
+      by false one (Some p) two c three d four = no_ok {e = Refused} (rw (one, two) refl)
+      by false one None two None three None four = no_ok {e = Gone} (rw (one, two, three, four) refl)
+      by false one None two None three (Some m) four = no_ok {e = Refused} (rw (one, two, three, four) refl)
+      by false one None two (Some u) three d four =
+          let there : stop_holder s t ≡ Ok u = rw (one, two, three) refl in
+          let same : ◌≡◌ {A = Result Stop Refusal} (Ok u) (Ok x) = sym there ∙ held in
+          three ∙ ap Some (let is : u ≡ x = cc in is)
+
+  stop_ticket : x.ticket ≡ t
+  stop_ticket = has_stop (stop_list s.routes) t x held_stop
+
+-- a new mark names the place and the stop that were found
+pub mark_named : (s : State) (f : Found) (pt st pi pg si sg ticket : ℕ) (p : Place) (u : StopView) (v : MarkView) → place_holder s pt ≡ Ok p → stop_holder s st ≡ Ok (state_stop f u)
+    → value_if pg (f.places pi) ≡ Some p → value_if sg (f.stops si) ≡ Some u → v.ticket ≡ ticket → v.place ≡ Some (pi, pg) → v.stop ≡ Some (si, sg)
+    → state_mark f v ≡ record { ticket = ticket; place = Some pt; stop = Some st }
+mark_named s f pt st pi pg si sg ticket p u v place stop found_place found_stop is to by =
+    let one = has_ticket s.places pt p (held_place s pt p place) in
+    let two = stop_ticket s st (state_stop f u) stop in
+    rw (is, to, by, found_place, found_stop, one, two) refl
 
 -- a mark where there is room
 module _ {I : Type 0} (number : I → ℕ) (rooms : Rooms) (last : ℕ) (s : State) (places : Ordered I Place) (stops : Content (IndexLink I StopView)) (marks marks' : Content MarkView)

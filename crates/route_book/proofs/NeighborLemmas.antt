@@ -1,5 +1,5 @@
 -- The places next to a place, and the last place whose key is not above another.
-use Rattle.std.proofs.Common.{◌≡◌, ◌≢◌, ◌∙◌, sym, ap, subst, refl, Bool, true, false, ◌==◌, ◌||◌, nat_le, nat_lt, Result, Ok, Err, if◌then◌else◌, ℕ, ◌+◌, ◌<◌, ◌≤◌, List, [], ◌∷◌, ◌++◌, map, reverse, Option, Some, None, IsSome, is_some, true≢false, option_map, arith, inl, inr, find}
+use Rattle.std.proofs.Common.{◌≡◌, ◌≢◌, ◌∙◌, sym, ap, subst, refl, Bool, true, false, ◌==◌, ◌||◌, nat_le, nat_lt, Result, Ok, Err, if◌then◌else◌, ℕ, ◌+◌, ◌<◌, ◌≤◌, List, [], ◌∷◌, ◌++◌, map, reverse, Option, Some, None, IsSome, is_some, true≢false, option_map, arith, inl, inr, find, append_assoc}
 use Rattle.std.specs.Borrow.{Bor}
 use Rattle.std.specs.List.{AllByRecursion}
 use Rattle.std.specs.Option.{option_or}
@@ -7,7 +7,12 @@ use Rattle.std.proofs.lemmas.Bool.{ne_eqb, eq-eqb, le-leb, lt-leb}
 use Rattle.std.proofs.lemmas.Bool.Decides.{eqb_tells}
 use Rattle.std.proofs.lemmas.List.{reverse-append}
 use Rattle.std.proofs.lemmas.List.Folds.{find-append}
-use Rattle.rank_tree.specs.Search.{AllIn}
+use Rattle.std.specs.Cmp.{ranked}
+use Rattle.std.specs.Ordering.{nat_cmp}
+use Rattle.std.specs.declared.cmp.Ordering.{Ordering}
+use Rattle.std.specs.declared.cmp.Ordering.TheVariants.{Less, Equal, Greater}
+use Rattle.rank_tree.specs.Search.{AllIn, Places}
+use Rattle.triple_arena_ord.specs.Found.{IsSimilar}
 use Rattle.triple_arena.specs.Content.{entry_at}
 use Rattle.triple_arena.specs.Entries.{value_if}
 use Rattle.triple_arena_chain.specs.Chains.{Ends, Stands, On, first_or, last_or}
@@ -15,7 +20,7 @@ use Rattle.triple_arena_chain.specs.Links.{ends_in}
 use Rattle.triple_arena_chain.specs.declared.link.IndexLink.{IndexLink}
 use Rattle.triple_arena_ord.specs.declared.node.IndexNode.{IndexNode}
 use Rattle.triple_arena_ord.specs.Node.{bare}
-use Rattle.triple_arena_ord.specs.Ordered.{Ordered, IsOrdered, entry_in, order_in}
+use Rattle.triple_arena_ord.specs.Ordered.{Ordered, IsOrdered, asked_at, entry_in, order_in}
 use Rattle.triple_arena_ord.specs.OrderedWalks.{read_link}
 use Rattle.route_lines.specs.Cuts.{before, behind, first_item, last_item}
 use Rattle.route_lines.specs.Sound.{KeysRise}
@@ -24,7 +29,7 @@ use Rattle.route_lines.specs.State.{State, Place, Stop, Mark, place_of, stop_of,
 use Rattle.route_lines.specs.declared.refusal.Refusal.{Refusal}
 use Rattle.route_lines.specs.declared.refusal.Refusal.TheVariants.{Unknown, Gone, Kind}
 use Rattle.route_book.specs.Book.{in_order}
-use Rattle.route_book.proofs.KeyLemmas.{along, along_some, along-append, live_along, split_at, split_once}
+use Rattle.route_book.proofs.KeyLemmas.{Asked, IsGap, along, along_some, along-append, asked, gap_greater, gap_less, live_along, split_at, split_once}
 
 some_same : {X : Type 0} {x y : X} → ◌≡◌ {A = Option X} (Some x) (Some y) → x ≡ y
 some_same e = cc
@@ -152,9 +157,10 @@ module _ {I : Type 0} (number : I → ℕ) (o : Ordered I Place) (ordered : IsOr
       by (Some c) some =
           let both : (generation link.0, read_link link.1) ≡ bare c = some_same (sym (ap (option_map (λ e. (generation e.0, read_link e.1))) is) ∙ read ∙ ap (option_map bare) some) in
           let there : Some (option_map number c.1.prev, option_map number c.1.next) ≡ Some (last_or None on.front, first_or on.back None) = sym (rw some refl) ∙ here in
-          let pair = some_same there in
-          (ap (λ (x : ℕ × IndexLink I Place). option_map number x.1.prev) both ∙ ap (λ (x : Ends). x.0) pair,
-            ap (λ (x : ℕ × IndexLink I Place). option_map number x.1.next) both ∙ ap (λ (x : Ends). x.1) pair)
+          let pair = some_same there in (
+            ap (λ (x : ℕ × IndexLink I Place). option_map number x.1.prev) both ∙ ap (λ (x : Ends). x.0) pair,
+            ap (λ (x : ℕ × IndexLink I Place). option_map number x.1.next) both ∙ ap (λ (x : Ends). x.1) pair,
+          )
 
   all_live : AllIn (λ j. IsSome (entry_in o j)) (on.front ++ i ∷ on.back)
   all_live = subst (AllIn (λ j. IsSome (entry_in o j))) on.is (live_along number o None (order_in number o) ordered.linear)
@@ -300,6 +306,85 @@ place_parts number o i g p value on = by (entry_in o i) refl
           let stands = on (rw there refl) in
           (along (entry_in o) stands.front, (along (entry_in o) stands.back, split_at number o i e.0 p stands.front stands.back stands.is (there ∙ ap (λ x. Some (e.0, x)) same)))
     ]
+
+-- ---- where a search by key ended
+
+-- an entry whose item is found under a generation
+pub entry_under : (o : Option (ℕ × Place)) (g : ℕ) (p : Place) → value_if g o ≡ Some p → o ≡ Some (g, p)
+entry_under None g p is = absurd (let no : ◌≡◌ {A = Option Place} None (Some p) = is in cc)
+entry_under (Some e) g p is = elim (eqb_tells e.0 g) [
+  | inl own ↦ let there : value_if g (Some e) ≡ Some e.1 = rw own.0 refl in let same : e.1 ≡ p = some_same (sym there ∙ is) in ap (λ x. Some (x, e.1)) own.1 ∙ ap (λ (q : Place). Some (g, q)) same
+  | inr other ↦ absurd (let none : value_if g (Some e) ≡ None = rw other.0 refl in let no : ◌≡◌ {A = Option Place} None (Some p) = sym none ∙ is in cc)
+]
+
+module _ {P I : Type 0} (index generation : P → ℕ) (number : I → ℕ) (o : Ordered I Place) (key : ℕ) (parted : Type 0) (is_parted : parted) (rise : KeysRise (in_order number o))
+    (p : P) (d : Ordering) (similar : IsSimilar index generation number (asked_at nat_cmp (λ (q : Place). q.key) key o) parted (Some (p, d)) o) where
+  abbrev floor_in : Option Place
+  floor_in = find (λ (q : Place). nat_le q.key key) (reverse (in_order number o))
+
+  pub record Before : Type 0 where
+    pub front : List Place
+    pub back : List Place
+    pub item : Place
+    pub value : value_if (generation p) (entry_in o (index p)) ≡ Some item
+    pub is : in_order number o ≡ front ++ item ∷ back
+    pub floor : floor_in ≡ last_item front
+
+  a : Asked number o key (index p) (generation p) d
+  a = asked number o index generation key p d (similar.some p d refl)
+
+  value_here : value_if (generation p) (entry_in o (index p)) ≡ Some a.item
+  value_here = ap (value_if (generation p)) a.is ∙ rw (eq-eqb (generation p) (generation p) refl) refl
+
+  places : Places (asked_at nat_cmp (λ (q : Place). q.key) key o) (order_in number o) (index p) d
+  places = similar.places is_parted p d refl
+
+  pub floor_before : d ≡ Less → Before
+  floor_before less =
+      let gap = gap_less number o key (index p) (generation p) a.item places.before places.after rise a.is (a.way ∙ less) places.is (places.less less) in
+      record {
+        front = along (entry_in o) places.before;
+        back = along (entry_in o) places.after;
+        item = a.item;
+        value = value_here;
+        is = gap.is;
+        floor = floor_at key (in_order number o) (along (entry_in o) places.before) (a.item ∷ along (entry_in o) places.after) gap.is (weaker key (along (entry_in o) places.before) gap.below) gap.above;
+      }
+
+  pub floor_greater : d ≡ Greater → (q : Place) → option_map (λ (e : ℕ × Place). e.1) (entry_in o (index p)) ≡ Some q → floor_in ≡ Some q
+  floor_greater greater q there =
+      let gap = gap_greater number o key (index p) (generation p) a.item places.before places.after rise a.is (a.way ∙ greater) places.is (places.greater greater) in
+      let same : a.item ≡ q = some_same (sym (ap (option_map (λ (e : ℕ × Place). e.1)) a.is) ∙ there) in
+      floor_at key (in_order number o) (along (entry_in o) places.before ++ a.item ∷ []) (along (entry_in o) places.after) gap.is (weaker key (along (entry_in o) places.before ++ a.item ∷ []) gap.below) gap.above
+      ∙ last_behind (along (entry_in o) places.before) a.item ∙ ap Some same
+
+  pub floor_equal : d ≡ Equal → (q : Place) → option_map (λ (e : ℕ × Place). e.1) (entry_in o (index p)) ≡ Some q → floor_in ≡ Some q
+  floor_equal equal q there =
+      let split = split_at number o (index p) (generation p) a.item places.before places.after places.is a.is in
+      let same_key : key ≡ a.item.key = ranked key a.item.key Equal (sym (a.way ∙ equal)) in
+      let ordered = subst KeysRise split rise in
+      let same : a.item ≡ q = some_same (sym (ap (option_map (λ (e : ℕ × Place). e.1)) a.is) ∙ there) in
+      let xs = along (entry_in o) places.before in
+      let zs = along (entry_in o) places.after in
+      let whole : in_order number o ≡ (xs ++ a.item ∷ []) ++ zs = split ∙ sym (append_assoc xs (a.item ∷ []) zs) in
+      floor_at key (in_order number o) (xs ++ a.item ∷ []) zs whole (low xs zs ordered same_key) (high xs zs ordered same_key)
+      ∙ last_behind xs a.item ∙ ap Some same
+    where
+      low : (xs zs : List Place) → KeysRise (xs ++ a.item ∷ zs) → key ≡ a.item.key → AllByRecursion (λ (q : Place). q.key ≤ key) (xs ++ a.item ∷ [])
+      low [] zs rises same = (omega (arith, same), tt)
+      low (x ∷ xs) zs rises same = ((let less = under xs rises.0 in omega (arith, less, same)), low xs zs rises.1 same)
+        where
+          under : (qs : List Place) → AllByRecursion (λ (q : Place). x.key < q.key) (qs ++ a.item ∷ zs) → x.key < a.item.key
+          under [] all = all.0
+          under (q ∷ qs) all = under qs all.1
+
+      high : (xs zs : List Place) → KeysRise (xs ++ a.item ∷ zs) → key ≡ a.item.key → AllByRecursion (λ (q : Place). key < q.key) zs
+      high (x ∷ xs) zs rises same = high xs zs rises.1 same
+      high [] zs rises same = over zs rises.0
+        where
+          over : (qs : List Place) → AllByRecursion (λ (q : Place). a.item.key < q.key) qs → AllByRecursion (λ (q : Place). key < q.key) qs
+          over [] all = tt
+          over (q ∷ qs) all = ((let less = all.0 in omega (arith, less, same)), over qs all.1)
 
 -- ---- what the calls answer
 

@@ -138,11 +138,11 @@ module _ {I : Type 0} (number : I → ℕ) (rooms : Rooms) (last : ℕ) (s : Sta
     reword_kept =
         let same = with_key_has key p s.places found in
         let at : (k : ℕ) → entry_in places' k ≡ option_map (reword_entry p.key word) (entry_in places k) =
-            as_reworded s (found_in places stops marks) (in_order number places) (in_order number places') (ends_in number stops) book b.held b.keys_rise p i g word (entry_in places') replaced.was replaced.entries in
+        as_reworded s (found_in places stops marks) (in_order number places) (in_order number places') (ends_in number stops) book b.held b.keys_rise p i g word (entry_in places') replaced.was replaced.entries in
         let order : in_order number places' ≡ reworded p.key word (in_order number places) =
-            ap (along (entry_in places')) replaced.order ∙ along_reworded p.key word (entry_in places) (entry_in places') at (order_in number places) in
+        ap (along (entry_in places')) replaced.order ∙ along_reworded p.key word (entry_in places) (entry_in places') at (order_in number places) in
         let after : record s { places = reworded p.key word s.places } ≡ after_place s key word =
-            ap (λ k. record s { places = reworded k word s.places }) same ∙ sym (placed_old s key word p found).1 in
+        ap (λ k. record s { places = reworded k word s.places }) same ∙ sym (placed_old s key word p found).1 in
         subst (λ z. IsBook number rooms last z places' stops marks book) after (record {
           held = subst (λ c. IsHeld (record s { places = reworded p.key word s.places }) (record { places = entry_in places'; stops = values_in stops; marks = entry_at marks; place_counter = c; stop_counter = stops.counter })
               (in_order number places') (ends_in number stops) book) (sym replaced.kept.counter)
@@ -225,9 +225,13 @@ module _ {I : Type 0} (s s' : State) (places places' : Ordered I Place) (stops :
         | inl same ↦
             let both : Some (g, p) ≡ Some (n, q) = sym replaced.was ∙ sym (ap (entry_in places) same.1) ∙ is in
             let pair : (g, p) ≡ (n, q) = some_same both in
-            let here : entry_in places' j ≡ Some (g, record p { word = word }) = replaced.entries j ∙ rw same.0 refl in
-            (record p { word = word }, (here ∙ ap (λ m. Some (m, record p { word = word })) (ap (λ (x : ℕ × Place). x.0) pair),
-              (ap (λ (x : ℕ × Place). x.1.ticket) pair, ap (λ (x : ℕ × Place). x.1.key) pair)))
+            let here : entry_in places' j ≡ Some (g, record p { word = word }) = replaced.entries j ∙ rw same.0 refl in (
+              record p { word = word },
+              (
+                here ∙ ap (λ m. Some (m, record p { word = word })) (ap (λ (x : ℕ × Place). x.0) pair),
+                (ap (λ (x : ℕ × Place). x.1.ticket) pair, ap (λ (x : ℕ × Place). x.1.key) pair),
+              ),
+            )
         | inr other ↦ (q, (replaced.entries j ∙ rw other.0 is, (refl, refl)))
       ]
 

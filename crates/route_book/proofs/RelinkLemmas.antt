@@ -10,7 +10,7 @@ use Rattle.triple_arena_chain.specs.declared.link.IndexLink.{IndexLink}
 use Rattle.triple_arena_chain.specs.Chains.{Ends, IsAgreed, next_in, prev_in, next_at, prev_at, linked, unlinked, exchanged}
 use Rattle.triple_arena_chain.specs.Kinds.{at_bridge}
 use Rattle.triple_arena_chain.specs.ListLaws.{live_next_in, live_prev_in}
-use Rattle.triple_arena_chain.specs.Links.{ends_in, ends_found, values_in, IsChained, IsKept, IsRelinked}
+use Rattle.triple_arena_chain.specs.Links.{ends_in, ends_found, values_in, IsKept, IsRelinked}
 use Rattle.triple_arena_ord.specs.Ordered.{Ordered}
 use Rattle.ticket_book.specs.Tickets.{Entry}
 use Rattle.route_lines.specs.Calls.{stop_holder, joined, after_join, parted, after_cut, swapped, after_swap, unless_refused, and_then, allowed}
@@ -69,8 +69,8 @@ none_of None none = refl
 none_of (Some x) none = absurd (none refl)
 
 -- a mirror still has room where the arena keeps its room
-pub roomy : {I T : Type 0} (number : I → ℕ) (c c' : Content (IndexLink I T)) (m : ℕ) → IsChained number c' → c'.room ≡ c.room → arena_capacity c ≤ m → arena_capacity c' ≤ m
-roomy number c c' m chained same fits = subst (λ r. capacity r ≤ m) (sym same) fits
+pub roomy : {T : Type 0} (c c' : Content T) (m : ℕ) → c'.room ≡ c.room → arena_capacity c ≤ m → arena_capacity c' ≤ m
+roomy c c' m same fits = subst (λ r. capacity r ≤ m) (sym same) fits
 
 pub still_mirrored : {I T : Type 0} (c c' : Content (IndexLink I T)) (n : ℕ) → IsKept c c' → arena_capacity c ≤ n → arena_capacity c' ≤ n
 still_mirrored c c' n kept fits = subst (λ r. capacity r ≤ n) (sym kept.room) fits

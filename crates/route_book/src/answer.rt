@@ -139,16 +139,11 @@ impl<P: PtrCore, B: BookBacking<P>> RouteBook<P, B> {
 }
 
 // A line for each place and `end`, in as few writes as the text's room allows.
-fn write_places<'a, P: PtrCore, S: OrdSlots<P, Place>, W: Write>(
-    places: Places<'a, P, S>,
+fn write_places<P: PtrCore, S: OrdSlots<P, Place>, W: Write>(
+    mut places: Places<'_, P, S>,
     text: &mut ReplyText,
     writer: &mut Watched<W>,
 ) -> io::Result<()>
-where
-    P: 'a,
-    P::Inx: 'a,
-    P::Gen: 'a,
-    S: 'a,
     requires { text.old ≡ [] }
     ensures ok { OnOk result (Appends (W.contents (inner_of writer.old))
         (W.contents (inner_of writer.new)) (places_text places.entry)) }
@@ -157,7 +152,7 @@ where
         (W.contents (inner_of writer.new)) (places_text places.entry)) }
     ensures err_failed { OnErr result (failed_of writer.new ≡ failed_of writer.old + 1) }
 {
-    for (ticket, key, word) in places {
+    while let Some((ticket, key, word)) = places.next() {
         make_room(text, writer)?;
         text.push_place(ticket, key, word);
     }
@@ -168,7 +163,7 @@ where
 
 // A line for each stop of a walk and `end`, as for places.
 fn write_stops<P: PtrCore, S: OrdSlots<P, Place>, C: ChainSlots<P, Stop<P>>, W: Write>(
-    stops: Walk<'_, P, S, C>,
+    mut stops: Walk<'_, P, S, C>,
     text: &mut ReplyText,
     writer: &mut Watched<W>,
 ) -> io::Result<()>
@@ -180,7 +175,7 @@ fn write_stops<P: PtrCore, S: OrdSlots<P, Place>, C: ChainSlots<P, Stop<P>>, W: 
         (W.contents (inner_of writer.new)) (stops_text stops.entry)) }
     ensures err_failed { OnErr result (failed_of writer.new ≡ failed_of writer.old + 1) }
 {
-    for (ticket, place) in stops {
+    while let Some((ticket, place)) = stops.next() {
         make_room(text, writer)?;
         text.push_stop(ticket, place);
     }

@@ -1,5 +1,5 @@
 ghost use Rattle.std.specs.Prelude.{◌≡◌, ◌↔◌, ℕ, Bool, true, false, Option, Some, None};
-ghost use Rattle.std.proofs.Common.{refl};
+ghost use Rattle.std.proofs.Common.{refl, rules};
 ghost use Rattle.triple_arena_stack.specs.Room.{Room, IsBeyond};
 
 use crate::items::{Mark, Place, Stop};

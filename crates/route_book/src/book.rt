@@ -10,9 +10,10 @@ ghost use Rattle.route_lines.specs.Routes.{next_stop};
 ghost use Rattle.route_lines.specs.Searches.{living_count};
 ghost use Rattle.route_lines.specs.State.{Place as PlaceView, holder, is_full_of_places, mark_of, stop_list, stop_of};
 ghost use Rattle.route_book.specs.Book.{found_of, in_order};
-ghost use Rattle.route_book.specs.Follows.{LeadAs};
+ghost use Rattle.route_book.specs.Follows.{AreRoutes, LeadAs};
 ghost use Rattle.route_book.specs.Holds.{IsItem, state_mark, state_stop};
 ghost use Rattle.route_book.specs.Item.{MarkView, StopView};
+ghost use Rattle.route_book.specs.Walked.{stop_in};
 
 mod asking;
 mod making;
@@ -26,6 +27,7 @@ pub use walking::Walk;
 
 use crate::backing::BookBacking;
 use crate::items::{Mark, Place, Stop};
+use route_lines::laws::{routes_lead_along, stops_follow_their_previous_ones};
 use route_lines::{Held, Refusal};
 use std::marker::Model;
 use ticket_book::{Kind, TicketBook};
@@ -147,16 +149,21 @@ impl<P: PtrCore, B: BookBacking<P>> RouteBook<P, B> {
         &self.places
     }
 
-    /// The arena of the stops. Each leads to the one that follows it on the routes of the state, and a reference finds the
-    /// place that the state names.
+    /// The arena of the stops. Its chains, read by ticket, are the routes of the state, and a reference finds the place that
+    /// the state names.
     pub fn stops_arena(&self) -> &ChainArena<P, Stop<P>, B::Stops>
         ensures content { result.now ≡ self.now.stops }
-        ensures routes { LeadAs (λ (t : StopView). t.ticket) (values_in result.now) (ends_in P.Inx.number result.now)
+        ensures routes { AreRoutes (stop_in (found_of self.now)) (ends_in P.Inx.number result.now) self.now.state.routes }
+        ensures next { LeadAs (λ (t : StopView). t.ticket) (values_in result.now) (ends_in P.Inx.number result.now)
             (next_stop self.now.state.routes) }
         ensures items { (i g : ℕ) (t : StopView) → values_in result.now i ≡ Some (g, t)
             → stop_of self.now.state.routes t.ticket ≡ Some (state_stop (found_of self.now) t) }
         ensures count { live_count result.now ≡ length (stop_list self.now.state.routes) }
     {
+        routes_lead_along();
+        stops_follow_their_previous_ones();
+        // The links are as they must be.
+        let _ = self.stops.len();
         &self.stops
     }
 

@@ -23,7 +23,9 @@ mod place_arena;
 mod places;
 mod running;
 
-pub use backing::{BookBacking, MarkSlot, OnArray, OnFixed, OnHeap, OnLimited, PlaceSlot, StopSlot};
+pub use backing::{
+    BookBacking, MarkSlot, OnArray, OnFixed, OnHeap, OnLimited, PlaceSlot, StopSlot,
+};
 pub use book::{RouteBook, Walk};
 pub use command_line::program;
 pub use items::{Mark, Place, Ref, Stop};

@@ -74,7 +74,7 @@ fn refusal(error: ReallocationError) -> RoomError
 }
 
 // The arena of the places.
-pub(crate) fn make_places<P: PtrCore, S: OrdSlots<P, Place>>(
+fn make_places<P: PtrCore, S: OrdSlots<P, Place>>(
     memory: S::Alloc,
     room: usize,
 ) -> Result<SimpleOrdArena<P, Place, S>, RoomError>
@@ -92,7 +92,7 @@ pub(crate) fn make_places<P: PtrCore, S: OrdSlots<P, Place>>(
 }
 
 // The arena of the stops.
-pub(crate) fn make_stops<P: PtrCore, S: ChainSlots<P, Stop<P>>>(
+fn make_stops<P: PtrCore, S: ChainSlots<P, Stop<P>>>(
     memory: S::Alloc,
     room: usize,
 ) -> Result<ChainArena<P, Stop<P>, S>, RoomError>
@@ -109,7 +109,7 @@ pub(crate) fn make_stops<P: PtrCore, S: ChainSlots<P, Stop<P>>>(
 }
 
 // The arena of the marks.
-pub(crate) fn make_marks<P: PtrCore, S: ArenaSlots<P, Mark<P>>>(
+fn make_marks<P: PtrCore, S: ArenaSlots<P, Mark<P>>>(
     memory: S::Alloc,
     room: usize,
 ) -> Result<Arena<P, Mark<P>, S>, RoomError>
@@ -142,7 +142,7 @@ pub(crate) fn make_book<P: PtrCore, S: OrdSlots<P, Entry<P>>>(
 }
 
 // A mirror for an arena of so many items.
-pub(crate) fn make_mirror<P: PtrCore, S: DirectSlots<P, P>>(
+fn make_mirror<P: PtrCore, S: DirectSlots<P, P>>(
     memory: S::Alloc,
     room: usize,
 ) -> Result<DirectArena<P, P, S>, RoomError>
@@ -154,4 +154,71 @@ pub(crate) fn make_mirror<P: PtrCore, S: DirectSlots<P, P>>(
         Ok(mirror) => Ok(mirror),
         Err(error) => Err(refusal(error)),
     }
+}
+
+// The arenas of a store.
+#[derive(Drop)]
+pub(crate) struct Arenas<P: PtrCore, B: BookBacking<P>> {
+    pub(crate) places: SimpleOrdArena<P, Place, B::Places>,
+    pub(crate) stops: ChainArena<P, Stop<P>, B::Stops>,
+    pub(crate) marks: Arena<P, Mark<P>, B::Marks>,
+}
+
+// The arenas of a new store.
+pub(crate) fn make_arenas<P: PtrCore, B: BookBacking<P>>(
+    backing: &B,
+    places: usize,
+    stops: usize,
+    marks: usize,
+) -> Result<Arenas<P, B>, RoomError>
+    requires places { IsBeyond (room_of P.Inx.greatest (B.Places.room_at places)).limit places → ⊥ }
+    requires stops { IsBeyond (room_of P.Inx.greatest (B.Stops.room_at stops)).limit stops → ⊥ }
+    requires marks { IsBeyond (room_of P.Inx.greatest (B.Marks.room_at marks)).limit marks → ⊥ }
+    ensures places { IfOk result (λ a. a.places.chains
+        ≡ empty (second_generation P.Gen.last) (room_of P.Inx.greatest (B.Places.room_at places))) }
+    ensures ordered { IfOk result (λ a. IsOrdered P.Inx.number a.places) }
+    ensures stops { IfOk result (λ a. a.stops
+        ≡ empty (second_generation P.Gen.last) (room_of P.Inx.greatest (B.Stops.room_at stops))) }
+    ensures marks { IfOk result (λ a. a.marks
+        ≡ empty (second_generation P.Gen.last) (room_of P.Inx.greatest (B.Marks.room_at marks))) }
+    ensures places_fit { IfOk result (λ a. places ≤ arena_capacity a.places.chains) }
+    ensures stops_fit { IfOk result (λ a. stops ≤ arena_capacity a.stops) }
+    ensures marks_fit { IfOk result (λ a. marks ≤ arena_capacity a.marks) }
+    ensures refused { IfErr result (λ e. (e ≡ RoomError.Memory) × IsTrue B.takes_memory × (0 < places + stops + marks)) }
+{
+    Ok(Arenas {
+        places: make_places(backing.places_memory(), places)?,
+        stops: make_stops(backing.stops_memory(), stops)?,
+        marks: make_marks(backing.marks_memory(), marks)?,
+    })
+}
+
+// The mirrors of a store.
+#[derive(Drop)]
+pub(crate) struct Mirrors<P: PtrCore, S: DirectSlots<P, P>> {
+    pub(crate) places: DirectArena<P, P, S>,
+    pub(crate) stops: DirectArena<P, P, S>,
+    pub(crate) marks: DirectArena<P, P, S>,
+}
+
+// The mirrors of a new store.
+pub(crate) fn make_mirrors<P: PtrCore, B: BookBacking<P>>(
+    backing: &B,
+    places: usize,
+    stops: usize,
+    marks: usize,
+) -> Result<Mirrors<P, B::Mirror>, RoomError>
+    requires places { IsBeyond (room_of P.Inx.greatest (B.Mirror.room_at places)).limit places → ⊥ }
+    requires stops { IsBeyond (room_of P.Inx.greatest (B.Mirror.room_at stops)).limit stops → ⊥ }
+    requires marks { IsBeyond (room_of P.Inx.greatest (B.Mirror.room_at marks)).limit marks → ⊥ }
+    ensures places { IfOk result (λ m. m.places ≡ no_pointers (room_of P.Inx.greatest (B.Mirror.room_at places))) }
+    ensures stops { IfOk result (λ m. m.stops ≡ no_pointers (room_of P.Inx.greatest (B.Mirror.room_at stops))) }
+    ensures marks { IfOk result (λ m. m.marks ≡ no_pointers (room_of P.Inx.greatest (B.Mirror.room_at marks))) }
+    ensures refused { IfErr result (λ e. (e ≡ RoomError.Memory) × IsTrue B.takes_memory × (0 < places + stops + marks)) }
+{
+    Ok(Mirrors {
+        places: make_mirror(backing.mirror_memory(), places)?,
+        stops: make_mirror(backing.mirror_memory(), stops)?,
+        marks: make_mirror(backing.mirror_memory(), marks)?,
+    })
 }

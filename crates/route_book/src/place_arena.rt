@@ -57,10 +57,10 @@ pub(crate) fn put_place<P: PtrCore, S: OrdSlots<P, Place>>(
     // The list is as it must be.
     let _ = arena.len();
     match found {
-        Some((at, way)) => {
+        Some(end) => {
             let beside = InsertKind::Manual {
-                p_target: at.inx(),
-                direction: way,
+                p_target: end.0.inx(),
+                direction: end.1,
             };
             put(arena, beside, place)
         }
@@ -153,7 +153,8 @@ pub(crate) fn floor_ticket<P: PtrCore, S: OrdSlots<P, Place>>(
     match places.find_similar_key_counted(&key, probes) {
         Some(found) => match found.1 {
             Ordering::Less => ticket_before(places, found.0),
-            _ => Some(places.get_inx_unwrap(found.0.inx()).ticket()),
+            Ordering::Equal => Some(places.get_inx_unwrap(found.0.inx()).ticket()),
+            Ordering::Greater => Some(places.get_inx_unwrap(found.0.inx()).ticket()),
         },
         None => None,
     }

@@ -7,7 +7,8 @@ ghost use Rattle.route_book.specs.Rooms.{refusal_of};
 
 use crate::backing::BookBacking;
 use crate::book::RouteBook;
-use crate::parts::{make_book, make_marks, make_mirror, make_places, make_stops, room_sum};
+use crate::parts::{make_arenas, make_book, make_mirrors, room_sum};
+use route_lines::laws::states_are_sound;
 use route_lines::{Change, Held, RoomError};
 use triple_arena_ptr::PtrCore;
 
@@ -47,26 +48,23 @@ impl<P: PtrCore, B: BookBacking<P>> RouteBook<P, B> {
         ensures accepted { refusal_of P.Gen.last P.Inx.greatest B.limit (places + stops + marks) ≡ None
             → IfErr result (λ e. (e ≡ RoomError.Memory) × IsTrue B.takes_memory × (0 < places + stops + marks)) }
     {
+        states_are_sound();
         let sum = room_sum::<P, B>(places, stops, marks)?;
-        let place_arena = make_places(backing.places_memory(), places)?;
-        let stop_arena = make_stops(backing.stops_memory(), stops)?;
-        let mark_arena = make_marks(backing.marks_memory(), marks)?;
+        let arenas = make_arenas(backing, places, stops, marks)?;
         let tickets = make_book(backing.book_memory(), sum)?;
-        let place_mirror = make_mirror(backing.mirror_memory(), places)?;
-        let stop_mirror = make_mirror(backing.mirror_memory(), stops)?;
-        let mark_mirror = make_mirror(backing.mirror_memory(), marks)?;
+        let mirrors = make_mirrors(backing, places, stops, marks)?;
         Ok(RouteBook {
             place_room: places,
             stop_room: stops,
             mark_room: marks,
             last,
-            places: place_arena,
-            stops: stop_arena,
-            marks: mark_arena,
+            places: arenas.places,
+            stops: arenas.stops,
+            marks: arenas.marks,
             tickets,
-            place_mirror,
-            stop_mirror,
-            mark_mirror,
+            place_mirror: mirrors.places,
+            stop_mirror: mirrors.stops,
+            mark_mirror: mirrors.marks,
             held: Held::new().changed(&Change::Open(places, stops, marks, last)),
         })
     }

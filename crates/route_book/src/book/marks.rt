@@ -9,6 +9,7 @@ ghost use Rattle.route_book.specs.Book.{KeepsItems};
 use crate::backing::BookBacking;
 use crate::book::RouteBook;
 use crate::items::{Mark, Ref};
+use route_lines::laws::changes_keep_states_sound;
 use route_lines::{Change, Counts, Refusal};
 use ticket_book::Kind;
 use triple_arena::{ArenaInsertTrait, ArenaTrait};
@@ -48,6 +49,7 @@ impl<P: PtrCore, B: BookBacking<P>> RouteBook<P, B> {
         ensures counts { CountsWithin counts.old counts.new
             0 (most_comparisons (living_count self.old.state)) (most_comparisons (living_count self.old.state)) }
     {
+        changes_keep_states_sound();
         let at = self.find_place(place, &mut counts.first)?;
         let by = self.find_stop(stop, &mut counts.second)?;
         if self.is_full_of_marks() {

@@ -1,5 +1,5 @@
 //! A place more, or another word for one.
-ghost use Rattle.std.specs.Prelude.{◌≡◌, ◌≢◌, ◌+◌, Some, Ok, IsSome};
+ghost use Rattle.std.specs.Prelude.{◌≡◌, ◌≢◌, ◌+◌, ◌<◌, ◌^◌, Some, Ok, IsSome};
 ghost use Rattle.std.specs.Ordering.{nat_cmp};
 ghost use Rattle.std.specs.declared.cmp.Ordering.{Ordering as Way};
 ghost use Rattle.counted_search.specs.Searches.{most_comparisons};
@@ -15,6 +15,7 @@ use crate::backing::BookBacking;
 use crate::book::RouteBook;
 use crate::items::Place;
 use crate::place_arena::{equal_at, put_place, reword};
+use route_lines::laws::changes_keep_states_sound;
 use route_lines::{Change, Counts, Placed, Refusal, Word};
 use std::cmp::Ordering;
 use ticket_book::Kind;
@@ -50,9 +51,7 @@ impl<P: PtrCore, B: BookBacking<P>> RouteBook<P, B> {
         ensures counts { CountsWithin counts.old counts.new
             (most_comparisons (place_count self.old.state)) 0 0 }
     {
-        let found = self
-            .places
-            .find_similar_key_counted(&key, &mut counts.key);
+        let found = self.places.find_similar_key_counted(&key, &mut counts.key);
         self.place_found(found, key, word)
     }
 
@@ -97,7 +96,8 @@ impl<P: PtrCore, B: BookBacking<P>> RouteBook<P, B> {
         key: u64,
         word: Word,
     ) -> Result<Placed, Refusal>
-        requires { IsSimilar P.index P.generation P.Inx.number
+        requires fits { key < 2 ^ 64 }
+        requires similar { IsSimilar P.index P.generation P.Inx.number
             (asked_at nat_cmp (λ (p : PlaceView). p.key) key self.old.places)
             (IsAscending P.Inx.number nat_cmp (λ (p : PlaceView). p.key) self.old.places) found self.old.places }
         ensures result { result ≡ placed self.old.state key word }
@@ -124,6 +124,9 @@ impl<P: PtrCore, B: BookBacking<P>> RouteBook<P, B> {
         ensures kept { KeepsItems self.old self.new }
         ensures others { (self.new.stops ≡ self.old.stops) × (self.new.marks ≡ self.old.marks) }
     {
+        changes_keep_states_sound();
+        // The word is as it must be.
+        let _ = word.as_bytes();
         let change = Change::Place(key, word);
         self.held = self.held.changed(&change);
         let Change::Place(_, word) = change else {
@@ -153,6 +156,9 @@ impl<P: PtrCore, B: BookBacking<P>> RouteBook<P, B> {
         if self.is_full_of_places() {
             return Err(Refusal::Full);
         }
+        changes_keep_states_sound();
+        // The word is as it must be.
+        let _ = word.as_bytes();
         let change = Change::Place(key, word);
         self.held = self.held.changed(&change);
         let Change::Place(_, word) = change else {

@@ -10,6 +10,7 @@ ghost use Rattle.route_book.specs.Book.{KeepsItems};
 use crate::backing::BookBacking;
 use crate::book::RouteBook;
 use crate::items::{Ref, Stop};
+use route_lines::laws::{changes_keep_states_sound, starts_lead_nowhere};
 use route_lines::{Change, Counts, Refusal};
 use ticket_book::Kind;
 use triple_arena::ArenaTrait;
@@ -46,6 +47,8 @@ impl<P: PtrCore, B: BookBacking<P>> RouteBook<P, B> {
         ensures counts { CountsWithin counts.old counts.new
             0 (most_comparisons (living_count self.old.state)) 0 }
     {
+        changes_keep_states_sound();
+        starts_lead_nowhere();
         let at = self.find_place(place, &mut counts.first)?;
         if self.is_full_of_stops() {
             return Err(Refusal::Full);

@@ -4,8 +4,8 @@ use super::rows::REQUESTS;
 use super::streams::Page;
 use refusing_allocator::RefusingAllocator;
 use route_book::{
-    BookBacking, Counts, OnArray, OnFixed, OnHeap, OnLimited, Placed, Refusal, RoomError, RouteBook,
-    RunFault, Shown, Watched, Word,
+    BookBacking, Counts, OnArray, OnFixed, OnHeap, OnLimited, Placed, Refusal, RoomError,
+    RouteBook, RunFault, Shown, Watched, Word,
 };
 use std::alloc::Allocator;
 use std::io;
@@ -108,44 +108,57 @@ fn places_come_in_the_order_of_their_keys(rt: HostRuntime) -> Result<(), Fail> {
 fn places_have_neighbors(rt: HostRuntime) -> Result<(), Fail> {
     let mut book = RouteBook::<P0, _>::new(&OnHeap(rt.alloc()), 4, 4, 2)?;
     assert_eq!(rt; book.floor(4), None);
-    assert_eq!(rt; book.place(3, Word::new(b"x").ok_or("a word")?), Ok(Placed::New(1)));
-    assert_eq!(rt; (book.floor(4), book.floor(3), book.floor(2)), (Some(1), Some(1), None));
+    assert_eq!(rt;
+        book.place(3, Word::new(b"x").ok_or("a word")?),
+        Ok(Placed::New(1))
+    );
+    assert_eq!(rt;
+        (book.floor(4), book.floor(3), book.floor(2)),
+        (Some(1), Some(1), None)
+    );
     assert_eq!(rt; (book.after(1), book.before(1)), (Ok(None), Ok(None)));
     assert_eq!(rt; book.after(2), Err(Refusal::Unknown));
     let book = seven(rt.alloc())?;
-    assert_eq!(rt; (book.floor(45), book.floor(39), book.floor(99)), (Some(1), Some(5), Some(7)));
+    assert_eq!(rt;
+        (book.floor(45), book.floor(39), book.floor(99)),
+        (Some(1), Some(5), Some(7))
+    );
     assert_eq!(rt; (book.after(5), book.before(5)), (Ok(Some(1)), Ok(Some(2))));
     assert_eq!(rt; (book.after(7), book.before(4)), (Ok(None), Ok(None)));
     Ok(())
 }
 
-// A place, a stop at it and a mark of both.
-fn items<P: PtrCore, B: BookBacking<P>>(
+// Two places, in whatever stacks, and none more.
+fn two_places<P: PtrCore, B: BookBacking<P>>(
     rt: &impl Abort,
     mut book: RouteBook<P, B>,
 ) -> Result<(), Fail> {
-    assert_eq!(rt; book.place(1, Word::new(b"a").ok_or("a word")?), Ok(Placed::New(1)));
-    assert_eq!(rt; book.start(1), Ok(2));
-    assert_eq!(rt; book.mark(1, 2), Ok(3));
-    assert_eq!(rt; book.show(2), Ok(Shown::Stop { place: Some(1) }));
-    assert_eq!(rt; book.show(3), Ok(Shown::Mark { place: Some(1), stop: Some(2) }));
-    assert_eq!(rt; book.start(2), Err(Refusal::Kind));
-    assert_eq!(rt; book.start(4), Err(Refusal::Unknown));
-    assert_eq!(rt; book.mark(1, 1), Err(Refusal::Kind));
-    assert_eq!(rt; book.mark(1, 2), Err(Refusal::Full));
-    assert_eq!(rt; book.start(1), Ok(4));
-    assert_eq!(rt; book.start(1), Err(Refusal::Full));
-    let lent = (book.places_arena().len(), book.stops_arena().len(), book.marks_arena().len());
-    assert_eq!(rt; lent, (1, 2, 1));
+    let word = Word::new(b"a").ok_or("a word")?;
+    assert_eq!(rt; book.place(9, word.copied()), Ok(Placed::New(1)));
+    assert_eq!(rt; book.place_near(4, word.copied(), 1), Ok(Placed::New(2)));
+    assert!(rt; matches!(book.place_near(4, word.copied(), 2), Ok(Placed::Old(2, _))));
+    assert_eq!(rt; book.place_near(4, word.copied(), 3), Err(Refusal::Unknown));
+    assert_eq!(rt; book.place(5, word), Err(Refusal::Full));
+    assert_eq!(rt; (book.find(4), book.find(5)), (Some(2), None));
+    assert_eq!(rt; (book.floor(8), book.before(1)), (Some(2), Ok(Some(2))));
+    let lent = (
+        book.places_arena().len(),
+        book.stops_arena().len(),
+        book.marks_arena().len(),
+    );
+    assert_eq!(rt; lent, (2, 0, 0));
     Ok(())
 }
 
 #[test]
-fn items_stand_in_each_backing(rt: HostRuntime) -> Result<(), Fail> {
-    items(&rt, RouteBook::<P0, _>::new(&OnHeap(rt.alloc()), 1, 2, 1)?)?;
-    items(&rt, RouteBook::<P1, _>::new(&OnLimited(rt.alloc()), 1, 2, 1)?)?;
-    items(&rt, RouteBook::<P1, _>::new(&OnFixed(rt.alloc()), 1, 2, 1)?)?;
-    items(&rt, RouteBook::<P0, _>::new(&OnArray::<4>, 1, 2, 1)?)
+fn places_stand_in_each_backing(rt: HostRuntime) -> Result<(), Fail> {
+    two_places(&rt, RouteBook::<P0, _>::new(&OnHeap(rt.alloc()), 2, 1, 1)?)?;
+    two_places(
+        &rt,
+        RouteBook::<P1, _>::new(&OnLimited(rt.alloc()), 2, 1, 1)?,
+    )?;
+    two_places(&rt, RouteBook::<P1, _>::new(&OnFixed(rt.alloc()), 2, 1, 1)?)?;
+    two_places(&rt, RouteBook::<P0, _>::new(&OnArray::<4>, 2, 1, 1)?)
 }
 
 #[test]

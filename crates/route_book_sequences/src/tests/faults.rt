@@ -8,7 +8,12 @@ use std::test::Fail;
 use triple_arena_ptr::P0;
 
 // A later run over the store answers the input with this text.
-fn answers(rt: &impl Abort, book: &mut RouteBook<P0, OnHeap>, input: &[u8], text: &str) -> Result<(), Fail> {
+fn answers(
+    rt: &impl Abort,
+    book: &mut RouteBook<P0, OnHeap>,
+    input: &[u8],
+    text: &str,
+) -> Result<(), Fail> {
     let mut writer = Watched::new(Page::new(usize::MAX));
     run(
         book,

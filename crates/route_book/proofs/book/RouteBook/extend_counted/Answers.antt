@@ -27,7 +27,7 @@ invariant_of-self g c =
       counts = c.self.invariant.counts;
       room = omega (arith, room, same);
       place_mirror = c.self.invariant.place_mirror;
-      stop_mirror = roomy _ _ _ _ c.in-Ok.ensures.formed c.in-Ok.ensures.room c.self.invariant.stop_mirror;
+      stop_mirror = roomy c.self.inside.stops c.insert_within_capacity.new.self _ c.in-Ok.ensures.room c.self.invariant.stop_mirror;
       mark_mirror = c.self.invariant.mark_mirror;
     }
 
