@@ -8,8 +8,8 @@ use std::process::Abort;
 use std::test::Fail;
 use triple_arena_ptr::{P0, P1, PtrCore};
 
-/// How many bytes the reader gives a time, and the writer takes.
-pub(super) type Steps = (usize, usize);
+// How many bytes the reader gives a time, and the writer takes.
+type Steps = (usize, usize);
 
 const STEPS: [Steps; 5] = [
     (usize::MAX, usize::MAX),
@@ -45,8 +45,8 @@ fn answers<P: PtrCore, B: BookBacking<P>>(
     Ok(())
 }
 
-// The requests for memory that make a store of these rooms: two for each arena that has room, and one for the book.
-fn requests([places, stops, marks]: [usize; 3]) -> u64 {
+/// The requests for memory that make a store of these rooms: two for each arena that has room, and one for the book.
+pub(super) fn requests([places, stops, marks]: [usize; 3]) -> u64 {
     let arenas = u64::from(places > 0) + u64::from(stops > 0) + u64::from(marks > 0);
     arenas * 2 + u64::from(arenas > 0)
 }
