@@ -1,138 +1,245 @@
--- Lists of places in the order of the keys.
-use Rattle.std.proofs.Common.{◌≡◌, ◌≢◌, ◌∙◌, sym, ap, subst, refl, ℕ, zero, suc, ◌+◌, ◌-◌, ◌<◌, ◌≤◌, ◌⊎◌, List, [], ◌∷◌, length, Some, None, slice_set, arith, inl, inr}
-use Rattle.std.specs.List.{insert}
-use Rattle.std.proofs.lemmas.Bool.{eq-eqb, ne_eqb, lt-ltb, le-ltb, cases_order, cases_eq}
-use Rattle.std.proofs.lemmas.List.{length-set, get_or-set_same, get_or-set_other}
-use Rattle.std.proofs.lemmas.List.Edits.{length-insert, get_or-insert_below, get_or-insert_at, get_or-insert_above}
-use Rattle.route_lines.specs.State.{Place, with_key}
-use Rattle.route_lines.specs.Calls.{put, reworded}
-use Rattle.route_book.specs.Book.{place_at, AreByKey}
+-- What `place` makes of what ties a store's parts.
+use Rattle.std.proofs.Common.{◌≡◌, ◌≢◌, ◌∙◌, sym, ap, subst, refl, Bool, true, false, ◌==◌, ◌||◌, if◌then◌else◌, nat_lt, ℕ, ◌+◌, ◌<◌, ◌≤◌, List, [], ◌∷◌, ◌++◌, length, map, Option, Some, None, IsSome, Ok, Err, arith, length-append, inl, inr, cond}
+use Rattle.std.specs.List.{AllByRecursion}
+use Rattle.std.specs.Option.{option_map}
+use Rattle.std.proofs.lemmas.Bool.{false≢true, eq-eqb, leb-false, ltb-true, ltb-false}
+use Rattle.std.proofs.lemmas.Bool.Decides.{eqb_tells}
+use Rattle.triple_arena.specs.Content.{Content, entry_at, live_count, arena_capacity}
+use Rattle.triple_arena_stack.specs.Room.{capacity}
+use Rattle.triple_arena_chain.specs.declared.link.IndexLink.{IndexLink}
+use Rattle.triple_arena_chain.specs.Links.{ends_in, values_in}
+use Rattle.triple_arena_ord.specs.Inserted.{IsAdded, IsReplaced}
+use Rattle.triple_arena_ord.specs.Ordered.{Ordered, entry_in, order_in, size_in}
+use Rattle.ticket_book.specs.declared.entry.Kind.TheVariants.{Place as OfPlace}
+use Rattle.ticket_book.specs.Tickets.{Entry}
+use Rattle.route_lines.specs.Calls.{put, reworded, placed, after_place}
+use Rattle.route_lines.specs.Sound.{KeysRise}
+use Rattle.route_lines.specs.State.{State, Rooms, Place, with_key, is_full_of_places, last_ticket}
+use Rattle.route_lines.specs.declared.placed.Placed.TheVariants.{New, Old}
+use Rattle.route_lines.specs.declared.refusal.Refusal.TheVariants.{Full}
+use Rattle.route_book.specs.Item.{StopView, MarkView}
+use Rattle.route_book.specs.Holds.{entry, IsHeld}
+use Rattle.route_book.specs.Book.{Book, found_in, in_order, IsBook, IsWithin, KeepsItems}
+use Rattle.route_book.proofs.HoldLemmas.{place_added, some_same}
+use Rattle.route_book.proofs.KeyLemmas.{along}
+use Rattle.route_book.proofs.RewordLemmas.{reword_entry, KeysRise-reworded, length-reworded, along_reworded, as_reworded, place_reworded}
 
--- the places behind the first one
-pub AreByKey-tail : (p : Place) (ps : List Place) → AreByKey (p ∷ ps) → AreByKey ps
-AreByKey-tail p ps sorted i j less within = sorted (suc i) (suc j) (omega arith) (omega arith)
+-- ---- lists
 
--- a key stands at one place at most
-pub same_place : (ps : List Place) (i j : ℕ) → AreByKey ps → i < length ps → j < length ps → (place_at ps i).key ≡ (place_at ps j).key → i ≡ j
-same_place ps i j sorted in_i in_j same =
-    elim (cases_order i j) [
-      | inl e ↦ e
-      | inr apart ↦ elim apart [
-        | inl less ↦ let h = sorted i j less in_j in omega (arith, same, h)
-        | inr more ↦ let h = sorted j i more in_i in omega (arith, same, h)
-      ]
-    ]
-
--- where the neighbors of a gap lie on either side of the key, all places do
-pub below_gap : (ps : List Place) (at key : ℕ) → AreByKey ps → at ≤ length ps → (0 < at → (place_at ps (at - 1)).key < key) → (i : ℕ) → i < at → (place_at ps i).key < key
-below_gap ps at key sorted within before i less =
-    let last = before (omega arith) in
-    elim (cases_order i (at - 1)) [
-      | inl e ↦ rw e last
-      | inr apart ↦ elim apart [
-        | inl lower ↦ let h = sorted i (at - 1) lower (omega arith) in omega (arith, h, last)
-        | inr upper ↦ omega (arith, upper, less)
-      ]
-    ]
-
-pub above_gap : (ps : List Place) (at key : ℕ) → AreByKey ps → (at < length ps → key < (place_at ps at).key) → (i : ℕ) → at ≤ i → i < length ps → key < (place_at ps i).key
-above_gap ps at key sorted behind i from within =
-    let first = behind (omega arith) in
-    elim (cases_order at i) [
-      | inl e ↦ rw (sym e) first
-      | inr apart ↦ elim apart [
-        | inl lower ↦ let h = sorted at i lower within in omega (arith, h, first)
-        | inr upper ↦ omega (arith, upper, from)
-      ]
-    ]
-
--- the place that has the key is found
-pub with_key-at : (ps : List Place) (k key : ℕ) → AreByKey ps → k < length ps → (place_at ps k).key ≡ key → with_key key ps ≡ Some (place_at ps k)
-with_key-at [] k key sorted within is = absurd (omega arith)
-with_key-at (p ∷ ps) zero key sorted within is = rw (eq-eqb p.key key is) refl
-with_key-at (p ∷ ps) (suc k) key sorted within is =
-    let less : p.key < key = subst (λ n. p.key < n) is (sorted 0 (suc k) (omega arith) within) in
-    rw (ne_eqb p.key key (λ e. omega (arith, e, less)))
-    (with_key-at ps k key (AreByKey-tail p ps sorted) (omega arith) is)
-
-pub with_key_none : (ps : List Place) (key : ℕ) → ((i : ℕ) → i < length ps → (place_at ps i).key ≢ key) → with_key key ps ≡ None
-with_key_none [] key other = refl
-with_key_none (p ∷ ps) key other =
-    rw (ne_eqb p.key key (other 0 (omega arith))) (with_key_none ps key (λ i within. other (suc i) (omega arith)))
-
--- a new place goes into the gap of its key
-pub put_at : (ps : List Place) (at : ℕ) (new : Place) → at ≤ length ps → ((i : ℕ) → i < at → (place_at ps i).key < new.key) → ((i : ℕ) → at ≤ i → i < length ps → new.key < (place_at ps i).key) → put new ps ≡ insert ps at new
-put_at [] zero new within below above = refl
-put_at [] (suc at) new within below above = absurd (omega arith)
-put_at (p ∷ ps) zero new within below above = rw (lt-ltb new.key p.key (above 0 (omega arith) (omega arith))) refl
-put_at (p ∷ ps) (suc at) new within below above =
-    let less = below 0 (omega arith) in
-    rw (le-ltb new.key p.key (omega (arith, less)))
-    (ap (λ qs. p ∷ qs) (put_at ps at new (omega arith) (λ i h. below (suc i) (omega arith)) (λ i from h. above (suc i) (omega arith) (omega arith))))
-
--- no place has the key: no word changes
-pub reworded_none : (ps : List Place) (key : ℕ) (word : List ℕ) → ((i : ℕ) → i < length ps → (place_at ps i).key ≢ key) → reworded key word ps ≡ ps
-reworded_none [] key word other = refl
-reworded_none (p ∷ ps) key word other =
-    rw (ne_eqb p.key key (other 0 (omega arith)))
-    (ap (λ qs. p ∷ qs) (reworded_none ps key word (λ i within. other (suc i) (omega arith))))
-
--- the word changes at the place that has the key
-pub reworded_at : (ps : List Place) (k key : ℕ) (word : List ℕ) → AreByKey ps → k < length ps → (place_at ps k).key ≡ key → reworded key word ps ≡ slice_set ps k (record { ticket = (place_at ps k).ticket; key = (place_at ps k).key; word = word })
-reworded_at [] k key word sorted within is = absurd (omega arith)
-reworded_at (p ∷ ps) zero key word sorted within is =
-    rw (eq-eqb p.key key is)
-    (ap (λ qs. record { ticket = p.ticket; key = p.key; word = word } ∷ qs)
-    (reworded_none ps key word (λ i h e. let less = sorted 0 (suc i) (omega arith) (omega arith) in omega (arith, less, e, is))))
-reworded_at (p ∷ ps) (suc k) key word sorted within is =
-    let less : p.key < key = subst (λ n. p.key < n) is (sorted 0 (suc k) (omega arith) within) in
-    rw (ne_eqb p.key key (λ e. omega (arith, e, less)))
-    (ap (λ qs. p ∷ qs) (reworded_at ps k key word (AreByKey-tail p ps sorted) (omega arith) is))
-
--- keys that stay keep their order
-pub AreByKey-set : (ps : List Place) (k : ℕ) (p : Place) → AreByKey ps → k < length ps → p.key ≡ (place_at ps k).key → AreByKey (slice_set ps k p)
-AreByKey-set ps k p sorted within same i j less in_places =
-    let count = length-set ps k p in
-    rw (kept i, kept j) (sorted i j less (omega (arith, in_places, count)))
+length_put : (p : Place) (ps : List Place) → length (put p ps) ≡ length ps + 1
+length_put p [] = refl
+length_put p (q ∷ ps) = by (nat_lt p.key q.key) (length_put p ps)
   where
-    kept : (i : ℕ) → (place_at (slice_set ps k p) i).key ≡ (place_at ps i).key
-    kept i =
-        let key : Place → ℕ = λ q. q.key in
-        elim (cases_eq i k) [
-          | inl e ↦ rw e (ap key (get_or-set_same ps k p _ within) ∙ same)
-          | inr other ↦ ap key (get_or-set_other ps k i p _ other)
-        ]
+    by : (b : Bool) → length (put p ps) ≡ length ps + 1 → length (if b then p ∷ q ∷ ps else q ∷ put p ps) ≡ length (q ∷ ps) + 1
+    by true rest = omega arith
+    by false rest = omega (arith, rest)
 
--- a place in the gap of its key keeps the order
-pub AreByKey-insert : (ps : List Place) (at : ℕ) (new : Place) → AreByKey ps → at ≤ length ps → ((i : ℕ) → i < at → (place_at ps i).key < new.key) → ((i : ℕ) → at ≤ i → i < length ps → new.key < (place_at ps i).key) → AreByKey (insert ps at new)
-AreByKey-insert ps at new sorted within below above i j less in_places =
-    let count = length-insert ps at new within in
-    by_place (cases_order i at) (cases_order j at) (omega (arith, in_places, count))
+KeysRise-put : (p : Place) (ps : List Place) → with_key p.key ps ≡ None → KeysRise ps → KeysRise (put p ps)
+KeysRise-put p [] none rise = (tt, tt)
+KeysRise-put p (q ∷ ps) none rise =
+    let first = apart (q.key == p.key) refl none in
+    by (nat_lt p.key q.key) refl first.0 (KeysRise-put p ps first.1 rise.1)
   where
-    key : Place → ℕ
-    key p = p.key
+    apart : (b : Bool) → (q.key == p.key) ≡ b → cond b (Some q) (with_key p.key ps) ≡ None → (q.key ≢ p.key) × (with_key p.key ps ≡ None)
+    apart true e is = cc
+    apart false e is = (λ same. false≢true (sym e ∙ eq-eqb q.key p.key same), is)
 
-    lower : (k : ℕ) → k < at → (place_at (insert ps at new) k).key ≡ (place_at ps k).key
-    lower k h = ap (λ (p : Place). p.key) (get_or-insert_below ps at new _ k h within)
+    weaker : (qs : List Place) → p.key < q.key → AllByRecursion (λ (x : Place). q.key < x.key) qs → AllByRecursion (λ (x : Place). p.key < x.key) qs
+    weaker [] less all = tt
+    weaker (x ∷ qs) less all = ((let more = all.0 in omega (arith, more, less)), weaker qs less all.1)
 
-    here : (place_at (insert ps at new) at).key ≡ new.key
-    here = ap (λ (p : Place). p.key) (get_or-insert_at ps at new _ within)
+    among : (qs : List Place) → q.key < p.key → AllByRecursion (λ (x : Place). q.key < x.key) qs → AllByRecursion (λ (x : Place). q.key < x.key) (put p qs)
+    among [] less all = (less, tt)
+    among (x ∷ qs) less all = at (nat_lt p.key x.key) (among qs less all.1)
+      where
+        at : (b : Bool) → AllByRecursion (λ (y : Place). q.key < y.key) (put p qs) → AllByRecursion (λ (y : Place). q.key < y.key) (cond b (p ∷ x ∷ qs) (x ∷ put p qs))
+        at true rest = (less, all)
+        at false rest = (all.0, rest)
 
-    upper : (k : ℕ) → at < k → (place_at (insert ps at new) k).key ≡ (place_at ps (k - 1)).key
-    upper k h =
-        let e : k ≡ k - 1 + 1 = omega arith in
-        ap (λ (p : Place). p.key) (ap (place_at (insert ps at new)) e ∙ get_or-insert_above ps at new _ (k - 1) (omega arith) within)
+    by : (b : Bool) → nat_lt p.key q.key ≡ b → q.key ≢ p.key → KeysRise (put p ps) → KeysRise (cond b (p ∷ q ∷ ps) (q ∷ put p ps))
+    by true e other rest = let less = ltb-true p.key q.key e in ((less, weaker ps less rise.0), rise)
+    by false e other rest = let from = ltb-false p.key q.key e in (among ps (omega (arith, from, other)) rise.0, rest)
 
-    by_place : (i ≡ at) ⊎ ((i < at) ⊎ (at < i)) → (j ≡ at) ⊎ ((j < at) ⊎ (at < j)) → j < length ps + 1 → (place_at (insert ps at new) i).key < (place_at (insert ps at new) j).key
-    by_place (inl e) (inl f) h = absurd (omega (arith, e, f, less))
-    by_place (inl e) (inr (inl f)) h = absurd (omega (arith, e, f, less))
-    by_place (inl e) (inr (inr f)) h = rw (ap (λ k. (place_at (insert ps at new) k).key) e ∙ here, upper j f) (above (j - 1) (omega arith) (omega arith))
-    by_place (inr (inl e)) (inl f) h = rw (lower i e, ap (λ k. (place_at (insert ps at new) k).key) f ∙ here) (below i e)
-    by_place (inr (inl e)) (inr (inl f)) h = rw (lower i e, lower j f) (sorted i j less (omega arith))
-    by_place (inr (inl e)) (inr (inr f)) h =
-        let under = below i e in
-        let over = above (j - 1) (omega arith) (omega arith) in
-        rw (lower i e, upper j f) (omega (arith, under, over))
-    by_place (inr (inr e)) (inl f) h = absurd (omega (arith, e, f, less))
-    by_place (inr (inr e)) (inr (inl f)) h = absurd (omega (arith, e, f, less))
-    by_place (inr (inr e)) (inr (inr f)) h = rw (upper i e, upper j f) (sorted (i - 1) (j - 1) (omega arith) (omega arith))
+with_key_has : (key : ℕ) (p : Place) (ps : List Place) → with_key key ps ≡ Some p → p.key ≡ key
+with_key_has key p [] is = absurd (let no : ◌≡◌ {A = Option Place} None (Some p) = is in cc)
+with_key_has key p (q ∷ ps) is = elim (eqb_tells q.key key) [
+  | inl same ↦
+      let found : with_key key (q ∷ ps) ≡ Some q = rw same.0 refl in
+      let one : Some q ≡ Some p = sym found ∙ is in
+      let here : q ≡ p = cc in ap (λ (x : Place). x.key) (sym here) ∙ same.1
+  | inr other ↦ let skip : with_key key (q ∷ ps) ≡ with_key key ps = rw other.0 refl in with_key_has key p ps (sym skip ∙ is)
+]
+
+left_false : (a b : Bool) → (a || b) ≡ false → a ≡ false
+left_false true b h = h
+left_false false b h = refl
+
+-- where there is room, fewer live than the room holds
+pub not_full : (s : State) → is_full_of_places s ≡ false → length s.places < s.rooms.places
+not_full s is = leb-false s.rooms.places (length s.places) (left_false _ _ is)
+
+-- ---- what `place` answers
+
+module _ (s : State) (key : ℕ) (word : List ℕ) where
+  pub placed_old : (p : Place) → with_key key s.places ≡ Some p → (placed s key word ≡ Ok (Old p.ticket p.word)) × (after_place s key word ≡ record s { places = reworded key word s.places })
+  placed_old p found = (rw found refl, rw found refl)
+
+  pub placed_full : with_key key s.places ≡ None → is_full_of_places s ≡ true → (placed s key word ≡ Err Full) × (after_place s key word ≡ s)
+  placed_full unkeyed full = (rw (unkeyed, full) refl, rw (unkeyed, full) refl)
+
+  pub placed_new : with_key key s.places ≡ None → is_full_of_places s ≡ false
+      → (placed s key word ≡ Ok (New (s.last + 1))) × (after_place s key word ≡ record s { last = s.last + 1; places = put (record { ticket = s.last + 1; key = key; word = word }) s.places })
+  placed_new unkeyed free = (rw (unkeyed, free) refl, rw (unkeyed, free) refl)
+
+-- ---- what it leaves
+
+module _ {I : Type 0} (number : I → ℕ) (rooms : Rooms) (last : ℕ) (s : State) (places places' : Ordered I Place) (stops : Content (IndexLink I StopView)) (marks : Content MarkView)
+    (book : List Entry) (b : IsBook number rooms last s places stops marks book) where
+  -- a new place
+  module _ (p : Place) (ticket : p.ticket ≡ last + 1) (unkeyed : with_key p.key s.places ≡ None) (free : is_full_of_places s ≡ false)
+      (i g : ℕ) (added : IsAdded number i g p places places') (order : in_order number places' ≡ put p (in_order number places))
+      (same_room : places'.chains.room ≡ places.chains.room) (same_counter : places'.chains.counter ≡ places.chains.counter) where
+    abbrev now : State
+    now = record s { last = s.last + 1; places = put p s.places }
+
+    own : p ≡ record { ticket = s.last + 1; key = p.key; word = p.word }
+    own = ap (λ n. record { ticket = n; key = p.key; word = p.word }) (ticket ∙ ap (λ n. n + 1) (sym b.last_is))
+
+    after_is : now ≡ after_place s p.key p.word
+    after_is = ap (λ q. record s { last = s.last + 1; places = put q s.places }) own ∙ sym (placed_new s p.key p.word unkeyed free).1
+
+    pub place_kept : IsBook number rooms (last + 1) (after_place s p.key p.word) places' stops marks (book ++ entry p.ticket OfPlace i g ∷ [])
+    place_kept = subst (λ z. IsBook number rooms (last + 1) z places' stops marks (book ++ entry p.ticket OfPlace i g ∷ [])) after_is (record {
+      held = subst (λ c. IsHeld now (record { places = entry_in places'; stops = values_in stops; marks = entry_at marks; place_counter = c; stop_counter = stops.counter })
+          (in_order number places') (ends_in number stops) (book ++ entry p.ticket OfPlace i g ∷ [])) (sym same_counter)
+          (place_added s (found_in places stops marks) (in_order number places) (in_order number places') (ends_in number stops) book b.held p i g (entry_in places')
+          added.vacant added.entries (ticket ∙ ap (λ n. n + 1) (sym b.last_is)) added.generation order);
+      keys_rise = KeysRise-put p s.places unkeyed b.keys_rise;
+      within = record {
+        rooms_are = b.within.rooms_are;
+        place_count = (let n = b.within.place_count in let l = added.size in let m = length_put p s.places in omega (arith, n, l, m));
+        stop_count = b.within.stop_count;
+        mark_count = b.within.mark_count;
+        places_fit = (let n = b.within.place_count in let l = added.size in let r = ap (λ (r : Rooms). r.places) b.within.rooms_are in let less = not_full s free in omega (arith, less, l, n, r));
+        stops_fit = b.within.stops_fit;
+        marks_fit = b.within.marks_fit;
+        place_room = subst (λ r. rooms.places ≤ capacity r) (sym same_room) b.within.place_room;
+        stop_room = b.within.stop_room;
+        mark_room = b.within.mark_room;
+      };
+      last_is = ap (λ n. n + 1) b.last_is;
+      entries = (let a = length-append book (entry p.ticket OfPlace i g ∷ []) in let n = b.entries in let l = added.size in omega (arith, a, n, l));
+      marks_differ = b.marks_differ;
+    })
+
+  -- another word for a place
+  module _ (p : Place) (key : ℕ) (word : List ℕ) (found : with_key key s.places ≡ Some p) (i g : ℕ) (replaced : IsReplaced number i g (record p { word = word }) p places places') where
+    pub reword_kept : IsBook number rooms last (after_place s key word) places' stops marks book
+    reword_kept =
+        let same = with_key_has key p s.places found in
+        let at : (k : ℕ) → entry_in places' k ≡ option_map (reword_entry p.key word) (entry_in places k) =
+        as_reworded s (found_in places stops marks) (in_order number places) (in_order number places') (ends_in number stops) book b.held b.keys_rise p i g word (entry_in places') replaced.was replaced.entries in
+        let order : in_order number places' ≡ reworded p.key word (in_order number places) =
+        ap (along (entry_in places')) replaced.order ∙ along_reworded p.key word (entry_in places) (entry_in places') at (order_in number places) in
+        let after : record s { places = reworded p.key word s.places } ≡ after_place s key word =
+        ap (λ k. record s { places = reworded k word s.places }) same ∙ sym (placed_old s key word p found).1 in
+        subst (λ z. IsBook number rooms last z places' stops marks book) after (record {
+          held = subst (λ c. IsHeld (record s { places = reworded p.key word s.places }) (record { places = entry_in places'; stops = values_in stops; marks = entry_at marks; place_counter = c; stop_counter = stops.counter })
+              (in_order number places') (ends_in number stops) book) (sym replaced.kept.counter)
+              (place_reworded s (found_in places stops marks) (in_order number places) (in_order number places') (ends_in number stops) book b.held b.keys_rise p i g word (entry_in places') replaced.was replaced.entries order);
+          keys_rise = KeysRise-reworded p.key word s.places b.keys_rise;
+          within = record {
+            rooms_are = b.within.rooms_are;
+            place_count = length-reworded p.key word s.places ∙ b.within.place_count ∙ sym replaced.kept.live;
+            stop_count = b.within.stop_count;
+            mark_count = b.within.mark_count;
+            places_fit = subst (λ n. n ≤ rooms.places) (sym replaced.kept.live) b.within.places_fit;
+            stops_fit = b.within.stops_fit;
+            marks_fit = b.within.marks_fit;
+            place_room = subst (λ r. rooms.places ≤ capacity r) (sym replaced.kept.room) b.within.place_room;
+            stop_room = b.within.stop_room;
+            mark_room = b.within.mark_room;
+          };
+          last_is = b.last_is;
+          entries = b.entries ∙ ap (λ n. n + live_count stops + live_count marks) (sym replaced.kept.live);
+          marks_differ = b.marks_differ;
+        })
+
+-- the ticket book has room for one more where no room was full
+module _ {I : Type 0} (number : I → ℕ) (rooms : Rooms) (last : ℕ) (s : State) (places : Ordered I Place) (stops : Content (IndexLink I StopView)) (marks : Content MarkView)
+    (book : List Entry) (b : IsBook number rooms last s places stops marks book) (capacity : ℕ) (fits : rooms.places + rooms.stops + rooms.marks ≤ capacity) where
+  pub room_for_place : is_full_of_places s ≡ false → length book < capacity
+  room_for_place free =
+      let less = not_full s free in let r = ap (λ (r : Rooms). r.places) b.within.rooms_are in let n = b.within.place_count in
+      let e = b.entries in let t = b.within.stops_fit in let m = b.within.marks_fit in
+      omega (arith, less, r, n, e, t, m, fits)
+
+  -- and its arena has
+  pub arena_room : is_full_of_places s ≡ false → size_in places < arena_capacity places.chains
+  arena_room free =
+      let less = not_full s free in let r = ap (λ (r : Rooms). r.places) b.within.rooms_are in let n = b.within.place_count in let room = b.within.place_room in
+      omega (arith, less, r, n, room)
+
+some_of : {T : Type 0} (o : Option T) → IsSome o → (x : T) × (o ≡ Some x)
+some_of None is = absurd (let no : false ≡ true = is in false≢true no)
+some_of (Some x) is = (x, refl)
+
+pub the_place : (o r : Option Place) → IsSome o → o ≡ r → (p : Place) × ((o ≡ Some p) × (r ≡ Some p))
+the_place o r is same = let x = some_of o is in (x.0, (x.1, sym same ∙ x.1))
+
+-- ---- what stays
+
+module _ {I : Type 0} (s s' : State) (places places' : Ordered I Place) (stops : Content (IndexLink I StopView)) (marks : Content MarkView) (number : I → ℕ) where
+  abbrev old : Book I
+  old = record { state = s; places = places; stops = stops; marks = marks }
+
+  abbrev new : Book I
+  new = record { state = s'; places = places'; stops = stops; marks = marks }
+
+  pub kept_added : (p : Place) (i g : ℕ) → IsAdded number i g p places places' → places'.chains.counter ≡ places.chains.counter → KeepsItems old new
+  kept_added p i g added counter = record {
+    places = λ j n q is. (q, (stays j n q is, (refl, refl)));
+    stops = λ j n v is. is;
+    marks = λ j n v is. is;
+    place_counter = counter;
+    stop_counter = refl;
+  }
+    where
+      stays : (j n : ℕ) (q : Place) → entry_in places j ≡ Some (n, q) → entry_in places' j ≡ Some (n, q)
+      stays j n q is = elim (eqb_tells j i) [
+        | inl same ↦ absurd (let no : ◌≡◌ {A = Option (ℕ × Place)} None (Some (n, q)) = sym added.vacant ∙ sym (ap (entry_in places) same.1) ∙ is in cc)
+        | inr other ↦ added.entries j ∙ rw other.0 is
+      ]
+
+  pub kept_reworded : (p : Place) (word : List ℕ) (i g : ℕ) → IsReplaced number i g (record p { word = word }) p places places' → KeepsItems old new
+  kept_reworded p word i g replaced = record {
+    places = stays;
+    stops = λ j n v is. is;
+    marks = λ j n v is. is;
+    place_counter = replaced.kept.counter;
+    stop_counter = refl;
+  }
+    where
+      stays : (j n : ℕ) (q : Place) → entry_in places j ≡ Some (n, q) → (r : Place) × ((entry_in places' j ≡ Some (n, r)) × ((r.ticket ≡ q.ticket) × (r.key ≡ q.key)))
+      stays j n q is = elim (eqb_tells j i) [
+        | inl same ↦
+            let both : Some (g, p) ≡ Some (n, q) = sym replaced.was ∙ sym (ap (entry_in places) same.1) ∙ is in
+            let pair : (g, p) ≡ (n, q) = some_same both in
+            let here : entry_in places' j ≡ Some (g, record p { word = word }) = replaced.entries j ∙ rw same.0 refl in (
+              record p { word = word },
+              (
+                here ∙ ap (λ m. Some (m, record p { word = word })) (ap (λ (x : ℕ × Place). x.0) pair),
+                (ap (λ (x : ℕ × Place). x.1.ticket) pair, ap (λ (x : ℕ × Place). x.1.key) pair),
+              ),
+            )
+        | inr other ↦ (q, (replaced.entries j ∙ rw other.0 is, (refl, refl)))
+      ]
+
+pub kept_same : {I : Type 0} (b : Book I) → KeepsItems b b
+kept_same b = record {
+  places = λ i g p is. (p, (is, (refl, refl)));
+  stops = λ i g v is. is;
+  marks = λ i g v is. is;
+  place_counter = refl;
+  stop_counter = refl;
+}

@@ -1,54 +1,71 @@
--- What a contract sees of a store, and how it keeps its places in vectors.
-use Rattle.std.specs.Prelude.{◌≡◌, ℕ, ◌<◌, ◌≤◌, ◌==◌, true, List, [], map, length, slice_index_or, slice_index}
-use Rattle.std.specs.List.{list_any}
-use Rattle.route_lines.specs.State.{Rooms, State, Place}
-use Rattle.route_book.specs.declared.place.Place.{Place as Entry}
+-- What a contract sees of a store, and what ties its parts.
+use Rattle.std.specs.Prelude.{◌≡◌, ℕ, ◌+◌, ◌≤◌, List, [], ◌∷◌, length, map, Option, Some, None}
+use Rattle.triple_arena.specs.Content.{Content, entry_at, live_count, arena_capacity}
+use Rattle.triple_arena_chain.specs.declared.link.IndexLink.{IndexLink}
+use Rattle.triple_arena_chain.specs.Links.{ends_in, values_in}
+use Rattle.triple_arena_ord.specs.Ordered.{Ordered, entry_in, ordered_entries, size_in}
+use Rattle.ticket_book.specs.Tickets.{Entry}
+use Rattle.route_lines.specs.Sound.{KeysRise}
+use Rattle.route_lines.specs.State.{State, Rooms, Place, Mark, mark_of, stop_list}
+use Rattle.route_book.specs.Item.{StopView, MarkView}
+use Rattle.route_book.specs.Holds.{Found, IsHeld}
 
--- what a clause sees of a store
-pub record Book : Type 0 where
+-- the state, and what the arenas hold
+pub record Book (I : Type 0) : Type 0 where
   pub state : State
+  pub places : Ordered I Place
+  pub stops : Content (IndexLink I StopView)
+  pub marks : Content MarkView
 
--- a place as the state has it
-abbrev pub state_place : Entry → Place
-state_place e = record { ticket = e.ticket; key = e.key; word = e.word }
+-- no two marks have one ticket
+abbrev pub MarksDiffer : List Mark → Type 0
+MarksDiffer [] = Unit {0}
+MarksDiffer (m ∷ marks) = (mark_of marks m.ticket ≡ None) × MarksDiffer marks
 
--- the entry at an index, of those in ticket order
-abbrev pub entry_at : List Entry → ℕ → Entry
-entry_at entries i = slice_index_or entries i (record { ticket = 0; key = 0; word = [] })
+module _ {I : Type 0} where
+  abbrev pub found_in : Ordered I Place → Content (IndexLink I StopView) → Content MarkView → Found
+  found_in places stops marks = record {
+    places = entry_in places;
+    stops = values_in stops;
+    marks = entry_at marks;
+    place_counter = places.chains.counter;
+    stop_counter = stops.counter;
+  }
 
--- the places in the order of the indices
-abbrev pub places_by : List Entry → List ℕ → List Place
-places_by entries order = map (λ i. state_place (entry_at entries i)) order
+  -- what the pointers of a store find
+  abbrev pub found_of : Book I → Found
+  found_of b = found_in b.places b.stops b.marks
 
--- the place at an index of a list
-abbrev pub place_at : List Place → ℕ → Place
-place_at places i = slice_index_or places i (record { ticket = 0; key = 0; word = [] })
+  -- the places along the list of their arena
+  abbrev pub in_order : (I → ℕ) → Ordered I Place → List Place
+  in_order number o = map (λ x. x.1.1) (ordered_entries number o)
 
--- each key is below the next ones
-abbrev pub AreByKey : List Place → Type 0
-AreByKey places = (i j : ℕ) → i < j → j < length places → (place_at places i).key < (place_at places j).key
+  -- no more items than the rooms, and place for as many
+  pub record IsWithin (rooms : Rooms) (s : State) (places : Ordered I Place) (stops : Content (IndexLink I StopView)) (marks : Content MarkView) : Type 0 where
+    pub rooms_are : s.rooms ≡ rooms
+    pub place_count : length s.places ≡ size_in places
+    pub stop_count : length (stop_list s.routes) ≡ live_count stops
+    pub mark_count : length s.marks ≡ live_count marks
+    pub places_fit : size_in places ≤ rooms.places
+    pub stops_fit : live_count stops ≤ rooms.stops
+    pub marks_fit : live_count marks ≤ rooms.marks
+    pub place_room : rooms.places ≤ arena_capacity places.chains
+    pub stop_room : rooms.stops ≤ arena_capacity stops
+    pub mark_room : rooms.marks ≤ arena_capacity marks
 
--- each ticket is above 0 and at most the last one given, and below those after it
-pub record AreByTicket (entries : List Entry) (last : ℕ) : Type 0 where
-  pub given : (i : ℕ) → i < length entries → (0 < (entry_at entries i).ticket) × ((entry_at entries i).ticket ≤ last)
-  pub rising : (i j : ℕ) → i < j → j < length entries → (entry_at entries i).ticket < (entry_at entries j).ticket
+  pub record IsBook (number : I → ℕ) (rooms : Rooms) (last : ℕ) (s : State) (places : Ordered I Place) (stops : Content (IndexLink I StopView)) (marks : Content MarkView) (book : List Entry) : Type 0 where
+    pub held : IsHeld s (found_in places stops marks) (in_order number places) (ends_in number stops) book
+    pub keys_rise : KeysRise s.places
+    pub within : IsWithin rooms s places stops marks
+    pub last_is : s.last ≡ last
+    pub entries : length book ≡ size_in places + live_count stops + live_count marks
+    pub marks_differ : MarksDiffer s.marks
 
--- indices of entries
-abbrev pub AreWithin : List Entry → List ℕ → Type 0
-AreWithin entries order = (k : ℕ) → k < length order → slice_index order k < length entries
-
--- the indices of all entries, each of them
-pub record IsOrder (entries : List Entry) (order : List ℕ) : Type 0 where
-  pub as_many : length order ≡ length entries
-  pub within : AreWithin entries order
-  pub each : (i : ℕ) → i < length entries → list_any (λ k. k == i) order ≡ true
-
-pub record IsBook (entries : List Entry) (indices : List ℕ) (last : ℕ) : Type 0 where
-  pub order : IsOrder entries indices
-  pub by_key : AreByKey (places_by entries indices)
-  pub by_ticket : AreByTicket entries last
-
--- the state that entries and their order stand for
-abbrev pub held : Rooms → ℕ → List Entry → List ℕ → State
-held rooms last entries order =
-    record { rooms = rooms; last = last; places = places_by entries order; routes = []; marks = [] }
+  -- each item keeps its pointer, a place its ticket and its key, and a stop and a mark all that they hold; both counters stay
+  pub record KeepsItems (old new : Book I) : Type 0 where
+    pub places : (i g : ℕ) (p : Place) → entry_in old.places i ≡ Some (g, p)
+        → (q : Place) × ((entry_in new.places i ≡ Some (g, q)) × ((q.ticket ≡ p.ticket) × (q.key ≡ p.key)))
+    pub stops : (i g : ℕ) (t : StopView) → values_in old.stops i ≡ Some (g, t) → values_in new.stops i ≡ Some (g, t)
+    pub marks : (i g : ℕ) (m : MarkView) → entry_at old.marks i ≡ Some (g, m) → entry_at new.marks i ≡ Some (g, m)
+    pub place_counter : new.places.chains.counter ≡ old.places.chains.counter
+    pub stop_counter : new.stops.counter ≡ old.stops.counter

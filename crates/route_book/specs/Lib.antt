@@ -1,4 +1,9 @@
+pub mod Item
+pub mod Rooms
+pub mod Follows
+pub mod Holds
 pub mod Book
+pub mod Walked
 pub use Rattle.route_lines.specs.Calls
 pub use Rattle.route_lines.specs.CommandLine
 pub use Rattle.route_lines.specs.Grammar

@@ -1,20 +1,27 @@
-ghost use Rattle.std.specs.Prelude.{◌≡◌, ◌+◌, [], OnOk, OnErr};
+ghost use Rattle.std.specs.Prelude.{◌≡◌, ◌≢◌, ◌+◌, ℕ, [], Some, OnOk, OnErr};
 ghost use Rattle.std.specs.Io.KnownBytes.{Appends};
 ghost use Rattle.route_lines.specs.Grammar.{command_of};
-ghost use Rattle.route_lines.specs.Reply.{reply, next, places_text};
 ghost use Rattle.counted_search.specs.Searches.{most_comparisons};
-ghost use Rattle.route_lines.specs.Searches.{CountsWithin, place_count, living_count};
+ghost use Rattle.route_lines.specs.Calls.{walked};
+ghost use Rattle.route_lines.specs.Reply.{reply, next, places_text, stops_text, walk_text};
+ghost use Rattle.route_lines.specs.Searches.{CountsFor, CountsWithin, living_count};
 ghost use Rattle.route_lines.specs.Watched.{inner_of, failed_of};
 ghost use Rattle.route_lines.specs.Written.{AppendsBeginning};
+ghost use Rattle.route_lines.specs.declared.command.Command.{Command as Asked};
+ghost use Rattle.route_book.specs.Book.{KeepsItems};
 
-use crate::book::RouteBook;
+use crate::backing::BookBacking;
+use crate::book::{RouteBook, Walk};
+use crate::items::{Place, Stop};
 use crate::places::Places;
 use route_lines::{Command, Counts, ReplyText, Watched, make_room, read_line, send};
-use std::alloc::Allocator;
 use std::io;
 use std::io::Write;
+use triple_arena_chain::ChainSlots;
+use triple_arena_ord::OrdSlots;
+use triple_arena_ptr::PtrCore;
 
-impl<A: Allocator> RouteBook<A> {
+impl<P: PtrCore, B: BookBacking<P>> RouteBook<P, B> {
     /// Carries out one line, given without its LF, and writes its reply.
     ///
     /// An `Err` is that of the write that failed, or `WriteZero` where one took nothing. The line is carried out all
@@ -26,16 +33,14 @@ impl<A: Allocator> RouteBook<A> {
         counts: &mut Counts,
     ) -> io::Result<()>
         ensures state { self.new.state ≡ next self.old.state (command_of line.now) }
+        ensures kept { KeepsItems self.old self.new }
         ensures ok { OnOk result (Appends (W.contents (inner_of writer.old))
             (W.contents (inner_of writer.new)) (reply self.old.state (command_of line.now))) }
         ensures ok_failed { OnOk result (failed_of writer.new ≡ failed_of writer.old) }
         ensures err { OnErr result (AppendsBeginning (W.contents (inner_of writer.old))
             (W.contents (inner_of writer.new)) (reply self.old.state (command_of line.now))) }
         ensures err_failed { OnErr result (failed_of writer.new ≡ failed_of writer.old + 1) }
-        ensures counts { CountsWithin counts.old counts.new
-            (most_comparisons (place_count self.old.state))
-            (most_comparisons (living_count self.old.state))
-            (most_comparisons (living_count self.old.state)) }
+        ensures counts { CountsFor self.old.state (command_of line.now) counts.old counts.new }
     {
         self.carry_out(read_line(line), &mut ReplyText::new(), writer, counts)
     }
@@ -49,34 +54,93 @@ impl<A: Allocator> RouteBook<A> {
         counts: &mut Counts,
     ) -> io::Result<()>
         ensures state { self.new.state ≡ next self.old.state command }
+        ensures kept { KeepsItems self.old self.new }
         ensures ok { OnOk result (Appends (W.contents (inner_of writer.old))
             (W.contents (inner_of writer.new)) (reply self.old.state command)) }
         ensures ok_failed { OnOk result (failed_of writer.new ≡ failed_of writer.old) }
         ensures err { OnErr result (AppendsBeginning (W.contents (inner_of writer.old))
             (W.contents (inner_of writer.new)) (reply self.old.state command)) }
         ensures err_failed { OnErr result (failed_of writer.new ≡ failed_of writer.old + 1) }
-        ensures counts { CountsWithin counts.old counts.new
-            (most_comparisons (place_count self.old.state))
-            (most_comparisons (living_count self.old.state))
-            (most_comparisons (living_count self.old.state)) }
+        ensures counts { CountsFor self.old.state command counts.old counts.new }
     {
         text.clear();
+        let Some(command) = command else {
+            text.push_line(b"bad");
+            return send(writer, text.as_slice());
+        };
         match command {
-            None => text.push_line(b"bad"),
-            Some(Command::Place { key, word }) => {
-                text.push_placed(&self.place_counted(key, word, counts));
+            Command::All => write_places(self.places(), text, writer),
+            Command::Walk { stop } => self.write_walk(stop, text, writer, counts),
+            command => {
+                self.push_reply(command, text, counts);
+                send(writer, text.as_slice())
             }
-            Some(Command::Show { ticket }) => text.push_shown(&self.show_counted(ticket, counts)),
-            Some(Command::Find { key }) => text.push_found(self.find_counted(key, counts)),
-            Some(Command::All) => return write_places(self.places(), text, writer),
         }
-        send(writer, text.as_slice())
+    }
+
+    // Carries out a command whose reply is one line, and gathers it. The two others do nothing here.
+    fn push_reply(&mut self, command: Command, text: &mut ReplyText, counts: &mut Counts)
+        requires { text.old ≡ [] }
+        ensures state { self.new.state ≡ next self.old.state (Some command) }
+        ensures kept { KeepsItems self.old self.new }
+        ensures text { command ≢ Asked.All → ((stop : ℕ) → command ≢ Asked.Walk stop)
+            → text.new ≡ reply self.old.state (Some command) }
+        ensures counts { CountsFor self.old.state (Some command) counts.old counts.new }
+    {
+        match command {
+            Command::Place { key, word, near } => match near {
+                None => text.push_placed(&self.place_counted(key, word, counts)),
+                Some(near) => text.push_placed(&self.place_near_counted(key, word, near, counts)),
+            },
+            Command::Show { ticket } => text.push_shown(&self.show_counted(ticket, counts)),
+            Command::Find { key } => text.push_found(self.find_counted(key, counts)),
+            Command::Floor { key } => text.push_found(self.floor_counted(key, counts)),
+            Command::After { ticket } => text.push_neighbor(self.after_counted(ticket, counts)),
+            Command::Before { ticket } => text.push_neighbor(self.before_counted(ticket, counts)),
+            Command::Start { place } => text.push_ticket(self.start_counted(place, counts)),
+            Command::Extend { stop, place } => {
+                text.push_ticket(self.extend_counted(stop, place, counts));
+            }
+            Command::Join { stop, next } => text.push_done(self.join_counted(stop, next, counts)),
+            Command::Cut { stop } => text.push_done(self.cut_counted(stop, counts)),
+            Command::Swap { stop, other } => text.push_done(self.swap_counted(stop, other, counts)),
+            Command::Mark { place, stop } => text.push_ticket(self.mark_counted(place, stop, counts)),
+            Command::All => {}
+            Command::Walk { stop: _ } => {}
+        }
+    }
+
+    // The stops of a walk, or why it is refused.
+    fn write_walk<W: Write>(
+        &self,
+        stop: u64,
+        text: &mut ReplyText,
+        writer: &mut Watched<W>,
+        counts: &mut Counts,
+    ) -> io::Result<()>
+        requires { text.old ≡ [] }
+        ensures ok { OnOk result (Appends (W.contents (inner_of writer.old))
+            (W.contents (inner_of writer.new)) (walk_text (walked self.now.state stop))) }
+        ensures ok_failed { OnOk result (failed_of writer.new ≡ failed_of writer.old) }
+        ensures err { OnErr result (AppendsBeginning (W.contents (inner_of writer.old))
+            (W.contents (inner_of writer.new)) (walk_text (walked self.now.state stop))) }
+        ensures err_failed { OnErr result (failed_of writer.new ≡ failed_of writer.old + 1) }
+        ensures counts { CountsWithin counts.old counts.new
+            0 (most_comparisons (living_count self.now.state)) 0 }
+    {
+        match self.walk_counted(stop, counts) {
+            Ok(stops) => write_stops(stops, text, writer),
+            Err(refusal) => {
+                text.push_refusal(refusal);
+                send(writer, text.as_slice())
+            }
+        }
     }
 }
 
 // A line for each place and `end`, in as few writes as the text's room allows.
-fn write_places<W: Write>(
-    places: Places<'_>,
+fn write_places<P: PtrCore, S: OrdSlots<P, Place>, W: Write>(
+    mut places: Places<'_, P, S>,
     text: &mut ReplyText,
     writer: &mut Watched<W>,
 ) -> io::Result<()>
@@ -88,9 +152,32 @@ fn write_places<W: Write>(
         (W.contents (inner_of writer.new)) (places_text places.entry)) }
     ensures err_failed { OnErr result (failed_of writer.new ≡ failed_of writer.old + 1) }
 {
-    for (ticket, key, word) in places {
+    while let Some((ticket, key, word)) = places.next() {
         make_room(text, writer)?;
         text.push_place(ticket, key, word);
+    }
+    make_room(text, writer)?;
+    text.push_line(b"end");
+    send(writer, text.as_slice())
+}
+
+// A line for each stop of a walk and `end`, as for places.
+fn write_stops<P: PtrCore, S: OrdSlots<P, Place>, C: ChainSlots<P, Stop<P>>, W: Write>(
+    mut stops: Walk<'_, P, S, C>,
+    text: &mut ReplyText,
+    writer: &mut Watched<W>,
+) -> io::Result<()>
+    requires { text.old ≡ [] }
+    ensures ok { OnOk result (Appends (W.contents (inner_of writer.old))
+        (W.contents (inner_of writer.new)) (stops_text stops.entry)) }
+    ensures ok_failed { OnOk result (failed_of writer.new ≡ failed_of writer.old) }
+    ensures err { OnErr result (AppendsBeginning (W.contents (inner_of writer.old))
+        (W.contents (inner_of writer.new)) (stops_text stops.entry)) }
+    ensures err_failed { OnErr result (failed_of writer.new ≡ failed_of writer.old + 1) }
+{
+    while let Some((ticket, place)) = stops.next() {
+        make_room(text, writer)?;
+        text.push_stop(ticket, place);
     }
     make_room(text, writer)?;
     text.push_line(b"end");

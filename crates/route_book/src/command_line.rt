@@ -3,11 +3,13 @@ ghost use Rattle.route_lines.specs.CommandLine.{Answers, AnswersWholeLines, Begi
 ghost use Rattle.route_lines.specs.State.{Rooms, empty};
 ghost use Rattle.route_lines.specs.Watched.{inner_of, failed_of, calls_of};
 
+use crate::backing::OnHeap;
 use crate::book::RouteBook;
 use crate::running::run;
 use route_lines::{Counts, RunFault, Watched, read_rooms, refused_line, tell};
 use std::alloc::Global;
 use std::io::{Read, Write};
+use triple_arena_ptr::P0;
 
 /// The program `route_book PLACES STOPS MARKS`: makes a store with these rooms and answers its input.
 ///
@@ -33,7 +35,7 @@ pub fn program<R: Read, W: Write, E: Write>(
     ensures index { IfSome (rooms_of (map string_bytes args.now))
         (λ rooms. 2 ^ 64 ≤ room_sum rooms → result ≡ 3) }
     ensures room { result ≡ 3 → IfSome (rooms_of (map string_bytes args.now))
-        (λ rooms. (2 ^ 64 ≤ room_sum rooms) ⊎ (0 < rooms.places)) }
+        (λ rooms. 0 < room_sum rooms) }
     ensures unread { 2 ≤ result → input.new ≡ input.old }
     ensures unwritten { 2 ≤ result → output.new ≡ output.old }
 
@@ -74,7 +76,7 @@ pub fn program<R: Read, W: Write, E: Write>(
         tell(errors, b"usage: route_book PLACES STOPS MARKS\n");
         return 2;
     };
-    match RouteBook::new(alloc, places, stops, marks) {
+    match RouteBook::new(&OnHeap(alloc), places, stops, marks) {
         Ok(book) => answer_input(book, input, output, errors),
         Err(refusal) => {
             tell(errors, refused_line(refusal));
@@ -85,7 +87,7 @@ pub fn program<R: Read, W: Write, E: Write>(
 
 // The status of a run over a new store; a fault is told.
 fn answer_input<R: Read, W: Write, E: Write>(
-    mut book: RouteBook,
+    mut book: RouteBook<P0, OnHeap>,
     input: &mut Watched<R>,
     output: &mut Watched<W>,
     errors: &mut Watched<E>,

@@ -14,18 +14,25 @@
 #![tactic(auto)]
 
 mod answer;
+mod backing;
 mod book;
 mod command_line;
-mod place;
+mod items;
+mod parts;
+mod place_arena;
 mod places;
 mod running;
 
-pub use book::RouteBook;
+pub use backing::{
+    BookBacking, MarkSlot, OnArray, OnFixed, OnHeap, OnLimited, PlaceSlot, StopSlot,
+};
+pub use book::{RouteBook, Walk};
 pub use command_line::program;
+pub use items::{Mark, Place, Ref, Stop};
 pub use places::Places;
 pub use route_lines::{
     Command, Counts, Placed, Refusal, RoomError, RunFault, Shown, Watched, Word, laws, read_line,
     read_number,
 };
 pub use running::run;
-pub use triple_arena_ptr::Probes;
+pub use triple_arena_ptr::{Probes, PtrCore};

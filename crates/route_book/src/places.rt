@@ -1,32 +1,38 @@
 ghost use Rattle.std.specs.Prelude.{◌≡◌};
 ghost use Rattle.std.specs.Iterator.{YieldsFirstBy, item_count};
 
-use crate::place::Place;
+use crate::items::Place;
 use route_lines::Word;
 use std::marker::Model;
+use triple_arena_ord::OrdSlots;
+use triple_arena_ord::ord_iterators::Iter;
+use triple_arena_ptr::PtrCore;
 
 /// The places of a store in the order of their keys, seen as the list of those that are left.
 #[derive(Drop)]
-pub struct Places<'a> {
-    pub(crate) places: &'a [Place],
-    // Indices of `places`.
-    pub(crate) order: &'a [usize],
+pub struct Places<'a, P: PtrCore, S: OrdSlots<P, Place>>
+where
+    P::Inx: 'a,
+{
+    pub(crate) entries: Iter<'a, P, Place, S>,
 }
 
-impl<'a> Model for Places<'a> {
-    ghost use Rattle.std.specs.Prelude.{List};
-    ghost use Rattle.route_lines.specs.State.{Place};
+impl<'a, P: PtrCore, S: OrdSlots<P, Place>> Model for Places<'a, P, S>
+where
+    P::Inx: 'a,
+{
+    ghost use Rattle.std.specs.Prelude.{List, map};
+    ghost use Rattle.route_lines.specs.State.{Place as View};
 
-    ghost Value = { List Place };
+    ghost Value = { List View };
 
-    ghost use Rattle.route_book.specs.Book.{AreWithin, places_by};
-
-    ghost view = { λ p. places_by p.places.now p.order.now };
-
-    ghost invariant = { λ p. AreWithin p.places.now p.order.now };
+    ghost view = { λ p. map (λ e. e.1.1) p.entries };
 }
 
-impl<'a> Iterator for Places<'a> {
+impl<'a, P: PtrCore, S: OrdSlots<P, Place>> Iterator for Places<'a, P, S>
+where
+    P::Inx: 'a,
+{
     ghost use Rattle.route_lines.specs.Calls.{listed};
 
     /// A place's ticket, key and word.
@@ -37,9 +43,12 @@ impl<'a> Iterator for Places<'a> {
     ghost remaining = { item_count (λ left. left) };
 
     fn next(&mut self) -> Option<(u64, u64, &'a Word)> {
-        let (index, order) = self.order.split_first()?;
-        let place = &self.places[*index];
-        self.order = order;
-        Some((place.ticket, place.key, &place.word))
+        let (_, place) = self.entries.next()?;
+        Some((place.ticket(), place.key_number(), place.word()))
+    }
+
+    // How many are left is not known before the end.
+    fn size_hint(&self) -> (usize, Option<usize>) {
+        (0, None)
     }
 }

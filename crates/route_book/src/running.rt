@@ -5,19 +5,20 @@ ghost use Rattle.route_lines.specs.Text.{lines, unended_line, whole, whole_lines
 ghost use Rattle.route_lines.specs.Unfinished.{HasNoLineEnd, StandsFor, StopsAtEnd, Stops, Takes};
 ghost use Rattle.route_lines.specs.Watched.{inner_of, failed_of, calls_of};
 
+use crate::backing::BookBacking;
 use crate::book::RouteBook;
 use route_lines::{Counts, ReplyText, RunFault, Unfinished, Watched, split_line};
-use std::alloc::Allocator;
 use std::io;
 use std::io::{Read, Write};
+use triple_arena_ptr::PtrCore;
 
 /// Answers an input: carries out one line after another and writes each reply before the next line is carried out.
 /// The writer is flushed once, at the end of the input.
 ///
 /// The input may come in pieces of any length. A line over 69 bytes, or what follows the last LF, is answered as a
 /// line that spells no command. No memory is taken, and the store stays usable after each fault.
-pub fn run<A: Allocator, R: Read, W: Write>(
-    book: &mut RouteBook<A>,
+pub fn run<P: PtrCore, B: BookBacking<P>, R: Read, W: Write>(
+    book: &mut RouteBook<P, B>,
     reader: &mut Watched<R>,
     writer: &mut Watched<W>,
     counts: &mut Counts,
@@ -99,8 +100,8 @@ pub fn run<A: Allocator, R: Read, W: Write>(
 }
 
 // Carries out the lines that a piece of the input ends, and keeps what follows them.
-fn take<A: Allocator, W: Write>(
-    book: &mut RouteBook<A>,
+fn take<P: PtrCore, B: BookBacking<P>, W: Write>(
+    book: &mut RouteBook<P, B>,
     piece: &[u8],
     unfinished: &mut Unfinished,
     text: &mut ReplyText,
@@ -128,8 +129,8 @@ fn take<A: Allocator, W: Write>(
 }
 
 // Answers what follows the last LF, if there is anything, and flushes the writer.
-fn end<A: Allocator, W: Write>(
-    book: &mut RouteBook<A>,
+fn end<P: PtrCore, B: BookBacking<P>, W: Write>(
+    book: &mut RouteBook<P, B>,
     unfinished: &Unfinished,
     text: &mut ReplyText,
     writer: &mut Watched<W>,

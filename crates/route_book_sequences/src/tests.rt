@@ -3,6 +3,7 @@ mod faults;
 mod programs;
 mod rows;
 mod streams;
+mod table;
 mod ticks;
 mod watching;
 mod writes;

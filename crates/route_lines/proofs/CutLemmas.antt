@@ -1,8 +1,9 @@
 -- Lists cut at an item, and what their items weigh.
-use Rattle.std.proofs.Common.{◌≡◌, ap, subst, refl, Bool, true, false, ◌||◌, ℕ, ◌+◌, ◌≤◌, List, [], ◌∷◌, ◌++◌, length, Some, IfSome, cond, find, filter, arith}
+use Rattle.std.proofs.Common.{◌≡◌, ap, subst, refl, Bool, true, false, ◌||◌, ℕ, ◌+◌, ◌≤◌, List, [], ◌∷◌, ◌++◌, length, Some, IfSome, cond, find, filter, reverse, sym, arith}
 use Rattle.std.specs.List.{AllByRecursion, list_any}
 use Rattle.std.proofs.lemmas.Bool.{false≢true}
-use Rattle.route_lines.specs.Cuts.{before, onward, up_to, behind}
+use Rattle.std.proofs.lemmas.List.{reverse-append}
+use Rattle.route_lines.specs.Cuts.{before, onward, up_to, behind, first_item, last_item}
 use Rattle.route_lines.specs.Sound.{total, count_of}
 
 pub before_onward : {X : Type 0} (test : X → Bool) (xs : List X) → before test xs ++ onward test xs ≡ xs
@@ -46,6 +47,28 @@ all_filter P test (x ∷ xs) h = at (test x) (all_filter P test xs h.1)
     at : (b : Bool) → AllByRecursion P (filter test xs) → AllByRecursion P (cond b (x ∷ filter test xs) (filter test xs))
     at true k = (h.0, k)
     at false k = k
+
+pub all_before : {X : Type 0} (P : X → Type 0) (test : X → Bool) (xs : List X) → AllByRecursion P xs → AllByRecursion P (before test xs)
+all_before P test xs h = all_front P (before test xs) (onward test xs) (subst (AllByRecursion P) (sym (before_onward test xs)) h)
+
+pub all_onward : {X : Type 0} (P : X → Type 0) (test : X → Bool) (xs : List X) → AllByRecursion P xs → AllByRecursion P (onward test xs)
+all_onward P test xs h = all_back P (before test xs) (onward test xs) (subst (AllByRecursion P) (sym (before_onward test xs)) h)
+
+pub all_behind : {X : Type 0} (P : X → Type 0) (test : X → Bool) (xs : List X) → AllByRecursion P xs → AllByRecursion P (behind test xs)
+all_behind P test xs h = all_back P (up_to test xs) (behind test xs) (subst (AllByRecursion P) (sym (up_to_behind test xs)) h)
+
+pub all_reverse : {X : Type 0} (P : X → Type 0) (xs : List X) → AllByRecursion P xs → AllByRecursion P (reverse xs)
+all_reverse P [] h = tt
+all_reverse P (x ∷ xs) h = subst (AllByRecursion P) (sym (reverse-append (x ∷ []) xs)) (all_append P (reverse xs) (x ∷ []) (all_reverse P xs h.1) (h.0, tt))
+
+pub first_in : {X : Type 0} (P : X → Type 0) (xs : List X) → AllByRecursion P xs → IfSome (first_item xs) P
+first_in P [] h = tt
+first_in P (x ∷ xs) h = h.0
+
+pub last_in : {X : Type 0} (P : X → Type 0) (xs : List X) → AllByRecursion P xs → IfSome (last_item xs) P
+last_in P [] h = tt
+last_in P (x ∷ []) h = h.0
+last_in P (x ∷ y ∷ xs) h = last_in P (y ∷ xs) h.1
 
 -- what a search finds is one of the list, and passes
 pub found_in : {X : Type 0} (P : X → Type 0) (test : X → Bool) (xs : List X) → AllByRecursion P xs → IfSome (find test xs) P

@@ -4,6 +4,7 @@ use Rattle.std.specs.List.{AllByRecursion}
 use Rattle.std.specs.Option.{option_or}
 use Rattle.std.proofs.lemmas.Bool.{eq-eqb, eqb-true}
 use Rattle.route_lines.specs.Cuts.{before, onward, up_to, behind, first_item}
+use Rattle.route_lines.specs.Leads.{head_or, Leads}
 use Rattle.route_lines.specs.Routes.{has_ticket, round, has_stop, ticket_of, route_of, without, insert_route, put_route, next_stop}
 use Rattle.route_lines.specs.Sound.{count_of}
 use Rattle.route_lines.specs.State.{Stop, Route, stop_list}
@@ -11,16 +12,6 @@ use Rattle.route_lines.proofs.CutLemmas.{before_onward, all_weaker, all_append, 
 use Rattle.route_lines.proofs.RouteLemmas.{all_insert_route}
 
 -- ---- along one list
-
--- the ticket of the first stop, or else where the list closes
-abbrev pub head_or : Option ℕ → List Stop → Option ℕ
-head_or closing [] = closing
-head_or closing (t ∷ stops) = Some t.ticket
-
--- each stop leads to the one behind it, and the last one to where the list closes
-abbrev pub Leads : (ℕ → Option ℕ) → Option ℕ → List Stop → Type 0
-Leads next closing [] = Unit {0}
-Leads next closing (t ∷ stops) = (next t.ticket ≡ head_or closing stops) × Leads next closing stops
 
 head_or-append : (closing : Option ℕ) (xs ys : List Stop) → head_or closing (xs ++ ys) ≡ head_or (head_or closing ys) xs
 head_or-append closing [] ys = refl

@@ -58,7 +58,7 @@ AreWritten-more last routes new given above written = record {
 abbrev longer : ℕ → Stop → Route → Route
 longer s new r = cond (has_stop s r) (record r { stops = up_to (has_ticket s) r.stops ++ new ∷ behind (has_ticket s) r.stops }) r
 
-put_behind-none : (s : ℕ) (new : Stop) (routes : List Route) → count_of (has_ticket s) (stop_list routes) ≡ 0 → put_behind s new routes ≡ routes
+pub put_behind-none : (s : ℕ) (new : Stop) (routes : List Route) → count_of (has_ticket s) (stop_list routes) ≡ 0 → put_behind s new routes ≡ routes
 put_behind-none s new [] none = refl
 put_behind-none s new (r ∷ routes) none = at (has_stop s r) refl (put_behind-none s new routes (omega (arith, parts, none)))
   where

@@ -13,7 +13,7 @@ use Rattle.route_lines.proofs.SoundLemmas.{and_then-ok}
 use Rattle.route_lines.proofs.UndoLemmas.{none_leads, traded, exchange_of, Links-exchange, exchange_written, exchange_total, exchanged-apart, exchanged-same, stop_counts, joined-ok, swapped-ok, after_join-ok, after_cut-ok, after_swap-ok, names_stop, with_routes}
 
 -- a ticket that no stop has leads nowhere
-off_leads_nowhere : (s : ℕ) (routes : List Route) → count_of (has_ticket s) (stop_list routes) ≡ 0 → next_stop routes s ≡ None
+pub off_leads_nowhere : (s : ℕ) (routes : List Route) → count_of (has_ticket s) (stop_list routes) ≡ 0 → next_stop routes s ≡ None
 off_leads_nowhere s routes none = by (route_of routes s) refl
   where
     by : (o : Option Route) → route_of routes s ≡ o → next_stop routes s ≡ None

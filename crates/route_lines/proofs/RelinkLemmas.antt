@@ -3,11 +3,12 @@ use Rattle.std.proofs.Common.{◌≡◌, ◌∙◌, sym, ap, subst, refl, Bool, 
 use Rattle.std.specs.List.{list_any}
 use Rattle.std.proofs.lemmas.Bool.{false≢true, eqb-true}
 use Rattle.route_lines.specs.Cuts.{up_to, behind}
+use Rattle.route_lines.specs.Leads.{head_or, Leads}
 use Rattle.route_lines.specs.Routes.{has_ticket, smallest, from_smallest, linear, ring, has_stop, route_of, stops_with, without, put_route, linked, unlinked}
 use Rattle.route_lines.specs.Sound.{total, count_of, AreWritten}
 use Rattle.route_lines.specs.State.{Stop, Route, stop_list}
 use Rattle.route_lines.proofs.CutLemmas.{up_to_behind, found_in, found_passes, total-append, count-any, count-none}
-use Rattle.route_lines.proofs.LinkLemmas.{head_or, Leads, Leads-append, Leads-front, Leads-back, Leads-ext, Leads-round, closing_of, Links, Links-put, Links-without, found_if_counted, relinked, apart_relinked, Links-apart, Leads-end, Leads-up_to}
+use Rattle.route_lines.proofs.LinkLemmas.{Leads-append, Leads-front, Leads-back, Leads-ext, Leads-round, closing_of, Links, Links-put, Links-without, found_if_counted, relinked, apart_relinked, Links-apart, Leads-end, Leads-up_to}
 use Rattle.route_lines.proofs.RouteLemmas.{total-without, with_found}
 
 -- ---- what leads to a stop
@@ -67,14 +68,14 @@ none_leads_to_start next s (q ∷ routes) r links e start = at (has_stop s q) e 
         omega (arith, own, h f start, total-append (λ t. cond (leads_to next s t) 1 0) q.stops (stop_list routes), total-append (λ t. cond (has_ticket s t) 1 0) q.stops (stop_list routes))
 
 -- where none leads to a stop, its route is linear and starts with it
-starts_if_none_leads : (next : ℕ → Option ℕ) (s : ℕ) (r : Route) → Leads next (closing_of r) r.stops → count_of (leads_to next s) r.stops ≡ 0 → 1 ≤ count_of (has_ticket s) r.stops → starts_at s r ≡ true
+pub starts_if_none_leads : (next : ℕ → Option ℕ) (s : ℕ) (r : Route) → Leads next (closing_of r) r.stops → count_of (leads_to next s) r.stops ≡ 0 → 1 ≤ count_of (has_ticket s) r.stops → starts_at s r ≡ true
 starts_if_none_leads next s r h none some = at (starts_at s r) refl
   where
     at : (b : Bool) → starts_at s r ≡ b → starts_at s r ≡ true
     at true e = e
     at false e = absurd (omega (arith, leads_in_route next s r h, none, some, ap {B = ℕ} (λ c. cond c 1 0) e))
 
-starts_parts : (s : ℕ) (r : Route) → starts_at s r ≡ true → (r.is_ring ≡ false) × (head_or None r.stops ≡ Some s)
+pub starts_parts : (s : ℕ) (r : Route) → starts_at s r ≡ true → (r.is_ring ≡ false) × (head_or None r.stops ≡ Some s)
 starts_parts s r e = at r.is_ring refl e
   where
     at : (b : Bool) → r.is_ring ≡ b → cond b false (is_ticket (head_or None r.stops) s) ≡ true → (r.is_ring ≡ false) × (head_or None r.stops ≡ Some s)

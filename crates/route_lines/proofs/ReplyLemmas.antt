@@ -1,23 +1,26 @@
 -- The lines of a reply, and how long they are.
-use Rattle.std.proofs.Common.{lit≤, ◌≡◌, ◌∙◌, sym, ap, subst, refl, Bool, true, false, ◌||◌, ◌==◌, ℕ, ◌+◌, ◌<◌, ◌≤◌, List, [], ◌∷◌, ◌++◌, length, Option, Some, None, IfSome, Result, Ok, Err, IfOk, cond, flat_map, option_map, decimal, codes, nat_lt, append_assoc, append-nil, arith}
+use Rattle.std.proofs.Common.{lit≤, ◌≡◌, ◌∙◌, sym, ap, subst, refl, Bool, true, false, ◌||◌, ◌==◌, ℕ, ◌+◌, ◌<◌, ◌≤◌, List, [], ◌∷◌, ◌++◌, length, Option, Some, None, IfSome, Result, Ok, Err, IfOk, cond, flat_map, option_map, decimal, codes, nat_lt, nat_le, reverse, append_assoc, append-nil, find, arith}
 use Rattle.std.proofs.lemmas.List.Elements.{All-nil}
 use Rattle.std.specs.List.{AllByRecursion}
 use Rattle.std.specs.Option.{option_or, ok_or}
-use Rattle.route_lines.specs.Calls.{placed, shown, found}
+use Rattle.route_lines.specs.Calls.{place_holder, stop_holder, and_then, next_ticket, placed, placed_near, shown, found, floor_of, place_after, place_before, started, extended, joined, parted, swapped, walked, marked}
+use Rattle.route_lines.specs.Cuts.{before, behind, first_item, last_item}
 use Rattle.route_lines.specs.Number.{IsNumber}
-use Rattle.route_lines.specs.Reply.{ended, reply, refusal_line, reference_text, placed_line, shown_line, found_line, place_line, places_text}
+use Rattle.route_lines.specs.Reply.{ended, reply, refusal_line, reference_text, placed_line, shown_line, found_line, ticket_line, done_line, neighbor_line, place_line, places_text, stop_line, stops_text, walk_text}
+use Rattle.route_lines.specs.Routes.{walk_from}
 use Rattle.route_lines.specs.Sound.{IsSound, IsNumbered}
-use Rattle.route_lines.specs.State.{State, Place, Stop, Mark, Item, place, stop, mark, with_key, holder, is_full_of_places}
+use Rattle.route_lines.specs.State.{State, Place, Stop, Mark, Item, place, stop, mark, with_key, stop_list, holder, is_full_of_places, last_ticket}
 use Rattle.route_lines.specs.Text.{whole_lines, rest_of}
 use Rattle.route_lines.specs.Unfinished.{Cuts, HasNoLineEnd}
 use Rattle.route_lines.specs.Word.{IsWord}
 use Rattle.route_lines.specs.declared.command.Command.{Command}
-use Rattle.route_lines.specs.declared.command.Command.TheVariants.{Place as PlaceLine, Show, Find, All}
+use Rattle.route_lines.specs.declared.command.Command.TheVariants.{Place as PlaceLine, Show, Find, Floor, After, Before, All, Start, Extend, Join, Cut, Swap, Walk, Mark as MarkLine}
 use Rattle.route_lines.specs.declared.placed.Placed.TheVariants.{New}
 use Rattle.route_lines.specs.declared.refusal.Refusal.{Refusal}
 use Rattle.route_lines.specs.declared.refusal.Refusal.TheVariants.{Unknown, Gone, Kind, No, Full}
-use Rattle.route_lines.proofs.CutLemmas.{all_weaker, found_in}
+use Rattle.route_lines.proofs.CutLemmas.{all_weaker, all_reverse, all_before, all_behind, first_in, last_in, found_in}
 use Rattle.route_lines.proofs.LineTextLemmas.{LineText, LineText-append, LineText-number, LineText-space, LineText-weaker, LineText-word, HasNoLineEnd-line_text}
+use Rattle.route_lines.proofs.RouteLemmas.{all_walk}
 use Rattle.route_lines.proofs.RunLemmas.{whole_lines-cut, rest_of-cut}
 use Rattle.route_lines.proofs.SoundLemmas.{ticket_left}
 
@@ -99,12 +102,13 @@ placed_text s key word sound numbered = at (with_key key s.places) refl (found_i
         let ticket = LineText-append (LineText-number p.ticket parts.ticket) old in
         rw e (LineText-weaker (lit≤ tt) (LineText-append ticket (LineText-word p.word parts.word)))
 
+-- a place that is found by its neighbor, or by its key
+found_line_text : (o : Option Place) → IfSome o PlaceParts → LineText 58 (found_line (option_map (λ p. p.ticket) o))
+found_line_text None parts = record { bytes = refl; short = lit≤ tt; some = lit≤ tt }
+found_line_text (Some p) parts = number_text p.ticket parts.ticket
+
 found_text : (s : State) (key : ℕ) → IsSound s → IsNumbered s → LineText 58 (found_line (found s key))
-found_text s key sound numbered = at (with_key key s.places) (found_in PlaceParts (λ p. p.key == key) s.places (sound_parts s sound numbered))
-  where
-    at : (o : Option Place) → IfSome o PlaceParts → LineText 58 (found_line (option_map (λ p. p.ticket) o))
-    at None parts = record { bytes = refl; short = lit≤ tt; some = lit≤ tt }
-    at (Some p) parts = number_text p.ticket parts.ticket
+found_text s key sound numbered = found_line_text (with_key key s.places) (found_in PlaceParts (λ p. p.key == key) s.places (sound_parts s sound numbered))
 
 -- what is known of a living item
 abbrev ItemParts : Item → Type 0
@@ -155,9 +159,120 @@ places_short (p ∷ ps) parts =
       each = (place_text p parts.0, behind.each);
     }
 
+floor_text : (s : State) (key : ℕ) → IsSound s → IsNumbered s → LineText 58 (found_line (floor_of s key))
+floor_text s key sound numbered =
+    found_line_text (find (λ p. nat_le p.key key) (reverse s.places)) (found_in PlaceParts (λ p. nat_le p.key key) (reverse s.places) (all_reverse PlaceParts s.places (sound_parts s sound numbered)))
+
+after_text : (s : State) (ticket : ℕ) → IsSound s → IsNumbered s → LineText 58 (neighbor_line (place_after s ticket))
+after_text s ticket sound numbered = at (place_holder s ticket)
+  where
+    next : Option Place
+    next = first_item (behind (λ p. p.ticket == ticket) s.places)
+
+    parts : IfSome next PlaceParts
+    parts = first_in PlaceParts (behind (λ p. p.ticket == ticket) s.places) (all_behind PlaceParts (λ p. p.ticket == ticket) s.places (sound_parts s sound numbered))
+
+    at : (r : Result Place Refusal) → LineText 58 (neighbor_line (and_then r (λ p. Ok (option_map (λ q. q.ticket) next))))
+    at (Ok p) = found_line_text next parts
+    at (Err refusal) = refusal_text refusal
+
+before_text : (s : State) (ticket : ℕ) → IsSound s → IsNumbered s → LineText 58 (neighbor_line (place_before s ticket))
+before_text s ticket sound numbered = at (place_holder s ticket)
+  where
+    next : Option Place
+    next = last_item (before (λ p. p.ticket == ticket) s.places)
+
+    parts : IfSome next PlaceParts
+    parts = last_in PlaceParts (before (λ p. p.ticket == ticket) s.places) (all_before PlaceParts (λ p. p.ticket == ticket) s.places (sound_parts s sound numbered))
+
+    at : (r : Result Place Refusal) → LineText 58 (neighbor_line (and_then r (λ p. Ok (option_map (λ q. q.ticket) next))))
+    at (Ok p) = found_line_text next parts
+    at (Err refusal) = refusal_text refusal
+
+placed_near_text : (s : State) (key : ℕ) (word : List ℕ) (near : ℕ) → IsSound s → IsNumbered s → LineText 58 (placed_line (placed_near s key word near))
+placed_near_text s key word near sound numbered = at (place_holder s near)
+  where
+    at : (r : Result Place Refusal) → LineText 58 (placed_line (and_then r (λ p. placed s key word)))
+    at (Ok p) = placed_text s key word sound numbered
+    at (Err refusal) = refusal_text refusal
+
+-- an answer that is a new ticket, or that says that a line is carried out
+ticket_text : (r : Result ℕ Refusal) → IfOk r IsNumber → LineText 58 (ticket_line r)
+ticket_text (Ok ticket) small = number_text ticket small
+ticket_text (Err refusal) small = refusal_text refusal
+
+done_text : (r : Result Unit Refusal) → LineText 58 (done_line r)
+done_text (Ok done) = record { bytes = refl; short = lit≤ tt; some = lit≤ tt }
+done_text (Err refusal) = refusal_text refusal
+
+next_number : (s : State) (is_full : Bool) → IsNumbered s → IfOk (next_ticket s (is_full || (s.last == last_ticket))) IsNumber
+next_number s is_full numbered = at (is_full || (s.last == last_ticket)) refl
+  where
+    at : (b : Bool) → (is_full || (s.last == last_ticket)) ≡ b → IfOk (next_ticket s b) IsNumber
+    at true e = tt
+    at false e = ticket_left s.last is_full e numbered.last
+
+if_ok-then : {X Y : Type 0} (P : Y → Type 0) (r : Result X Refusal) (test : X → Result Y Refusal) → ((x : X) → IfOk (test x) P) → IfOk (and_then r test) P
+if_ok-then P (Ok x) test h = h x
+if_ok-then P (Err refusal) test h = tt
+
+started_number : (s : State) (at : ℕ) → IsNumbered s → IfOk (started s at) IsNumber
+started_number s at numbered = if_ok-then IsNumber (place_holder s at) _ (λ p. next_number s _ numbered)
+
+extended_number : (s : State) (t at : ℕ) → IsNumbered s → IfOk (extended s t at) IsNumber
+extended_number s t at numbered = if_ok-then IsNumber (stop_holder s t) _ (λ u. started_number s at numbered)
+
+marked_number : (s : State) (at t : ℕ) → IsNumbered s → IfOk (marked s at t) IsNumber
+marked_number s at t numbered = if_ok-then IsNumber (place_holder s at) _ (λ p. if_ok-then IsNumber (stop_holder s t) _ (λ u. next_number s _ numbered))
+
+-- what is known of a living stop
+record StopParts (t : Stop) : Type 0 where
+  ticket : IsNumber t.ticket
+  place : IfSome t.place IsNumber
+
+stops_parts : (last : ℕ) (stops : List Stop) → IsNumber last → AllByRecursion (λ t. (0 < t.ticket) × (t.ticket ≤ last)) stops → AllByRecursion (λ t. IfSome t.place IsNumber) stops → AllByRecursion StopParts stops
+stops_parts last [] small given places = tt
+stops_parts last (t ∷ stops) small given places =
+    (record { ticket = omega (arith, small, given.0.1); place = places.0 }, stops_parts last stops small given.1 places.1)
+
+stop_text : (t : Stop) → StopParts t → LineText 58 (stop_line t)
+stop_text t parts =
+    let ticket = LineText-append (LineText-number t.ticket parts.ticket) LineText-space in
+    LineText-weaker (lit≤ tt) (LineText-append ticket (reference_short t.place parts.place))
+
+stops_short : (stops : List Stop) → AllByRecursion StopParts stops → ShortLines (stops_text stops)
+stops_short [] parts = ShortLines-one (codes "end") (record { bytes = refl; short = lit≤ tt; some = lit≤ tt })
+stops_short (t ∷ stops) parts =
+    let behind = stops_short stops parts.1 in
+    record {
+      lines = stop_line t ∷ behind.lines;
+      is =
+          append_assoc (ended (stop_line t)) (flat_map (λ u. ended (stop_line u)) stops) (ended (codes "end"))
+          ∙ ap (λ text. ended (stop_line t) ++ text) behind.is;
+      each = (stop_text t parts.0, behind.each);
+    }
+
+walk_short : (s : State) (t : ℕ) → IsSound s → IsNumbered s → ShortLines (walk_text (walked s t))
+walk_short s t sound numbered = at (stop_holder s t)
+  where
+    at : (r : Result Stop Refusal) → ShortLines (walk_text (and_then r (λ x. Ok (walk_from t s.routes))))
+    at (Ok x) = stops_short (walk_from t s.routes) (all_walk StopParts t s.routes (stops_parts s.last (stop_list s.routes) numbered.last sound.given_stops numbered.stops))
+    at (Err refusal) = ShortLines-one (refusal_line refusal) (refusal_text refusal)
+
 pub ShortLines-reply : (s : State) (command : Option Command) → IsSound s → IsNumbered s → ShortLines (reply s command)
 ShortLines-reply s None sound numbered = ShortLines-one (codes "bad") (record { bytes = refl; short = lit≤ tt; some = lit≤ tt })
-ShortLines-reply s (Some (PlaceLine key word)) sound numbered = ShortLines-one (placed_line (placed s key word)) (placed_text s key word sound numbered)
+ShortLines-reply s (Some (PlaceLine key word None)) sound numbered = ShortLines-one (placed_line (placed s key word)) (placed_text s key word sound numbered)
+ShortLines-reply s (Some (PlaceLine key word (Some near))) sound numbered = ShortLines-one (placed_line (placed_near s key word near)) (placed_near_text s key word near sound numbered)
 ShortLines-reply s (Some (Show ticket)) sound numbered = ShortLines-one (shown_line (shown s ticket)) (shown_text s ticket sound numbered)
 ShortLines-reply s (Some (Find key)) sound numbered = ShortLines-one (found_line (found s key)) (found_text s key sound numbered)
+ShortLines-reply s (Some (Floor key)) sound numbered = ShortLines-one (found_line (floor_of s key)) (floor_text s key sound numbered)
+ShortLines-reply s (Some (After ticket)) sound numbered = ShortLines-one (neighbor_line (place_after s ticket)) (after_text s ticket sound numbered)
+ShortLines-reply s (Some (Before ticket)) sound numbered = ShortLines-one (neighbor_line (place_before s ticket)) (before_text s ticket sound numbered)
 ShortLines-reply s (Some All) sound numbered = places_short s.places (sound_parts s sound numbered)
+ShortLines-reply s (Some (Start p)) sound numbered = ShortLines-one (ticket_line (started s p)) (ticket_text (started s p) (started_number s p numbered))
+ShortLines-reply s (Some (Extend t p)) sound numbered = ShortLines-one (ticket_line (extended s t p)) (ticket_text (extended s t p) (extended_number s t p numbered))
+ShortLines-reply s (Some (Join t u)) sound numbered = ShortLines-one (done_line (joined s t u)) (done_text (joined s t u))
+ShortLines-reply s (Some (Cut t)) sound numbered = ShortLines-one (done_line (parted s t)) (done_text (parted s t))
+ShortLines-reply s (Some (Swap t u)) sound numbered = ShortLines-one (done_line (swapped s t u)) (done_text (swapped s t u))
+ShortLines-reply s (Some (Walk t)) sound numbered = walk_short s t sound numbered
+ShortLines-reply s (Some (MarkLine p t)) sound numbered = ShortLines-one (ticket_line (marked s p t)) (ticket_text (marked s p t) (marked_number s p t numbered))

@@ -1,13 +1,13 @@
 -- Routes as they are joined and cut apart: they stay written as they should be, with the same stops.
-use Rattle.std.proofs.Common.{◌≡◌, ◌≢◌, ◌∙◌, sym, ap, subst, refl, Bool, true, false, ◌||◌, ◌==◌, ◌⊎◌, inl, inr, ℕ, ◌+◌, ◌<◌, ◌≤◌, List, [], ◌∷◌, ◌++◌, length, Option, Some, None, cond, not, nat_lt, min, arith}
+use Rattle.std.proofs.Common.{◌≡◌, ◌≢◌, ◌∙◌, sym, ap, subst, refl, Bool, true, false, ◌||◌, ◌==◌, ◌⊎◌, inl, inr, ℕ, ◌+◌, ◌<◌, ◌≤◌, List, [], ◌∷◌, ◌++◌, length, Option, Some, None, cond, not, nat_lt, min, reverse, arith}
 use Rattle.std.specs.List.{AllByRecursion, list_any}
 use Rattle.std.specs.Option.{option_map_or}
 use Rattle.std.proofs.lemmas.Bool.{false≢true, eq-eqb, eqb-true, eqb-false, ltb-true, ltb-false, cases_lt}
 use Rattle.route_lines.specs.Cuts.{before, onward, up_to, behind}
-use Rattle.route_lines.specs.Routes.{has_ticket, round, smallest, from_smallest, linear, ring, has_stop, route_of, stops_with, without, first_ticket, insert_route, put_route, next_stop, linked, unlinked, exchanged}
+use Rattle.route_lines.specs.Routes.{has_ticket, round, smallest, from_smallest, linear, ring, has_stop, route_of, stops_with, without, first_ticket, insert_route, put_route, next_stop, linked, unlinked, exchanged, walk_in, walk_from}
 use Rattle.route_lines.specs.Sound.{RoutesRise, total, count_of, IsWritten, AreWritten}
 use Rattle.route_lines.specs.State.{Stop, Route, stop_list}
-use Rattle.route_lines.proofs.CutLemmas.{before_onward, up_to_behind, all_weaker, all_append, all_front, all_back, all_filter, total-append, count-any, none-count}
+use Rattle.route_lines.proofs.CutLemmas.{all_before, all_onward, all_reverse, before_onward, up_to_behind, all_weaker, all_append, all_front, all_back, all_filter, total-append, count-any, none-count}
 
 -- ---- a route more
 
@@ -418,3 +418,17 @@ exchanged_keeps P s u routes cut join h = by (next_stop routes s) (next_stop rou
         at : (b : Bool) → P (cond b routes (linked u x (linked s y (unlinked u (unlinked s routes)))))
         at true = h
         at false = join u x (linked s y (unlinked u (unlinked s routes))) (join s y (unlinked u (unlinked s routes)) (cut u (unlinked s routes) (cut s routes h)))
+
+-- ---- walks
+
+pub all_walk : (P : Stop → Type 0) (s : ℕ) (routes : List Route) → AllByRecursion P (stop_list routes) → AllByRecursion P (walk_from s routes)
+all_walk P s routes h = by (route_of routes s) (all_stops_with P s routes h)
+  where
+    by : (o : Option Route) → AllByRecursion P (option_map_or (λ r. r.stops) o []) → AllByRecursion P (option_map_or (walk_in s) o [])
+    by None each = tt
+    by (Some r) each = at r.is_ring
+      where
+        at : (b : Bool) → AllByRecursion P (cond b (round s r.stops) (onward (has_ticket s) r.stops ++ reverse (before (has_ticket s) r.stops)))
+        at true = all_round P s r.stops each
+        at false =
+            all_append P (onward (has_ticket s) r.stops) (reverse (before (has_ticket s) r.stops)) (all_onward P (has_ticket s) r.stops each) (all_reverse P (before (has_ticket s) r.stops) (all_before P (has_ticket s) r.stops each))

@@ -8,11 +8,11 @@ use Rattle.std.proofs.lemmas.List.Splits.{slice_split_at, slice_split_none, leng
 use Rattle.route_lines.specs.State.{State}
 use Rattle.route_lines.specs.Reply.{ended, reply, next}
 use Rattle.route_lines.specs.Text.{Line, whole, command_in, replies, after_lines, front, last, lines, whole_lines, rest_of, unended_line}
-use Rattle.counted_search.specs.Searches.{most_comparisons}
-use Rattle.route_lines.specs.Searches.{CountsWithin, place_count, living_count}
+use Rattle.route_lines.specs.Searches.{CountsWithin, CountsFor, most_keys, most_tickets}
 use Rattle.route_lines.specs.Run.{Carries, BreaksOff, most_comparisons_over}
 use Rattle.route_lines.specs.Unfinished.{Cuts, HasNoLineEnd}
 use Rattle.route_lines.specs.Written.{AppendsBeginning}
+use Rattle.route_lines.specs.declared.command.Command.{Command}
 use Rattle.route_lines.specs.declared.counts.Counts.{Counts}
 
 -- ---- lines after lines
@@ -27,10 +27,10 @@ replies-append s (x ∷ xs) ys =
     ap (λ text. reply s (command_in x) ++ text) (replies-append (next s (command_in x)) xs ys)
     ∙ sym (append_assoc (reply s (command_in x)) (replies (next s (command_in x)) xs) (replies (after_lines (next s (command_in x)) xs) ys))
 
-pub most_comparisons_over-append : (count : State → ℕ) (s : State) (xs ys : List Line) → most_comparisons_over count s (xs ++ ys) ≡ most_comparisons_over count s xs + most_comparisons_over count (after_lines s xs) ys
-most_comparisons_over-append count s [] ys = omega arith
-most_comparisons_over-append count s (x ∷ xs) ys =
-    let h = most_comparisons_over-append count (next s (command_in x)) xs ys in
+pub most_comparisons_over-append : (most : State → Option Command → ℕ) (s : State) (xs ys : List Line) → most_comparisons_over most s (xs ++ ys) ≡ most_comparisons_over most s xs + most_comparisons_over most (after_lines s xs) ys
+most_comparisons_over-append most s [] ys = omega arith
+most_comparisons_over-append most s (x ∷ xs) ys =
+    let h = most_comparisons_over-append most (next s (command_in x)) xs ys in
     omega (arith, h)
 
 pub CountsWithin-trans : (a b c : Counts) (k f s k' f' s' k'' f'' s'' : ℕ) → CountsWithin a b k f s → CountsWithin b c k' f' s' → k'' ≡ k + k' → f'' ≡ f + f' → s'' ≡ s + s' → CountsWithin a c k'' f'' s''
@@ -77,18 +77,18 @@ Carries-trans s t u xs ys a b c before between later first second =
     record {
       state = moved.state ∙ sym (after_lines-append s xs ys);
       replied = subst (Appends a c) (sym (replies-append s xs ys)) (Appends-trans a b c _ _ first.replied moved.replied);
-      counts = CountsWithin-trans before between later _ _ _ _ _ _ _ _ _ first.counts moved.counts (most_comparisons_over-append place_count s xs ys) (most_comparisons_over-append living_count s xs ys) (most_comparisons_over-append living_count s xs ys);
+      counts = CountsWithin-trans before between later _ _ _ _ _ _ _ _ _ first.counts moved.counts (most_comparisons_over-append most_keys s xs ys) (most_comparisons_over-append most_tickets s xs ys) (most_comparisons_over-append most_tickets s xs ys);
     }
 
 -- one line
-pub Carries-one : (s t : State) (line : Line) (a b : Option (List ℕ)) (before later : Counts) → t ≡ next s (command_in line) → Appends a b (reply s (command_in line)) → CountsWithin before later (most_comparisons (place_count s)) (most_comparisons (living_count s)) (most_comparisons (living_count s)) → Carries s (line ∷ []) t a b before later
+pub Carries-one : (s t : State) (line : Line) (a b : Option (List ℕ)) (before later : Counts) → t ≡ next s (command_in line) → Appends a b (reply s (command_in line)) → CountsFor s (command_in line) before later → Carries s (line ∷ []) t a b before later
 Carries-one s t line a b before later state replied counts = record {
   state = state;
   replied = subst (Appends a b) (sym (append-nil (reply s (command_in line)))) replied;
   counts = CountsWithin-more before later _ _ _ _ _ _ counts (omega arith) (omega arith) (omega arith);
 }
 
-pub BreaksOff-one : (s t : State) (line : Line) (a b : Option (List ℕ)) (before later : Counts) → t ≡ next s (command_in line) → AppendsBeginning a b (reply s (command_in line)) → CountsWithin before later (most_comparisons (place_count s)) (most_comparisons (living_count s)) (most_comparisons (living_count s)) → BreaksOff s [] line t a b before later
+pub BreaksOff-one : (s t : State) (line : Line) (a b : Option (List ℕ)) (before later : Counts) → t ≡ next s (command_in line) → AppendsBeginning a b (reply s (command_in line)) → CountsFor s (command_in line) before later → BreaksOff s [] line t a b before later
 BreaksOff-one s t line a b before later state begins counts = record {
   part = begins.part;
   missing = begins.missing;
@@ -112,8 +112,8 @@ BreaksOff-after s t u xs ys line a b c before between later first second =
       state = moved.state ∙ sym (after_lines-append s xs (ys ++ line ∷ [])) ∙ ap (after_lines s) more;
       replied = subst (Appends a c) (sym (append_assoc (replies s xs) (replies m ys) moved.part) ∙ ap (λ text. text ++ moved.part) (sym (replies-append s xs ys)))
           (Appends-trans a b c _ _ first.replied moved.replied);
-      counts = subst (λ ls. CountsWithin before later (most_comparisons_over place_count s ls) (most_comparisons_over living_count s ls) (most_comparisons_over living_count s ls)) more
-          (CountsWithin-trans before between later _ _ _ _ _ _ _ _ _ first.counts moved.counts (most_comparisons_over-append place_count s xs (ys ++ line ∷ [])) (most_comparisons_over-append living_count s xs (ys ++ line ∷ [])) (most_comparisons_over-append living_count s xs (ys ++ line ∷ [])));
+      counts = subst (λ ls. CountsWithin before later (most_comparisons_over most_keys s ls) (most_comparisons_over most_tickets s ls) (most_comparisons_over most_tickets s ls)) more
+          (CountsWithin-trans before between later _ _ _ _ _ _ _ _ _ first.counts moved.counts (most_comparisons_over-append most_keys s xs (ys ++ line ∷ [])) (most_comparisons_over-append most_tickets s xs (ys ++ line ∷ [])) (most_comparisons_over-append most_tickets s xs (ys ++ line ∷ [])));
     }
 
 -- ---- an input cut into lines

@@ -4,11 +4,12 @@ use Rattle.std.specs.List.{AllByRecursion}
 use Rattle.std.specs.Option.{option_map_or}
 use Rattle.std.proofs.lemmas.Bool.{false≢true, eq-eqb, eqb-true}
 use Rattle.route_lines.specs.Cuts.{before, onward, first_item}
+use Rattle.route_lines.specs.Leads.{head_or, Leads}
 use Rattle.route_lines.specs.Routes.{has_ticket, round, has_stop, route_of, first_ticket}
 use Rattle.route_lines.specs.Sound.{RoutesRise, count_of, IsWritten, AreWritten}
 use Rattle.route_lines.specs.State.{Stop, Route, stop_list}
 use Rattle.route_lines.proofs.CutLemmas.{before_onward, all_weaker, all_front, all_back, found_in, found_passes, total-append, count-any}
-use Rattle.route_lines.proofs.LinkLemmas.{head_or, Leads, Leads-back, Leads-round, closing_of, Links, all_at, all_both, found_if_counted, own_route, counts_within}
+use Rattle.route_lines.proofs.LinkLemmas.{Leads-back, Leads-round, closing_of, Links, all_at, all_both, found_if_counted, own_route, counts_within}
 use Rattle.route_lines.proofs.RouteLemmas.{first_counts, all_round}
 
 -- ---- lists that lead alike

@@ -16,7 +16,7 @@ use Rattle.route_lines.specs.Sound.{KeysRise, MarksRise, total, count_of, holder
 use Rattle.route_lines.specs.declared.change.Change.{Change}
 use Rattle.route_lines.specs.declared.change.Change.TheVariants.{Open, Place as PlaceChange, Start, Extend, Join, Cut, Swap, Mark as MarkChange}
 use Rattle.route_lines.specs.declared.command.Command.{Command}
-use Rattle.route_lines.specs.declared.command.Command.TheVariants.{Place as PlaceLine, Show, Find, All}
+use Rattle.route_lines.specs.declared.command.Command.TheVariants.{Place as PlaceLine, Show, Find, Floor, After, Before, All, Start as StartLine, Extend as ExtendLine, Join as JoinLine, Cut as CutLine, Swap as SwapLine, Walk, Mark as MarkLine}
 use Rattle.route_lines.specs.declared.refusal.Refusal.{Refusal}
 use Rattle.route_lines.specs.declared.refusal.Refusal.TheVariants.{Unknown, Gone, Kind}
 use Rattle.route_lines.proofs.CutLemmas.{all_weaker, all_append, total-append, length-total}
@@ -486,10 +486,23 @@ kept_by_lines Keeps kept s (line ∷ lines) keeps = kept_by_lines Keeps kept (ne
       where
         at : (o : Option Command) → command_of bytes ≡ o → Keeps (next s o)
         at None e = keeps
-        at (Some (PlaceLine key word)) e = let spelled = command_of-found bytes (PlaceLine key word) e in kept s (PlaceChange key word) (spelled.0, spelled.1) keeps
+        at (Some (PlaceLine key word None)) e = let spelled = command_of-found bytes (PlaceLine key word None) e in kept s (PlaceChange key word) (spelled.0, spelled.1) keeps
+        at (Some (PlaceLine key word (Some near))) e =
+            let spelled = command_of-found bytes (PlaceLine key word (Some near)) e in
+            keeps_unless_refused Keeps s (place_holder s near) _ keeps (λ p passed. kept s (PlaceChange key word) (spelled.0, spelled.1) keeps)
         at (Some (Show ticket)) e = keeps
         at (Some (Find key)) e = keeps
+        at (Some (Floor key)) e = keeps
+        at (Some (After ticket)) e = keeps
+        at (Some (Before ticket)) e = keeps
         at (Some All) e = keeps
+        at (Some (StartLine at_place)) e = kept s (Start at_place) tt keeps
+        at (Some (ExtendLine t at_place)) e = kept s (Extend t at_place) tt keeps
+        at (Some (JoinLine t u)) e = kept s (Join t u) tt keeps
+        at (Some (CutLine t)) e = kept s (Cut t) tt keeps
+        at (Some (SwapLine t u)) e = kept s (Swap t u) tt keeps
+        at (Some (Walk t)) e = keeps
+        at (Some (MarkLine at_place t)) e = kept s (MarkChange at_place t) tt keeps
 
 pub IsSound-from_empty : (rooms : Rooms) (last : ℕ) (lines : List Line) → IsSound (after_lines (empty rooms last) lines)
 IsSound-from_empty rooms last lines = kept_by_lines IsSound IsSound-changed (empty rooms last) lines (IsSound-empty rooms last)

@@ -5,12 +5,13 @@ use Rattle.std.specs.Option.{option_map, option_or, option_and_then, ok_or}
 use Rattle.std.proofs.lemmas.Bool.{eq-eqb, eqb-true, eqb-false, ne_eqb}
 use Rattle.route_lines.specs.Calls.{stop_holder, allowed, unless_refused, joined, after_join, parted, after_cut, swapped, after_swap}
 use Rattle.route_lines.specs.Cuts.{before, last_item}
+use Rattle.route_lines.specs.Leads.{head_or}
 use Rattle.route_lines.specs.Routes.{has_ticket, ticket_of, previous_in, route_of, next_stop, previous_stop, linked, unlinked, exchanged}
 use Rattle.route_lines.specs.Sound.{total, count_of, AreWritten, IsSound}
 use Rattle.route_lines.specs.State.{State, Stop, Route, Mark, Place, place, stop, mark, stop_list, place_of, stop_of, mark_of}
 use Rattle.route_lines.specs.declared.refusal.Refusal.TheVariants.{Unknown, Gone}
 use Rattle.route_lines.proofs.CutLemmas.{all_weaker, found_passes, count-any, any-count, found_if_any}
-use Rattle.route_lines.proofs.LinkLemmas.{head_or, Links, Links-ext, Links-next_stop, next_stop-is, found_if_counted, relinked, all_both, all_counted}
+use Rattle.route_lines.proofs.LinkLemmas.{Links, Links-ext, Links-next_stop, next_stop-is, found_if_counted, relinked, all_both, all_counted}
 use Rattle.route_lines.proofs.RelinkLemmas.{is_ticket, leads_to, starts_at, leads_at_most, none_leads_to_start, Links-linked, Links-unlinked}
 use Rattle.route_lines.proofs.RouteLemmas.{AreWritten-linked, total-linked, all_linked, AreWritten-unlinked, total-unlinked, all_unlinked, exchanged_keeps}
 use Rattle.route_lines.proofs.SameRoutesLemmas.{Fits, same_routes}
@@ -18,7 +19,7 @@ use Rattle.route_lines.proofs.SoundLemmas.{and_then-ok, stop_holder-ok}
 
 -- ---- the place of each stop
 
-own_stop : (xs : List Stop) → ((s : ℕ) → count_of (has_ticket s) xs ≤ 1) → AllByRecursion (λ t. find (has_ticket t.ticket) xs ≡ Some t) xs
+pub own_stop : (xs : List Stop) → ((s : ℕ) → count_of (has_ticket s) xs ≤ 1) → AllByRecursion (λ t. find (has_ticket t.ticket) xs ≡ Some t) xs
 own_stop [] once = tt
 own_stop (x ∷ xs) once = (
   rw (eq-eqb x.ticket x.ticket refl) refl,

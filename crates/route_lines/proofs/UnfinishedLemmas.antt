@@ -8,8 +8,7 @@ use Rattle.route_lines.specs.State.{State}
 use Rattle.route_lines.specs.Grammar.{command_of}
 use Rattle.route_lines.specs.Reply.{ended, reply, next}
 use Rattle.route_lines.specs.Text.{whole, unended, unended_line, lines, whole_lines}
-use Rattle.counted_search.specs.Searches.{most_comparisons}
-use Rattle.route_lines.specs.Searches.{CountsWithin, place_count, living_count}
+use Rattle.route_lines.specs.Searches.{CountsFor}
 use Rattle.route_lines.specs.Run.{Carries, BreaksOff, StopsWithin}
 use Rattle.route_lines.specs.Unfinished.{HasNoLineEnd, StandsFor, Cuts, Takes, Stops, StopsAtEnd}
 use Rattle.route_lines.specs.Written.{AppendsBeginning}
@@ -36,11 +35,11 @@ Takes-none begun piece kept s held counts none stands = record {
 -- a line more is carried out
 pub Takes-line : (bytes left line behind : List ℕ) (kept cleared : Unfinished) (command : Option Command) (s t u : State) (a b c : Option (List ℕ)) (before between later : Counts)
     → Takes bytes left kept s t a b before between → left ≡ line ++ 10 ∷ behind → HasNoLineEnd line → ((begun : List ℕ) → StandsFor kept begun → command ≡ command_of (begun ++ line)) → StandsFor cleared []
-    → u ≡ next t command → Appends b c (reply t command) → CountsWithin between later (most_comparisons (place_count t)) (most_comparisons (living_count t)) (most_comparisons (living_count t))
+    → u ≡ next t command → Appends b c (reply t command) → CountsFor t command between later
     → Takes bytes behind cleared s u a c before later
 Takes-line bytes left line behind kept cleared command s t u a b c before between later taken split none spelled stands state replied counts =
     let same : command ≡ command_of (taken.rest ++ line) = spelled taken.rest taken.stands in
-    let one = Carries-one t u (whole (taken.rest ++ line)) b c between later (state ∙ ap (next t) same) (subst (λ x. Appends b c (reply t x)) same replied) counts in
+    let one = Carries-one t u (whole (taken.rest ++ line)) b c between later (state ∙ ap (next t) same) (subst (λ x. Appends b c (reply t x)) same replied) (subst (λ x. CountsFor t x between later) same counts) in
     record {
       lines = taken.lines ++ (taken.rest ++ line) ∷ [];
       rest = [];
@@ -61,11 +60,11 @@ Takes-line bytes left line behind kept cleared command s t u a b c before betwee
 -- the reply to a line more is not written whole
 pub Stops-at_line : (bytes left line behind : List ℕ) (kept : Unfinished) (command : Option Command) (s t u : State) (a b c : Option (List ℕ)) (before between later : Counts)
     → Takes bytes left kept s t a b before between → left ≡ line ++ 10 ∷ behind → HasNoLineEnd line → ((begun : List ℕ) → StandsFor kept begun → command ≡ command_of (begun ++ line))
-    → u ≡ next t command → AppendsBeginning b c (reply t command) → CountsWithin between later (most_comparisons (place_count t)) (most_comparisons (living_count t)) (most_comparisons (living_count t))
+    → u ≡ next t command → AppendsBeginning b c (reply t command) → CountsFor t command between later
     → Stops bytes s u a c before later
 Stops-at_line bytes left line behind kept command s t u a b c before between later taken split none spelled state begins counts =
     let same : command ≡ command_of (taken.rest ++ line) = spelled taken.rest taken.stands in
-    let one = BreaksOff-one t u (whole (taken.rest ++ line)) b c between later (state ∙ ap (next t) same) (subst (λ x. AppendsBeginning b c (reply t x)) same begins) counts in
+    let one = BreaksOff-one t u (whole (taken.rest ++ line)) b c between later (state ∙ ap (next t) same) (subst (λ x. AppendsBeginning b c (reply t x)) same begins) (subst (λ x. CountsFor t x between later) same counts) in
     record {
       lines = taken.lines;
       line = taken.rest ++ line;

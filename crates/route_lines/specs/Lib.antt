@@ -3,6 +3,7 @@ pub mod Changes
 pub mod CommandLine
 pub mod Cuts
 pub mod Grammar
+pub mod Leads
 pub mod Number
 pub mod Reply
 pub mod ReplyText

@@ -4,22 +4,22 @@ use Rattle.std.specs.Io.KnownBytes.{Appends, IsAtEnd}
 use Rattle.route_lines.specs.State.{State}
 use Rattle.route_lines.specs.Reply.{reply, next}
 use Rattle.route_lines.specs.Text.{Line, whole, unended, command_in, replies, after_lines, lines}
-use Rattle.counted_search.specs.Searches.{most_comparisons}
-use Rattle.route_lines.specs.Searches.{CountsWithin, place_count, living_count}
+use Rattle.route_lines.specs.Searches.{CountsWithin, most_keys, most_tickets}
+use Rattle.route_lines.specs.declared.command.Command.{Command}
 use Rattle.route_lines.specs.declared.counts.Counts.{Counts}
 use Rattle.route_lines.specs.declared.fault.RunFault.{RunFault}
 use Rattle.route_lines.specs.declared.fault.RunFault.TheVariants.{Read, Write, TooLong}
 
--- the greatest number of comparisons that lines may take, one after another, among so many entries
-abbrev pub most_comparisons_over : (State → ℕ) → State → List Line → ℕ
-most_comparisons_over count s [] = 0
-most_comparisons_over count s (line ∷ lines) = most_comparisons (count s) + most_comparisons_over count (next s (command_in line)) lines
+-- the greatest number of comparisons that lines may take, one after another, if a command may take so many
+abbrev pub most_comparisons_over : (State → Option Command → ℕ) → State → List Line → ℕ
+most_comparisons_over most s [] = 0
+most_comparisons_over most s (line ∷ lines) = most s (command_in line) + most_comparisons_over most (next s (command_in line)) lines
 
 -- from the old state on, the lines are carried out and their replies written
 pub record Carries (old : State) (lines : List Line) (new : State) (held written : Option (List ℕ)) (before later : Counts) : Type 0 where
   pub state : new ≡ after_lines old lines
   pub replied : Appends held written (replies old lines)
-  pub counts : CountsWithin before later (most_comparisons_over place_count old lines) (most_comparisons_over living_count old lines) (most_comparisons_over living_count old lines)
+  pub counts : CountsWithin before later (most_comparisons_over most_keys old lines) (most_comparisons_over most_tickets old lines) (most_comparisons_over most_tickets old lines)
 
 -- the lines are carried out, and one more; of its reply a beginning is written, at least a byte short
 pub record BreaksOff (old : State) (lines : List Line) (line : Line) (new : State) (held written : Option (List ℕ)) (before later : Counts) : Type 0 where
@@ -29,7 +29,7 @@ pub record BreaksOff (old : State) (lines : List Line) (line : Line) (new : Stat
   pub short : 0 < length missing
   pub state : new ≡ after_lines old (lines ++ line ∷ [])
   pub replied : Appends held written (replies old lines ++ part)
-  pub counts : CountsWithin before later (most_comparisons_over place_count old (lines ++ line ∷ [])) (most_comparisons_over living_count old (lines ++ line ∷ [])) (most_comparisons_over living_count old (lines ++ line ∷ []))
+  pub counts : CountsWithin before later (most_comparisons_over most_keys old (lines ++ line ∷ [])) (most_comparisons_over most_tickets old (lines ++ line ∷ [])) (most_comparisons_over most_tickets old (lines ++ line ∷ []))
 
 -- a line without LF comes at the end of the input alone
 abbrev pub ComesIn : Line → Option (List ℕ) → Type 0

@@ -1,10 +1,12 @@
 //! What holds of the definitions that the contracts cite. The functions do nothing: their contracts are the laws.
+mod calls;
 mod grammar;
 mod places;
 mod replies;
 mod routes;
 mod states;
 
+pub use calls::{new_tickets_come_next, refused_calls_change_nothing};
 pub use counted_search::laws::the_bound_is_the_greatest;
 pub use grammar::{
     commands_have_one_line, lines_have_one_command, spellings_are_found, spellings_are_short_lines,
@@ -12,7 +14,10 @@ pub use grammar::{
 pub use places::hints_change_no_reply;
 pub use replies::replies_have_short_lines;
 pub use routes::{
-    cuts_part_one_stop, cuts_undo_joins, joins_lead_on, swaps_exchange_next_stops, swaps_undo_swaps,
+    cuts_part_one_stop, cuts_undo_joins, extensions_add_one_stop, extensions_lead_through,
+    joins_lead_on, lists_are_walked_both_ways, rings_are_walked_once, routes_lead_along, starts_lead_nowhere,
+    stops_follow_their_previous_ones, stops_stay_as_routes_change, swaps_exchange_next_stops,
+    swaps_undo_swaps,
 };
 pub use states::{
     changes_keep_states_sound, equal_states_answer_equally, states_are_numbered, states_are_sound,

@@ -1,9 +1,19 @@
 -- The entries of a ticket book in their arena.
-use Rattle.std.specs.Prelude.{ℕ, List, map}
-use Rattle.triple_arena_ord.specs.Ordered.{Ordered, ordered_entries}
+use Rattle.std.specs.Prelude.{ℕ, ◌+◌, List, map}
+use Rattle.std.specs.Ordering.{nat_cmp}
+use Rattle.rank_tree.specs.Search.{asked_down}
+use Rattle.triple_arena_ord.specs.Ordered.{Ordered, asked_at, ordered_entries, tree_in}
 use Rattle.ticket_book.specs.Tickets.{Entry}
 
 module _ {I : Type 0} (number : I → ℕ) where
   -- the entries along the list
   abbrev pub entries_of : Ordered I Entry → List Entry
   entries_of o = map (λ x. x.1.1) (ordered_entries number o)
+
+  -- how many entries the search for a ticket compares with
+  abbrev pub asked_in : Ordered I Entry → ℕ → ℕ
+  asked_in o ticket = asked_down (asked_at nat_cmp (λ (e : Entry). e.ticket) ticket o) (tree_in number o)
+
+  -- the same beside each entry: for its ticket, and for one behind it
+  abbrev pub asked_beside : Ordered I Entry → List (ℕ × ℕ)
+  asked_beside o = map (λ (e : Entry). (asked_in o e.ticket, asked_in o (e.ticket + 1))) (entries_of o)

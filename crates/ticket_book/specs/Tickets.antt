@@ -1,5 +1,5 @@
 -- What a contract sees of a ticket book.
-use Rattle.std.specs.Prelude.{ℕ, ◌==◌, ◌<◌, List, [], ◌∷◌, Option, find}
+use Rattle.std.specs.Prelude.{ℕ, ◌==◌, ◌<◌, List, [], ◌∷◌, Option, find, nat_lt, if◌then◌else◌}
 use Rattle.std.specs.List.{AllByRecursion}
 use Rattle.ticket_book.specs.declared.entry.Kind.{Kind}
 
@@ -10,10 +10,25 @@ pub record Entry : Type 0 where
   pub index : ℕ
   pub generation : ℕ
 
--- the entries in the order of their tickets, and how many fit
+-- the entries in the order of their tickets, how many fit, and how many comparisons searches make: for a ticket below all, and
+-- beside each entry for its ticket and for one between it and the next
 pub record Tickets : Type 0 where
   pub entries : List Entry
   pub capacity : ℕ
+  pub asked_below : ℕ
+  pub asked_along : List (ℕ × ℕ)
+
+-- how many comparisons the search for a ticket makes, among entries that have these numbers beside them
+abbrev pub asked_among : ℕ → List Entry → List (ℕ × ℕ) → ℕ → ℕ
+asked_among below [] counts ticket = below
+asked_among below (e ∷ entries) [] ticket = below
+asked_among below (e ∷ entries) (count ∷ counts) ticket =
+    if nat_lt ticket e.ticket then below
+    else if ticket == e.ticket then count.0
+    else asked_among count.1 entries counts ticket
+
+abbrev pub asked : Tickets → ℕ → ℕ
+asked b ticket = asked_among b.asked_below b.entries b.asked_along ticket
 
 -- the entry of a ticket
 abbrev pub lookup : List Entry → ℕ → Option Entry

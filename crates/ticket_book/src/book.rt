@@ -1,7 +1,7 @@
 ghost use Rattle.std.specs.Prelude.{◌≡◌, ◌+◌, ◌<◌, ◌≤◌, ◌++◌, [], ◌∷◌, length, IfOk};
 ghost use Rattle.std.specs.Option.{option_map};
 ghost use Rattle.counted_search.specs.Searches.{most_comparisons};
-ghost use Rattle.ticket_book.specs.Tickets.{AreBelow, lookup};
+ghost use Rattle.ticket_book.specs.Tickets.{AreBelow, asked, lookup};
 ghost use Rattle.triple_arena.specs.ArenaRoom.{room_of};
 ghost use Rattle.triple_arena_ord.specs.Growth.{IsRoomRefusal};
 
@@ -29,13 +29,15 @@ impl<P: PtrCore, S: OrdSlots<P, Entry<P>>> Model for TicketBook<P, S> {
 
     ghost Value = { Tickets };
 
-    ghost use Rattle.ticket_book.specs.InArena.{entries_of};
+    ghost use Rattle.ticket_book.specs.InArena.{entries_of, asked_in, asked_beside};
     ghost use Rattle.ticket_book.specs.Tickets.{TicketsRise};
     ghost use Rattle.triple_arena.specs.Content.{arena_capacity};
 
     ghost view = { λ b. record {
       entries = entries_of P.Inx.number b.arena;
       capacity = arena_capacity b.arena.chains;
+      asked_below = asked_in P.Inx.number b.arena 0;
+      asked_along = asked_beside P.Inx.number b.arena;
     } };
 
     ghost invariant = { λ b. TicketsRise (entries_of P.Inx.number b.arena) };
@@ -54,11 +56,11 @@ impl<P: PtrCore, S: OrdSlots<P, Entry<P>>> TicketBook<P, S> {
         })
     }
 
-    /// The entry of a ticket. Each comparison is a tick.
+    /// The entry of a ticket. Each comparison is a tick, and no entry is compared but those on the way of one search.
     pub fn find_counted(&self, ticket: u64, probes: &mut Probes) -> Option<&Entry<P>>
         ensures found { option_map (λ e. e.now) result ≡ lookup self.now.entries ticket }
-        ensures bound { probes.new ≤ probes.old + most_comparisons (length self.now.entries) }
-        ensures rises { probes.old ≤ probes.new }
+        ensures ticks { probes.new ≡ probes.old + asked self.now ticket }
+        ensures bound { asked self.now ticket ≤ most_comparisons (length self.now.entries) }
     {
         entries_stand_in_the_list::<P, Entry<P>>();
         the_list_has_as_many_entries_as_are_live::<P, Entry<P>>();

@@ -1,99 +1,157 @@
 //! Calls on a store, and texts that no clause pins.
 
-use super::rows::REQUESTS;
+use super::rows::{REQUESTS, requests};
 use super::streams::Page;
 use refusing_allocator::RefusingAllocator;
-use route_book::{Counts, Placed, Refusal, RoomError, RouteBook, RunFault, Shown, Watched, Word};
-use std::alloc::Allocator;
+use route_book::{
+    BookBacking, Counts, OnArray, OnFixed, OnHeap, OnLimited, Placed, Refusal, RoomError,
+    RouteBook, RunFault, Shown, Watched, Word,
+};
 use std::io;
 use std::io::{ErrorKind, Write};
+use std::process::Abort;
 use std::test::Fail;
+use triple_arena::ArenaTrait;
+use triple_arena_ptr::{P0, P1, P5, PtrCore};
+
+// Why a store of these rooms cannot be made.
+fn refusal<P: PtrCore, B: BookBacking<P>>(
+    backing: &B,
+    [places, stops, marks]: [usize; 3],
+) -> Option<RoomError> {
+    RouteBook::<P, B>::new(backing, places, stops, marks).err()
+}
 
 #[test]
-fn rooms_that_cannot_be_had(rt: HostRuntime) -> Result<(), Fail> {
-    let past = RouteBook::new(rt.alloc(), usize::MAX, 1, 0);
-    assert!(rt; matches!(past, Err(RoomError::Index)));
-    let huge = RouteBook::new(rt.alloc(), usize::MAX, 0, 0);
-    assert!(rt; matches!(huge, Err(RoomError::Memory)));
-    for nth in 1..3 {
-        let heap = RefusingAllocator::new(rt.alloc(), nth);
-        assert!(rt; matches!(RouteBook::new(&heap, 4, 4, 2), Err(RoomError::Memory)));
-        assert!(rt; RouteBook::new(&heap, 4, 4, 2).is_ok());
+fn rooms_of_each_pointer_and_stack(rt: HostRuntime) -> Result<(), Fail> {
+    let heap = OnHeap(rt.alloc());
+    assert_eq!(rt; refusal::<P1, _>(&heap, [200, 50, 5]), None);
+    assert_eq!(rt; refusal::<P1, _>(&heap, [200, 50, 6]), Some(RoomError::Index));
+    assert_eq!(rt; refusal::<P1, _>(&OnArray::<3>, [1, 1, 1]), None);
+    assert_eq!(rt; refusal::<P1, _>(&OnArray::<3>, [2, 1, 1]), Some(RoomError::Stack));
+    assert_eq!(rt; refusal::<P5, _>(&heap, [0, 0, 0]), Some(RoomError::Generation));
+    assert_eq!(rt; refusal::<P0, _>(&heap, [0, 0, 0]), None);
+    assert_eq!(rt; refusal::<P0, _>(&heap, [usize::MAX, 1, 0]), Some(RoomError::Index));
+    for rooms in [[usize::MAX, 0, 0], [0, usize::MAX, 0], [0, 0, usize::MAX]] {
+        assert_eq!(rt; refusal::<P0, _>(&heap, rooms), Some(RoomError::Memory));
     }
-    assert!(rt; RouteBook::new(rt.alloc(), 0, usize::MAX, 0).is_ok());
+    Ok(())
+}
+
+// Each request of `new` is refused in turn, and then none.
+#[test]
+fn memory_is_refused(rt: HostRuntime) -> Result<(), Fail> {
+    for nth in 1..REQUESTS + 1 {
+        let heap = RefusingAllocator::new(rt.alloc(), nth);
+        assert_eq!(rt; refusal::<P0, _>(&OnHeap(&heap), [4, 4, 2]), Some(RoomError::Memory));
+        assert_eq!(rt; refusal::<P0, _>(&OnHeap(&heap), [4, 4, 2]), None);
+    }
     Ok(())
 }
 
 /// The keys of seven places, in the order of their tickets.
 const KEYS: [u64; 7] = [40, 20, 60, 10, 30, 50, 70];
 
-/// A store of these places, with room for one more.
-pub(super) fn seven<A: Allocator + Copy>(alloc: A) -> Result<RouteBook<A>, Fail> {
-    let mut book = RouteBook::new(alloc, 8, 0, 0)?;
+/// The rooms of a store of these, with room for one more.
+pub(super) const ROOMS: [usize; 3] = [8, 0, 0];
+
+/// A store of these places.
+pub(super) fn seven<P: PtrCore, B: BookBacking<P>>(backing: &B) -> Result<RouteBook<P, B>, Fail> {
+    let [places, stops, marks] = ROOMS;
+    let mut book = RouteBook::new(backing, places, stops, marks)?;
     for key in KEYS {
         book.place(key, Word::new(b"a").ok_or("a word")?)?;
     }
     Ok(book)
 }
 
-#[test]
-fn plain_calls_take_no_memory(rt: HostRuntime) -> Result<(), Fail> {
-    let heap = RefusingAllocator::new(rt.alloc(), REQUESTS + 1);
-    let mut book = seven(&heap)?;
+// The calls on places.
+fn ask_for_places<P: PtrCore, B: BookBacking<P>>(
+    rt: &impl Abort,
+    mut book: RouteBook<P, B>,
+) -> Result<(), Fail> {
     let word = Word::new(b"b").ok_or("a word")?;
     assert!(rt; matches!(book.place(60, word.copied()), Ok(Placed::Old(3, _))));
-    assert_eq!(rt; book.place(80, word.copied()), Ok(Placed::New(8)));
+    assert_eq!(rt; book.place_near(80, word.copied(), 7), Ok(Placed::New(8)));
     assert_eq!(rt; book.place(90, word), Err(Refusal::Full));
-    assert_eq!(rt; book.find(30), Some(5));
-    assert_eq!(rt; book.find(35), None);
+    assert_eq!(rt; (book.find(30), book.find(35)), (Some(5), None));
     assert!(rt; matches!(book.show(5), Ok(Shown::Place { key: 30, word: _ })));
     assert_eq!(rt; book.show(9), Err(Refusal::Unknown));
-    assert_eq!(rt; book.places().count(), 8);
+    assert_eq!(rt; (book.floor(45), book.floor(9)), (Some(1), None));
+    assert_eq!(rt; (book.after(5), book.before(4)), (Ok(Some(1)), Ok(None)));
+    Ok(())
+}
+
+#[test]
+fn calls_on_places_take_no_memory(rt: HostRuntime) -> Result<(), Fail> {
+    let heap = RefusingAllocator::new(rt.alloc(), requests(ROOMS) + 1);
+    ask_for_places(&rt, seven::<P0, _>(&OnHeap(&heap))?)?;
     assert!(rt; !heap.has_refused());
+    ask_for_places(&rt, seven::<P1, _>(&OnLimited(rt.alloc()))?)?;
+    ask_for_places(&rt, seven::<P1, _>(&OnFixed(rt.alloc()))?)?;
+    ask_for_places(&rt, seven::<P0, _>(&OnArray::<8>)?)
+}
+
+// The calls on routes and marks, in a store with a place, and with room for two stops and a mark.
+fn ask_for_routes<P: PtrCore, B: BookBacking<P>>(
+    rt: &impl Abort,
+    mut book: RouteBook<P, B>,
+) -> Result<(), Fail> {
+    assert_eq!(rt; (book.start(1), book.extend(2, 1)), (Ok(2), Ok(3)));
+    assert_eq!(rt; (book.start(1), book.start(3)), (Err(Refusal::Full), Err(Refusal::Kind)));
+    assert_eq!(rt; (book.join(3, 2), book.join(3, 2)), (Ok(()), Err(Refusal::No)));
+    assert_eq!(rt; (book.swap(2, 3), book.cut(2), book.cut(2)), (Ok(()), Ok(()), Err(Refusal::No)));
+    assert_eq!(rt; (book.mark(1, 2), book.mark(1, 2)), (Ok(4), Err(Refusal::Full)));
+    assert!(rt; matches!(book.show(3), Ok(Shown::Stop { place: Some(1) })));
+    assert!(rt; matches!(book.show(4), Ok(Shown::Mark { place: Some(1), stop: Some(2) })));
+    let lent = (
+        book.places_arena().len(),
+        book.stops_arena().len(),
+        book.marks_arena().len(),
+    );
+    assert_eq!(rt; lent, (1, 2, 1));
+    Ok(())
+}
+
+// A store with one place.
+fn one<P: PtrCore, B: BookBacking<P>>(backing: &B) -> Result<RouteBook<P, B>, Fail> {
+    let mut book = RouteBook::new(backing, 1, 2, 1)?;
+    book.place(7, Word::new(b"a").ok_or("a word")?)?;
+    Ok(book)
+}
+
+#[test]
+fn calls_on_routes_take_no_memory(rt: HostRuntime) -> Result<(), Fail> {
+    let heap = RefusingAllocator::new(rt.alloc(), REQUESTS + 1);
+    ask_for_routes(&rt, one::<P0, _>(&OnHeap(&heap))?)?;
+    assert!(rt; !heap.has_refused());
+    ask_for_routes(&rt, one::<P1, _>(&OnLimited(rt.alloc()))?)?;
+    ask_for_routes(&rt, one::<P1, _>(&OnFixed(rt.alloc()))?)?;
+    ask_for_routes(&rt, one::<P0, _>(&OnArray::<4>)?)
+}
+
+// What the iterators give of a store with a place and a route of two stops there.
+fn go_over<P: PtrCore, B: BookBacking<P>>(
+    rt: &impl Abort,
+    mut book: RouteBook<P, B>,
+) -> Result<(), Fail> {
+    book.start(1)?;
+    book.extend(2, 1)?;
+    let mut places = book.places();
+    let (ticket, key, word) = places.next().ok_or("a place")?;
+    assert_eq!(rt; (ticket, key), (1, 7));
+    assert_eq!(rt; word.as_bytes(), b"a".as_slice());
+    assert!(rt; places.next().is_none());
+    let mut stops = book.walk(3)?;
+    assert_eq!(rt; stops.next(), Some((3, Some(1))));
+    assert_eq!(rt; stops.next(), Some((2, Some(1))));
+    assert_eq!(rt; stops.next(), None);
     Ok(())
 }
 
 #[test]
-fn places_come_in_the_order_of_their_keys(rt: HostRuntime) -> Result<(), Fail> {
-    let book = seven(rt.alloc())?;
-    let want = [
-        (4, 10),
-        (2, 20),
-        (5, 30),
-        (1, 40),
-        (6, 50),
-        (3, 60),
-        (7, 70),
-    ];
-    let mut listed = book.places();
-    for (ticket, key) in want {
-        let (t, k, word) = listed.next().ok_or("a place")?;
-        assert_eq!(rt; (t, k), (ticket, key));
-        assert_eq!(rt; word.as_bytes(), b"a".as_slice());
-    }
-    assert!(rt; listed.next().is_none());
-    Ok(())
-}
-
-#[test]
-fn a_line_is_answered(rt: HostRuntime) -> Result<(), Fail> {
-    let mut book = RouteBook::new(rt.alloc(), 1, 0, 0)?;
-    let mut counts = Counts::new();
-    let mut writer = Watched::new(Page::new(2));
-    for line in ["place 7 oak", "place 8 elm", "show 1", "find 8", "show 2"] {
-        book.answer(line.as_bytes(), &mut writer, &mut counts)?;
-    }
-    assert_eq!(rt;
-        writer.into_inner().text(),
-        b"1\nfull\n7 oak\nnone\nunknown\n".as_slice()
-    );
-    assert!(rt;
-        matches!(
-            book.place(7, Word::new(b"fir").ok_or("a word")?),
-            Ok(Placed::Old(1, _))
-        )
-    );
-    Ok(())
+fn items_are_gone_over(rt: HostRuntime) -> Result<(), Fail> {
+    go_over(&rt, one::<P0, _>(&OnHeap(rt.alloc()))?)
 }
 
 #[test]

@@ -1,13 +1,17 @@
 //! Inputs and the text that answers them.
 
 use super::streams::{Page, Pieces};
+use super::table::{ROWS, Row};
 use refusing_allocator::RefusingAllocator;
-use route_book::{Counts, RouteBook, Watched, run};
+use route_book::{BookBacking, Counts, OnArray, OnHeap, RouteBook, Watched, run};
 use std::process::Abort;
 use std::test::Fail;
+use triple_arena_ptr::{P0, P1, PtrCore};
 
 // How many bytes the reader gives a time, and the writer takes.
-const STEPS: [(usize, usize); 5] = [
+type Steps = (usize, usize);
+
+const STEPS: [Steps; 5] = [
     (usize::MAX, usize::MAX),
     (1, usize::MAX),
     (2, usize::MAX),
@@ -15,89 +19,102 @@ const STEPS: [(usize, usize); 5] = [
     (usize::MAX, 1),
 ];
 
-/// The requests for memory that make a store.
-pub(super) const REQUESTS: u64 = 2;
+/// The requests for memory that make a store of places, stops and marks.
+pub(super) const REQUESTS: u64 = 7;
 
-// A new store answers the input with this text, however the bytes are cut. Once it is made no memory is taken.
-fn answers(
-    rt: &(impl AllocGlobal + Abort),
-    last: u64,
-    input: &[u8],
-    text: &str,
+// A new store over the backing answers the row's input with its text, and reads all of it.
+fn answers<P: PtrCore, B: BookBacking<P>>(
+    rt: &impl Abort,
+    backing: &B,
+    row: &Row<'_>,
+    (read, taken): Steps,
 ) -> Result<(), Fail> {
-    for (read, taken) in STEPS {
-        let heap = RefusingAllocator::new(rt.alloc(), REQUESTS + 1);
-        let mut book = RouteBook::new_after(&heap, 4, 4, 2, last)?;
-        let mut reader = Watched::new(Pieces::new(input, read));
-        let mut writer = Watched::new(Page::new(taken));
-        run(&mut book, &mut reader, &mut writer, &mut Counts::new())?;
-        assert!(rt; !heap.has_refused());
-        let page = writer.into_inner();
-        assert_eq!(rt;
-            page.text(),
-            text.as_bytes(),
-            "read by {read}, taken by {taken}"
-        );
-        assert_eq!(rt; page.flushes, 1);
-        assert!(rt; reader.into_inner().left.is_empty());
+    let ([places, stops, marks], last, input, text) = *row;
+    let mut book = RouteBook::<P, B>::new_after(backing, places, stops, marks, last)?;
+    let mut reader = Watched::new(Pieces::new(input.as_bytes(), read));
+    let mut writer = Watched::new(Page::new(taken));
+    run(&mut book, &mut reader, &mut writer, &mut Counts::new())?;
+    let page = writer.into_inner();
+    assert_eq!(rt;
+        page.text(),
+        text.as_bytes(),
+        "read by {read}, taken by {taken}"
+    );
+    assert_eq!(rt; page.flushes, 1);
+    assert!(rt; reader.into_inner().left.is_empty());
+    Ok(())
+}
+
+/// The requests for memory that make a store of these rooms: two for each arena that has room, and one for the book.
+pub(super) fn requests([places, stops, marks]: [usize; 3]) -> u64 {
+    let arenas = u64::from(places > 0) + u64::from(stops > 0) + u64::from(marks > 0);
+    arenas * 2 + u64::from(arenas > 0)
+}
+
+// The same over the heap. Once the store is made no memory is taken.
+fn answers_on_heap<P: PtrCore>(
+    rt: &(impl AllocGlobal + Abort),
+    row: &Row<'_>,
+    steps: Steps,
+) -> Result<(), Fail> {
+    let heap = RefusingAllocator::new(rt.alloc(), requests(row.0) + 1);
+    answers::<P, _>(rt, &OnHeap(&heap), row, steps)?;
+    assert!(rt; !heap.has_refused());
+    Ok(())
+}
+
+// Whether the rooms together are at most so many.
+fn fits([places, stops, marks]: [usize; 3], most: usize) -> bool {
+    places <= most && stops <= most - places && marks <= most - places - stops
+}
+
+// The rows that fit, over both backings.
+fn answers_rows<P: PtrCore>(rt: &(impl AllocGlobal + Abort), rows: &[Row<'_>], most: usize) -> Result<(), Fail> {
+    for row in rows {
+        for steps in STEPS {
+            if fits(row.0, most) {
+                answers_on_heap::<P>(rt, row, steps)?;
+            }
+            if fits(row.0, most.min(10)) {
+                answers::<P, _>(rt, &OnArray::<10>, row, steps)?;
+            }
+        }
     }
     Ok(())
 }
 
 #[test]
-fn places_are_made_listed_and_shown(rt: HostRuntime) -> Result<(), Fail> {
-    answers(
-        &rt,
-        0,
-        b"place 50 oak\nplace 30 elm\nplace 70 ash\nall\nplace 50 fir\nshow 1\n",
-        "1\n2\n3\n2 30 elm\n1 50 oak\n3 70 ash\nend\n1 old oak\n50 fir\n",
-    )
+fn each_row_has_its_text(rt: HostRuntime) -> Result<(), Fail> {
+    answers_rows::<P0>(&rt, &ROWS, usize::MAX)
 }
 
 #[test]
-fn the_last_ticket_is_given_once(rt: HostRuntime) -> Result<(), Fail> {
-    answers(
-        &rt,
-        18446744073709551614,
-        b"place 1 a\nplace 2 b\nplace 1 c\nshow 5\nshow 0\n",
-        "18446744073709551615\nfull\n18446744073709551615 old a\ngone\nunknown\n",
-    )
+fn each_row_has_its_text_over_narrow_pointers(rt: HostRuntime) -> Result<(), Fail> {
+    answers_rows::<P1>(&rt, &ROWS, 255)
 }
 
+// What the table cannot hold: an input without lines, and a rest without LF, though it spells a command with one.
 #[test]
-fn other_lines_are_bad(rt: HostRuntime) -> Result<(), Fail> {
-    let lines: [&[u8]; 11] = [
-        b"\n",
-        b"place 01 a\n",
-        b"place 1 A\n",
-        b"place 1  a\n",
-        b"place 1 abcdefghijklmnopq\n",
-        b"show 18446744073709551616\n",
-        b"all\r\n",
-        b"pack \n",
-        // The longest line that a command may have.
-        b"place 18446744073709551615 abcdefghijklmnop near 18446744073709551615\n",
-        // What follows the last LF, though it spells a command with one.
-        b"all",
-        &[b'a'; 1000],
+fn rests_are_bad(rt: HostRuntime) -> Result<(), Fail> {
+    let rooms = [4, 4, 2];
+    let rows = [
+        (rooms, 0, "", ""),
+        (rooms, 0, "all", "bad\n"),
+        (rooms, 0, "all\nall", "end\nbad\n"),
     ];
-    for line in lines {
-        answers(&rt, 0, line, "bad\n")?;
-    }
-    Ok(())
+    answers_rows::<P0>(&rt, &rows, usize::MAX)
 }
 
 #[test]
 fn a_long_line_is_one_bad_line(rt: HostRuntime) -> Result<(), Fail> {
-    let mut input = [b'a'; 75];
-    input[70..].copy_from_slice(b"\nall\n");
-    answers(&rt, 0, &input, "bad\nend\n")?;
-    let mut input = [b'a'; 1005];
-    input[1000..].copy_from_slice(b"\nall\n");
-    answers(&rt, 0, &input, "bad\nend\n")
-}
-
-#[test]
-fn no_input_has_no_text(rt: HostRuntime) -> Result<(), Fail> {
-    answers(&rt, 0, b"", "")
+    let mut bytes = [b'a'; 1005];
+    bytes[1000..].copy_from_slice(b"\nall\n");
+    for start in [0, 930] {
+        let input = str::from_utf8(&bytes[start..])?;
+        let row = ([4, 4, 2], 0, input, "bad\nend\n");
+        answers_rows::<P0>(&rt, &[row], usize::MAX)?;
+        let row = ([4, 4, 2], 0, &input[..70], "bad\n");
+        answers_rows::<P0>(&rt, &[row], usize::MAX)?;
+    }
+    Ok(())
 }

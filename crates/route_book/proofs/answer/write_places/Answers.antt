@@ -1,65 +1,46 @@
-use Rattle.std.proofs.Common.{◌≡◌, ◌∙◌, ◌++◌, [], ◌∷◌, ℕ, List, Option, flat_map, codes, ap, sym, append-nil, append_assoc}
-use Rattle.std.specs.Io.KnownBytes.{Appends}
+use Rattle.std.proofs.Common.{◌∙◌, ◌++◌, refl}
 use Rattle.std.proofs.KnownBytes.{Appends-trans}
-use Rattle.std.proofs.lemmas.Result.{on_err_weaker}
-use Rattle.route_lines.specs.State.{Place}
-use Rattle.route_lines.specs.Reply.{ended, place_line, places_text}
-use Rattle.route_lines.specs.Written.{AppendsBeginning}
-use Rattle.route_lines.proofs.WrittenLemmas.{begun, on_err}
+use Rattle.std.proofs.lemmas.Result.{on_err_weaker, on_ok_weaker}
+use Rattle.route_lines.specs.Reply.{place_line}
+use Rattle.route_lines.proofs.WrittenLemmas.{on_err}
+use Rattle.route_book.proofs.ListedLemmas.{none_yet, line_more, broken_off, broken_off_last, written_last}
 use Rattle.route_book.proofs.answer.write_places.Goals as goal
 
-abbrev lines_of : List Place → List ℕ
-lines_of places = flat_map (λ p. ended (place_line p)) places
-
--- the line of one more place is gathered
-line_more : (all left rest : List Place) (p : Place) (sent text gone kept new : List ℕ) → lines_of all ≡ (sent ++ text) ++ lines_of left → left ≡ p ∷ rest → text ≡ gone ++ kept → new ≡ kept ++ ended (place_line p) → lines_of all ≡ ((sent ++ gone) ++ new) ++ lines_of rest
-line_more all left rest p sent text gone kept new before first split line =
-    before
-    ∙ ap (λ t. (sent ++ t) ++ lines_of left) split
-    ∙ ap (λ ps. (sent ++ (gone ++ kept)) ++ lines_of ps) first
-    ∙ ap (λ t. t ++ (ended (place_line p) ++ lines_of rest)) (sym (append_assoc sent gone kept))
-    ∙ sym (append_assoc ((sent ++ gone) ++ kept) (ended (place_line p)) (lines_of rest))
-    ∙ ap (λ t. t ++ lines_of rest) (append_assoc (sent ++ gone) kept (ended (place_line p)) ∙ ap (λ t. (sent ++ gone) ++ t) (sym line))
-
--- a failed write of what was gathered breaks off within the text
-broken_off : (a b c : Option (List ℕ)) (all left : List Place) (sent text : List ℕ) → lines_of all ≡ (sent ++ text) ++ lines_of left → Appends a b sent → AppendsBeginning b c text → AppendsBeginning a c (places_text all)
-broken_off a b c all left sent text before written begins =
-    begun a b c sent text (lines_of left ++ ended (codes "end")) (places_text all)
-    (ap (λ t. t ++ ended (codes "end")) before ∙ append_assoc (sent ++ text) (lines_of left) (ended (codes "end"))) written begins
-
--- and so does one of the last piece
-broken_off_last : (a b c d : Option (List ℕ)) (all left : List Place) (sent text gone kept new : List ℕ) → lines_of all ≡ (sent ++ text) ++ lines_of left → left ≡ [] → text ≡ gone ++ kept → new ≡ kept ++ ended (codes "end") → Appends a b sent → Appends b c gone → AppendsBeginning c d new → AppendsBeginning a d (places_text all)
-broken_off_last a b c d all left sent text gone kept new before none split line written moved begins =
-    begun a c d (sent ++ gone) new [] (places_text all)
-    (ap (λ t. t ++ ended (codes "end"))
-    (before ∙ ap (λ ps. (sent ++ text) ++ lines_of ps) none ∙ append-nil (sent ++ text) ∙ ap (λ t. sent ++ t) split ∙ sym (append_assoc sent gone kept))
-    ∙ append_assoc (sent ++ gone) kept (ended (codes "end"))
-    ∙ ap (λ t. (sent ++ gone) ++ t) (sym line)
-    ∙ sym (append-nil ((sent ++ gone) ++ new)))
-    (Appends-trans a b c sent gone written moved) begins
+pub loop-ticket-init : goal.loop-ticket-init
+loop-ticket-init g c = record {
+  gathered = none_yet place_line _ c.args.places c.args.places _ refl c.requires;
+  failed = refl;
+}
 
 pub returns-in_err-make_room-clause-err : goal.returns-in_err-make_room-clause-err
 returns-in_err-make_room-clause-err g c =
     let before = c.loop-ticket.invariant.gathered in
-    on_err c.from_residual.result (broken_off _ _ _ c.args.places c.loop-ticket.ticket-iterator before.0 _ before.1 before.2 c.in_err-make_room.ensures.err)
+    on_err c.from_residual.result (broken_off place_line _ _ _ c.args.places c.loop-ticket.places before.0 _ before.1 before.2 c.in_err-make_room.ensures.err)
 
 pub loop-ticket-preserved : goal.loop-ticket-preserved
 loop-ticket-preserved g c =
     let before = c.loop-ticket.invariant.gathered in
     let room = c.in_ok-make_room.ensures.ok in
     record {
-      gathered = (before.0 ++ room.0, line_more c.args.places c.loop-ticket.ticket-iterator c.next.new.self _ before.0 _ room.0 _ _ before.1 c.in-Some.ensures.steps room.1 c.push_place.ensures, Appends-trans _ _ _ _ _ before.2 room.2);
+      gathered = (before.0 ++ room.0, line_more place_line c.args.places c.loop-ticket.places c.next.new.self _ before.0 _ room.0 _ _ before.1 c.in-Some.ensures.steps room.1 c.push_place.ensures, Appends-trans _ _ _ _ _ before.2 room.2);
       failed = c.in_ok-make_room.ensures.ok_failed ∙ c.loop-ticket.invariant.failed;
     }
 
 pub returns-in_err-make_room-2-clause-err : goal.returns-in_err-make_room-2-clause-err
 returns-in_err-make_room-2-clause-err g c =
     let before = c.loop-ticket.invariant.gathered in
-    on_err c.from_residual-in_err-make_room-2.result (broken_off _ _ _ c.args.places c.loop-ticket.ticket-iterator before.0 _ before.1 before.2 c.in_err-make_room-2.ensures.err)
+    on_err c.from_residual-in_err-make_room-2.result (broken_off place_line _ _ _ c.args.places c.loop-ticket.places before.0 _ before.1 before.2 c.in_err-make_room-2.ensures.err)
 
 pub returns-clause-err : goal.returns-clause-err
 returns-clause-err g c =
     let before = c.loop-ticket.invariant.gathered in
     let room = c.in_ok-make_room-2.ensures.ok in
     on_err_weaker c.send.result
-    (broken_off_last _ _ _ _ c.args.places c.loop-ticket.ticket-iterator before.0 _ room.0 _ _ before.1 c.in-None.ensures.steps.0 room.1 (c.as_slice.ensures ∙ c.push_line.ensures) before.2 room.2) c.send.ensures.err
+    (broken_off_last place_line _ _ _ _ c.args.places c.loop-ticket.places before.0 _ room.0 _ _ before.1 c.in_default.ensures.steps.0 room.1 (c.as_slice.ensures ∙ c.push_line.ensures) before.2 room.2) c.send.ensures.err
+
+pub returns-clause-ok : goal.returns-clause-ok
+returns-clause-ok g c =
+    let before = c.loop-ticket.invariant.gathered in
+    let room = c.in_ok-make_room-2.ensures.ok in
+    on_ok_weaker c.send.result
+    (written_last place_line _ _ _ _ c.args.places c.loop-ticket.places before.0 _ room.0 _ _ before.1 c.in_default.ensures.steps.0 room.1 (c.as_slice.ensures ∙ c.push_line.ensures) before.2 room.2) c.send.ensures.ok

@@ -1,10 +1,14 @@
-use Rattle.std.proofs.Common.{◌≡◌, ◌++◌, ℕ, List, flat_map}
+use Rattle.std.proofs.Common.{◌≡◌, ◌++◌, ℕ, List, length}
 use Rattle.std.specs.Io.KnownBytes.{Appends}
-use Rattle.route_lines.specs.Reply.{ended, place_line}
+use Rattle.route_lines.specs.Reply.{place_line}
+use Rattle.route_book.proofs.ListedLemmas.{lines_of}
 use Rattle.route_book.proofs.answer.write_places.Given as goal
 
 abbrev pub invariant-loop-ticket : goal.invariant-loop-ticket
 invariant-loop-ticket g l = record {
-  gathered : (sent : List ℕ) × (flat_map (λ p. ended (place_line p)) l.fn.places ≡ (sent ++ l.text) ++ flat_map (λ p. ended (place_line p)) l.ticket-iterator) × Appends (g.W.Write.contents l.initial.writer.inner) (g.W.Write.contents l.writer.inner) sent;
+  gathered : (sent : List ℕ) × (lines_of place_line l.fn.places ≡ (sent ++ l.text) ++ lines_of place_line l.places) × Appends (g.W.Write.contents l.initial.writer.inner) (g.W.Write.contents l.writer.inner) sent;
   failed : l.writer.failed ≡ l.initial.writer.failed;
 }
+
+abbrev pub decreases-loop-ticket : goal.decreases-loop-ticket
+decreases-loop-ticket g l = length l.places

@@ -1,7 +1,9 @@
-use Rattle.std.proofs.Common.{◌∙◌, ap, refl, ℕ, IsSome}
+use Rattle.std.proofs.Common.{◌∙◌, ◌+◌, ◌≤◌, ap, sym, subst, refl, ℕ, length, IsSome}
+use Rattle.counted_search.specs.Searches.{most_comparisons}
 use Rattle.triple_arena_chain.specs.Chains.{On}
 use Rattle.triple_arena_ord.specs.Ordered.{entry_in, order_in}
-use Rattle.ticket_book.specs.Tickets.{Tickets, lookup}
+use Rattle.ticket_book.specs.Tickets.{Tickets, asked, lookup}
+use Rattle.ticket_book.proofs.AskedLemmas.{asked_there, asked_within}
 use Rattle.ticket_book.proofs.TicketLemmas.{ascending, lookup_found, lookup_missing}
 use Rattle.ticket_book.proofs.book.TicketBook.find_counted.Goals as goal
 
@@ -17,3 +19,27 @@ pub returns-in-None-clause-found : goal.returns-in-None-clause-found
 returns-in-None-clause-found g c =
     lookup_missing g.P.Inx.PtrInxCore.number c.self.inside.arena c.args.ticket (c.in-None.ensures.found.none (ascending _ c.self.invariant) refl)
     ∙ ap (λ (book : Tickets). lookup book.entries c.args.ticket) c.self.view_is
+
+pub returns-in-Some-clause-ticks : goal.returns-in-Some-clause-ticks
+returns-in-Some-clause-ticks g c =
+    c.in-Some.ensures.ticks
+    ∙ ap (λ n. c.args.probes.now + n)
+    (sym (asked_there g.P.Inx.PtrInxCore.number c.self.inside.arena c.args.ticket c.self.invariant) ∙ ap (λ (book : Tickets). asked book c.args.ticket) c.self.view_is)
+
+pub returns-in-Some-clause-bound : goal.returns-in-Some-clause-bound
+returns-in-Some-clause-bound g c =
+    subst (λ (book : Tickets). asked book c.args.ticket ≤ most_comparisons (length book.entries)) c.self.view_is
+    (asked_within g.P.Inx.PtrInxCore.number c.self.inside.arena c.args.ticket _ _ c.self.invariant c.in-Some.ensures.ticks c.in-Some.ensures.bound
+    (c.the_list_has_as_many_entries_as_are_live.ensures c.self.inside.arena c.len.ensures.ordered))
+
+pub returns-in-None-clause-ticks : goal.returns-in-None-clause-ticks
+returns-in-None-clause-ticks g c =
+    c.in-None.ensures.ticks
+    ∙ ap (λ n. c.args.probes.now + n)
+    (sym (asked_there g.P.Inx.PtrInxCore.number c.self.inside.arena c.args.ticket c.self.invariant) ∙ ap (λ (book : Tickets). asked book c.args.ticket) c.self.view_is)
+
+pub returns-in-None-clause-bound : goal.returns-in-None-clause-bound
+returns-in-None-clause-bound g c =
+    subst (λ (book : Tickets). asked book c.args.ticket ≤ most_comparisons (length book.entries)) c.self.view_is
+    (asked_within g.P.Inx.PtrInxCore.number c.self.inside.arena c.args.ticket _ _ c.self.invariant c.in-None.ensures.ticks c.in-None.ensures.bound
+    (c.the_list_has_as_many_entries_as_are_live.ensures c.self.inside.arena c.len.ensures.ordered))

@@ -1,0 +1,24 @@
+-- Which rooms are refused where the memory is there.
+use Rattle.std.specs.Prelude.{ℕ, ◌==◌, Bool, false, Option, Some, None, if◌then◌else◌, nat_lt}
+use Rattle.triple_arena_ptr.specs.Generation.{second_generation, next_generation}
+use Rattle.triple_arena_ptr.specs.Index.{max_index_of}
+use Rattle.route_lines.specs.declared.refusal.RoomError.{RoomError}
+use Rattle.route_lines.specs.declared.refusal.RoomError.TheVariants.{Generation, Index, Stack}
+
+-- the generations do not count to 3
+abbrev pub counts_short : Option ℕ → Bool
+counts_short last = next_generation last (second_generation last) == second_generation last
+
+-- the number is past the limit
+abbrev pub is_past : Option ℕ → ℕ → Bool
+is_past None n = false
+is_past (Some limit) n = nat_lt limit n
+
+-- why rooms for so many items in all are refused: over generations up to `last`, indexes up to `greatest`, and stacks with
+-- this limit
+abbrev pub refusal_of : Option ℕ → ℕ → Option ℕ → ℕ → Option RoomError
+refusal_of last greatest limit total =
+    if counts_short last then Some Generation
+    else if nat_lt (max_index_of greatest) total then Some Index
+    else if is_past limit total then Some Stack
+    else None

@@ -1,0 +1,193 @@
+//! Routes: a stop behind another, and stops that are joined, parted and exchanged.
+ghost use Rattle.std.specs.Prelude.{◌≡◌};
+ghost use Rattle.counted_search.specs.Searches.{most_comparisons};
+ghost use Rattle.route_lines.specs.Calls.{after_cut, after_extend, after_join, after_swap, extended, joined, parted, swapped};
+ghost use Rattle.route_lines.specs.Searches.{CountsWithin, living_count};
+ghost use Rattle.route_book.specs.Book.{KeepsItems};
+
+use crate::backing::BookBacking;
+use crate::book::RouteBook;
+use crate::items::{Ref, Stop};
+use route_lines::laws::{
+    changes_keep_states_sound, cuts_part_one_stop, extensions_add_one_stop,
+    extensions_lead_through, joins_lead_on, stops_follow_their_previous_ones,
+    stops_stay_as_routes_change, swaps_exchange_next_stops,
+};
+use route_lines::{Change, Counts, Refusal};
+use ticket_book::Kind;
+use triple_arena::ArenaTrait;
+use triple_arena_chain::{ChainArenaTrait, LinkInsertKind};
+use triple_arena_ptr::PtrCore;
+use unreached::unreached;
+
+impl<P: PtrCore, B: BookBacking<P>> RouteBook<P, B> {
+    /// A new stop at a place, directly behind another stop on its route.
+    ///
+    /// The stop's ticket is refused before the place's: `Unknown` where it was never given, `Gone` where its item has ended,
+    /// `Kind` where it is of another kind. Then `Full` where as many stops live as the room holds, or every ticket was given.
+    /// A refused call changes nothing.
+    pub fn extend(&mut self, stop: u64, place: u64) -> Result<u64, Refusal>
+        ensures result { result ≡ extended self.old.state stop place }
+        ensures state { self.new.state ≡ after_extend self.old.state stop place }
+        ensures kept { KeepsItems self.old self.new }
+    {
+        self.extend_counted(stop, place, &mut Counts::new())
+    }
+
+    /// The same, with the comparisons of its searches counted as `first` and `second`.
+    pub fn extend_counted(
+        &mut self,
+        stop: u64,
+        place: u64,
+        counts: &mut Counts,
+    ) -> Result<u64, Refusal>
+        ensures result { result ≡ extended self.old.state stop place }
+        ensures state { self.new.state ≡ after_extend self.old.state stop place }
+        ensures kept { KeepsItems self.old self.new }
+        ensures counts { CountsWithin counts.old counts.new
+            0 (most_comparisons (living_count self.old.state)) (most_comparisons (living_count self.old.state)) }
+    {
+        changes_keep_states_sound();
+        extensions_lead_through();
+        extensions_add_one_stop();
+        let behind = self.find_stop(stop, &mut counts.first)?;
+        let at = self.find_place(place, &mut counts.second)?;
+        if self.is_full_of_stops() {
+            return Err(Refusal::Full);
+        }
+        let ticket = self.last + 1;
+        let new = Stop::new(ticket, Ref::To(at));
+        match self
+            .stops
+            .insert_within_capacity(LinkInsertKind::NextTo(behind), new)
+        {
+            Ok(to) => {
+                self.last = ticket;
+                self.tickets.add(ticket, Kind::Stop, to);
+                self.held = self.held.changed(&Change::Extend(stop, place));
+                Ok(ticket)
+            }
+            Err(_) => unreached!(),
+        }
+    }
+
+    /// Lets the second stop follow the first: the route that ends with the first goes on with the one that begins with the
+    /// second. Where they are one route it becomes a ring.
+    ///
+    /// Each ticket is refused in turn: `Unknown` where it was never given, `Gone` where its item has ended, `Kind` where it is
+    /// no stop. Then `No` where a stop follows the first, or the second follows one. A refused call changes nothing.
+    pub fn join(&mut self, stop: u64, next: u64) -> Result<(), Refusal>
+        ensures result { result ≡ joined self.old.state stop next }
+        ensures state { self.new.state ≡ after_join self.old.state stop next }
+        ensures kept { KeepsItems self.old self.new }
+    {
+        self.join_counted(stop, next, &mut Counts::new())
+    }
+
+    /// The same, with the comparisons of its searches counted as `first` and `second`.
+    pub fn join_counted(
+        &mut self,
+        stop: u64,
+        next: u64,
+        counts: &mut Counts,
+    ) -> Result<(), Refusal>
+        ensures result { result ≡ joined self.old.state stop next }
+        ensures state { self.new.state ≡ after_join self.old.state stop next }
+        ensures kept { KeepsItems self.old self.new }
+        ensures counts { CountsWithin counts.old counts.new
+            0 (most_comparisons (living_count self.old.state)) (most_comparisons (living_count self.old.state)) }
+    {
+        changes_keep_states_sound();
+        stops_follow_their_previous_ones();
+        joins_lead_on();
+        stops_stay_as_routes_change();
+        // The links are as they must be.
+        let _ = self.stops.len();
+        let from = self.find_stop(stop, &mut counts.first)?;
+        let to = self.find_stop(next, &mut counts.second)?;
+        match self.stops.connect(from, to) {
+            Some(()) => {
+                self.held = self.held.changed(&Change::Join(stop, next));
+                Ok(())
+            }
+            None => Err(Refusal::No),
+        }
+    }
+
+    /// Parts a stop from the one that follows it: a route is split behind it, and a ring becomes a route that ends with it.
+    ///
+    /// `Unknown` where the ticket was never given, `Gone` where its item has ended, `Kind` where it is no stop, and then `No`
+    /// where no stop follows it. A refused call changes nothing.
+    pub fn cut(&mut self, stop: u64) -> Result<(), Refusal>
+        ensures result { result ≡ parted self.old.state stop }
+        ensures state { self.new.state ≡ after_cut self.old.state stop }
+        ensures kept { KeepsItems self.old self.new }
+    {
+        self.cut_counted(stop, &mut Counts::new())
+    }
+
+    /// The same, with the comparisons of its search counted as `first`.
+    pub fn cut_counted(&mut self, stop: u64, counts: &mut Counts) -> Result<(), Refusal>
+        ensures result { result ≡ parted self.old.state stop }
+        ensures state { self.new.state ≡ after_cut self.old.state stop }
+        ensures kept { KeepsItems self.old self.new }
+        ensures counts { CountsWithin counts.old counts.new
+            0 (most_comparisons (living_count self.old.state)) 0 }
+    {
+        changes_keep_states_sound();
+        cuts_part_one_stop();
+        stops_stay_as_routes_change();
+        // The links are as they must be.
+        let _ = self.stops.len();
+        let from = self.find_stop(stop, &mut counts.first)?;
+        match self.stops.break_next(from) {
+            Some(()) => {
+                self.held = self.held.changed(&Change::Cut(stop));
+                Ok(())
+            }
+            None => Err(Refusal::No),
+        }
+    }
+
+    /// Exchanges the stops that follow two stops. Two stops of one ring make two rings of it, and two of two rings one. For a
+    /// stop and itself nothing changes.
+    ///
+    /// Each ticket is refused in turn: `Unknown` where it was never given, `Gone` where its item has ended, `Kind` where it is
+    /// no stop. Then `No` where no stop follows one of them. A refused call changes nothing.
+    pub fn swap(&mut self, stop: u64, other: u64) -> Result<(), Refusal>
+        ensures result { result ≡ swapped self.old.state stop other }
+        ensures state { self.new.state ≡ after_swap self.old.state stop other }
+        ensures kept { KeepsItems self.old self.new }
+    {
+        self.swap_counted(stop, other, &mut Counts::new())
+    }
+
+    /// The same, with the comparisons of its searches counted as `first` and `second`.
+    pub fn swap_counted(
+        &mut self,
+        stop: u64,
+        other: u64,
+        counts: &mut Counts,
+    ) -> Result<(), Refusal>
+        ensures result { result ≡ swapped self.old.state stop other }
+        ensures state { self.new.state ≡ after_swap self.old.state stop other }
+        ensures kept { KeepsItems self.old self.new }
+        ensures counts { CountsWithin counts.old counts.new
+            0 (most_comparisons (living_count self.old.state)) (most_comparisons (living_count self.old.state)) }
+    {
+        changes_keep_states_sound();
+        swaps_exchange_next_stops();
+        stops_stay_as_routes_change();
+        // The links are as they must be.
+        let _ = self.stops.len();
+        let from = self.find_stop(stop, &mut counts.first)?;
+        let by = self.find_stop(other, &mut counts.second)?;
+        match self.stops.exchange_next(from, by) {
+            Some(()) => {
+                self.held = self.held.changed(&Change::Swap(stop, other));
+                Ok(())
+            }
+            None => Err(Refusal::No),
+        }
+    }
+}

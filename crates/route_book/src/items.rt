@@ -1,0 +1,181 @@
+ghost use Rattle.std.specs.Prelude.{◌≡◌};
+ghost use Rattle.std.specs.Option.{option_map};
+ghost use Rattle.route_book.specs.Item.{pointer_of};
+
+use route_lines::Word;
+use std::marker::Model;
+use std::mem;
+use triple_arena_ord::SimpleOrdItem;
+use triple_arena_ptr::PtrCore;
+
+/// A reference to an item: a pointer, or nothing where the item is gone.
+///
+/// A pointer that finds nothing in its arena is a reference to an item that has ended.
+#[derive(Clone, Copy)]
+pub enum Ref<P> {
+    /// To what the pointer finds.
+    To(P),
+    /// To nothing.
+    Gone,
+}
+
+/// A living place.
+#[derive(Drop)]
+pub struct Place {
+    ticket: u64,
+    key: u64,
+    word: Word,
+}
+
+impl Model for Place {
+    ghost use Rattle.route_lines.specs.State.{Place as View};
+
+    ghost Value = { View };
+
+    ghost view = { λ p. record { ticket = p.ticket; key = p.key; word = p.word } };
+}
+
+impl Place {
+    pub(crate) fn new(ticket: u64, key: u64, word: Word) -> Self
+        ensures { result ≡ record { ticket = ticket; key = key; word = word } }
+    {
+        Place { ticket, key, word }
+    }
+
+    /// The ticket.
+    pub fn ticket(&self) -> u64
+        ensures { result ≡ self.now.ticket }
+    {
+        self.ticket
+    }
+
+    /// The key as a number. `key` lends it, for the arena.
+    pub fn key_number(&self) -> u64
+        ensures { result ≡ self.now.key }
+    {
+        self.key
+    }
+
+    /// The word.
+    pub fn word(&self) -> &Word
+        ensures { result.now ≡ self.now.word }
+    {
+        &self.word
+    }
+
+    // Another word, and the one that stood there.
+    pub(crate) fn replace_word(&mut self, word: Word) -> Word
+        ensures word { result ≡ self.old.word }
+        ensures place { self.new ≡ record self.old { word = word } }
+    {
+        mem::replace(&mut self.word, word)
+    }
+}
+
+impl SimpleOrdItem for Place {
+    type Key = u64;
+
+    ghost key_of = { λ p. p.key };
+
+    fn key(&self) -> &u64 {
+        &self.key
+    }
+}
+
+/// A living stop of a route.
+#[derive(Drop)]
+pub struct Stop<P: PtrCore> {
+    ticket: u64,
+    place: Ref<P>,
+}
+
+impl<P: PtrCore> Model for Stop<P> {
+    ghost use Rattle.std.specs.Option.{option_map};
+    ghost use Rattle.route_book.specs.Item.{StopView, pointer_of};
+
+    ghost Value = { StopView };
+
+    ghost view = { λ t. record {
+      ticket = t.ticket;
+      place = option_map (λ p. (P.index p, P.generation p)) (pointer_of t.place);
+    } };
+}
+
+impl<P: PtrCore> Stop<P> {
+    pub(crate) fn new(ticket: u64, place: Ref<P>) -> Self
+        ensures ticket { result.ticket ≡ ticket }
+        ensures place { result.place ≡ option_map (λ p. (P.index p, P.generation p)) (pointer_of place) }
+    {
+        Stop { ticket, place }
+    }
+
+    /// The ticket.
+    pub fn ticket(&self) -> u64
+        ensures { result ≡ self.now.ticket }
+    {
+        self.ticket
+    }
+
+    /// The place that it stands for.
+    pub fn place(&self) -> Ref<P>
+        ensures { option_map (λ p. (P.index p, P.generation p)) (pointer_of result) ≡ self.now.place }
+    {
+        self.place
+    }
+}
+
+/// A living mark.
+#[derive(Drop)]
+pub struct Mark<P: PtrCore> {
+    ticket: u64,
+    place: Ref<P>,
+    stop: Ref<P>,
+}
+
+impl<P: PtrCore> Model for Mark<P> {
+    ghost use Rattle.std.specs.Option.{option_map};
+    ghost use Rattle.route_book.specs.Item.{MarkView, pointer_of};
+
+    ghost Value = { MarkView };
+
+    ghost view = { λ m. record {
+      ticket = m.ticket;
+      place = option_map (λ p. (P.index p, P.generation p)) (pointer_of m.place);
+      stop = option_map (λ p. (P.index p, P.generation p)) (pointer_of m.stop);
+    } };
+}
+
+impl<P: PtrCore> Mark<P> {
+    pub(crate) fn new(ticket: u64, place: Ref<P>, stop: Ref<P>) -> Self
+        ensures ticket { result.ticket ≡ ticket }
+        ensures place { result.place ≡ option_map (λ p. (P.index p, P.generation p)) (pointer_of place) }
+        ensures stop { result.stop ≡ option_map (λ p. (P.index p, P.generation p)) (pointer_of stop) }
+    {
+        Mark {
+            ticket,
+            place,
+            stop,
+        }
+    }
+
+    /// The ticket.
+    pub fn ticket(&self) -> u64
+        ensures { result ≡ self.now.ticket }
+    {
+        self.ticket
+    }
+
+    /// The place that it names.
+    pub fn place(&self) -> Ref<P>
+        ensures { option_map (λ p. (P.index p, P.generation p)) (pointer_of result) ≡ self.now.place }
+    {
+        self.place
+    }
+
+    /// The stop that it names.
+    pub fn stop(&self) -> Ref<P>
+        ensures { option_map (λ p. (P.index p, P.generation p)) (pointer_of result) ≡ self.now.stop }
+    {
+        self.stop
+    }
+}

@@ -1,0 +1,161 @@
+//! The places in their arena: one more where its key belongs, another word for one, and the places beside one.
+ghost use Rattle.std.specs.Prelude.{◌≡◌, ◌≢◌, ◌+◌, ◌<◌, ◌≤◌, ◌++◌, ◌∷◌, List, Some, None, IsSome, find, nat_le, reverse};
+ghost use Rattle.std.specs.Option.{option_map};
+ghost use Rattle.std.specs.Ordering.{nat_cmp};
+ghost use Rattle.std.specs.declared.cmp.Ordering.{Ordering as Way};
+ghost use Rattle.counted_search.specs.Searches.{most_comparisons};
+ghost use Rattle.triple_arena.specs.Content.{arena_capacity};
+ghost use Rattle.triple_arena.specs.Entries.{value_if};
+ghost use Rattle.triple_arena_ord.specs.Found.{IsSimilar};
+ghost use Rattle.triple_arena_ord.specs.Inserted.{IsAdded, IsReplaced};
+ghost use Rattle.triple_arena_ord.specs.Ordered.{IsAscending, asked_at, entry_in, size_in};
+ghost use Rattle.route_lines.specs.Calls.{put as put_in};
+ghost use Rattle.route_lines.specs.Cuts.{first_item, last_item};
+ghost use Rattle.route_lines.specs.Sound.{KeysRise};
+ghost use Rattle.route_lines.specs.State.{Place as View, with_key};
+ghost use Rattle.route_book.specs.Book.{in_order};
+
+use crate::items::Place;
+use route_lines::Word;
+use std::cmp::Ordering;
+use ticket_book::put;
+use triple_arena_ord::laws::{entries_stand_in_the_list, writes_keep_the_list};
+use triple_arena_ord::{InsertKind, OrdSlots, SimpleOrdArena};
+use triple_arena_ptr::{Probes, PtrCore};
+use unreached::unreached;
+
+// The pointer to the place that has the key, where a search by key found it.
+pub(crate) fn equal_at<P: PtrCore>(found: Option<(P, Ordering)>) -> Option<P>
+    ensures some { (p : P) → result ≡ Some p → found ≡ Some (p, Way.Equal) }
+    ensures none { result ≡ None → (p : P) → found ≢ Some (p, Way.Equal) }
+{
+    match found {
+        Some((p, way)) => match way {
+            Ordering::Equal => Some(p),
+            _ => None,
+        },
+        None => None,
+    }
+}
+
+// A place more, beside the one that a search for its key found. No key is compared.
+pub(crate) fn put_place<P: PtrCore, S: OrdSlots<P, Place>>(
+    arena: &mut SimpleOrdArena<P, Place, S>,
+    found: Option<(P, Ordering)>,
+    place: Place,
+) -> P
+    requires rise { KeysRise (in_order P.Inx.number arena.old) }
+    requires found { IsSimilar P.index P.generation P.Inx.number (asked_at nat_cmp (λ (p : View). p.key) place.key arena.old)
+        (IsAscending P.Inx.number nat_cmp (λ (p : View). p.key) arena.old) found arena.old }
+    requires unequal { (p : P) → found ≢ Some (p, Way.Equal) }
+    requires room { size_in arena.old < arena_capacity arena.old.chains }
+    ensures order { in_order P.Inx.number arena.new ≡ put_in place (in_order P.Inx.number arena.old) }
+    ensures added { IsAdded P.Inx.number (P.index result) (P.generation result) place arena.old arena.new }
+    ensures counter { arena.new.chains.counter ≡ arena.old.chains.counter }
+    ensures same_room { arena.new.chains.room ≡ arena.old.chains.room }
+{
+    // The list is as it must be.
+    let _ = arena.len();
+    match found {
+        Some(end) => {
+            let beside = InsertKind::Manual {
+                p_target: end.0.inx(),
+                direction: end.1,
+            };
+            put(arena, beside, place)
+        }
+        None => put(arena, InsertKind::Empty, place),
+    }
+}
+
+// Another word for a place, and its ticket with the word that it had.
+pub(crate) fn reword<P: PtrCore, S: OrdSlots<P, Place>>(
+    arena: &mut SimpleOrdArena<P, Place, S>,
+    at: P,
+    word: Word,
+) -> (u64, Word)
+    requires live { IsSome (value_if (P.generation at) (entry_in arena.old (P.index at))) }
+    ensures was { (p : View) → value_if (P.generation at) (entry_in arena.old (P.index at)) ≡ Some p
+        → (result.0 ≡ p.ticket) × (result.1 ≡ p.word) }
+    ensures replaced { (p : View) → value_if (P.generation at) (entry_in arena.old (P.index at)) ≡ Some p
+        → IsReplaced P.Inx.number (P.index at) (P.generation at) (record p { word = word }) p arena.old arena.new }
+{
+    writes_keep_the_list::<P, Place>();
+    // The list is as it must be.
+    let _ = arena.len();
+    match arena.get_mut(at) {
+        Some(place) => {
+            let ticket = place.ticket();
+            let old = place.replace_word(word);
+            (ticket, old)
+        }
+        None => unreached!(),
+    }
+}
+
+// The ticket of the place before another one along the list.
+pub(crate) fn ticket_before<P: PtrCore, S: OrdSlots<P, Place>>(
+    places: &SimpleOrdArena<P, Place, S>,
+    at: P,
+) -> Option<u64>
+    requires live { IsSome (value_if (P.generation at) (entry_in places.now (P.index at))) }
+    requires rise { KeysRise (in_order P.Inx.number places.now) }
+    ensures { (front back : List View) (p : View) → value_if (P.generation at) (entry_in places.now (P.index at)) ≡ Some p
+        → in_order P.Inx.number places.now ≡ front ++ p ∷ back
+        → result ≡ option_map (λ (q : View). q.ticket) (last_item front) }
+{
+    entries_stand_in_the_list::<P, Place>();
+    let Some(entry) = places.get_inx_link_no_gen(at.inx()) else {
+        unreached!()
+    };
+    match entry.1.prev() {
+        Some(i) => Some(places.get_inx_unwrap(i).ticket()),
+        None => None,
+    }
+}
+
+// The same of the place after it.
+pub(crate) fn ticket_after<P: PtrCore, S: OrdSlots<P, Place>>(
+    places: &SimpleOrdArena<P, Place, S>,
+    at: P,
+) -> Option<u64>
+    requires live { IsSome (value_if (P.generation at) (entry_in places.now (P.index at))) }
+    requires rise { KeysRise (in_order P.Inx.number places.now) }
+    ensures { (front back : List View) (p : View) → value_if (P.generation at) (entry_in places.now (P.index at)) ≡ Some p
+        → in_order P.Inx.number places.now ≡ front ++ p ∷ back
+        → result ≡ option_map (λ (q : View). q.ticket) (first_item back) }
+{
+    entries_stand_in_the_list::<P, Place>();
+    let Some(entry) = places.get_inx_link_no_gen(at.inx()) else {
+        unreached!()
+    };
+    match entry.1.next() {
+        Some(i) => Some(places.get_inx_unwrap(i).ticket()),
+        None => None,
+    }
+}
+
+// The ticket of the last place whose key is not above this one.
+pub(crate) fn floor_ticket<P: PtrCore, S: OrdSlots<P, Place>>(
+    places: &SimpleOrdArena<P, Place, S>,
+    key: u64,
+    probes: &mut Probes,
+) -> Option<u64>
+    requires rise { KeysRise (in_order P.Inx.number places.now) }
+    ensures ticket { result ≡ option_map (λ (p : View). p.ticket)
+        (find (λ (p : View). nat_le p.key key) (reverse (in_order P.Inx.number places.now))) }
+    ensures bound { probes.new ≤ probes.old + most_comparisons (size_in places.now) }
+    ensures rises { probes.old ≤ probes.new }
+{
+    entries_stand_in_the_list::<P, Place>();
+    // The list is as it must be.
+    let _ = places.len();
+    match places.find_similar_key_counted(&key, probes) {
+        Some(found) => match found.1 {
+            Ordering::Less => ticket_before(places, found.0),
+            Ordering::Equal => Some(places.get_inx_unwrap(found.0.inx()).ticket()),
+            Ordering::Greater => Some(places.get_inx_unwrap(found.0.inx()).ticket()),
+        },
+        None => None,
+    }
+}

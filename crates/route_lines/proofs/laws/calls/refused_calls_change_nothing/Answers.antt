@@ -1,0 +1,14 @@
+use Rattle.std.proofs.Common.{refl}
+use Rattle.route_lines.proofs.TicketLemmas.{place-refused}
+use Rattle.route_lines.proofs.laws.calls.refused_calls_change_nothing.Goals as goal
+
+pub returns : goal.returns
+returns c = record {
+  place = place-refused;
+  start = λ s at refusal e. rw e refl;
+  extend = λ s t at refusal e. rw e refl;
+  join = λ s t u refusal e. rw e refl;
+  cut = λ s t refusal e. rw e refl;
+  swap = λ s t u refusal e. rw e refl;
+  mark = λ s at t refusal e. rw e refl;
+}
