@@ -1,7 +1,7 @@
 //! What users rely on most in an arena, said once more of functions whose body is the call alone. That each is proved
 //! shows that the arena's contract says so much, and `must-fail/` has a wrong body for each promise, which its clause
 //! refuses. A wrong body here makes the calls that are public; those of the arena's own files are in its
-//! `wrong-bodies/`.
+//! `wrong-bodies.txt`.
 #![tactic(auto)]
 
 ghost use Rattle.std.specs.Prelude.{◌≡◌, ℕ, ◌<◌, ◌↔◌, None, Some, IsOk, IfOk, IfSome, IfNone, OnOk, OnSome, OnErr, option_copied};

@@ -5,8 +5,10 @@ ghost use Rattle.counted_search.specs.Searches.{most_comparisons};
 use std::cmp::Ordering;
 use triple_arena_ptr::Probes;
 
-/// Searches by halves a list of `len` numbers that rise, the one at `i` given by `number_at(i)`:
-/// `Ok` has the place of the wanted number, `Err` the place where it would stand. One tick a comparison.
+/// Searches by halves a list of `len` numbers that rise, the one at `i` given by `number_at(i)`.
+///
+/// Returns `Ok` with the place of the wanted number, else `Err` with the place where it would stand. Each comparison
+/// is a tick.
 pub fn search<F: Fn(usize) -> u64 + Drop>(
     len: usize,
     wanted: u64,

@@ -33,6 +33,7 @@ pub trait ArenaCloneFromWith<P: PtrCore, T: Drop>: ArenaTrait<P, T> {
     /// Makes this arena a copy of `source`: with its pointers, each with what `map` makes of the value there, and with
     /// its counter where both have one. `map` is called once for each entry, in the order of the indexes, with the
     /// pointer and the value. What the arena held is dropped, and the smallest free index is the next one to be taken.
+    /// A pointer of what it held before may find a copied entry.
     ///
     /// No memory is taken where the last live index of `source` is within the capacity, which then stays. Else the
     /// arena first grows to exactly that index. It answers `BeyondMaxCapacity` where that is past the greatest

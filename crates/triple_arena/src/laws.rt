@@ -44,7 +44,7 @@ pub fn ended_pointers_find_nothing<P: PtrCore, T: Drop, A: ArenaTrait<P, T>>()
         → Finds A.entry_at (reached (reached made before) after) p → ⊥ }
 {}
 
-/// A pointer with the first generation, as `invalid()` has, never finds anything.
+/// A pointer with the first generation, as `invalid()` has, finds nothing after any history of a new arena's calls.
 pub fn invalid_pointers_find_nothing<P: PtrCore, T: Drop, A: ArenaTrait<P, T>>()
     ensures { (greatest : ℕ) (made : A) (history : List (Step T × A)) (index : ℕ) → P.Gen.last ≡ Some greatest
         → IsNew A.entry_at A.live_count A.counter A.room (Some 2) (A.room made) made

@@ -63,6 +63,8 @@ pub trait ArenaTransferTrait<P: PtrCore, T: Drop>: ArenaTrait<P, T> {
     /// it has one, is stepped once for each entry, as if they were removed one after another: where that step started
     /// the generations again, `map` gets the value as a `GenerationOverflow`.
     ///
+    /// A pointer of what this arena held before may find an entry that came in, if `new_generation` is its generation.
+    ///
     /// Memory is taken only where `source` has more entries than fit: then the arena first grows to exactly so many. It
     /// answers `BeyondMaxCapacity` where they are more than the greatest capacity, and `AllocError` where the memory
     /// was refused. An error leaves both arenas as they were.

@@ -1,8 +1,8 @@
 //! Pointers into generational arenas, and what the arenas' crates share.
 //!
 //! A pointer is an index, which says where in an arena an element is kept, and a generation, which says when it was
-//! put there. An arena gives each element the generation of its counter and steps the counter at each removal, so
-//! that a pointer finds its own element or nothing, until the generations start again.
+//! put there. An arena gives each element the generation of its counter and steps the counter at each removal. So
+//! a pointer finds its own element or nothing, until the counter wraps or is reset.
 //!
 //! - [`Ptr`], [`PtrInx`] and [`PtrGen`] say what a pointer, an index and a generation are. The order of pointers goes by index and
 //!   then by generation, with `==` and `Hash` in agreement.

@@ -35,6 +35,8 @@ impl PtrKind for Q2Kind {
 }
 
 /// A pointer with a `u8` index and a `u8` generation.
+///
+/// Its generations start again after 254 removals. From then on an old pointer may find a newer element.
 pub type P1 = Pointer<NonZeroU8, NonZeroU8, P1Kind>;
 
 /// The kind of `P1`.
@@ -95,6 +97,8 @@ impl PtrKind for P4Kind {
 }
 
 /// A pointer with a `usize` index alone.
+///
+/// It has no generation: an old pointer finds whatever stands at its index now.
 pub type P5 = Pointer<NonZeroUsize, (), P5Kind>;
 
 /// The kind of `P5`.

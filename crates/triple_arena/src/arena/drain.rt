@@ -18,6 +18,8 @@ use triple_arena_ptr::{InvalidationOption, PtrCore};
 ///
 /// Each item is one removal: the counter steps, and the item is `GenerationOverflow` where that step started the
 /// generations again. Dropped, at whatever item, it takes those that are left in the same way, and leaves no slot.
+///
+/// A drain that is let go by an explicit `drop` tells a caller nothing of what it left.
 pub struct Drain<'a, P: PtrCore, T: Drop, S: ArenaSlots<P, T>> {
     arena: &'a mut Arena<P, T, S>,
     // No index up to this one is live.

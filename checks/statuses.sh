@@ -1,14 +1,7 @@
-#!/usr/bin/env bash
-# program-statuses/run
-#
 # Runs the built program route_book to each of its exit statuses, and compares the status and what it writes on both of
 # its outputs. No clause can show this, since a contract says nothing of what `main` does with the status that it was
-# handed, nor of a real file. It needs rt, which builds the program first where that is still to be done.
-set -eu -o pipefail
-
-crate=$(dirname -- "$(readlink -f -- "${BASH_SOURCE[0]}")")/../crates/route_book_program
-work=$(mktemp -d)
-trap 'rm -rf -- "$work"' EXIT
+# handed, nor of a real file. The program is built first if it is not yet.
+crate=$top/crates/route_book_program
 
 # Its status is looked at below; here it is enough that the program was built and ran.
 (cd -- "$crate" && rt run -- 0 0 0 </dev/null) >"$work/log" 2>&1 || true
