@@ -1,11 +1,12 @@
-//! A store with a line language, and a program over it. Today it keeps places: a key, a word, and
-//! a ticket that is given once.
+//! A store with a line language, and a program over it. It keeps places, routes of stops at places, and marks of a place and a
+//! stop; each has a ticket that is given once.
 //!
 //! ```text
-//! place 50 oak      1
-//! place 30 elm      2
-//! all               2 30 elm, 1 50 oak, end
-//! show 1            50 oak
+//! place 50 oak        1                       start 1         4
+//! place 30 elm        2                       extend 4 2      5
+//! place 40 ash near 2 3                       walk 4          4 1, 5 2, end
+//! all                 2 30 elm, 3 40 ash,     mark 3 5        6
+//!                     1 50 oak, end           show 6          3 5
 //! ```
 //!
 //! [`run`] answers an input on an output, line by line, and [`program`] makes a store of the rooms
