@@ -1,7 +1,7 @@
-use Rattle.std.proofs.Common.{◌≡◌, ◌∙◌, ◌++◌, [], ◌∷◌, ℕ, List, Option, flat_map, codes, ap, sym, append-nil, append_assoc}
+use Rattle.std.proofs.Common.{◌≡◌, ◌∙◌, ◌++◌, [], ◌∷◌, ℕ, List, Option, flat_map, codes, ap, sym, subst, append-nil, append_assoc}
 use Rattle.std.specs.Io.KnownBytes.{Appends}
 use Rattle.std.proofs.KnownBytes.{Appends-trans}
-use Rattle.std.proofs.lemmas.Result.{on_err_weaker}
+use Rattle.std.proofs.lemmas.Result.{on_err_weaker, on_ok_weaker}
 use Rattle.route_lines.specs.State.{Stop}
 use Rattle.route_lines.specs.Reply.{ended, stop_line, stops_text}
 use Rattle.route_lines.specs.Written.{AppendsBeginning}
@@ -11,7 +11,7 @@ use Rattle.route_book.proofs.answer.write_stops.Goals as goal
 abbrev lines_of : List Stop → List ℕ
 lines_of stops = flat_map (λ p. ended (stop_line p)) stops
 
--- the line of one more place is gathered
+-- the line of one more stop is gathered
 line_more : (all left rest : List Stop) (p : Stop) (sent text gone kept new : List ℕ) → lines_of all ≡ (sent ++ text) ++ lines_of left → left ≡ p ∷ rest → text ≡ gone ++ kept → new ≡ kept ++ ended (stop_line p) → lines_of all ≡ ((sent ++ gone) ++ new) ++ lines_of rest
 line_more all left rest p sent text gone kept new before first split line =
     before
@@ -38,6 +38,16 @@ broken_off_last a b c d all left sent text gone kept new before none split line 
     ∙ sym (append-nil ((sent ++ gone) ++ new)))
     (Appends-trans a b c sent gone written moved) begins
 
+-- the whole text is written with the last piece
+written_last : (a b c d : Option (List ℕ)) (all left : List Stop) (sent text gone kept new : List ℕ) → lines_of all ≡ (sent ++ text) ++ lines_of left → left ≡ [] → text ≡ gone ++ kept → new ≡ kept ++ ended (codes "end") → Appends a b sent → Appends b c gone → Appends c d new → Appends a d (stops_text all)
+written_last a b c d all left sent text gone kept new before none split line written moved last =
+    let whole : stops_text all ≡ (sent ++ gone) ++ new =
+    ap (λ t. t ++ ended (codes "end"))
+    (before ∙ ap (λ ps. (sent ++ text) ++ lines_of ps) none ∙ append-nil (sent ++ text) ∙ ap (λ t. sent ++ t) split ∙ sym (append_assoc sent gone kept))
+    ∙ append_assoc (sent ++ gone) kept (ended (codes "end"))
+    ∙ ap (λ t. (sent ++ gone) ++ t) (sym line) in
+    subst (Appends a d) (sym whole) (Appends-trans a c d (sent ++ gone) new (Appends-trans a b c sent gone written moved) last)
+
 pub returns-in_err-make_room-clause-err : goal.returns-in_err-make_room-clause-err
 returns-in_err-make_room-clause-err g c =
     let before = c.loop-ticket.invariant.gathered in
@@ -62,4 +72,11 @@ returns-clause-err g c =
     let before = c.loop-ticket.invariant.gathered in
     let room = c.in_ok-make_room-2.ensures.ok in
     on_err_weaker c.send.result
-    (broken_off_last _ _ _ _ c.args.stops c.loop-ticket.stops before.0 _ room.0 _ _ before.1 c.in-None.ensures.steps.0 room.1 (c.as_slice.ensures ∙ c.push_line.ensures) before.2 room.2) c.send.ensures.err
+    (broken_off_last _ _ _ _ c.args.stops c.loop-ticket.stops before.0 _ room.0 _ _ before.1 c.in_default.ensures.steps.0 room.1 (c.as_slice.ensures ∙ c.push_line.ensures) before.2 room.2) c.send.ensures.err
+
+pub returns-clause-ok : goal.returns-clause-ok
+returns-clause-ok g c =
+    let before = c.loop-ticket.invariant.gathered in
+    let room = c.in_ok-make_room-2.ensures.ok in
+    on_ok_weaker c.send.result
+    (written_last _ _ _ _ c.args.stops c.loop-ticket.stops before.0 _ room.0 _ _ before.1 c.in_default.ensures.steps.0 room.1 (c.as_slice.ensures ∙ c.push_line.ensures) before.2 room.2) c.send.ensures.ok
