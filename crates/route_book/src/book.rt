@@ -14,6 +14,7 @@ ghost use Rattle.route_book.specs.Item.{MarkView, StopView};
 
 mod asking;
 mod making;
+mod marks;
 mod placing;
 mod stops;
 

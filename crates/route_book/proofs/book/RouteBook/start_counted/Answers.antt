@@ -30,9 +30,9 @@ invariant_of-self g c =
     let free : is_full_of_stops c.self.inside.held.state ≡ false = ap (λ (b : Book g.row.P-Inx.Denot). is_full_of_stops b.state) c.self.view_is ∙ sym c.is_full_of_stops.ensures ∙ c.if-is_full_of_stops.false in
     let placed = c.in-Ok.ensures.placed in
     let kept = start_kept g.P.Inx.PtrInxCore.number (record { places = c.self.inside.place_room; stops = c.self.inside.stop_room; marks = c.self.inside.mark_room }) c.self.inside.last c.self.inside.held.state c.self.inside.places c.self.inside.stops c.insert_within_capacity.new.self c.self.inside.marks c.self.inside.tickets.entries b
-            c.args.place found.0 held free (g.P.PtrCore.index c.in_ok-at.at) (g.P.PtrCore.generation c.in_ok-at.at) value c.new-stop.result (g.P.PtrCore.index c.in-Ok.new) (g.P.PtrCore.generation c.in-Ok.new) c.new-stop.ensures.ticket c.new-stop.ensures.place placed c.in-Ok.ensures.room in
+    c.args.place found.0 held free (g.P.PtrCore.index c.in_ok-at.at) (g.P.PtrCore.generation c.in_ok-at.at) value c.new-stop.result (g.P.PtrCore.index c.in-Ok.new) (g.P.PtrCore.generation c.in-Ok.new) c.new-stop.ensures.ticket c.new-stop.ensures.place placed c.in-Ok.ensures.room in
     let of_state = subst (λ z. IsBook g.P.Inx.PtrInxCore.number (record { places = c.self.inside.place_room; stops = c.self.inside.stop_room; marks = c.self.inside.mark_room }) (c.self.inside.last + 1) z c.self.inside.places c.insert_within_capacity.new.self c.self.inside.marks
-            (c.self.inside.tickets.entries ++ entry c.new-stop.result.ticket OfStop (g.P.PtrCore.index c.in-Ok.new) (g.P.PtrCore.generation c.in-Ok.new) ∷ [])) (sym c.changed-self-inside.ensures) kept in
+    (c.self.inside.tickets.entries ++ entry c.new-stop.result.ticket OfStop (g.P.PtrCore.index c.in-Ok.new) (g.P.PtrCore.generation c.in-Ok.new) ∷ [])) (sym c.changed-self-inside.ensures) kept in
     let room = c.self.invariant.room in
     let more = c.add.ensures.capacity in
     record {

@@ -1,0 +1,68 @@
+//! Marks.
+ghost use Rattle.std.specs.Prelude.{◌≡◌};
+ghost use Rattle.counted_search.specs.Searches.{most_comparisons};
+ghost use Rattle.route_lines.specs.Calls.{marked, after_mark};
+ghost use Rattle.route_lines.specs.Searches.{CountsWithin, living_count};
+ghost use Rattle.route_lines.specs.State.{is_full_of_marks};
+ghost use Rattle.route_book.specs.Book.{KeepsItems};
+
+use crate::backing::BookBacking;
+use crate::book::RouteBook;
+use crate::items::{Mark, Ref};
+use route_lines::{Change, Counts, Refusal};
+use ticket_book::Kind;
+use triple_arena::{ArenaInsertTrait, ArenaTrait};
+use triple_arena_ptr::PtrCore;
+use unreached::unreached;
+
+impl<P: PtrCore, B: BookBacking<P>> RouteBook<P, B> {
+    // Whether no further mark can be had.
+    fn is_full_of_marks(&self) -> bool
+        ensures { result ≡ is_full_of_marks self.now.state }
+    {
+        self.marks.len() >= self.mark_room || self.last == u64::MAX
+    }
+
+    /// A new mark of a place and of a stop.
+    ///
+    /// Each ticket is refused in turn: `Unknown` where it was never given, `Gone` where its item has ended, `Kind` where it is of
+    /// the wrong kind. Then `Full` where as many marks live as the room holds, or every ticket was given; then nothing changes.
+    pub fn mark(&mut self, place: u64, stop: u64) -> Result<u64, Refusal>
+        ensures result { result ≡ marked self.old.state place stop }
+        ensures state { self.new.state ≡ after_mark self.old.state place stop }
+        ensures kept { KeepsItems self.old self.new }
+    {
+        self.mark_counted(place, stop, &mut Counts::new())
+    }
+
+    /// The same, with the comparisons of its searches counted as `first` and `second`.
+    pub fn mark_counted(
+        &mut self,
+        place: u64,
+        stop: u64,
+        counts: &mut Counts,
+    ) -> Result<u64, Refusal>
+        ensures result { result ≡ marked self.old.state place stop }
+        ensures state { self.new.state ≡ after_mark self.old.state place stop }
+        ensures kept { KeepsItems self.old self.new }
+        ensures counts { CountsWithin counts.old counts.new
+            0 (most_comparisons (living_count self.old.state)) (most_comparisons (living_count self.old.state)) }
+    {
+        let at = self.find_place(place, &mut counts.first)?;
+        let by = self.find_stop(stop, &mut counts.second)?;
+        if self.is_full_of_marks() {
+            return Err(Refusal::Full);
+        }
+        let ticket = self.last + 1;
+        let mark = Mark::new(ticket, Ref::To(at), Ref::To(by));
+        match self.marks.insert_within_capacity(mark) {
+            Ok(new) => {
+                self.last = ticket;
+                self.tickets.add(ticket, Kind::Mark, new);
+                self.held = self.held.changed(&Change::Mark(place, stop));
+                Ok(ticket)
+            }
+            Err(_) => unreached!(),
+        }
+    }
+}
