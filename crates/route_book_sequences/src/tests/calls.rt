@@ -184,6 +184,48 @@ fn go_over<P: PtrCore, B: BookBacking<P>>(
     Ok(())
 }
 
+// A place, a stop at it and a mark of both.
+fn items<P: PtrCore, B: BookBacking<P>>(
+    rt: &impl Abort,
+    mut book: RouteBook<P, B>,
+) -> Result<(), Fail> {
+    assert_eq!(rt;
+        book.place(1, Word::new(b"a").ok_or("a word")?),
+        Ok(Placed::New(1))
+    );
+    assert_eq!(rt; (book.start(1), book.mark(1, 2)), (Ok(2), Ok(3)));
+    assert_eq!(rt; book.show(2), Ok(Shown::Stop { place: Some(1) }));
+    assert_eq!(rt;
+        book.show(3),
+        Ok(Shown::Mark {
+            place: Some(1),
+            stop: Some(2)
+        })
+    );
+    assert_eq!(rt;
+        (book.start(2), book.start(4)),
+        (Err(Refusal::Kind), Err(Refusal::Unknown))
+    );
+    assert_eq!(rt;
+        (book.mark(1, 1), book.mark(1, 2)),
+        (Err(Refusal::Kind), Err(Refusal::Full))
+    );
+    assert_eq!(rt; (book.start(1), book.start(1)), (Ok(4), Err(Refusal::Full)));
+    let lent = (
+        book.places_arena().len(),
+        book.stops_arena().len(),
+        book.marks_arena().len(),
+    );
+    assert_eq!(rt; lent, (1, 2, 1));
+    Ok(())
+}
+
+#[test]
+fn items_stand_on_the_heap_and_in_arrays(rt: HostRuntime) -> Result<(), Fail> {
+    items(&rt, RouteBook::<P1, _>::new(&OnHeap(rt.alloc()), 1, 2, 1)?)?;
+    items(&rt, RouteBook::<P0, _>::new(&OnArray::<4>, 1, 2, 1)?)
+}
+
 #[test]
 fn items_are_gone_over(rt: HostRuntime) -> Result<(), Fail> {
     go_over(&rt, one::<P0, _>(&OnHeap(rt.alloc()))?)
