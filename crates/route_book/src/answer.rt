@@ -104,7 +104,9 @@ impl<P: PtrCore, B: BookBacking<P>> RouteBook<P, B> {
             Command::Join { stop, next } => text.push_done(self.join_counted(stop, next, counts)),
             Command::Cut { stop } => text.push_done(self.cut_counted(stop, counts)),
             Command::Swap { stop, other } => text.push_done(self.swap_counted(stop, other, counts)),
-            Command::Mark { place, stop } => text.push_ticket(self.mark_counted(place, stop, counts)),
+            Command::Mark { place, stop } => text.push_ticket(self.mark_counted(
+                place, stop, counts,
+            )),
             Command::All => {}
             Command::Walk { stop: _ } => {}
         }

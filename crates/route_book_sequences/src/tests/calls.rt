@@ -26,12 +26,24 @@ fn refusal<P: PtrCore, B: BookBacking<P>>(
 fn rooms_of_each_pointer_and_stack(rt: HostRuntime) -> Result<(), Fail> {
     let heap = OnHeap(rt.alloc());
     assert_eq!(rt; refusal::<P1, _>(&heap, [200, 50, 5]), None);
-    assert_eq!(rt; refusal::<P1, _>(&heap, [200, 50, 6]), Some(RoomError::Index));
+    assert_eq!(rt;
+        refusal::<P1, _>(&heap, [200, 50, 6]),
+        Some(RoomError::Index)
+    );
     assert_eq!(rt; refusal::<P1, _>(&OnArray::<3>, [1, 1, 1]), None);
-    assert_eq!(rt; refusal::<P1, _>(&OnArray::<3>, [2, 1, 1]), Some(RoomError::Stack));
-    assert_eq!(rt; refusal::<P5, _>(&heap, [0, 0, 0]), Some(RoomError::Generation));
+    assert_eq!(rt;
+        refusal::<P1, _>(&OnArray::<3>, [2, 1, 1]),
+        Some(RoomError::Stack)
+    );
+    assert_eq!(rt;
+        refusal::<P5, _>(&heap, [0, 0, 0]),
+        Some(RoomError::Generation)
+    );
     assert_eq!(rt; refusal::<P0, _>(&heap, [0, 0, 0]), None);
-    assert_eq!(rt; refusal::<P0, _>(&heap, [usize::MAX, 1, 0]), Some(RoomError::Index));
+    assert_eq!(rt;
+        refusal::<P0, _>(&heap, [usize::MAX, 1, 0]),
+        Some(RoomError::Index)
+    );
     for rooms in [[usize::MAX, 0, 0], [0, usize::MAX, 0], [0, 0, usize::MAX]] {
         assert_eq!(rt; refusal::<P0, _>(&heap, rooms), Some(RoomError::Memory));
     }
@@ -43,7 +55,10 @@ fn rooms_of_each_pointer_and_stack(rt: HostRuntime) -> Result<(), Fail> {
 fn memory_is_refused(rt: HostRuntime) -> Result<(), Fail> {
     for nth in 1..REQUESTS + 1 {
         let heap = RefusingAllocator::new(rt.alloc(), nth);
-        assert_eq!(rt; refusal::<P0, _>(&OnHeap(&heap), [4, 4, 2]), Some(RoomError::Memory));
+        assert_eq!(rt;
+            refusal::<P0, _>(&OnHeap(&heap), [4, 4, 2]),
+            Some(RoomError::Memory)
+        );
         assert_eq!(rt; refusal::<P0, _>(&OnHeap(&heap), [4, 4, 2]), None);
     }
     Ok(())
@@ -98,12 +113,32 @@ fn ask_for_routes<P: PtrCore, B: BookBacking<P>>(
     mut book: RouteBook<P, B>,
 ) -> Result<(), Fail> {
     assert_eq!(rt; (book.start(1), book.extend(2, 1)), (Ok(2), Ok(3)));
-    assert_eq!(rt; (book.start(1), book.start(3)), (Err(Refusal::Full), Err(Refusal::Kind)));
-    assert_eq!(rt; (book.join(3, 2), book.join(3, 2)), (Ok(()), Err(Refusal::No)));
-    assert_eq!(rt; (book.swap(2, 3), book.cut(2), book.cut(2)), (Ok(()), Ok(()), Err(Refusal::No)));
-    assert_eq!(rt; (book.mark(1, 2), book.mark(1, 2)), (Ok(4), Err(Refusal::Full)));
+    assert_eq!(rt;
+        (book.start(1), book.start(3)),
+        (Err(Refusal::Full), Err(Refusal::Kind))
+    );
+    assert_eq!(rt;
+        (book.join(3, 2), book.join(3, 2)),
+        (Ok(()), Err(Refusal::No))
+    );
+    assert_eq!(rt;
+        (book.swap(2, 3), book.cut(2), book.cut(2)),
+        (Ok(()), Ok(()), Err(Refusal::No))
+    );
+    assert_eq!(rt;
+        (book.mark(1, 2), book.mark(1, 2)),
+        (Ok(4), Err(Refusal::Full))
+    );
     assert!(rt; matches!(book.show(3), Ok(Shown::Stop { place: Some(1) })));
-    assert!(rt; matches!(book.show(4), Ok(Shown::Mark { place: Some(1), stop: Some(2) })));
+    assert!(rt;
+        matches!(
+            book.show(4),
+            Ok(Shown::Mark {
+                place: Some(1),
+                stop: Some(2)
+            })
+        )
+    );
     let lent = (
         book.places_arena().len(),
         book.stops_arena().len(),

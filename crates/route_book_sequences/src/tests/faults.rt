@@ -111,7 +111,9 @@ fn answer_faults<P: PtrCore, B: BookBacking<P>>(
     let mut writer = Watched::new(writer);
     let mut counts = Counts::new();
     book.answer(b"place 1 a", &mut writer, &mut counts)?;
-    for line in ["start 1", "find 2", "show 3", "all", "walk 2", "walk 3", "bad"] {
+    for line in [
+        "start 1", "find 2", "show 3", "all", "walk 2", "walk 3", "bad",
+    ] {
         let outcome = book.answer(line.as_bytes(), &mut writer, &mut counts);
         assert!(rt; matches!(outcome, Err(e) if e.kind() == kind), "{line}");
     }

@@ -3,7 +3,8 @@
 use super::streams::{Page, Pieces};
 use super::table::{ROWS, Row};
 use refusing_allocator::RefusingAllocator;
-use route_book::{BookBacking, Counts, OnArray, OnHeap, RouteBook, Watched, run};
+use route_book::{BookBacking, Counts, OnArray, OnHeap, RoomError, RouteBook, Watched, run};
+use std::alloc::Allocator;
 use std::process::Abort;
 use std::test::Fail;
 use triple_arena_ptr::{P0, P1, PtrCore};
@@ -22,15 +23,22 @@ const STEPS: [Steps; 5] = [
 /// The requests for memory that make a store of places, stops and marks.
 pub(super) const REQUESTS: u64 = 7;
 
-// A new store over the backing answers the row's input with its text, and reads all of it.
+// A store over this backing, as the row wants it.
+fn store<P: PtrCore, B: BookBacking<P>>(
+    backing: &B,
+    [places, stops, marks]: [usize; 3],
+    last: u64,
+) -> Result<RouteBook<P, B>, RoomError> {
+    RouteBook::new_after(backing, places, stops, marks, last)
+}
+
+// The store answers the input with this text, and reads all of it.
 fn answers<P: PtrCore, B: BookBacking<P>>(
     rt: &impl Abort,
-    backing: &B,
-    row: &Row<'_>,
+    mut book: RouteBook<P, B>,
+    (input, text): (&str, &str),
     (read, taken): Steps,
 ) -> Result<(), Fail> {
-    let ([places, stops, marks], last, input, text) = *row;
-    let mut book = RouteBook::<P, B>::new_after(backing, places, stops, marks, last)?;
     let mut reader = Watched::new(Pieces::new(input.as_bytes(), read));
     let mut writer = Watched::new(Page::new(taken));
     run(&mut book, &mut reader, &mut writer, &mut Counts::new())?;
@@ -51,16 +59,25 @@ pub(super) fn requests([places, stops, marks]: [usize; 3]) -> u64 {
     arenas * 2 + u64::from(arenas > 0)
 }
 
-// The same over the heap. Once the store is made no memory is taken.
-fn answers_on_heap<P: PtrCore>(
-    rt: &(impl AllocGlobal + Abort),
-    row: &Row<'_>,
+// A new store over the heap answers the row.
+fn answers_on_heap<P: PtrCore, A: Allocator + Copy>(
+    rt: &impl Abort,
+    alloc: A,
+    (rooms, last, input, text): Row<'_>,
     steps: Steps,
 ) -> Result<(), Fail> {
-    let heap = RefusingAllocator::new(rt.alloc(), requests(row.0) + 1);
-    answers::<P, _>(rt, &OnHeap(&heap), row, steps)?;
-    assert!(rt; !heap.has_refused());
-    Ok(())
+    let book = store::<P, _>(&OnHeap(alloc), rooms, last)?;
+    answers(rt, book, (input, text), steps)
+}
+
+// And so does one over arrays.
+fn answers_on_array<P: PtrCore>(
+    rt: &impl Abort,
+    (rooms, last, input, text): Row<'_>,
+    steps: Steps,
+) -> Result<(), Fail> {
+    let book = store::<P, _>(&OnArray::<10>, rooms, last)?;
+    answers(rt, book, (input, text), steps)
 }
 
 // Whether the rooms together are at most so many.
@@ -68,16 +85,28 @@ fn fits([places, stops, marks]: [usize; 3], most: usize) -> bool {
     places <= most && stops <= most - places && marks <= most - places - stops
 }
 
-// The rows that fit, over both backings.
-fn answers_rows<P: PtrCore>(rt: &(impl AllocGlobal + Abort), rows: &[Row<'_>], most: usize) -> Result<(), Fail> {
+// The row over wide and narrow pointers and both backings, where they have the room. On the heap no memory is taken once the
+// store is made.
+fn answers_row(rt: &(impl AllocGlobal + Abort), row: Row<'_>, steps: Steps) -> Result<(), Fail> {
+    let heap = RefusingAllocator::new(rt.alloc(), requests(row.0) + 1);
+    answers_on_heap::<P0, _>(rt, &heap, row, steps)?;
+    assert!(rt; !heap.has_refused());
+    if fits(row.0, 255) {
+        let heap = RefusingAllocator::new(rt.alloc(), requests(row.0) + 1);
+        answers_on_heap::<P1, _>(rt, &heap, row, steps)?;
+        assert!(rt; !heap.has_refused());
+    }
+    if fits(row.0, 10) {
+        answers_on_array::<P0>(rt, row, steps)?;
+        answers_on_array::<P1>(rt, row, steps)?;
+    }
+    Ok(())
+}
+
+fn answers_rows(rt: &(impl AllocGlobal + Abort), rows: &[Row<'_>]) -> Result<(), Fail> {
     for row in rows {
         for steps in STEPS {
-            if fits(row.0, most) {
-                answers_on_heap::<P>(rt, row, steps)?;
-            }
-            if fits(row.0, most.min(10)) {
-                answers::<P, _>(rt, &OnArray::<10>, row, steps)?;
-            }
+            answers_row(rt, *row, steps)?;
         }
     }
     Ok(())
@@ -85,12 +114,7 @@ fn answers_rows<P: PtrCore>(rt: &(impl AllocGlobal + Abort), rows: &[Row<'_>], m
 
 #[test]
 fn each_row_has_its_text(rt: HostRuntime) -> Result<(), Fail> {
-    answers_rows::<P0>(&rt, &ROWS, usize::MAX)
-}
-
-#[test]
-fn each_row_has_its_text_over_narrow_pointers(rt: HostRuntime) -> Result<(), Fail> {
-    answers_rows::<P1>(&rt, &ROWS, 255)
+    answers_rows(&rt, &ROWS)
 }
 
 // What the table cannot hold: an input without lines, and a rest without LF, though it spells a command with one.
@@ -102,7 +126,7 @@ fn rests_are_bad(rt: HostRuntime) -> Result<(), Fail> {
         (rooms, 0, "all", "bad\n"),
         (rooms, 0, "all\nall", "end\nbad\n"),
     ];
-    answers_rows::<P0>(&rt, &rows, usize::MAX)
+    answers_rows(&rt, &rows)
 }
 
 #[test]
@@ -112,9 +136,9 @@ fn a_long_line_is_one_bad_line(rt: HostRuntime) -> Result<(), Fail> {
     for start in [0, 930] {
         let input = str::from_utf8(&bytes[start..])?;
         let row = ([4, 4, 2], 0, input, "bad\nend\n");
-        answers_rows::<P0>(&rt, &[row], usize::MAX)?;
+        answers_rows(&rt, &[row])?;
         let row = ([4, 4, 2], 0, &input[..70], "bad\n");
-        answers_rows::<P0>(&rt, &[row], usize::MAX)?;
+        answers_rows(&rt, &[row])?;
     }
     Ok(())
 }
