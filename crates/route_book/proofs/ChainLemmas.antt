@@ -159,7 +159,7 @@ module _ (at : ℕ → Option Stop) (ends : ℕ → Option Ends) (next previous 
       by (x ∷ xs) is =
           let first : first_or chain None ≡ Some x = ap (λ ys. first_or ys None) is in
           let stood = stand (prev_at ends x) (first_or chain None) ts h (first_live None ts h tt) closing
-              (λ i e. let both : Some x ≡ Some i = sym first ∙ e in let same : x ≡ i = cc in ap (prev_at ends) (sym same)) in
+          (λ i e. let both : Some x ≡ Some i = sym first ∙ e in let same : x ≡ i = cc in ap (prev_at ends) (sym same)) in
           let last = last_some x xs in
           let ending : last_or None chain ≡ Some last.0 = ap (last_or None) is ∙ last.1 in
           let leads_on : next_at ends last.0 ≡ Some x = last_leads ends (prev_at ends x) (first_or chain None) chain stood last.0 ending ∙ first in

@@ -108,25 +108,25 @@ module _ {I : Type 0} (number : I → ℕ) (rooms : Rooms) (last : ℕ) (s : Sta
         → IsBook number rooms (last + 1) (after_extend s t pt) places stops' marks (book ++ entry w.ticket OfStop n h ∷ [])
     extend_kept leads through leads_others own others count =
         subst (λ z. IsBook number rooms (last + 1) z places stops' marks (book ++ entry w.ticket OfStop n h ∷ [])) (sym whole) (record {
-            held = subst (λ (c : ℕ). IsHeld now (record { places = entry_in places; stops = values_in stops'; marks = entry_at marks; place_counter = places.chains.counter; stop_counter = c }) (in_order number places) (ends_in number stops') (book ++ entry w.ticket OfStop n h ∷ []))
-                (sym put.counter) held_now;
-            keys_rise = b.keys_rise;
-            within = record {
-              rooms_are = b.within.rooms_are;
-              place_count = b.within.place_count;
-              stop_count = (let c = count answer in let k = b.within.stop_count in let l = put.live in omega (arith, c, k, l));
-              mark_count = b.within.mark_count;
-              places_fit = b.within.places_fit;
-              stops_fit = (let l = put.live in let k = b.within.stop_count in let r = ap (λ (r : Rooms). r.stops) b.within.rooms_are in let less = stops_not_full s free in omega (arith, less, l, k, r));
-              marks_fit = b.within.marks_fit;
-              place_room = b.within.place_room;
-              stop_room = subst (λ r. rooms.stops ≤ capacity r) (sym same_room) b.within.stop_room;
-              mark_room = b.within.mark_room;
-            };
-            last_is = ap (λ k. k + 1) b.last_is;
-            entries = (let a = length-append book (entry w.ticket OfStop n h ∷ []) in let k = b.entries in let l = put.live in omega (arith, a, k, l));
-            marks_differ = b.marks_differ;
-          })
+          held = subst (λ (c : ℕ). IsHeld now (record { places = entry_in places; stops = values_in stops'; marks = entry_at marks; place_counter = places.chains.counter; stop_counter = c }) (in_order number places) (ends_in number stops') (book ++ entry w.ticket OfStop n h ∷ []))
+              (sym put.counter) held_now;
+          keys_rise = b.keys_rise;
+          within = record {
+            rooms_are = b.within.rooms_are;
+            place_count = b.within.place_count;
+            stop_count = (let c = count answer in let k = b.within.stop_count in let l = put.live in omega (arith, c, k, l));
+            mark_count = b.within.mark_count;
+            places_fit = b.within.places_fit;
+            stops_fit = (let l = put.live in let k = b.within.stop_count in let r = ap (λ (r : Rooms). r.stops) b.within.rooms_are in let less = stops_not_full s free in omega (arith, less, l, k, r));
+            marks_fit = b.within.marks_fit;
+            place_room = b.within.place_room;
+            stop_room = subst (λ r. rooms.stops ≤ capacity r) (sym same_room) b.within.stop_room;
+            mark_room = b.within.mark_room;
+          };
+          last_is = ap (λ k. k + 1) b.last_is;
+          entries = (let a = length-append book (entry w.ticket OfStop n h ∷ []) in let k = b.entries in let l = put.live in omega (arith, a, k, l));
+          marks_differ = b.marks_differ;
+        })
       where
         now : State
         now = record s { last = s.last + 1; routes = later }
@@ -189,8 +189,8 @@ module _ {I : Type 0} (number : I → ℕ) (rooms : Rooms) (last : ℕ) (s : Sta
     extend_leaves z book' is more leads through leads_others own others count =
         subst (λ l. IsBook number rooms (last + 1) z places stops' marks l) (ap (λ m. book ++ entry m OfStop n h ∷ []) ticket ∙ sym more)
         (subst (λ x. IsBook number rooms (last + 1) x places stops' marks (book ++ entry w.ticket OfStop n h ∷ [])) (sym is)
-         (extend_kept number rooms last s places stops marks book b t i g stop.0 stop.1 stop.2 pt place.0 place.2 room agreed pi pg place.1 w n h ticket to stops' placed same_room
-          (leads (s.last + 1)) (through (s.last + 1)) (λ x. leads_others (s.last + 1) x) (own (s.last + 1)) (λ x. others (s.last + 1) x) (count (s.last + 1))))
+        (extend_kept number rooms last s places stops marks book b t i g stop.0 stop.1 stop.2 pt place.0 place.2 room agreed pi pg place.1 w n h ticket to stops' placed same_room
+        (leads (s.last + 1)) (through (s.last + 1)) (λ x. leads_others (s.last + 1) x) (own (s.last + 1)) (λ x. others (s.last + 1) x) (count (s.last + 1))))
 
     pub extend_keeps_in : (s' : State) → KeepsItems k (record { state = s'; places = places; stops = stops'; marks = marks })
     extend_keeps_in s' =

@@ -19,4 +19,3 @@ pub mod RelinkLemmas
 pub mod ChainLemmas
 pub mod WalkedLemmas
 pub mod ListedLemmas
-pub mod KeptLemmas

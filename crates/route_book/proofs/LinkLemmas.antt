@@ -147,7 +147,7 @@ module _ {I : Type 0} (number : I → ℕ) (rooms : Rooms) (last : ℕ) (s : Sta
   relinked_kept stay count lead = record {
     held = subst (λ (c : ℕ). IsHeld now (record { places = entry_in places; stops = values_in stops'; marks = entry_at marks; place_counter = places.chains.counter; stop_counter = c }) (in_order number places) (ends_in number stops') book) (sym kept.counter)
         (subst (λ (at : ℕ → Option (ℕ × StopView)). IsHeld now (record { places = entry_in places; stops = at; marks = entry_at marks; place_counter = places.chains.counter; stop_counter = stops.counter }) (in_order number places) (ends_in number stops') book)
-         (sym (equal_if_alike (values_in stops') (values_in stops) same)) held);
+        (sym (equal_if_alike (values_in stops') (values_in stops) same)) held);
     keys_rise = b.keys_rise;
     within = record {
       rooms_are = b.within.rooms_are;

@@ -53,7 +53,7 @@ module _ {I : Type 0} (number : I → ℕ) (rooms : Rooms) (last : ℕ) (s : Sta
       start_leaves z book' is more nowhere others =
           subst (λ l. IsBook number rooms (last + 1) z places stops' marks l) (ap (λ m. book ++ entry m OfStop n h ∷ []) ticket ∙ sym more)
           (subst (λ x. IsBook number rooms (last + 1) x places stops' marks (book ++ entry w.ticket OfStop n h ∷ [])) (sym is)
-           (start_kept number rooms last s places stops stops' marks book b pt place.0 place.2 room pi pg place.1 w n h ticket to put same_room agreed (nowhere (s.last + 1) answer) (λ x. others (s.last + 1) x answer)))
+          (start_kept number rooms last s places stops stops' marks book b pt place.0 place.2 room pi pg place.1 w n h ticket to put same_room agreed (nowhere (s.last + 1) answer) (λ x. others (s.last + 1) x answer)))
 
       pub start_keeps : (s' : State) → KeepsItems k (record { state = s'; places = places; stops = stops'; marks = marks })
       start_keeps s' =
@@ -89,10 +89,10 @@ module _ {I : Type 0} (number : I → ℕ) (rooms : Rooms) (last : ℕ) (s : Sta
       mark_leaves z book' is more live same_room =
           subst (λ l. IsBook number rooms (last + 1) z places stops marks' l) (ap (λ m. book ++ entry m OfMark n h ∷ []) ticket ∙ sym more)
           (subst (λ x. IsBook number rooms (last + 1) x places stops marks' (book ++ entry w.ticket OfMark n h ∷ [])) (sym is)
-           (mark_made number rooms last s places stops marks marks' book b pt st place.0 (state_stop (found_in places stops marks) stop.0) place.2 stop.2 mark_room w n h ticket
-            (subst (λ r. IfSome r (λ q. IsSome (value_if q.1 (entry_in places q.0)))) (sym to) (subst IsSome (sym place.1) refl))
-            (subst (λ r. IfSome r (λ q. IsSome (value_if q.1 (values_in stops q.0)))) (sym of) (subst IsSome (sym stop.1) refl))
-            named vacant entries live same_room))
+          (mark_made number rooms last s places stops marks marks' book b pt st place.0 (state_stop (found_in places stops marks) stop.0) place.2 stop.2 mark_room w n h ticket
+          (subst (λ r. IfSome r (λ q. IsSome (value_if q.1 (entry_in places q.0)))) (sym to) (subst IsSome (sym place.1) refl))
+          (subst (λ r. IfSome r (λ q. IsSome (value_if q.1 (values_in stops q.0)))) (sym of) (subst IsSome (sym stop.1) refl))
+          named vacant entries live same_room))
 
       pub mark_keeps : (s' : State) → KeepsItems k (record { state = s'; places = places; stops = stops; marks = marks' })
       mark_keeps s' =

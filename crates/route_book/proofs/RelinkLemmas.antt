@@ -160,9 +160,9 @@ module _ {I : Type 0} (number : I → ℕ) (rooms : Rooms) (last : ℕ) (s : Sta
     cut_kept stops' some relinked own others stay count =
         subst (λ z. IsBook number rooms last z places stops' marks book) (sym (only_routes s (parted s t) (routes_of.unlinked t s.routes)))
         (relinked_kept number rooms last s places stops stops' marks book b re.values re.kept (after_cut s t).routes stay count
-         (lead_parted τ (values_in stops) (ends_in number stops) (ends_in number stops') (next_stop s.routes) (next_stop (after_cut s t).routes) b.held.routes
-          (distinct s (found_in places stops marks) (in_order number places) (ends_in number stops) book b.held) i n.0 g v here.here
-          (ap (next_stop (after_cut s t).routes) own_ticket ∙ own) (λ k apart. others k (λ is. apart (is ∙ sym own_ticket))) re.ends))
+        (lead_parted τ (values_in stops) (ends_in number stops) (ends_in number stops') (next_stop s.routes) (next_stop (after_cut s t).routes) b.held.routes
+        (distinct s (found_in places stops marks) (in_order number places) (ends_in number stops) book b.held) i n.0 g v here.here
+        (ap (next_stop (after_cut s t).routes) own_ticket ∙ own) (λ k apart. others k (λ is. apart (is ∙ sym own_ticket))) re.ends))
       where
         here : IsAt number stops i g v
         here = at agreed t i g v named
@@ -210,10 +210,10 @@ module _ {I : Type 0} (number : I → ℕ) (rooms : Rooms) (last : ℕ) (s : Sta
     swap_kept stops' some more relinked own second others stay count =
         subst (λ z. IsBook number rooms last z places stops' marks book) (sym (only_routes s (swapped s t u) (routes_of.exchanged t u s.routes)))
         (relinked_kept number rooms last s places stops stops' marks book b re.values re.kept later stay count
-         (lead_exchanged τ (values_in stops) (ends_in number stops) (ends_in number stops') (next_stop s.routes) (next_stop later) b.held.routes
-          (distinct s (found_in places stops marks) (in_order number places) (ends_in number stops) book b.held) i j g h m.0 n.0 v w here.here there.here here.live there.live m_is n_is
-          (ap (next_stop later) own_ticket ∙ own ∙ ap (next_stop s.routes) (sym other_ticket)) (ap (next_stop later) other_ticket ∙ second ∙ ap (next_stop s.routes) (sym own_ticket))
-          (λ k apart off. others k (λ is. apart (is ∙ sym own_ticket)) (λ is. off (is ∙ sym other_ticket))) re.ends))
+        (lead_exchanged τ (values_in stops) (ends_in number stops) (ends_in number stops') (next_stop s.routes) (next_stop later) b.held.routes
+        (distinct s (found_in places stops marks) (in_order number places) (ends_in number stops) book b.held) i j g h m.0 n.0 v w here.here there.here here.live there.live m_is n_is
+        (ap (next_stop later) own_ticket ∙ own ∙ ap (next_stop s.routes) (sym other_ticket)) (ap (next_stop later) other_ticket ∙ second ∙ ap (next_stop s.routes) (sym own_ticket))
+        (λ k apart off. others k (λ is. apart (is ∙ sym own_ticket)) (λ is. off (is ∙ sym other_ticket))) re.ends))
       where
         later : List Route
         later = (after_swap s t u).routes
@@ -305,9 +305,9 @@ module _ {I : Type 0} (number : I → ℕ) (rooms : Rooms) (last : ℕ) (s : Sta
     join_kept stops' re own others stay count =
         subst (λ z. IsBook number rooms last z places stops' marks book) (sym (only_routes s (joined s t u) (routes_of.linked t u s.routes)))
         (relinked_kept number rooms last s places stops stops' marks book b re.values re.kept later stay count
-         (lead_joined τ (values_in stops) (ends_in number stops) (ends_in number stops') (next_stop s.routes) (next_stop later) b.held.routes
-          (distinct s (found_in places stops marks) (in_order number places) (ends_in number stops) book b.held) i j g h v w here.here there.here here.live
-          (ap (next_stop later) own_ticket ∙ own ∙ ap Some (sym other_ticket)) (λ k apart. others k (λ is. apart (is ∙ sym own_ticket))) re.ends))
+        (lead_joined τ (values_in stops) (ends_in number stops) (ends_in number stops') (next_stop s.routes) (next_stop later) b.held.routes
+        (distinct s (found_in places stops marks) (in_order number places) (ends_in number stops) book b.held) i j g h v w here.here there.here here.live
+        (ap (next_stop later) own_ticket ∙ own ∙ ap Some (sym other_ticket)) (λ k apart. others k (λ is. apart (is ∙ sym own_ticket))) re.ends))
       where
         later : List Route
         later = (after_join s t u).routes

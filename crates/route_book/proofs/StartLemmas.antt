@@ -83,8 +83,8 @@ module _ {I : Type 0} (number : I → ℕ) (rooms : Rooms) (last : ℕ) (s : Sta
   start_kept = subst (λ z. IsBook number rooms (last + 1) z places stops' marks (book ++ entry v.ticket OfStop i g ∷ [])) (sym (started_new s t p held free).1) (record {
     held = subst (λ c. IsHeld now (record { places = entry_in places; stops = values_in stops'; marks = entry_at marks; place_counter = places.chains.counter; stop_counter = c })
         (in_order number places) (ends_in number stops') (book ++ entry v.ticket OfStop i g ∷ [])) (sym put.counter) (stop_added s (found_in places stops marks) (in_order number places) (ends_in number stops) (ends_in number stops') book b.held v i g (values_in stops') vacant put.values
-              next put.generation live (s.routes ++ own ∷ []) others first
-              lead);
+        next put.generation live (s.routes ++ own ∷ []) others first
+        lead);
     keys_rise = b.keys_rise;
     within = record {
       rooms_are = b.within.rooms_are;

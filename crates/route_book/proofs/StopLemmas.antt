@@ -15,7 +15,6 @@ use Rattle.route_lines.specs.State.{State, Place, Stop, Route, Mark, place_of, s
 use Rattle.route_book.proofs.SettledLemmas.{found_added, settled_added, up_to_added, live_settled}
 use Rattle.route_book.specs.Follows.{LeadAs}
 use Rattle.route_book.specs.Holds.{Found, found_by, state_stop, state_mark, place_under, stop_under, mark_under, place_at, stop_at, mark_at, IsFilled, entry, Rise, IsLive, IsSettled, IsHeld}
-
 use Rattle.route_book.proofs.HoldLemmas.{some_same, lookup_given, Rise-add, lookup_none, lookup_added, lookup_other, lookup_kept}
 
 none_or_some : {X : Type 0} {x : X} → ◌≡◌ {A = Option X} None (Some x) → ⊥
@@ -137,7 +136,7 @@ module _ (s : State) (f : Found) (order : List Place) (ends ends' : ℕ → Opti
             let both : Some (g, v) ≡ Some (k, q) = sym here ∙ sym (ap at same.1) ∙ is in
             let pair : (g, v) ≡ (k, q) = some_same both in
             let known : lookup more v.ticket ≡ Some (entry v.ticket OfStop j g) =
-                ap (lookup more) next ∙ lookup_added book s.last e h.rise next ∙ ap (λ n. Some (entry v.ticket OfStop n g)) (sym same.1)
+            ap (lookup more) next ∙ lookup_added book s.last e h.rise next ∙ ap (λ n. Some (entry v.ticket OfStop n g)) (sym same.1)
             in subst (λ (x : ℕ × StopView). lookup more x.1.ticket ≡ Some (entry x.1.ticket OfStop j x.0)) pair known
         | inr other ↦ lookup_kept book s.last e h.rise next q.ticket _ (h.stops_in j k q (sym (there j other.1) ∙ is))
       ]

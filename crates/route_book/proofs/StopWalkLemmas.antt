@@ -134,9 +134,9 @@ module _ (at : ℕ → Option Stop) (ends : ℕ → Option Ends) (next previous 
       one (Some u) e h = omega (arith, h, ap {B = ℕ} (λ b. cond b 1 0) (ne_eqb u.ticket t.ticket (λ same. off.0 (distinct x i u t e here same))))
 
   module _ (ways : (front behind : List Stop) (t : Stop) → AllByRecursion (λ x. stop_of routes x.ticket ≡ Some x) (front ++ t ∷ behind) → Leads next None (front ++ t ∷ behind)
-          → ((u : ℕ) (x : Stop) (rest : List Stop) → front ++ t ∷ behind ≡ x ∷ rest → next u ≢ Some x.ticket) → walk_from t.ticket routes ≡ (t ∷ behind) ++ reverse front)
+      → ((u : ℕ) (x : Stop) (rest : List Stop) → front ++ t ∷ behind ≡ x ∷ rest → next u ≢ Some x.ticket) → walk_from t.ticket routes ≡ (t ∷ behind) ++ reverse front)
       (rounds : (t : Stop) (behind : List Stop) → AllByRecursion (λ x. stop_of routes x.ticket ≡ Some x) (t ∷ behind) → Leads next (Some t.ticket) (t ∷ behind) → count_of (has_ticket t.ticket) behind ≡ 0
-          → walk_from t.ticket routes ≡ t ∷ behind) where
+      → walk_from t.ticket routes ≡ t ∷ behind) where
     -- the stops along a walk of the interlinks are those of the walk
     pub stops_walked : (i : ℕ) (t : Stop) (walk : List ℕ) → at i ≡ Some t → IsWalkFrom ends i walk → walk_from t.ticket routes ≡ along at walk
     stops_walked i t walk here (walks_along before after linear is) =

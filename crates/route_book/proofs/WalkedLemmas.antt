@@ -127,9 +127,9 @@ module _ {I : Type 0} (number : I → ℕ) (rooms : Rooms) (last : ℕ) (s : Sta
             (at.0, here ∙ sym own ∙ ap (stop_of s.routes) at.1.1.1 ∙ known_as)
 
     module _ (ways : (front behind : List Stop) (t : Stop) → AllByRecursion (λ x. stop_of s.routes x.ticket ≡ Some x) (front ++ t ∷ behind) → Leads (next_stop s.routes) None (front ++ t ∷ behind)
-            → ((u : ℕ) (x : Stop) (rest : List Stop) → front ++ t ∷ behind ≡ x ∷ rest → next_stop s.routes u ≢ Some x.ticket) → walk_from t.ticket s.routes ≡ (t ∷ behind) ++ reverse front)
+        → ((u : ℕ) (x : Stop) (rest : List Stop) → front ++ t ∷ behind ≡ x ∷ rest → next_stop s.routes u ≢ Some x.ticket) → walk_from t.ticket s.routes ≡ (t ∷ behind) ++ reverse front)
         (rounds : (t : Stop) (behind : List Stop) → AllByRecursion (λ x. stop_of s.routes x.ticket ≡ Some x) (t ∷ behind) → Leads (next_stop s.routes) (Some t.ticket) (t ∷ behind) → count_of (has_ticket t.ticket) behind ≡ 0
-            → walk_from t.ticket s.routes ≡ t ∷ behind)
+        → walk_from t.ticket s.routes ≡ t ∷ behind)
         (k : Book I) (view : record { state = s; places = places; stops = stops; marks = marks } ≡ k) (t i g : ℕ)
         (from : (v : StopView) × (value_if g (values_in k.stops i) ≡ Some v) × (stop_holder k.state t ≡ Ok (state_stop (found_of k) v))) where
       abbrev own : (v : StopView) × IsNamed number rooms last s places stops marks book b t i g v

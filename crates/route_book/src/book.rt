@@ -23,8 +23,6 @@ mod routes;
 mod stops;
 mod walking;
 
-pub use walking::Walk;
-
 use crate::backing::BookBacking;
 use crate::items::{Mark, Place, Stop};
 use route_lines::laws::{routes_lead_along, stops_follow_their_previous_ones};
@@ -35,6 +33,7 @@ use triple_arena::{Arena, ArenaTrait, DirectArena};
 use triple_arena_chain::ChainArena;
 use triple_arena_ord::SimpleOrdArena;
 use triple_arena_ptr::{Probes, PtrCore};
+pub use walking::Walk;
 
 /// A store of places, routes of stops, and marks, over pointers of the type `P`, in the stacks that `B` names. Its room is taken
 /// once, when it is made; no call on a made store takes memory.

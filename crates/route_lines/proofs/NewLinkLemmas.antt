@@ -153,8 +153,12 @@ new_behind s new (r ∷ routes) some = at (has_stop s r) refl (new_behind s new 
     at : (b : Bool) → has_stop s r ≡ b → (1 ≤ count_of (has_ticket s) (stop_list routes) → 1 ≤ count_of (has_ticket new.ticket) (stop_list (put_behind s new routes)))
         → 1 ≤ count_of (has_ticket new.ticket) (stop_list (cond b (record r { stops = up_to (has_ticket s) r.stops ++ new ∷ behind (has_ticket s) r.stops }) r ∷ put_behind s new routes))
     at true e later =
-        omega (arith, total-append (λ t. cond (has_ticket new.ticket t) 1 0) (up_to (has_ticket s) r.stops ++ new ∷ behind (has_ticket s) r.stops) (stop_list (put_behind s new routes)),
-        total-append (λ t. cond (has_ticket new.ticket t) 1 0) (up_to (has_ticket s) r.stops) (new ∷ behind (has_ticket s) r.stops), ap {B = ℕ} (λ b. cond b 1 0) (eq-eqb new.ticket new.ticket refl))
+        omega (
+          arith,
+          total-append (λ t. cond (has_ticket new.ticket t) 1 0) (up_to (has_ticket s) r.stops ++ new ∷ behind (has_ticket s) r.stops) (stop_list (put_behind s new routes)),
+          total-append (λ t. cond (has_ticket new.ticket t) 1 0) (up_to (has_ticket s) r.stops) (new ∷ behind (has_ticket s) r.stops),
+          ap {B = ℕ} (λ b. cond b 1 0) (eq-eqb new.ticket new.ticket refl),
+        )
     at false e later =
         let here = total-append (λ t. cond (has_ticket s t) 1 0) r.stops (stop_list routes) in
         omega (arith, total-append (λ t. cond (has_ticket new.ticket t) 1 0) r.stops (stop_list (put_behind s new routes)), later (omega (arith, some, here, count-none (has_ticket s) r.stops e)))
@@ -177,11 +181,12 @@ ticket_given s at n e = let ok = and_then-ok (place_holder s at) (λ p. next_tic
     by false f = cc
 
 pub next-started : (s : State) (at n : ℕ) → IsSound s → started s at ≡ Ok n → (next_stop (after_start s at).routes n ≡ None) × ((v : ℕ) → v ≢ n → next_stop (after_start s at).routes v ≡ next_stop s.routes v)
-next-started s at n sound e =
-    (ap (λ rs. next_stop rs n) new ∙ next_stop-is changed routes n written.once links (omega (arith, counts n, ap {B = ℕ} (λ b. cond b 1 0) (eq-eqb n n refl))) ∙ ap (λ b. cond b None (next_stop s.routes n)) (eq-eqb n n refl),
-    λ v apart. ap (λ rs. next_stop rs v) new
-    ∙ leads_but_for n changed s.routes routes written links (λ k other none. omega (arith, counts k, none, ap {B = ℕ} (λ b. cond b 1 0) (ne_eqb n k (λ h. other (sym h))))) (λ k some. omega (arith, counts k, some)) v apart
-    (ap (λ b. cond b None (next_stop s.routes v)) (ne_eqb v n apart)))
+next-started s at n sound e = (
+  ap (λ rs. next_stop rs n) new ∙ next_stop-is changed routes n written.once links (omega (arith, counts n, ap {B = ℕ} (λ b. cond b 1 0) (eq-eqb n n refl))) ∙ ap (λ b. cond b None (next_stop s.routes n)) (eq-eqb n n refl),
+  λ v apart. ap (λ rs. next_stop rs v) new
+      ∙ leads_but_for n changed s.routes routes written links (λ k other none. omega (arith, counts k, none, ap {B = ℕ} (λ b. cond b 1 0) (ne_eqb n k (λ h. other (sym h))))) (λ k some. omega (arith, counts k, some)) v apart
+      (ap (λ b. cond b None (next_stop s.routes v)) (ne_eqb v n apart)),
+)
   where
     ticket : n ≡ s.last + 1
     ticket = ticket_given s at n e

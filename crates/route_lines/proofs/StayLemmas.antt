@@ -190,10 +190,10 @@ pub record IsOneMore (new : Stop) (routes others : List Route) : Type 0 where
 
 pub one_more-extended : (s : State) (t at n : ℕ) → IsSound s → extended s t at ≡ Ok n → IsOneMore (record { ticket = n; place = Some at }) s.routes (after_extend s t at).routes
 one_more-extended s t at n sound e = subst (IsOneMore new s.routes) (sym now) (record {
-    own = new_behind t new s.routes fresh some;
-    stops = λ k other. others_behind t new k (λ is. other (sym is)) s.routes;
-    count = length_behind t new s.routes (omega (arith, some, sound.routes.once t));
-  })
+  own = new_behind t new s.routes fresh some;
+  stops = λ k other. others_behind t new k (λ is. other (sym is)) s.routes;
+  count = length_behind t new s.routes (omega (arith, some, sound.routes.once t));
+})
   where
     new : Stop
     new = record { ticket = n; place = Some at }

@@ -28,8 +28,8 @@ own_stops [] once = tt
 own_stops (y ∷ ys) once = (
   ap (λ b. cond b (Some y) (find (has_ticket y.ticket) ys)) (eq-eqb y.ticket y.ticket refl),
   all_weaker (λ x. (1 ≤ count_of (has_ticket x.ticket) ys) × (find (has_ticket x.ticket) ys ≡ Some x)) (λ x. find (has_ticket x.ticket) (y ∷ ys) ≡ Some x) ys
-  (λ x h. ap (λ b. cond b (Some y) (find (has_ticket x.ticket) ys)) (ne_eqb y.ticket x.ticket (λ same. omega (arith, once x.ticket, h.0, ap {B = ℕ} (λ b. cond b 1 0) (eq-eqb y.ticket x.ticket same)))) ∙ h.1)
-  (all_both (λ x. 1 ≤ count_of (has_ticket x.ticket) ys) (λ x. find (has_ticket x.ticket) ys ≡ Some x) ys (all_counted ys) (own_stops ys (λ k. omega (arith, once k)))),
+      (λ x h. ap (λ b. cond b (Some y) (find (has_ticket x.ticket) ys)) (ne_eqb y.ticket x.ticket (λ same. omega (arith, once x.ticket, h.0, ap {B = ℕ} (λ b. cond b 1 0) (eq-eqb y.ticket x.ticket same)))) ∙ h.1)
+      (all_both (λ x. 1 ≤ count_of (has_ticket x.ticket) ys) (λ x. find (has_ticket x.ticket) ys ≡ Some x) ys (all_counted ys) (own_stops ys (λ k. omega (arith, once k)))),
 )
 
 -- two that end are one
@@ -179,8 +179,13 @@ walked_both_ways s front behind t sound known leads first = from front refl
 
         off : count_of (has_ticket t.ticket) front ≡ 0
         off =
-            omega (arith, st.once t.ticket, ap (count_of (has_ticket t.ticket)) same, total-append (λ u. cond (has_ticket t.ticket u) 1 0) front (t ∷ behind),
-            ap {B = ℕ} (λ b. cond b 1 0) (eq-eqb t.ticket t.ticket refl))
+            omega (
+              arith,
+              st.once t.ticket,
+              ap (count_of (has_ticket t.ticket)) same,
+              total-append (λ u. cond (has_ticket t.ticket u) 1 0) front (t ∷ behind),
+              ap {B = ℕ} (λ b. cond b 1 0) (eq-eqb t.ticket t.ticket refl),
+            )
 
         walked : (b : Bool) → b ≡ false → cond b (round t.ticket st.route.stops) (onward (has_ticket t.ticket) st.route.stops ++ reverse (before (has_ticket t.ticket) st.route.stops)) ≡ (t ∷ behind) ++ reverse front
         walked true e = cc
@@ -225,12 +230,18 @@ walked_round s t behind sound known leads off = ap (λ o. option_map_or (walk_in
         whole ∙ ap (λ z. z ∷ head.rest ++ before (has_ticket t.ticket) xs) one
         ∙ ap (λ ys. t ∷ ys) (one_round next routes t.ticket (head.rest ++ before (has_ticket t.ticket) xs) behind here.1 leads.1 all.1 known.1 lacks off (sym here.0 ∙ ap next head.ticket ∙ leads.0))
     by false e = absurd (
-      let open_end : closing_of st.route ≡ None = ap (λ b. cond b (head_or None xs) None) e in
-      let all = subst (λ ys. Leads next None ys) (sym (before_onward (has_ticket t.ticket) xs)) (subst (λ c. Leads next c xs) open_end st.leads) in
-      let onwards = subst (Leads next None) head.is (Leads-back next None (before (has_ticket t.ticket) xs) (onward (has_ticket t.ticket) xs) all) in
-      let counted = ap (count_of (has_ticket t.ticket)) (before_onward (has_ticket t.ticket) xs) in
-      let lacks : count_of (has_ticket t.ticket) head.rest ≡ 0 =
-      omega (arith, counted, st.once t.ticket, total-append (λ u. cond (has_ticket t.ticket u) 1 0) (before (has_ticket t.ticket) xs) (onward (has_ticket t.ticket) xs), ap (count_of (has_ticket t.ticket)) head.is,
-      ap {B = ℕ} (λ b. cond b 1 0) (eq-eqb head.first.ticket t.ticket head.ticket)) in
-      never_both next t.ticket head.rest behind onwards.1 leads.1 lacks (sym onwards.0 ∙ ap next head.ticket ∙ leads.0)
-    )
+        let open_end : closing_of st.route ≡ None = ap (λ b. cond b (head_or None xs) None) e in
+        let all = subst (λ ys. Leads next None ys) (sym (before_onward (has_ticket t.ticket) xs)) (subst (λ c. Leads next c xs) open_end st.leads) in
+        let onwards = subst (Leads next None) head.is (Leads-back next None (before (has_ticket t.ticket) xs) (onward (has_ticket t.ticket) xs) all) in
+        let counted = ap (count_of (has_ticket t.ticket)) (before_onward (has_ticket t.ticket) xs) in
+        let lacks : count_of (has_ticket t.ticket) head.rest ≡ 0 =
+        omega (
+          arith,
+          counted,
+          st.once t.ticket,
+          total-append (λ u. cond (has_ticket t.ticket u) 1 0) (before (has_ticket t.ticket) xs) (onward (has_ticket t.ticket) xs),
+          ap (count_of (has_ticket t.ticket)) head.is,
+          ap {B = ℕ} (λ b. cond b 1 0) (eq-eqb head.first.ticket t.ticket head.ticket),
+        ) in
+        never_both next t.ticket head.rest behind onwards.1 leads.1 lacks (sym onwards.0 ∙ ap next head.ticket ∙ leads.0)
+        )

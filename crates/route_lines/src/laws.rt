@@ -15,9 +15,9 @@ pub use places::hints_change_no_reply;
 pub use replies::replies_have_short_lines;
 pub use routes::{
     cuts_part_one_stop, cuts_undo_joins, extensions_add_one_stop, extensions_lead_through,
-    joins_lead_on, lists_are_walked_both_ways, rings_are_walked_once, routes_lead_along, starts_lead_nowhere,
-    stops_follow_their_previous_ones, stops_stay_as_routes_change, swaps_exchange_next_stops,
-    swaps_undo_swaps,
+    joins_lead_on, lists_are_walked_both_ways, rings_are_walked_once, routes_lead_along,
+    starts_lead_nowhere, stops_follow_their_previous_ones, stops_stay_as_routes_change,
+    swaps_exchange_next_stops, swaps_undo_swaps,
 };
 pub use states::{
     changes_keep_states_sound, equal_states_answer_equally, states_are_numbered, states_are_sound,

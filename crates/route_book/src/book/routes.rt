@@ -85,12 +85,7 @@ impl<P: PtrCore, B: BookBacking<P>> RouteBook<P, B> {
     }
 
     /// The same, with the comparisons of its searches counted as `first` and `second`.
-    pub fn join_counted(
-        &mut self,
-        stop: u64,
-        next: u64,
-        counts: &mut Counts,
-    ) -> Result<(), Refusal>
+    pub fn join_counted(&mut self, stop: u64, next: u64, counts: &mut Counts) -> Result<(), Refusal>
         ensures result { result ≡ joined self.old.state stop next }
         ensures state { self.new.state ≡ after_join self.old.state stop next }
         ensures kept { KeepsItems self.old self.new }

@@ -50,7 +50,8 @@ where
     ghost view = { λ w. map (λ e. stop_seen (entry_in w.places.now) e.1.1.t) w.stops };
 }
 
-impl<'a, P: PtrCore, S: OrdSlots<P, Place>, C: ChainSlots<P, Stop<P>>> Iterator for Walk<'a, P, S, C>
+impl<'a, P: PtrCore, S: OrdSlots<P, Place>, C: ChainSlots<P, Stop<P>>> Iterator
+    for Walk<'a, P, S, C>
 where
     P: 'a,
     P::Inx: 'a,
@@ -67,10 +68,7 @@ where
 
     fn next(&mut self) -> Option<(u64, Option<u64>)> {
         let (_, link) = self.stops.next()?;
-        Some((
-            link.t.ticket(),
-            place_ticket(self.places, link.t.place()),
-        ))
+        Some((link.t.ticket(), place_ticket(self.places, link.t.place())))
     }
 }
 

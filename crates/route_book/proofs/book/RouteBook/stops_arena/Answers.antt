@@ -14,7 +14,7 @@ returns-clause-routes g c =
     let sound = c.self.invariant.sound in
     subst (λ (b : Book g.row.P-Inx.Denot). AreRoutes (stop_in (found_of b)) (ends_in g.P.Inx.PtrInxCore.number c.self.inside.stops) b.state.routes) c.self.view_is
     (routes_chained _ _ _ s _ _ _ _ c.self.invariant.book c.len.ensures.formed.agreed (λ x y. c.stops_follow_their_previous_ones.ensures s x y sound)
-     (c.routes_lead_along.ensures.next s sound) (c.routes_lead_along.ensures.first s sound) (c.routes_lead_along.ensures.stops s sound) sound.routes.once)
+    (c.routes_lead_along.ensures.next s sound) (c.routes_lead_along.ensures.first s sound) (c.routes_lead_along.ensures.stops s sound) sound.routes.once)
 
 pub returns-clause-next : goal.returns-clause-next
 returns-clause-next g c =
