@@ -80,20 +80,42 @@ pub(super) fn seven<P: PtrCore, B: BookBacking<P>>(backing: &B) -> Result<RouteB
     Ok(book)
 }
 
+// Places are put in, or get another word, or are refused.
+fn put_places<P: PtrCore, B: BookBacking<P>>(
+    rt: &impl Abort,
+    book: &mut RouteBook<P, B>,
+) -> Result<(), Fail> {
+    let word = Word::new(b"b").ok_or("a word")?;
+    assert!(rt; matches!(book.place(60, word.copied()), Ok(Placed::Old(3, _))));
+    assert!(rt; book.place_near(80, word.copied(), 7) == Ok(Placed::New(8)));
+    assert!(rt; book.place(90, word) == Err(Refusal::Full));
+    Ok(())
+}
+
+// They are found by their keys and tickets.
+fn find_places<P: PtrCore, B: BookBacking<P>>(rt: &impl Abort, book: &RouteBook<P, B>) {
+    assert!(rt; book.find(30) == Some(5));
+    assert!(rt; book.find(35) == None);
+    assert!(rt; matches!(book.show(5), Ok(Shown::Place { key: 30, word: _ })));
+    assert!(rt; book.show(9) == Err(Refusal::Unknown));
+}
+
+// And by those next to them.
+fn find_next_places<P: PtrCore, B: BookBacking<P>>(rt: &impl Abort, book: &RouteBook<P, B>) {
+    assert!(rt; book.floor(45) == Some(1));
+    assert!(rt; book.floor(9) == None);
+    assert!(rt; book.after(5) == Ok(Some(1)));
+    assert!(rt; book.before(4) == Ok(None));
+}
+
 // The calls on places.
 fn ask_for_places<P: PtrCore, B: BookBacking<P>>(
     rt: &impl Abort,
     mut book: RouteBook<P, B>,
 ) -> Result<(), Fail> {
-    let word = Word::new(b"b").ok_or("a word")?;
-    assert!(rt; matches!(book.place(60, word.copied()), Ok(Placed::Old(3, _))));
-    assert_eq!(rt; book.place_near(80, word.copied(), 7), Ok(Placed::New(8)));
-    assert_eq!(rt; book.place(90, word), Err(Refusal::Full));
-    assert_eq!(rt; (book.find(30), book.find(35)), (Some(5), None));
-    assert!(rt; matches!(book.show(5), Ok(Shown::Place { key: 30, word: _ })));
-    assert_eq!(rt; book.show(9), Err(Refusal::Unknown));
-    assert_eq!(rt; (book.floor(45), book.floor(9)), (Some(1), None));
-    assert_eq!(rt; (book.after(5), book.before(4)), (Ok(Some(1)), Ok(None)));
+    put_places(rt, &mut book)?;
+    find_places(rt, &book);
+    find_next_places(rt, &book);
     Ok(())
 }
 
@@ -107,45 +129,41 @@ fn calls_on_places_take_no_memory(rt: HostRuntime) -> Result<(), Fail> {
     ask_for_places(&rt, seven::<P0, _>(&OnArray::<8>)?)
 }
 
+// Two stops are put on a route, and no more.
+fn put_stops<P: PtrCore, B: BookBacking<P>>(rt: &impl Abort, book: &mut RouteBook<P, B>) {
+    assert!(rt; book.start(1) == Ok(2));
+    assert!(rt; book.extend(2, 1) == Ok(3));
+    assert!(rt; book.start(1) == Err(Refusal::Full));
+    assert!(rt; book.start(3) == Err(Refusal::Kind));
+}
+
+// The route is made a ring, parted and cut.
+fn change_routes<P: PtrCore, B: BookBacking<P>>(rt: &impl Abort, book: &mut RouteBook<P, B>) {
+    assert!(rt; book.join(3, 2) == Ok(()));
+    assert!(rt; book.join(3, 2) == Err(Refusal::No));
+    assert!(rt; book.swap(2, 3) == Ok(()));
+    assert!(rt; book.cut(2) == Ok(()));
+    assert!(rt; book.cut(2) == Err(Refusal::No));
+}
+
+// A mark of both is made and shown.
+fn put_mark<P: PtrCore, B: BookBacking<P>>(rt: &impl Abort, book: &mut RouteBook<P, B>) {
+    assert!(rt; book.mark(1, 2) == Ok(4));
+    assert!(rt; book.mark(1, 2) == Err(Refusal::Full));
+    let place = Some(1);
+    assert!(rt; book.show(3) == Ok(Shown::Stop { place }));
+    let stop = Some(2);
+    assert!(rt; book.show(4) == Ok(Shown::Mark { place, stop }));
+}
+
 // The calls on routes and marks, in a store with a place, and with room for two stops and a mark.
-fn ask_for_routes<P: PtrCore, B: BookBacking<P>>(
-    rt: &impl Abort,
-    mut book: RouteBook<P, B>,
-) -> Result<(), Fail> {
-    assert_eq!(rt; (book.start(1), book.extend(2, 1)), (Ok(2), Ok(3)));
-    assert_eq!(rt;
-        (book.start(1), book.start(3)),
-        (Err(Refusal::Full), Err(Refusal::Kind))
-    );
-    assert_eq!(rt;
-        (book.join(3, 2), book.join(3, 2)),
-        (Ok(()), Err(Refusal::No))
-    );
-    assert_eq!(rt;
-        (book.swap(2, 3), book.cut(2), book.cut(2)),
-        (Ok(()), Ok(()), Err(Refusal::No))
-    );
-    assert_eq!(rt;
-        (book.mark(1, 2), book.mark(1, 2)),
-        (Ok(4), Err(Refusal::Full))
-    );
-    assert!(rt; matches!(book.show(3), Ok(Shown::Stop { place: Some(1) })));
-    assert!(rt;
-        matches!(
-            book.show(4),
-            Ok(Shown::Mark {
-                place: Some(1),
-                stop: Some(2)
-            })
-        )
-    );
-    let lent = (
-        book.places_arena().len(),
-        book.stops_arena().len(),
-        book.marks_arena().len(),
-    );
-    assert_eq!(rt; lent, (1, 2, 1));
-    Ok(())
+fn ask_for_routes<P: PtrCore, B: BookBacking<P>>(rt: &impl Abort, mut book: RouteBook<P, B>) {
+    put_stops(rt, &mut book);
+    change_routes(rt, &mut book);
+    put_mark(rt, &mut book);
+    assert!(rt; book.places_arena().len() == 1);
+    assert!(rt; book.stops_arena().len() == 2);
+    assert!(rt; book.marks_arena().len() == 1);
 }
 
 // A store with one place.
@@ -158,11 +176,12 @@ fn one<P: PtrCore, B: BookBacking<P>>(backing: &B) -> Result<RouteBook<P, B>, Fa
 #[test]
 fn calls_on_routes_take_no_memory(rt: HostRuntime) -> Result<(), Fail> {
     let heap = RefusingAllocator::new(rt.alloc(), REQUESTS + 1);
-    ask_for_routes(&rt, one::<P0, _>(&OnHeap(&heap))?)?;
+    ask_for_routes(&rt, one::<P0, _>(&OnHeap(&heap))?);
     assert!(rt; !heap.has_refused());
-    ask_for_routes(&rt, one::<P1, _>(&OnLimited(rt.alloc()))?)?;
-    ask_for_routes(&rt, one::<P1, _>(&OnFixed(rt.alloc()))?)?;
-    ask_for_routes(&rt, one::<P0, _>(&OnArray::<4>)?)
+    ask_for_routes(&rt, one::<P1, _>(&OnLimited(rt.alloc()))?);
+    ask_for_routes(&rt, one::<P1, _>(&OnFixed(rt.alloc()))?);
+    ask_for_routes(&rt, one::<P0, _>(&OnArray::<4>)?);
+    Ok(())
 }
 
 // What the iterators give of a store with a place and a route of two stops there.
