@@ -1,9 +1,3 @@
-mod calls;
-mod faults;
-mod programs;
 mod rows;
 mod streams;
 mod table;
-mod ticks;
-mod watching;
-mod writes;
