@@ -3,16 +3,16 @@
 use super::streams::{Page, Pieces};
 use super::table::{ROWS, Row};
 use refusing_allocator::RefusingAllocator;
-use route_book::{BookBacking, Counts, OnArray, OnHeap, RoomError, RouteBook, Watched, run};
+use route_book::{BookBacking, Counts, OnHeap, RoomError, RouteBook, Watched, run};
 use std::alloc::Allocator;
 use std::process::Abort;
 use std::test::Fail;
 use triple_arena_ptr::{P0, P1, PtrCore};
 
 // How many bytes the reader gives a time, and the writer takes.
-type Steps = (usize, usize);
+pub(super) type Steps = (usize, usize);
 
-const STEPS: [Steps; 5] = [
+pub(super) const STEPS: [Steps; 5] = [
     (usize::MAX, usize::MAX),
     (1, usize::MAX),
     (2, usize::MAX),
@@ -24,7 +24,7 @@ const STEPS: [Steps; 5] = [
 pub(super) const REQUESTS: u64 = 7;
 
 // A store over this backing, as the row wants it.
-fn store<P: PtrCore, B: BookBacking<P>>(
+pub(super) fn store<P: PtrCore, B: BookBacking<P>>(
     backing: &B,
     [places, stops, marks]: [usize; 3],
     last: u64,
@@ -33,7 +33,7 @@ fn store<P: PtrCore, B: BookBacking<P>>(
 }
 
 // The store answers the input with this text, and reads all of it.
-fn answers<P: PtrCore, B: BookBacking<P>>(
+pub(super) fn answers<P: PtrCore, B: BookBacking<P>>(
     rt: &impl Abort,
     mut book: RouteBook<P, B>,
     (input, text): (&str, &str),
@@ -70,35 +70,20 @@ fn answers_on_heap<P: PtrCore, A: Allocator + Copy>(
     answers(rt, book, (input, text), steps)
 }
 
-// And so does one over arrays.
-fn answers_on_array<P: PtrCore>(
-    rt: &impl Abort,
-    (rooms, last, input, text): Row<'_>,
-    steps: Steps,
-) -> Result<(), Fail> {
-    let book = store::<P, _>(&OnArray::<10>, rooms, last)?;
-    answers(rt, book, (input, text), steps)
-}
-
 // Whether the rooms together are at most so many.
-fn fits([places, stops, marks]: [usize; 3], most: usize) -> bool {
+pub(super) fn fits([places, stops, marks]: [usize; 3], most: usize) -> bool {
     places <= most && stops <= most - places && marks <= most - places - stops
 }
 
-// The row over wide and narrow pointers and both backings, where they have the room. On the heap no memory is taken once the
-// store is made.
+// The row over wide and narrow pointers, where they have the room. No memory is taken once the store is made.
 fn answers_row(rt: &(impl AllocGlobal + Abort), row: Row<'_>, steps: Steps) -> Result<(), Fail> {
-    let heap = RefusingAllocator::new(rt.alloc(), requests(row.0) + 1);
+    let heap = RefusingAllocator::new(rt.alloc(), requests(row.0).saturating_add(1));
     answers_on_heap::<P0, _>(rt, &heap, row, steps)?;
     assert!(rt; !heap.has_refused());
     if fits(row.0, 255) {
-        let heap = RefusingAllocator::new(rt.alloc(), requests(row.0) + 1);
+        let heap = RefusingAllocator::new(rt.alloc(), requests(row.0).saturating_add(1));
         answers_on_heap::<P1, _>(rt, &heap, row, steps)?;
         assert!(rt; !heap.has_refused());
-    }
-    if fits(row.0, 10) {
-        answers_on_array::<P0>(rt, row, steps)?;
-        answers_on_array::<P1>(rt, row, steps)?;
     }
     Ok(())
 }
