@@ -4,6 +4,9 @@ pub mod Follows
 pub mod Holds
 pub mod Book
 pub mod Walked
+pub mod Packing
+pub mod Compressed
+pub mod Removals
 pub use Rattle.route_lines.specs.Calls
 pub use Rattle.route_lines.specs.CommandLine
 pub use Rattle.route_lines.specs.Grammar

@@ -18,6 +18,7 @@ ghost use Rattle.route_book.specs.Walked.{stop_in};
 mod asking;
 mod making;
 mod marks;
+mod packing;
 mod placing;
 mod routes;
 mod stops;

@@ -86,7 +86,7 @@ impl SimpleOrdItem for Place {
 #[derive(Drop)]
 pub struct Stop<P: PtrCore> {
     ticket: u64,
-    place: Ref<P>,
+    pub(crate) place: Ref<P>,
 }
 
 impl<P: PtrCore> Model for Stop<P> {
@@ -128,8 +128,8 @@ impl<P: PtrCore> Stop<P> {
 #[derive(Drop)]
 pub struct Mark<P: PtrCore> {
     ticket: u64,
-    place: Ref<P>,
-    stop: Ref<P>,
+    pub(crate) place: Ref<P>,
+    pub(crate) stop: Ref<P>,
 }
 
 impl<P: PtrCore> Model for Mark<P> {

@@ -19,9 +19,12 @@ mod backing;
 mod book;
 mod command_line;
 mod items;
+mod lab;
+mod mirrors;
 mod parts;
 mod place_arena;
 mod places;
+mod recasts;
 mod running;
 
 pub use backing::{

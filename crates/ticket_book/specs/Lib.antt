@@ -1,2 +1,3 @@
 pub mod InArena
+pub mod Mirrors
 pub mod Tickets

@@ -1,5 +1,5 @@
 -- What a contract sees of a ticket book.
-use Rattle.std.specs.Prelude.{ℕ, ◌==◌, ◌<◌, List, [], ◌∷◌, Option, find, nat_lt, if◌then◌else◌}
+use Rattle.std.specs.Prelude.{ℕ, ◌==◌, ◌<◌, List, [], ◌∷◌, Option, filter, find, not, nat_lt, if◌then◌else◌}
 use Rattle.std.specs.List.{AllByRecursion}
 use Rattle.ticket_book.specs.declared.entry.Kind.{Kind}
 
@@ -10,10 +10,11 @@ pub record Entry : Type 0 where
   pub index : ℕ
   pub generation : ℕ
 
--- the entries in the order of their tickets, how many fit, and how many comparisons searches make: for a ticket below all, and
--- beside each entry for its ticket and for one between it and the next
+-- the entries in the order of their tickets, and under which pointer each stands in the book; how many fit, and how many
+-- comparisons searches make: for a ticket below all, and beside each entry for its ticket and for one between it and the next
 pub record Tickets : Type 0 where
   pub entries : List Entry
+  pub slots : ℕ → Option (ℕ × Entry)
   pub capacity : ℕ
   pub asked_below : ℕ
   pub asked_along : List (ℕ × ℕ)
@@ -33,6 +34,10 @@ asked b ticket = asked_among b.asked_below b.entries b.asked_along ticket
 -- the entry of a ticket
 abbrev pub lookup : List Entry → ℕ → Option Entry
 lookup entries ticket = find (λ (e : Entry). e.ticket == ticket) entries
+
+-- the entries but that of a ticket
+abbrev pub without_ticket : ℕ → List Entry → List Entry
+without_ticket ticket entries = filter (λ (e : Entry). not (e.ticket == ticket)) entries
 
 -- the tickets of the entries are below this one
 abbrev pub AreBelow : List Entry → ℕ → Type 0

@@ -19,8 +19,8 @@ pub enum Kind {
 #[derive(Drop)]
 pub struct Entry<P: PtrCore> {
     ticket: u64,
-    kind: Kind,
-    at: P,
+    pub(crate) kind: Kind,
+    pub(crate) at: P,
 }
 
 impl<P: PtrCore> Model for Entry<P> {

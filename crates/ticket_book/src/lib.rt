@@ -8,6 +8,7 @@
 mod book;
 mod entry;
 mod insertion;
+mod renewal;
 #[cfg(test)]
 mod tests;
 

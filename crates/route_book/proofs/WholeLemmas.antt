@@ -1,0 +1,133 @@
+-- A whole pack, over what its steps tell.
+use Rattle.std.proofs.Common.{◌≡◌, ◌∙◌, sym, ap, subst, refl, true, ℕ, zero, suc, ◌+◌, ◌*◌, ◌<◌, ◌≤◌, List, length, map, Option, Some, None, IsSome, is_some, true≢false, arith}
+use Rattle.std.specs.Option.{option_map}
+use Rattle.std.specs.List.{range_with_len}
+use Rattle.triple_arena_ptr.specs.Generation.{second_generation}
+use Rattle.triple_arena_stack.specs.Room.{capacity}
+use Rattle.triple_arena.specs.Content.{Content, entry_at, live_count, arena_capacity}
+use Rattle.triple_arena_chain.specs.declared.link.IndexLink.{IndexLink}
+use Rattle.triple_arena_chain.specs.Chains.{On}
+use Rattle.triple_arena_chain.specs.Links.{ends_in, values_in}
+use Rattle.triple_arena_ord.specs.Ordered.{Ordered, IsOrdered, entry_in, order_in, size_in}
+use Rattle.route_lines.specs.State.{Place, State, Rooms, stop_list}
+use Rattle.route_book.specs.Item.{StopView, MarkView}
+use Rattle.ticket_book.specs.Tickets.{Entry}
+use Rattle.route_book.specs.Holds.{IsLive}
+use Rattle.route_book.specs.Book.{IsBook}
+use Rattle.route_book.specs.Compressed.{IsAllCompressed}
+use Rattle.route_book.specs.Packing.{IsMirrored, IsBooked, recast_stop, recast_mark}
+use Rattle.ticket_book.specs.Mirrors.{Mirror, renewed_entry}
+use Rattle.route_book.proofs.BookPackLemmas.{places_booked, stops_booked, marks_booked, pack_kept, no_dead_stop, no_dead_mark, counter_s}
+
+-- the live indexes are from 1 to the room
+fits : {T : Type 0} (at : ℕ → Option (ℕ × T)) (cap room : ℕ) → at 0 ≡ None → ((i : ℕ) → IsSome (at i) → i ≤ cap) → cap ≤ room → (i : ℕ) → IsSome (at i) → (0 < i) × (i ≤ room)
+fits at cap room zero_none all up zero some = absurd (true≢false (sym some ∙ ap is_some zero_none))
+fits at cap room zero_none all up (suc i) some = (omega arith, (let a = all (suc i) some in omega (arith, a, up)))
+
+below : {T : Type 0} (at : ℕ → Option (ℕ × T)) (cap : ℕ) → ((i : ℕ) → IsSome (at i) → i ≤ cap) → (k : ℕ) → IsSome (at k) → k < cap + 1
+below at cap all k some = (let a = all k some in omega (arith, a))
+
+module _ {I : Type 0} (number : I → ℕ) (last : Option ℕ) (rooms : Rooms) (given : ℕ) (s : State) (places places' : Ordered I Place)
+    (stops stops1 : Content (IndexLink I StopView)) (marks marks1 : Content MarkView) (book : List Entry) (b : IsBook number rooms given s places stops marks book)
+    (all : IsAllCompressed number last places places' stops stops1 marks marks1)
+    (law : (o : Ordered I Place) (i : ℕ) → IsOrdered number o → IsSome (entry_in o i) → On (order_in number o) i) where
+  stand : (i : ℕ) → IsSome (entry_in places i) → On (order_in number places) i
+  stand i some = law places i all.was_ordered some
+
+  stand' : (i : ℕ) → IsSome (entry_in places' i) → On (order_in number places') i
+  stand' i some = law places' i all.ordered some
+
+  pub ready_places : (book' : List Entry) → book' ≡ book → (room : ℕ) → arena_capacity places.chains ≤ room → IsBooked (λ (p : Place). p.ticket) book' (entry_in places') room
+  ready_places book' same room up =
+      subst (λ l. IsBooked (λ (p : Place). p.ticket) l (entry_in places') room) (sym same)
+      (places_booked number last rooms given s places places' stops stops1 stops1 marks marks1 marks1 book b all.laid stand stand' all.was_chained all.canonical all.values all.compressed
+          room (fits (entry_in places) (arena_capacity places.chains) room refl all.place_indexes up))
+
+  pub ready_stops : (book' : List Entry) → book' ≡ book → (room : ℕ) → arena_capacity stops ≤ room → IsBooked (λ (p : StopView). p.ticket) book' (values_in stops1) room
+  ready_stops book' same room up =
+      subst (λ l. IsBooked (λ (p : StopView). p.ticket) l (values_in stops1) room) (sym same)
+      (stops_booked number last rooms given s places places' stops stops1 stops1 marks marks1 marks1 book b all.laid stand stand' all.was_chained all.canonical all.values all.compressed
+          room (fits (values_in stops) (arena_capacity stops) room refl all.stop_indexes up))
+
+  pub ready_marks : (book' : List Entry) → book' ≡ book → (room : ℕ) → arena_capacity marks ≤ room → IsBooked (λ (p : MarkView). p.ticket) book' (entry_at marks1) room
+  ready_marks book' same room up =
+      subst (λ l. IsBooked (λ (p : MarkView). p.ticket) l (entry_at marks1) room) (sym same)
+      (marks_booked number last rooms given s places places' stops stops1 stops1 marks marks1 marks1 book b all.laid stand stand' all.was_chained all.canonical all.values all.compressed
+          room (fits (entry_at marks) (arena_capacity marks) room refl all.mark_indexes up))
+
+  pub places_in_order : order_in number places' ≡ range_with_len 1 (length s.places)
+  places_in_order = all.laid.runs ∙ ap (range_with_len 1) (sym b.within.place_count)
+
+  pub looks_made : (before between after : ℕ) → between ≡ before + live_count stops1 → after ≡ between + 2 * live_count marks1
+      → after ≡ before + length (stop_list s.routes) + 2 * length s.marks
+  looks_made before between after one two =
+      let n = b.within.stop_count in let o = b.within.mark_count in let p = all.canonical.live in let q = all.compressed.live in
+      omega (arith, one, two, n, o, p, q)
+
+  module _ (stops' : Content (IndexLink I StopView)) (marks' : Content MarkView) (m n o : Mirror) (book1 book2 book3 : List Entry)
+      (same1 : book1 ≡ book) (same2 : book2 ≡ book) (same3 : book3 ≡ book)
+      (mirrored_p : (low : ℕ) → ((k : ℕ) → IsSome (entry_in places' k) → k < low) → IsMirrored (λ (p : Place). p.ticket) book1 (entry_in places') low m)
+      (mirrored_s : (low : ℕ) → ((k : ℕ) → IsSome (values_in stops1 k) → k < low) → IsMirrored (λ (p : StopView). p.ticket) book2 (values_in stops1) low n)
+      (mirrored_m : (low : ℕ) → ((k : ℕ) → IsSome (entry_at marks1 k) → k < low) → IsMirrored (λ (p : MarkView). p.ticket) book3 (entry_at marks1) low o)
+      (recast_s : (k : ℕ) → values_in stops' k ≡ option_map (λ e. (e.0, recast_stop m e.1)) (values_in stops1 k))
+      (recast_m : (k : ℕ) → entry_at marks' k ≡ option_map (λ e. (e.0, recast_mark m n e.1)) (entry_at marks1 k))
+      (ends : (k : ℕ) → ends_in number stops' k ≡ ends_in number stops1 k)
+      (stops_counter : stops'.counter ≡ stops1.counter) (stops_live : live_count stops' ≡ live_count stops1) (stops_room : stops'.room ≡ stops1.room)
+      (marks_live : live_count marks' ≡ live_count marks1) (marks_room : marks'.room ≡ marks1.room) where
+    low_p : ℕ
+    low_p = arena_capacity places'.chains + 1
+
+    low_s : ℕ
+    low_s = arena_capacity stops1 + 1
+
+    low_m : ℕ
+    low_m = arena_capacity marks1 + 1
+
+    all_p : (k : ℕ) → IsSome (entry_in places' k) → k < low_p
+    unfolding low_p
+    all_p = below (entry_in places') (arena_capacity places'.chains) all.place_bound
+
+    all_s : (k : ℕ) → IsSome (values_in stops1 k) → k < low_s
+    unfolding low_s
+    all_s = below (values_in stops1) (arena_capacity stops1) all.stop_bound
+
+    all_m : (k : ℕ) → IsSome (entry_at marks1 k) → k < low_m
+    unfolding low_m
+    all_m = below (entry_at marks1) (arena_capacity marks1) all.mark_bound
+
+    in_p : IsMirrored (λ (p : Place). p.ticket) book (entry_in places') low_p m
+    in_p = subst (λ l. IsMirrored (λ (p : Place). p.ticket) l (entry_in places') low_p m) same1 (mirrored_p low_p all_p)
+
+    in_s : IsMirrored (λ (p : StopView). p.ticket) book (values_in stops1) low_s n
+    in_s = subst (λ l. IsMirrored (λ (p : StopView). p.ticket) l (values_in stops1) low_s n) same2 (mirrored_s low_s all_s)
+
+    in_m : IsMirrored (λ (p : MarkView). p.ticket) book (entry_at marks1) low_m o
+    in_m = subst (λ l. IsMirrored (λ (p : MarkView). p.ticket) l (entry_at marks1) low_m o) same3 (mirrored_m low_m all_m)
+
+    pub whole_kept : IsBook number rooms given s places' stops' marks' (map (renewed_entry m n o) book)
+    whole_kept =
+        pack_kept number last rooms given s places places' stops stops1 stops' marks marks1 marks' book b all.laid stand stand' all.was_chained all.canonical all.values all.compressed
+        m n o low_p low_s low_m in_p all_p in_s all_s in_m all_m recast_s recast_m ends stops_counter stops_live stops_room marks_live marks_room
+
+    pub whole_stops : (k h : ℕ) (v : StopView) → values_in stops' k ≡ Some (h, v) → IsLive (entry_in places') v.place
+    whole_stops =
+        no_dead_stop number last rooms given s places places' stops stops1 stops' marks marks1 marks' book b all.laid stand stand' all.was_chained all.canonical all.values all.compressed
+        m n o low_p low_s low_m in_p all_p in_s all_s in_m all_m recast_s recast_m ends stops_counter stops_live stops_room marks_live marks_room
+
+    pub whole_marks : (k h : ℕ) (v : MarkView) → entry_at marks' k ≡ Some (h, v) → IsLive (entry_in places') v.place × IsLive (values_in stops') v.stop
+    whole_marks =
+        no_dead_mark number last rooms given s places places' stops stops1 stops' marks marks1 marks' book b all.laid stand stand' all.was_chained all.canonical all.values all.compressed
+        m n o low_p low_s low_m in_p all_p in_s all_s in_m all_m recast_s recast_m ends stops_counter stops_live stops_room marks_live marks_room
+
+    pub whole_stop_counter : stops'.counter ≡ second_generation last
+    whole_stop_counter = stops_counter ∙ all.canonical.counter
+
+    -- the mirrors still have the room
+    pub places_mirrored : (room : ℕ) → arena_capacity places.chains ≤ room → arena_capacity places'.chains ≤ room
+    places_mirrored room up = subst (λ r. capacity r ≤ room) (sym all.laid.room) up
+
+    pub stops_mirrored : (room : ℕ) → arena_capacity stops ≤ room → arena_capacity stops' ≤ room
+    stops_mirrored room up = subst (λ r. capacity r ≤ room) (sym (stops_room ∙ all.canonical.room)) up
+
+    pub marks_mirrored : (room : ℕ) → arena_capacity marks ≤ room → arena_capacity marks' ≤ room
+    marks_mirrored room up = subst (λ r. capacity r ≤ room) (sym (marks_room ∙ all.compressed.room)) up

@@ -1,0 +1,100 @@
+-- What removals and packs leave of the items that live on, and how many references they look at.
+use Rattle.std.specs.Prelude.{◌≡◌, ◌≢◌, ℕ, ◌+◌, ◌*◌, Bool, true, false, Option, Some, Result, Ok, Err, length}
+use Rattle.std.specs.List.{range_with_len}
+use Rattle.triple_arena_ptr.specs.Generation.{next_wraps, second_generation}
+use Rattle.triple_arena.specs.Content.{entry_at}
+use Rattle.triple_arena_chain.specs.Links.{values_in}
+use Rattle.triple_arena_ord.specs.Ordered.{entry_in, order_in}
+use Rattle.ticket_book.specs.declared.entry.Kind.{Kind}
+use Rattle.ticket_book.specs.declared.entry.Kind.TheVariants.{Place as OfPlace, Stop as OfStop, Mark as OfMark}
+use Rattle.route_lines.specs.State.{State, Place, Item, place, stop, mark, holder, stop_list}
+use Rattle.route_lines.specs.Calls.{after_removed}
+use Rattle.route_lines.specs.declared.refusal.Refusal.{Refusal}
+use Rattle.route_book.specs.Book.{Book}
+use Rattle.route_book.specs.Holds.{IsLive}
+use Rattle.route_book.specs.Item.{StopView, MarkView}
+
+-- the items but that of a ticket keep their pointers, and all that they hold
+abbrev pub OthersStay : {T : Type 0} → (T → ℕ) → ℕ → (ℕ → Option (ℕ × T)) → (ℕ → Option (ℕ × T)) → Type 0
+OthersStay {T} ticket t old new = (i g : ℕ) (x : T) → old i ≡ Some (g, x) → ticket x ≢ t → new i ≡ Some (g, x)
+
+-- a sweep looks at each stored reference once: a stop has one, a mark two
+abbrev pub references_in : State → ℕ
+references_in s = length (stop_list s.routes) + 2 * length s.marks
+
+module _ {I : Type 0} where
+  -- a place has ended: its arena's counter is one up, and stops and marks are as they were, with their references
+  pub record IsPlaceEnded (t : ℕ) (old new : Book I) : Type 0 where
+    pub counter : new.places.chains.counter ≡ old.places.chains.counter + 1
+    pub others : OthersStay (λ (p : Place). p.ticket) t (entry_in old.places) (entry_in new.places)
+    pub stops : new.stops ≡ old.stops
+    pub marks : new.marks ≡ old.marks
+
+  -- the same of a stop
+  pub record IsStopEnded (t : ℕ) (old new : Book I) : Type 0 where
+    pub counter : new.stops.counter ≡ old.stops.counter + 1
+    pub others : OthersStay (λ (v : StopView). v.ticket) t (values_in old.stops) (values_in new.stops)
+    pub places : new.places ≡ old.places
+    pub marks : new.marks ≡ old.marks
+
+  -- the same of a mark. No reference is to a mark, so its arena's counter may start again
+  pub record IsMarkEnded (t : ℕ) (old new : Book I) : Type 0 where
+    pub others : OthersStay (λ (v : MarkView). v.ticket) t (entry_at old.marks) (entry_at new.marks)
+    pub places : new.places ≡ old.places
+    pub stops : new.stops ≡ old.stops
+
+  -- an item has ended after a pack: so many references were looked at, and its arena's counter is one above the other's
+  pub record IsEndedAfterPack (before after ended other : ℕ) (last : Option ℕ) (s : State) : Type 0 where
+    pub looks : after ≡ before + references_in s
+    pub ended : ended ≡ second_generation last + 1
+    pub other : other ≡ second_generation last
+
+  -- what became of an item of a kind whose removal does not start a counter again
+  abbrev pub IsEnded : Kind → ℕ → Book I → Book I → Type 0
+  IsEnded OfPlace t old new = IsPlaceEnded t old new
+  IsEnded OfStop t old new = IsStopEnded t old new
+  IsEnded OfMark t old new = IsMarkEnded t old new
+
+  -- whether the removal of an item of a kind would start its arena's counter again, which references may be to
+  abbrev pub removal_wraps : Option ℕ → Book I → Kind → Bool
+  removal_wraps last b OfPlace = next_wraps last b.places.chains.counter
+  removal_wraps last b OfStop = next_wraps last b.stops.counter
+  removal_wraps last b OfMark = false
+
+  -- the kind of an item
+  abbrev pub kind_of : Item → Kind
+  kind_of (place p) = OfPlace
+  kind_of (stop v) = OfStop
+  kind_of (mark m) = OfMark
+
+  -- an item of a kind has ended: with no look, or after a pack where its counter would have started again
+  abbrev pub IsRemoved : Option ℕ → Kind → ℕ → ℕ → ℕ → Book I → Book I → Type 0
+  IsRemoved last kind t before after old new = by (removal_wraps last old kind) kind
+    where
+      by : Bool → Kind → Type 0
+      by false kind = (after ≡ before) × IsEnded kind t old new
+      by true OfPlace = IsEndedAfterPack before after new.places.chains.counter new.stops.counter last old.state
+      by true OfStop = IsEndedAfterPack before after new.stops.counter new.places.chains.counter last old.state
+      by true OfMark = ⊥
+
+  -- what a removal makes of a store, by what has the ticket: a refused one changes nothing and looks at nothing
+  abbrev pub Removes : Option ℕ → ℕ → ℕ → ℕ → Book I → Book I → Result Item Refusal → Type 0
+  Removes last t before after old new (Ok item) = IsRemoved last (kind_of item) t before after old new
+  Removes last t before after old new (Err refusal) = (new ≡ old) × (after ≡ before)
+
+  -- what one look-up of a ticket does: its item ends where no counter starts again, and else nothing changes
+  abbrev pub Tries : Option ℕ → ℕ → Book I → Book I → Result Bool Refusal → Type 0
+  Tries last t old new (Ok true) =
+      (item : Item) × ((holder old.state t ≡ Ok item) × ((removal_wraps last old (kind_of item) ≡ false) × (IsEnded (kind_of item) t old new × (new.state ≡ after_removed old.state t))))
+  Tries last t old new (Ok false) = (item : Item) × ((holder old.state t ≡ Ok item) × ((removal_wraps last old (kind_of item) ≡ true) × (new ≡ old)))
+  Tries last t old new (Err refusal) = (holder old.state t ≡ Err refusal) × (new ≡ old)
+
+  -- a pack: each reference was looked at once and none is dead, the places stand at the indexes from 1 on in the order of
+  -- their keys, and both counters have started again
+  pub record IsPacked (number : I → ℕ) (last : Option ℕ) (before after : ℕ) (old new : Book I) : Type 0 where
+    pub looks : after ≡ before + references_in old.state
+    pub place_counter : new.places.chains.counter ≡ second_generation last
+    pub stop_counter : new.stops.counter ≡ second_generation last
+    pub order : order_in number new.places ≡ range_with_len 1 (length new.state.places)
+    pub stops : (i g : ℕ) (v : StopView) → values_in new.stops i ≡ Some (g, v) → IsLive (entry_in new.places) v.place
+    pub marks : (i g : ℕ) (m : MarkView) → entry_at new.marks i ≡ Some (g, m) → IsLive (entry_in new.places) m.place × IsLive (values_in new.stops) m.stop
