@@ -16,6 +16,7 @@ pub mod RunLemmas
 pub mod SameRoutesLemmas
 pub mod SoundLemmas
 pub mod StayLemmas
+pub mod SweepLemmas
 pub mod TicketLemmas
 pub mod UndoLemmas
 pub mod UnfinishedLemmas

@@ -1,6 +1,7 @@
 //! What holds of the definitions that the contracts cite. The functions do nothing: their contracts are the laws.
 mod calls;
 mod grammar;
+mod looks;
 mod places;
 mod replies;
 mod routes;
@@ -11,6 +12,7 @@ pub use counted_search::laws::the_bound_is_the_greatest;
 pub use grammar::{
     commands_have_one_line, lines_have_one_command, spellings_are_found, spellings_are_short_lines,
 };
+pub use looks::sweeps;
 pub use places::hints_change_no_reply;
 pub use replies::replies_have_short_lines;
 pub use routes::{
