@@ -10,6 +10,7 @@ pub mod NextStopLemmas
 pub mod NumberLemmas
 pub mod PreviousLemmas
 pub mod RelinkLemmas
+pub mod RemovedLemmas
 pub mod ReplyLemmas
 pub mod RouteLemmas
 pub mod RunLemmas
@@ -17,6 +18,7 @@ pub mod SameRoutesLemmas
 pub mod SoundLemmas
 pub mod StayLemmas
 pub mod SweepLemmas
+pub mod TakenOutLemmas
 pub mod TicketLemmas
 pub mod UndoLemmas
 pub mod UnfinishedLemmas
