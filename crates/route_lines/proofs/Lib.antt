@@ -1,6 +1,7 @@
 pub mod AlongLemmas
 pub mod CommandLineLemmas
 pub mod CutLemmas
+pub mod EndedLemmas
 pub mod GrammarLemmas
 pub mod LineTextLemmas
 pub mod LinkLemmas
@@ -8,6 +9,7 @@ pub mod NewLinkLemmas
 pub mod NewStopLemmas
 pub mod NextStopLemmas
 pub mod NumberLemmas
+pub mod PastLemmas
 pub mod PreviousLemmas
 pub mod RelinkLemmas
 pub mod RemovedLemmas

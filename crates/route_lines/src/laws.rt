@@ -3,6 +3,7 @@ mod calls;
 mod grammar;
 mod looks;
 mod places;
+mod removals;
 mod replies;
 mod routes;
 mod states;
@@ -14,6 +15,10 @@ pub use grammar::{
 };
 pub use looks::sweeps;
 pub use places::hints_change_no_reply;
+pub use removals::{
+    removed_marks_leave_all_else, removed_places_leave_no_reference,
+    removed_stops_join_their_neighbors, removed_tickets_are_gone,
+};
 pub use replies::replies_have_short_lines;
 pub use routes::{
     cuts_part_one_stop, cuts_undo_joins, extensions_add_one_stop, extensions_lead_through,
