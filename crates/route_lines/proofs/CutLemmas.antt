@@ -1,5 +1,5 @@
 -- Lists cut at an item, and what their items weigh.
-use Rattle.std.proofs.Common.{◌≡◌, ap, subst, refl, Bool, true, false, ◌||◌, ℕ, ◌+◌, ◌≤◌, List, [], ◌∷◌, ◌++◌, length, Some, IfSome, cond, find, filter, reverse, sym, arith}
+use Rattle.std.proofs.Common.{◌≡◌, ap, subst, refl, Bool, true, false, ◌||◌, ℕ, ◌+◌, ◌≤◌, List, [], ◌∷◌, ◌++◌, length, Option, Some, None, IfSome, cond, find, filter, reverse, sym, arith}
 use Rattle.std.specs.List.{AllByRecursion, list_any}
 use Rattle.std.proofs.lemmas.Bool.{false≢true}
 use Rattle.std.proofs.lemmas.List.{reverse-append}
@@ -134,3 +134,21 @@ any-count test xs some = at (list_any test xs) refl
     at : (b : Bool) → list_any test xs ≡ b → list_any test xs ≡ true
     at true is = is
     at false is = absurd (omega (arith, some, count-none test xs is))
+
+pub found_counted : {X : Type 0} (test : X → Bool) (xs : List X) (x : X) → find test xs ≡ Some x → 1 ≤ count_of test xs
+found_counted {X} test xs x e = count-any test xs (some xs e)
+  where
+    some : (ys : List X) → find test ys ≡ Some x → list_any test ys ≡ true
+    some [] f = cc
+    some (y ∷ ys) f = go (test y) f (some ys)
+      where
+        go : (b : Bool) → cond b (Some y) (find test ys) ≡ Some x → (find test ys ≡ Some x → list_any test ys ≡ true) → (b || list_any test ys) ≡ true
+        go true g h = refl
+        go false g h = h g
+
+pub none_found : {X : Type 0} (test : X → Bool) (xs : List X) → count_of test xs ≡ 0 → find test xs ≡ None
+none_found {X} test xs none = at (find test xs) refl
+  where
+    at : (o : Option X) → find test xs ≡ o → find test xs ≡ None
+    at None e = e
+    at (Some x) e = absurd (omega (arith, none, found_counted test xs x e))

@@ -1,5 +1,5 @@
 -- Lines, their fields, and the commands that they spell.
-use Rattle.std.proofs.Common.{lit≤, ◌≡◌, ℕ, ◌+◌, ◌-◌, ◌<◌, ◌≤◌, ◌==◌, ◌&&◌, ◌⊎◌, inl, inr, Bool, true, false, List, [], ◌∷◌, ◌++◌, length, take, drop, Option, Some, None, cond, nat_lt, refl, sym, ap, subst, ◌∙◌, arith, decimal, IfSome, IfNone, position, All, Contains, option_map, option_and_then, codes}
+use Rattle.std.proofs.Common.{lit≤, ◌≡◌, ℕ, ◌+◌, ◌-◌, ◌<◌, ◌≤◌, ◌==◌, ◌&&◌, ◌⊎◌, inl, inr, Bool, true, false, List, [], ◌∷◌, ◌++◌, length, take, drop, Option, Some, None, cond, nat_lt, refl, sym, ap, subst, ◌∙◌, arith, decimal, IfSome, IfNone, position, All, Contains, option_map, option_and_then, codes, append-nil}
 use Rattle.std.proofs.lemmas.Bool.Decides.{nat_tests}
 use Rattle.std.proofs.lemmas.List.Elements.{All-from_get_or}
 use Rattle.std.proofs.lemmas.List.Splits.{join_with_byte-slice_split, slice_split_at, slice_split_none, slice_split_first}
@@ -9,8 +9,8 @@ use Rattle.std.proofs.lemmas.Slice.Eq.{bytes_eq-Decides}
 use Rattle.std.specs.List.{AllByRecursion, position_or_len, join_with_byte, list_all}
 use Rattle.std.specs.Str.{bytes_eq}
 use Rattle.route_lines.specs.declared.command.Command.{Command}
-use Rattle.route_lines.specs.declared.command.Command.TheVariants.{Place, Show, Find, Floor, After, Before, All as Every, Start, Extend, Join, Cut, Swap, Walk, Mark}
-use Rattle.route_lines.specs.Grammar.{SpellsNumber, SpellsNumbers, Spells, command_by, number_verbs, numbers_verbs, command_of, command_of_fields, fields_of, command_of_number, command_of_numbers, command_of_one_field, command_of_two_fields, command_of_three_fields, command_of_five_fields}
+use Rattle.route_lines.specs.declared.command.Command.TheVariants.{Place, Show, Find, Floor, After, Before, All as Every, Remove, Start, Extend, Join, Cut, Swap, Walk, Mark, Pack}
+use Rattle.route_lines.specs.Grammar.{SpellsNumber, SpellsNumbers, Spells, command_by, lone_verbs, number_verbs, numbers_verbs, command_of, command_of_fields, fields_of, command_of_number, command_of_numbers, command_of_one_field, command_of_two_fields, command_of_three_fields, command_of_five_fields}
 use Rattle.route_lines.specs.Number.{IsNumber, number_of}
 use Rattle.route_lines.specs.Word.{IsWord, is_word, is_word_byte, word_of}
 use Rattle.route_lines.proofs.NumberLemmas.{both, number_of-some, number_of-found}
@@ -84,12 +84,11 @@ nothing : (line : List ℕ) (command : Command) → None ≡ Some command → Sp
 nothing line command e = cc
 
 Spells-from_one_field : (verb : List ℕ) (command : Command) → command_of_one_field verb ≡ Some command → Spells verb command
-Spells-from_one_field verb command =
-    by_verb verb (codes "all") verb (Some Every) None command (λ same found. let every : Every ≡ command = cc in subst (Spells verb) every same) (nothing _ _)
+Spells-from_one_field verb command e = subst (λ line. Spells line command) (append-nil verb) (Spells-from_row verb [] lone_verbs command (refl, (refl, tt)) e)
 
 Spells-from_number : (verb : List ℕ) (n : ℕ) (command : Command) → IsNumber n → command_of_number verb n ≡ Some command → Spells (verb ++ 32 ∷ decimal n) command
 Spells-from_number verb n command small =
-    Spells-from_row verb (32 ∷ decimal n) (number_verbs n) command ((small, refl), ((small, refl), ((small, refl), ((small, refl), ((small, refl), ((small, refl), ((small, refl), ((small, refl), tt))))))))
+    Spells-from_row verb (32 ∷ decimal n) (number_verbs n) command ((small, refl), ((small, refl), ((small, refl), ((small, refl), ((small, refl), ((small, refl), ((small, refl), ((small, refl), ((small, refl), tt)))))))))
 
 Spells-from_two_fields : (verb field : List ℕ) (command : Command) → command_of_two_fields verb field ≡ Some command → Spells (verb ++ 32 ∷ field) command
 Spells-from_two_fields verb field command e =
@@ -217,11 +216,13 @@ by_numbers line verb m n command words other spells front found =
 pub command_of-spelled : (line : List ℕ) (command : Command) → Spells line command → command_of line ≡ Some command
 unfolding command_of
 command_of-spelled line Every spells = ap (λ l. command_of_fields (fields_of l)) spells
+command_of-spelled line Pack spells = ap (λ l. command_of_fields (fields_of l)) spells
 command_of-spelled line (Show ticket) spells = by_number line (codes "show") ticket (Show ticket) refl spells refl refl
 command_of-spelled line (Find key) spells = by_number line (codes "find") key (Find key) refl spells refl refl
 command_of-spelled line (Floor key) spells = by_number line (codes "floor") key (Floor key) refl spells refl refl
 command_of-spelled line (After ticket) spells = by_number line (codes "after") ticket (After ticket) refl spells refl refl
 command_of-spelled line (Before ticket) spells = by_number line (codes "before") ticket (Before ticket) refl spells refl refl
+command_of-spelled line (Remove ticket) spells = by_number line (codes "remove") ticket (Remove ticket) refl spells refl refl
 command_of-spelled line (Start place) spells = by_number line (codes "start") place (Start place) refl spells refl refl
 command_of-spelled line (Cut stop) spells = by_number line (codes "cut") stop (Cut stop) refl spells refl refl
 command_of-spelled line (Walk stop) spells = by_number line (codes "walk") stop (Walk stop) refl spells refl refl
@@ -276,11 +277,13 @@ one_command line c d first second = let e = command_of-spelled line c first in l
 
 pub one_line : (first second : List ℕ) (command : Command) → Spells first command → Spells second command → first ≡ second
 one_line first second Every a b = a ∙ sym b
+one_line first second Pack a b = a ∙ sym b
 one_line first second (Show ticket) a b = a.1 ∙ sym b.1
 one_line first second (Find key) a b = a.1 ∙ sym b.1
 one_line first second (Floor key) a b = a.1 ∙ sym b.1
 one_line first second (After ticket) a b = a.1 ∙ sym b.1
 one_line first second (Before ticket) a b = a.1 ∙ sym b.1
+one_line first second (Remove ticket) a b = a.1 ∙ sym b.1
 one_line first second (Start place) a b = a.1 ∙ sym b.1
 one_line first second (Cut stop) a b = a.1 ∙ sym b.1
 one_line first second (Walk stop) a b = a.1 ∙ sym b.1
@@ -304,11 +307,13 @@ text_of_numbers line front m n verb spells =
 
 line_text : (line : List ℕ) (command : Command) → Spells line command → LineText 69 line
 line_text line Every spells = subst (LineText 69) (sym spells) (record { bytes = refl; short = lit≤ tt; some = lit≤ tt })
+line_text line Pack spells = subst (LineText 69) (sym spells) (record { bytes = refl; short = lit≤ tt; some = lit≤ tt })
 line_text line (Show ticket) spells = text_of_number line (codes "show ") ticket (record { bytes = refl; short = lit≤ tt; some = lit≤ tt }) spells
 line_text line (Find key) spells = text_of_number line (codes "find ") key (record { bytes = refl; short = lit≤ tt; some = lit≤ tt }) spells
 line_text line (Floor key) spells = text_of_number line (codes "floor ") key (record { bytes = refl; short = lit≤ tt; some = lit≤ tt }) spells
 line_text line (After ticket) spells = text_of_number line (codes "after ") ticket (record { bytes = refl; short = lit≤ tt; some = lit≤ tt }) spells
 line_text line (Before ticket) spells = text_of_number line (codes "before ") ticket (record { bytes = refl; short = lit≤ tt; some = lit≤ tt }) spells
+line_text line (Remove ticket) spells = text_of_number line (codes "remove ") ticket (record { bytes = refl; short = lit≤ tt; some = lit≤ tt }) spells
 line_text line (Start place) spells = text_of_number line (codes "start ") place (record { bytes = refl; short = lit≤ tt; some = lit≤ tt }) spells
 line_text line (Cut stop) spells = text_of_number line (codes "cut ") stop (record { bytes = refl; short = lit≤ tt; some = lit≤ tt }) spells
 line_text line (Walk stop) spells = text_of_number line (codes "walk ") stop (record { bytes = refl; short = lit≤ tt; some = lit≤ tt }) spells

@@ -1,6 +1,7 @@
 pub mod AlongLemmas
 pub mod CommandLineLemmas
 pub mod CutLemmas
+pub mod EndedLemmas
 pub mod GrammarLemmas
 pub mod LineTextLemmas
 pub mod LinkLemmas
@@ -8,14 +9,18 @@ pub mod NewLinkLemmas
 pub mod NewStopLemmas
 pub mod NextStopLemmas
 pub mod NumberLemmas
+pub mod PastLemmas
 pub mod PreviousLemmas
 pub mod RelinkLemmas
+pub mod RemovedLemmas
 pub mod ReplyLemmas
 pub mod RouteLemmas
 pub mod RunLemmas
 pub mod SameRoutesLemmas
 pub mod SoundLemmas
 pub mod StayLemmas
+pub mod SweepLemmas
+pub mod TakenOutLemmas
 pub mod TicketLemmas
 pub mod UndoLemmas
 pub mod UnfinishedLemmas

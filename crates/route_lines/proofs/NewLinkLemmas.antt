@@ -8,12 +8,12 @@ use Rattle.route_lines.specs.Leads.{head_or, Leads}
 use Rattle.route_lines.specs.Routes.{has_ticket, linear, has_stop, next_stop, put_behind}
 use Rattle.route_lines.specs.Sound.{total, count_of, AreWritten, IsSound}
 use Rattle.route_lines.specs.State.{State, Stop, Route, stop_list, is_full_of_stops}
-use Rattle.route_lines.proofs.CutLemmas.{up_to_behind, all_append, total-append, count-any, count-none}
+use Rattle.route_lines.proofs.CutLemmas.{up_to_behind, all_append, total-append, count-any, count-none, found_counted}
 use Rattle.route_lines.proofs.LinkLemmas.{Leads-append, Leads-front, Leads-back, Leads-ext, closing_of, Links, Links-next_stop, next_stop-is, relinked, apart_relinked, Links-apart, Leads-up_to}
 use Rattle.route_lines.proofs.NewStopLemmas.{none_above, stop_list-more, AreWritten-more, total-put_behind, AreWritten-put_behind}
 use Rattle.route_lines.proofs.NextStopLemmas.{off_leads_nowhere}
 use Rattle.route_lines.proofs.SoundLemmas.{and_then-ok}
-use Rattle.route_lines.proofs.UndoLemmas.{names_stop, stop_counts}
+use Rattle.route_lines.proofs.UndoLemmas.{names_stop}
 
 -- ---- a route of one stop
 
@@ -254,7 +254,7 @@ next-extended s t at n sound e = record {
     new = ap (λ r. (unless_refused s r (λ k. record s { last = k; routes = put_behind t (record { ticket = k; place = Some at }) s.routes })).routes) e
 
     some : 1 ≤ count_of (has_ticket t) (stop_list s.routes)
-    some = let names = names_stop s t ok.0 ok.1 in stop_counts t (stop_list s.routes) names.stop_there.0 names.stop_there.1
+    some = let names = names_stop s t ok.0 ok.1 in found_counted (has_ticket t) (stop_list s.routes) names.stop_there.0 names.stop_there.1
 
     fresh : count_of (has_ticket n) (stop_list s.routes) ≡ 0
     fresh = none_above (λ (x : Stop). x.ticket) s.last n (stop_list s.routes) sound.given_stops (omega (arith, ticket))

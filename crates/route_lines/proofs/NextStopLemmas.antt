@@ -6,11 +6,12 @@ use Rattle.route_lines.specs.Calls.{stop_holder, joined, after_join, parted, aft
 use Rattle.route_lines.specs.Routes.{has_ticket, next_in, route_of, next_stop, linked, unlinked, exchanged}
 use Rattle.route_lines.specs.Sound.{count_of, AreWritten, IsSound}
 use Rattle.route_lines.specs.State.{State, Route, stop_list}
+use Rattle.route_lines.proofs.CutLemmas.{found_counted}
 use Rattle.route_lines.proofs.LinkLemmas.{Links, Links-next_stop, next_stop-is, found_counts, relinked}
 use Rattle.route_lines.proofs.RelinkLemmas.{Links-linked, Links-unlinked}
 use Rattle.route_lines.proofs.RouteLemmas.{AreWritten-linked, total-linked, AreWritten-unlinked, total-unlinked}
 use Rattle.route_lines.proofs.SoundLemmas.{and_then-ok}
-use Rattle.route_lines.proofs.UndoLemmas.{none_leads, traded, exchange_of, Links-exchange, exchange_written, exchange_total, exchanged-apart, exchanged-same, stop_counts, joined-ok, swapped-ok, after_join-ok, after_cut-ok, after_swap-ok, names_stop, with_routes}
+use Rattle.route_lines.proofs.UndoLemmas.{none_leads, traded, exchange_of, Links-exchange, exchange_written, exchange_total, exchanged-apart, exchanged-same, joined-ok, swapped-ok, after_join-ok, after_cut-ok, after_swap-ok, names_stop, with_routes}
 
 -- a ticket that no stop has leads nowhere
 pub off_leads_nowhere : (s : ℕ) (routes : List Route) → count_of (has_ticket s) (stop_list routes) ≡ 0 → next_stop routes s ≡ None
@@ -21,7 +22,7 @@ off_leads_nowhere s routes none = by (route_of routes s) refl
     by (Some r) e = absurd (omega (arith, none, found_counts s routes r e))
 
 -- where the stops are the same and all lead as `next` says, so does every ticket of theirs, and any other leads nowhere
-leads_everywhere : (next : ℕ → Option ℕ) (routes others : List Route) → AreWritten others → Links next others → ((s : ℕ) → count_of (has_ticket s) (stop_list others) ≡ count_of (has_ticket s) (stop_list routes))
+pub leads_everywhere : (next : ℕ → Option ℕ) (routes others : List Route) → AreWritten others → Links next others → ((s : ℕ) → count_of (has_ticket s) (stop_list others) ≡ count_of (has_ticket s) (stop_list routes))
     → (s : ℕ) → (1 ≤ count_of (has_ticket s) (stop_list routes) → next s ≡ next_stop routes s) → next_stop others s ≡ next_stop routes s
 leads_everywhere next routes others written links same s here = at (cases_lt 0 (count_of (has_ticket s) (stop_list routes)))
   where
@@ -37,8 +38,8 @@ pub next-joined : (s : State) (t u : ℕ) → IsSound s → joined s t u ≡ Ok 
 unfolding with_routes
 next-joined s t u sound e =
     let ok = joined-ok s t u e in
-    let t_in = stop_counts t (stop_list s.routes) ok.0.stop_there.0 ok.0.stop_there.1 in
-    let u_in = stop_counts u (stop_list s.routes) ok.1.stop_there.0 ok.1.stop_there.1 in
+    let t_in = found_counted (has_ticket t) (stop_list s.routes) ok.0.stop_there.0 ok.0.stop_there.1 in
+    let u_in = found_counted (has_ticket u) (stop_list s.routes) ok.1.stop_there.0 ok.1.stop_there.1 in
     let written = sound.routes in
     let whole = AreWritten-linked t u s.routes written in
     let links = Links-linked (next_stop s.routes) t u s.routes written (Links-next_stop s.routes written.once) ok.2 t_in u_in (none_leads u s.routes written ok.3 u_in) in
@@ -61,7 +62,7 @@ unfolding with_routes
 next-cut s t sound e =
     let first = and_then-ok (stop_holder s t) _ tt e in
     let names = names_stop s t first.0 first.1 in
-    let t_in = stop_counts t (stop_list s.routes) names.stop_there.0 names.stop_there.1 in
+    let t_in = found_counted (has_ticket t) (stop_list s.routes) names.stop_there.0 names.stop_there.1 in
     let written = sound.routes in
     let whole = AreWritten-unlinked t s.routes written in
     let links = Links-unlinked (next_stop s.routes) t s.routes written (Links-next_stop s.routes written.once) t_in in
@@ -120,7 +121,7 @@ pub next-swapped : (s : State) (t u : ℕ) → IsSound s → swapped s t u ≡ O
 unfolding with_routes
 next-swapped s t u sound e =
     let ok = swapped-ok s t u e in
-    let t_in = stop_counts t (stop_list s.routes) ok.0.stop_there.0 ok.0.stop_there.1 in
-    let u_in = stop_counts u (stop_list s.routes) ok.1.stop_there.0 ok.1.stop_there.1 in
+    let t_in = found_counted (has_ticket t) (stop_list s.routes) ok.0.stop_there.0 ok.0.stop_there.1 in
+    let u_in = found_counted (has_ticket u) (stop_list s.routes) ok.1.stop_there.0 ok.1.stop_there.1 in
     let new : (after_swap s t u).routes ≡ exchanged t u s.routes = ap (λ r. r.routes) (after_swap-ok s t u e) in
     subst (ExchangesNext t u s.routes) (sym new) (next-exchanged t u ok.2.0 ok.3.0 s.routes sound.routes ok.2.1 ok.3.1 t_in u_in)

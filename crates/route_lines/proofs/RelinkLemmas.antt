@@ -92,6 +92,11 @@ less_within weight s routes r once e = omega (arith, total-without weight s rout
 
 -- ---- joins
 
+-- a ring that is written anew leads as before
+pub Leads-from_smallest : (next : ℕ → Option ℕ) (xs : List Stop) → Leads next (head_or None xs) xs → Leads next (head_or None (from_smallest xs)) (from_smallest xs)
+Leads-from_smallest next [] h = tt
+Leads-from_smallest next (x ∷ xs) h = Leads-round next (smallest x.ticket xs) (x ∷ xs) h
+
 pub Links-linked : (next : ℕ → Option ℕ) (s u : ℕ) (routes : List Route) → AreWritten routes → Links next routes → next s ≡ None → 1 ≤ count_of (has_ticket s) (stop_list routes) → 1 ≤ count_of (has_ticket u) (stop_list routes)
     → count_of (leads_to next u) (stop_list routes) ≡ 0 → Links (relinked s (Some u) next) (linked s u routes)
 Links-linked next s u routes written links end some other none = by (found_if_counted s routes some)
@@ -135,11 +140,7 @@ Links-linked next s u routes written links end some other none = by (found_if_co
             let u_in : 1 ≤ count_of (has_ticket u) f.0.stops = subst (λ xs. 1 ≤ count_of (has_ticket u) xs) (sym is_front) (count-any (has_ticket u) front has) in
             let start = starts_parts u f.0 (starts_if_none_leads next u f.0 old few u_in) in
             let head : head_or None front ≡ Some u = ap (head_or None) (sym is_front) ∙ start.1 in
-            Links-put changed (ring front) others (closes front (subst (λ c. Leads changed c front) (sym head) front_leads)) rest
-          where
-            closes : (xs : List Stop) → Leads changed (head_or None xs) xs → Leads changed (head_or None (from_smallest xs)) (from_smallest xs)
-            closes [] k = tt
-            closes (x ∷ xs) k = Leads-round changed (smallest x.ticket xs) (x ∷ xs) k
+            Links-put changed (ring front) others (Leads-from_smallest changed front (subst (λ c. Leads changed c front) (sym head) front_leads)) rest
         at false lacks = joined (found_if_counted u others behind)
           where
             once : count_of (has_ticket u) (stop_list others) ≤ 1

@@ -3,7 +3,7 @@ use Rattle.std.proofs.Common.{lit≤, ◌≡◌, ◌∙◌, sym, ap, subst, refl
 use Rattle.std.proofs.lemmas.List.Elements.{All-nil}
 use Rattle.std.specs.List.{AllByRecursion}
 use Rattle.std.specs.Option.{option_or, ok_or}
-use Rattle.route_lines.specs.Calls.{place_holder, stop_holder, and_then, next_ticket, placed, placed_near, shown, found, floor_of, place_after, place_before, started, extended, joined, parted, swapped, walked, marked}
+use Rattle.route_lines.specs.Calls.{place_holder, stop_holder, and_then, next_ticket, placed, placed_near, shown, found, floor_of, place_after, place_before, started, extended, joined, parted, swapped, walked, marked, removed}
 use Rattle.route_lines.specs.Cuts.{before, behind, first_item, last_item}
 use Rattle.route_lines.specs.Number.{IsNumber}
 use Rattle.route_lines.specs.Reply.{ended, reply, refusal_line, reference_text, placed_line, shown_line, found_line, ticket_line, done_line, neighbor_line, place_line, places_text, stop_line, stops_text, walk_text}
@@ -14,7 +14,7 @@ use Rattle.route_lines.specs.Text.{whole_lines, rest_of}
 use Rattle.route_lines.specs.Unfinished.{Cuts, HasNoLineEnd}
 use Rattle.route_lines.specs.Word.{IsWord}
 use Rattle.route_lines.specs.declared.command.Command.{Command}
-use Rattle.route_lines.specs.declared.command.Command.TheVariants.{Place as PlaceLine, Show, Find, Floor, After, Before, All, Start, Extend, Join, Cut, Swap, Walk, Mark as MarkLine}
+use Rattle.route_lines.specs.declared.command.Command.TheVariants.{Place as PlaceLine, Show, Find, Floor, After, Before, All, Remove, Start, Extend, Join, Cut, Swap, Walk, Mark as MarkLine, Pack}
 use Rattle.route_lines.specs.declared.placed.Placed.TheVariants.{New}
 use Rattle.route_lines.specs.declared.refusal.Refusal.{Refusal}
 use Rattle.route_lines.specs.declared.refusal.Refusal.TheVariants.{Unknown, Gone, Kind, No, Full}
@@ -269,6 +269,7 @@ ShortLines-reply s (Some (Floor key)) sound numbered = ShortLines-one (found_lin
 ShortLines-reply s (Some (After ticket)) sound numbered = ShortLines-one (neighbor_line (place_after s ticket)) (after_text s ticket sound numbered)
 ShortLines-reply s (Some (Before ticket)) sound numbered = ShortLines-one (neighbor_line (place_before s ticket)) (before_text s ticket sound numbered)
 ShortLines-reply s (Some All) sound numbered = places_short s.places (sound_parts s sound numbered)
+ShortLines-reply s (Some (Remove t)) sound numbered = ShortLines-one (done_line (removed s t)) (done_text (removed s t))
 ShortLines-reply s (Some (Start p)) sound numbered = ShortLines-one (ticket_line (started s p)) (ticket_text (started s p) (started_number s p numbered))
 ShortLines-reply s (Some (Extend t p)) sound numbered = ShortLines-one (ticket_line (extended s t p)) (ticket_text (extended s t p) (extended_number s t p numbered))
 ShortLines-reply s (Some (Join t u)) sound numbered = ShortLines-one (done_line (joined s t u)) (done_text (joined s t u))
@@ -276,3 +277,4 @@ ShortLines-reply s (Some (Cut t)) sound numbered = ShortLines-one (done_line (pa
 ShortLines-reply s (Some (Swap t u)) sound numbered = ShortLines-one (done_line (swapped s t u)) (done_text (swapped s t u))
 ShortLines-reply s (Some (Walk t)) sound numbered = walk_short s t sound numbered
 ShortLines-reply s (Some (MarkLine p t)) sound numbered = ShortLines-one (ticket_line (marked s p t)) (ticket_text (marked s p t) (marked_number s p t numbered))
+ShortLines-reply s (Some Pack) sound numbered = ShortLines-one (done_line (Ok tt)) (done_text (Ok tt))

@@ -8,7 +8,7 @@ use Rattle.std.proofs.lemmas.List.Splits.{slice_split_at, slice_split_none, leng
 use Rattle.route_lines.specs.State.{State}
 use Rattle.route_lines.specs.Reply.{ended, reply, next}
 use Rattle.route_lines.specs.Text.{Line, whole, command_in, replies, after_lines, front, last, lines, whole_lines, rest_of, unended_line}
-use Rattle.route_lines.specs.Searches.{CountsWithin, CountsFor, most_keys, most_tickets}
+use Rattle.route_lines.specs.Searches.{ComparesWithin, CountsWithin, CountsFor, most_keys, most_tickets}
 use Rattle.route_lines.specs.Run.{Carries, BreaksOff, most_comparisons_over}
 use Rattle.route_lines.specs.Unfinished.{Cuts, HasNoLineEnd}
 use Rattle.route_lines.specs.Written.{AppendsBeginning}
@@ -33,26 +33,35 @@ most_comparisons_over-append most s (x ∷ xs) ys =
     let h = most_comparisons_over-append most (next s (command_in x)) xs ys in
     omega (arith, h)
 
-pub CountsWithin-trans : (a b c : Counts) (k f s k' f' s' k'' f'' s'' : ℕ) → CountsWithin a b k f s → CountsWithin b c k' f' s' → k'' ≡ k + k' → f'' ≡ f + f' → s'' ≡ s + s' → CountsWithin a c k'' f'' s''
-CountsWithin-trans a b c k f s k' f' s' k'' f'' s'' h h' ek ef es = record {
+pub ComparesWithin-trans : (a b c : Counts) (k f s k' f' s' k'' f'' s'' : ℕ) → ComparesWithin a b k f s → ComparesWithin b c k' f' s' → k'' ≡ k + k' → f'' ≡ f + f' → s'' ≡ s + s' → ComparesWithin a c k'' f'' s''
+ComparesWithin-trans a b c k f s k' f' s' k'' f'' s'' h h' ek ef es = record {
   key_rises = omega (arith, h.key_rises, h'.key_rises);
   first_rises = omega (arith, h.first_rises, h'.first_rises);
   second_rises = omega (arith, h.second_rises, h'.second_rises);
   key = omega (arith, h.key, h'.key, ek);
   first = omega (arith, h.first, h'.first, ef);
   second = omega (arith, h.second, h'.second, es);
-  looks = h'.looks ∙ h.looks;
 }
 
-pub CountsWithin-more : (a b : Counts) (k f s k' f' s' : ℕ) → CountsWithin a b k f s → k ≤ k' → f ≤ f' → s ≤ s' → CountsWithin a b k' f' s'
-CountsWithin-more a b k f s k' f' s' h ek ef es = record {
+-- what a call that makes no look counts
+pub compares : (a b : Counts) (k f s : ℕ) → CountsWithin a b k f s → ComparesWithin a b k f s
+compares a b k f s h = record {
+  key_rises = h.key_rises;
+  first_rises = h.first_rises;
+  second_rises = h.second_rises;
+  key = h.key;
+  first = h.first;
+  second = h.second;
+}
+
+pub ComparesWithin-more : (a b : Counts) (k f s k' f' s' : ℕ) → ComparesWithin a b k f s → k ≤ k' → f ≤ f' → s ≤ s' → ComparesWithin a b k' f' s'
+ComparesWithin-more a b k f s k' f' s' h ek ef es = record {
   key_rises = h.key_rises;
   first_rises = h.first_rises;
   second_rises = h.second_rises;
   key = omega (arith, h.key, ek);
   first = omega (arith, h.first, ef);
   second = omega (arith, h.second, es);
-  looks = h.looks;
 }
 
 pub Carries-nil : (s : State) (held : Option (List ℕ)) (counts : Counts) → Carries s [] s held held counts counts
@@ -66,7 +75,6 @@ Carries-nil s held counts = record {
     key = omega arith;
     first = omega arith;
     second = omega arith;
-    looks = refl;
   };
 }
 
@@ -77,7 +85,7 @@ Carries-trans s t u xs ys a b c before between later first second =
     record {
       state = moved.state ∙ sym (after_lines-append s xs ys);
       replied = subst (Appends a c) (sym (replies-append s xs ys)) (Appends-trans a b c _ _ first.replied moved.replied);
-      counts = CountsWithin-trans before between later _ _ _ _ _ _ _ _ _ first.counts moved.counts (most_comparisons_over-append most_keys s xs ys) (most_comparisons_over-append most_tickets s xs ys) (most_comparisons_over-append most_tickets s xs ys);
+      counts = ComparesWithin-trans before between later _ _ _ _ _ _ _ _ _ first.counts moved.counts (most_comparisons_over-append most_keys s xs ys) (most_comparisons_over-append most_tickets s xs ys) (most_comparisons_over-append most_tickets s xs ys);
     }
 
 -- one line
@@ -85,7 +93,7 @@ pub Carries-one : (s t : State) (line : Line) (a b : Option (List ℕ)) (before 
 Carries-one s t line a b before later state replied counts = record {
   state = state;
   replied = subst (Appends a b) (sym (append-nil (reply s (command_in line)))) replied;
-  counts = CountsWithin-more before later _ _ _ _ _ _ counts (omega arith) (omega arith) (omega arith);
+  counts = ComparesWithin-more before later _ _ _ _ _ _ counts (omega arith) (omega arith) (omega arith);
 }
 
 pub BreaksOff-one : (s t : State) (line : Line) (a b : Option (List ℕ)) (before later : Counts) → t ≡ next s (command_in line) → AppendsBeginning a b (reply s (command_in line)) → CountsFor s (command_in line) before later → BreaksOff s [] line t a b before later
@@ -96,7 +104,7 @@ BreaksOff-one s t line a b before later state begins counts = record {
   short = begins.short;
   state = state;
   replied = begins.appended;
-  counts = CountsWithin-more before later _ _ _ _ _ _ counts (omega arith) (omega arith) (omega arith);
+  counts = ComparesWithin-more before later _ _ _ _ _ _ counts (omega arith) (omega arith) (omega arith);
 }
 
 pub BreaksOff-after : (s t u : State) (xs ys : List Line) (line : Line) (a b c : Option (List ℕ)) (before between later : Counts) → Carries s xs t a b before between → BreaksOff t ys line u b c between later → BreaksOff s (xs ++ ys) line u a c before later
@@ -112,8 +120,8 @@ BreaksOff-after s t u xs ys line a b c before between later first second =
       state = moved.state ∙ sym (after_lines-append s xs (ys ++ line ∷ [])) ∙ ap (after_lines s) more;
       replied = subst (Appends a c) (sym (append_assoc (replies s xs) (replies m ys) moved.part) ∙ ap (λ text. text ++ moved.part) (sym (replies-append s xs ys)))
           (Appends-trans a b c _ _ first.replied moved.replied);
-      counts = subst (λ ls. CountsWithin before later (most_comparisons_over most_keys s ls) (most_comparisons_over most_tickets s ls) (most_comparisons_over most_tickets s ls)) more
-          (CountsWithin-trans before between later _ _ _ _ _ _ _ _ _ first.counts moved.counts (most_comparisons_over-append most_keys s xs (ys ++ line ∷ [])) (most_comparisons_over-append most_tickets s xs (ys ++ line ∷ [])) (most_comparisons_over-append most_tickets s xs (ys ++ line ∷ [])));
+      counts = subst (λ ls. ComparesWithin before later (most_comparisons_over most_keys s ls) (most_comparisons_over most_tickets s ls) (most_comparisons_over most_tickets s ls)) more
+          (ComparesWithin-trans before between later _ _ _ _ _ _ _ _ _ first.counts moved.counts (most_comparisons_over-append most_keys s xs (ys ++ line ∷ [])) (most_comparisons_over-append most_tickets s xs (ys ++ line ∷ [])) (most_comparisons_over-append most_tickets s xs (ys ++ line ∷ [])));
     }
 
 -- ---- an input cut into lines

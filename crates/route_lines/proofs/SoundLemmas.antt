@@ -1,28 +1,31 @@
 -- What a store keeps as lines are carried out.
-use Rattle.std.proofs.Common.{◌≡◌, ◌≢◌, ◌∙◌, sym, ap, subst, refl, Bool, true, false, ◌||◌, ◌==◌, ℕ, suc, ◌+◌, ◌<◌, ◌≤◌, List, [], ◌∷◌, ◌++◌, length, Option, Some, None, IfSome, Result, Ok, Err, cond, nat_lt, length-append, arith}
+use Rattle.std.proofs.Common.{◌≡◌, ◌≢◌, ◌∙◌, sym, ap, subst, refl, Bool, true, false, ◌||◌, ◌==◌, ℕ, suc, ◌+◌, ◌<◌, ◌≤◌, List, [], ◌∷◌, ◌++◌, length, Option, Some, None, IfSome, Result, Ok, Err, cond, not, nat_lt, length-append, arith}
 use Rattle.std.specs.List.{AllByRecursion}
 use Rattle.std.specs.Option.{ok_or}
 use Rattle.std.proofs.lemmas.Bool.{false≢true, eq-eqb, eqb-true, ltb-true, ltb-false, leb-false}
+use Rattle.std.proofs.lemmas.List.{length-map}
 use Rattle.route_lines.specs.State.{Rooms, State, Place, Stop, Route, Mark, Item, place, stop, mark, with_key, stop_list, living, holder, empty, is_full_of_places, is_full_of_stops, is_full_of_marks, last_ticket}
-use Rattle.route_lines.specs.Calls.{put, reworded, place_holder, stop_holder, and_then, next_ticket, unless_refused, after_place, started, after_start, extended, after_extend, joined, after_join, parted, after_cut, swapped, after_swap, marked, after_mark}
+use Rattle.route_lines.specs.Calls.{put, reworded, place_holder, stop_holder, and_then, next_ticket, unless_refused, after_place, started, after_start, extended, after_extend, joined, after_join, parted, after_cut, swapped, after_swap, marked, after_mark, clear_stop, clear_mark, clear_mark_stop, without_place, without_stop, without_mark, after_removed}
 use Rattle.route_lines.specs.Changes.{changed}
 use Rattle.route_lines.specs.Grammar.{command_of}
 use Rattle.route_lines.specs.Reply.{next}
-use Rattle.route_lines.specs.Routes.{has_ticket, linear, put_behind, linked, unlinked, exchanged}
+use Rattle.route_lines.specs.Routes.{has_ticket, linear, put_behind, linked, unlinked, taken_out, exchanged}
 use Rattle.route_lines.specs.Text.{Line, whole, unended, command_in, after_lines}
 use Rattle.route_lines.specs.Word.{IsWord}
 use Rattle.route_lines.specs.Number.{IsNumber}
 use Rattle.route_lines.specs.Sound.{KeysRise, MarksRise, total, count_of, holders, AreWritten, IsSound, IsNumbered, IsPossible}
 use Rattle.route_lines.specs.declared.change.Change.{Change}
-use Rattle.route_lines.specs.declared.change.Change.TheVariants.{Open, Place as PlaceChange, Start, Extend, Join, Cut, Swap, Mark as MarkChange}
+use Rattle.route_lines.specs.declared.change.Change.TheVariants.{Open, Place as PlaceChange, Start, Extend, Join, Cut, Swap, Mark as MarkChange, Remove}
 use Rattle.route_lines.specs.declared.command.Command.{Command}
-use Rattle.route_lines.specs.declared.command.Command.TheVariants.{Place as PlaceLine, Show, Find, Floor, After, Before, All, Start as StartLine, Extend as ExtendLine, Join as JoinLine, Cut as CutLine, Swap as SwapLine, Walk, Mark as MarkLine}
+use Rattle.route_lines.specs.declared.command.Command.TheVariants.{Place as PlaceLine, Show, Find, Floor, After, Before, All, Remove as RemoveLine, Start as StartLine, Extend as ExtendLine, Join as JoinLine, Cut as CutLine, Swap as SwapLine, Walk, Mark as MarkLine, Pack}
 use Rattle.route_lines.specs.declared.refusal.Refusal.{Refusal}
 use Rattle.route_lines.specs.declared.refusal.Refusal.TheVariants.{Unknown, Gone, Kind}
-use Rattle.route_lines.proofs.CutLemmas.{all_weaker, all_append, total-append, length-total}
+use Rattle.route_lines.proofs.CutLemmas.{all_weaker, all_append, all_filter, total-append, length-total}
 use Rattle.route_lines.proofs.GrammarLemmas.{command_of-found}
 use Rattle.route_lines.proofs.NewStopLemmas.{none_above, stop_list-more, AreWritten-more, total-put_behind, all_put_behind, AreWritten-put_behind}
+use Rattle.route_lines.proofs.RemovedLemmas.{total-filter, length-filter, KeysRise-filter, MarksRise-filter, all_map, total-map, MarksRise-map, number-unless_is, all_cleared, total-cleared, length-cleared, AreWritten-cleared}
 use Rattle.route_lines.proofs.RouteLemmas.{AreWritten-linked, total-linked, all_linked, AreWritten-unlinked, total-unlinked, all_unlinked, exchanged_keeps}
+use Rattle.route_lines.proofs.TakenOutLemmas.{AreWritten-taken_out, total-taken_out, all_taken_out}
 
 -- ---- a place more
 
@@ -355,6 +358,78 @@ IsSound-after_mark s at t sound = keeps_unless_refused IsSound s (marked s at t)
           marks_fit = omega (arith, less, length-append s.marks (new ∷ []));
         }
 
+-- ---- removals
+
+IsSound-without_place : (s : State) (t : ℕ) → IsSound s → IsSound (without_place s t)
+IsSound-without_place s t sound = record {
+  given = all_filter (λ p. (0 < p.ticket) × (p.ticket ≤ s.last)) (λ p. not (p.ticket == t)) s.places sound.given;
+  given_stops = all_cleared (λ u. (0 < u.ticket) × (u.ticket ≤ s.last)) (λ u. (0 < u.ticket) × (u.ticket ≤ s.last)) t s.routes (λ u h. h) sound.given_stops;
+  given_marks = all_map (λ m. (0 < m.ticket) × (m.ticket ≤ s.last)) (λ m. (0 < m.ticket) × (m.ticket ≤ s.last)) (clear_mark t) s.marks (λ m h. h) sound.given_marks;
+  once = λ k. omega (
+    arith,
+    sound.once k,
+    total-filter (λ (p : Place). cond (p.ticket == k) 1 0) (λ p. p.ticket == t) s.places,
+    total-cleared (λ u. cond (has_ticket k u) 1 0) t s.routes,
+    total-map (λ (m : Mark). cond (m.ticket == k) 1 0) (clear_mark t) s.marks,
+  );
+  keys = KeysRise-filter (λ p. not (p.ticket == t)) s.places sound.keys;
+  words = all_filter (λ p. IsWord p.word) (λ p. not (p.ticket == t)) s.places sound.words;
+  routes = AreWritten-cleared t s.routes sound.routes;
+  marks = MarksRise-map (clear_mark t) s.marks (λ m. refl) sound.marks;
+  fits = omega (arith, sound.fits, length-filter (λ (p : Place). p.ticket == t) s.places);
+  stops_fit = omega (arith, sound.stops_fit, length-cleared t s.routes);
+  marks_fit = omega (arith, sound.marks_fit, length-map s.marks (clear_mark t));
+}
+
+IsSound-without_stop : (s : State) (t : ℕ) → IsSound s → IsSound (without_stop s t)
+IsSound-without_stop s t sound = record {
+  given = sound.given;
+  given_stops = all_taken_out (λ u. (0 < u.ticket) × (u.ticket ≤ s.last)) t s.routes sound.given_stops;
+  given_marks = all_map (λ m. (0 < m.ticket) × (m.ticket ≤ s.last)) (λ m. (0 < m.ticket) × (m.ticket ≤ s.last)) (clear_mark_stop t) s.marks (λ m h. h) sound.given_marks;
+  once = λ k. omega (
+    arith,
+    sound.once k,
+    total-taken_out (λ u. cond (has_ticket k u) 1 0) t s.routes sound.routes,
+    total-map (λ (m : Mark). cond (m.ticket == k) 1 0) (clear_mark_stop t) s.marks,
+  );
+  keys = sound.keys;
+  words = sound.words;
+  routes = AreWritten-taken_out t s.routes sound.routes;
+  marks = MarksRise-map (clear_mark_stop t) s.marks (λ m. refl) sound.marks;
+  fits = sound.fits;
+  stops_fit = omega (arith, sound.stops_fit, total-taken_out (λ u. 1) t s.routes sound.routes, length-total (stop_list (taken_out t s.routes)), length-total (stop_list s.routes));
+  marks_fit = omega (arith, sound.marks_fit, length-map s.marks (clear_mark_stop t));
+}
+
+IsSound-without_mark : (s : State) (t : ℕ) → IsSound s → IsSound (without_mark s t)
+IsSound-without_mark s t sound = record {
+  given = sound.given;
+  given_stops = sound.given_stops;
+  given_marks = all_filter (λ m. (0 < m.ticket) × (m.ticket ≤ s.last)) (λ m. not (m.ticket == t)) s.marks sound.given_marks;
+  once = λ k. omega (arith, sound.once k, total-filter (λ (m : Mark). cond (m.ticket == k) 1 0) (λ m. m.ticket == t) s.marks);
+  keys = sound.keys;
+  words = sound.words;
+  routes = sound.routes;
+  marks = MarksRise-filter (λ m. not (m.ticket == t)) s.marks sound.marks;
+  fits = sound.fits;
+  stops_fit = sound.stops_fit;
+  marks_fit = omega (arith, sound.marks_fit, length-filter (λ (m : Mark). m.ticket == t) s.marks);
+}
+
+-- what each removal keeps
+keeps_removed : (Keeps : State → Type 0) (s : State) (t : ℕ) → Keeps s → Keeps (without_place s t) → Keeps (without_stop s t) → Keeps (without_mark s t) → Keeps (after_removed s t)
+keeps_removed Keeps s t old no_place no_stop no_mark = at (holder s t) refl
+  where
+    at : (r : Result Item Refusal) → holder s t ≡ r → Keeps (after_removed s t)
+    at (Ok (place p)) e = rw e no_place
+    at (Ok (stop u)) e = rw e no_stop
+    at (Ok (mark m)) e = rw e no_mark
+    at (Err refusal) e = rw e old
+
+IsSound-after_removed : (s : State) (t : ℕ) → IsSound s → IsSound (after_removed s t)
+IsSound-after_removed s t sound =
+    keeps_removed IsSound s t sound (IsSound-without_place s t sound) (IsSound-without_stop s t sound) (IsSound-without_mark s t sound)
+
 IsSound-empty : (rooms : Rooms) (last : ℕ) → IsSound (empty rooms last)
 IsSound-empty rooms last = record {
   given = tt;
@@ -379,6 +454,7 @@ IsSound-changed s (Join t u) is sound = IsSound-after_join s t u sound
 IsSound-changed s (Cut t) is sound = IsSound-after_cut s t sound
 IsSound-changed s (Swap t u) is sound = IsSound-after_swap s t u sound
 IsSound-changed s (MarkChange at t) is sound = IsSound-after_mark s at t sound
+IsSound-changed s (Remove t) is sound = IsSound-after_removed s t sound
 
 -- ---- numbers
 
@@ -459,6 +535,28 @@ IsNumbered-after_mark s at t numbered = keeps_unless_refused IsNumbered s (marke
       marks = all_append (λ m. IfSome m.place IsNumber × IfSome m.stop IsNumber) s.marks (new ∷ []) numbered.marks ((place_number s at first.0 numbered first.1, stop_number s t second.0 numbered second.1), tt);
     })
 
+abbrev Numbers : Mark → Type 0
+Numbers m = IfSome m.place IsNumber × IfSome m.stop IsNumber
+
+IsNumbered-after_removed : (s : State) (t : ℕ) → IsNumbered s → IsNumbered (after_removed s t)
+IsNumbered-after_removed s t numbered =
+    keeps_removed IsNumbered s t numbered (record {
+      last = numbered.last;
+      keys = all_filter (λ p. IsNumber p.key) (λ p. not (p.ticket == t)) s.places numbered.keys;
+      stops = all_cleared (λ u. IfSome u.place IsNumber) (λ u. IfSome u.place IsNumber) t s.routes (λ u small. number-unless_is t u.place small) numbered.stops;
+      marks = all_map Numbers Numbers (clear_mark t) s.marks (λ m small. (number-unless_is t m.place small.0, small.1)) numbered.marks;
+    }) (record {
+      last = numbered.last;
+      keys = numbered.keys;
+      stops = all_taken_out (λ u. IfSome u.place IsNumber) t s.routes numbered.stops;
+      marks = all_map Numbers Numbers (clear_mark_stop t) s.marks (λ m small. (small.0, number-unless_is t m.stop small.1)) numbered.marks;
+    }) (record {
+      last = numbered.last;
+      keys = numbered.keys;
+      stops = numbered.stops;
+      marks = all_filter Numbers (λ m. not (m.ticket == t)) s.marks numbered.marks;
+    })
+
 pub IsNumbered-empty : (rooms : Rooms) (last : ℕ) → IsNumber last → IsNumbered (empty rooms last)
 IsNumbered-empty rooms last small = record { last = small; keys = tt; stops = tt; marks = tt }
 
@@ -471,6 +569,7 @@ IsNumbered-changed s (Join t u) is numbered = IsNumbered-after_join s t u number
 IsNumbered-changed s (Cut t) is numbered = IsNumbered-after_cut s t numbered
 IsNumbered-changed s (Swap t u) is numbered = IsNumbered-after_swap s t u numbered
 IsNumbered-changed s (MarkChange at t) is numbered = IsNumbered-after_mark s at t numbered
+IsNumbered-changed s (Remove t) is numbered = IsNumbered-after_removed s t numbered
 
 -- ---- lines
 
@@ -496,6 +595,7 @@ kept_by_lines Keeps kept s (line ∷ lines) keeps = kept_by_lines Keeps kept (ne
         at (Some (After ticket)) e = keeps
         at (Some (Before ticket)) e = keeps
         at (Some All) e = keeps
+        at (Some (RemoveLine t)) e = kept s (Remove t) tt keeps
         at (Some (StartLine at_place)) e = kept s (Start at_place) tt keeps
         at (Some (ExtendLine t at_place)) e = kept s (Extend t at_place) tt keeps
         at (Some (JoinLine t u)) e = kept s (Join t u) tt keeps
@@ -503,6 +603,7 @@ kept_by_lines Keeps kept s (line ∷ lines) keeps = kept_by_lines Keeps kept (ne
         at (Some (SwapLine t u)) e = kept s (Swap t u) tt keeps
         at (Some (Walk t)) e = keeps
         at (Some (MarkLine at_place t)) e = kept s (MarkChange at_place t) tt keeps
+        at (Some Pack) e = keeps
 
 pub IsSound-from_empty : (rooms : Rooms) (last : ℕ) (lines : List Line) → IsSound (after_lines (empty rooms last) lines)
 IsSound-from_empty rooms last lines = kept_by_lines IsSound IsSound-changed (empty rooms last) lines (IsSound-empty rooms last)

@@ -10,20 +10,13 @@ use Rattle.route_lines.specs.Routes.{has_ticket, has_stop, linked, unlinked, exc
 use Rattle.route_lines.specs.Sound.{total, count_of, AreWritten, IsSound}
 use Rattle.route_lines.specs.State.{State, Stop, Route, stop_list, stop_of, is_full_of_stops}
 use Rattle.route_lines.specs.declared.refusal.Refusal.{Refusal}
-use Rattle.route_lines.proofs.CutLemmas.{up_to_behind, found_in, found_passes, found_if_any, total-append, length-total, count-any, count-none}
+use Rattle.route_lines.proofs.CutLemmas.{up_to_behind, found_in, found_passes, found_if_any, total-append, length-total, count-any, count-none, found_counted, none_found}
 use Rattle.route_lines.proofs.NewStopLemmas.{none_above, put_behind-none}
 use Rattle.route_lines.proofs.RouteLemmas.{AreWritten-linked, total-linked, all_linked, AreWritten-unlinked, total-unlinked, all_unlinked, exchanged_keeps}
 use Rattle.route_lines.proofs.SoundLemmas.{and_then-ok}
-use Rattle.route_lines.proofs.UndoLemmas.{own_stop, names_stop, stop_counts}
+use Rattle.route_lines.proofs.UndoLemmas.{own_stop, names_stop}
 
 -- ---- by ticket
-
-none_found : (k : ℕ) (xs : List Stop) → count_of (has_ticket k) xs ≡ 0 → find (has_ticket k) xs ≡ None
-none_found k xs none = at (find (has_ticket k) xs) refl
-  where
-    at : (o : Option Stop) → find (has_ticket k) xs ≡ o → find (has_ticket k) xs ≡ None
-    at None e = e
-    at (Some x) e = absurd (omega (arith, none, stop_counts k xs x e))
 
 not_found : (k : ℕ) (xs : List Stop) → find (has_ticket k) xs ≡ None → count_of (has_ticket k) xs ≡ 0
 not_found k xs none = at (list_any (has_ticket k) xs) refl
@@ -33,12 +26,12 @@ not_found k xs none = at (list_any (has_ticket k) xs) refl
     at false e = count-none (has_ticket k) xs e
 
 -- two lists with as many stops under each ticket, where each stop of the one is what the other has under its ticket
-same_found : (xs ys : List Stop) → ((k : ℕ) → count_of (has_ticket k) ys ≡ count_of (has_ticket k) xs) → AllByRecursion (λ t. find (has_ticket t.ticket) xs ≡ Some t) ys
+pub same_found : (xs ys : List Stop) → ((k : ℕ) → count_of (has_ticket k) ys ≡ count_of (has_ticket k) xs) → AllByRecursion (λ t. find (has_ticket t.ticket) xs ≡ Some t) ys
     → (k : ℕ) → find (has_ticket k) ys ≡ find (has_ticket k) xs
 same_found xs ys same among k = at (find (has_ticket k) ys) refl
   where
     at : (o : Option Stop) → find (has_ticket k) ys ≡ o → find (has_ticket k) ys ≡ find (has_ticket k) xs
-    at None e = e ∙ sym (none_found k xs (sym (same k) ∙ not_found k ys e))
+    at None e = e ∙ sym (none_found (has_ticket k) xs (sym (same k) ∙ not_found k ys e))
     at (Some y) e =
         let own : find (has_ticket y.ticket) xs ≡ Some y = subst (λ o. IfSome o (λ t. find (has_ticket t.ticket) xs ≡ Some t)) e (found_in (λ t. find (has_ticket t.ticket) xs ≡ Some t) (has_ticket k) ys among) in
         let ticket : y.ticket ≡ k = eqb-true y.ticket k (found_passes (has_ticket k) ys y e) in
@@ -154,10 +147,10 @@ module _ (s : ℕ) (new : Stop) where
           → option_or (find (has_ticket new.ticket) (cond b (record r { stops = front ++ new ∷ back }) r).stops) (stop_of (put_behind s new routes) new.ticket) ≡ Some new
       at true e later =
           let own : find (has_ticket new.ticket) (new ∷ back) ≡ Some new = rw (eq-eqb new.ticket new.ticket refl) refl in
-          let none : find (has_ticket new.ticket) front ≡ None = none_found new.ticket front (omega (arith, fresh, parts new.ticket, halves new.ticket)) in
+          let none : find (has_ticket new.ticket) front ≡ None = none_found (has_ticket new.ticket) front (omega (arith, fresh, parts new.ticket, halves new.ticket)) in
           ap (λ o. option_or o (stop_of (put_behind s new routes) new.ticket)) (find-append (has_ticket new.ticket) front (new ∷ back) ∙ ap (λ o. option_or o (find (has_ticket new.ticket) (new ∷ back))) none ∙ own)
       at false e later =
-          ap (λ o. option_or o (stop_of (put_behind s new routes) new.ticket)) (none_found new.ticket r.stops (omega (arith, fresh, parts new.ticket)))
+          ap (λ o. option_or o (stop_of (put_behind s new routes) new.ticket)) (none_found (has_ticket new.ticket) r.stops (omega (arith, fresh, parts new.ticket)))
           ∙ later (omega (arith, some, parts s, count-none (has_ticket s) r.stops e))
 
   length_behind : (routes : List Route) → count_of (has_ticket s) (stop_list routes) ≡ 1 → length (stop_list (put_behind s new routes)) ≡ length (stop_list routes) + 1
@@ -212,7 +205,7 @@ one_more-extended s t at n sound e = subst (IsOneMore new s.routes) (sym now) (r
     fresh = none_above (λ (x : Stop). x.ticket) s.last n (stop_list s.routes) sound.given_stops (omega (arith, ticket))
 
     some : 1 ≤ count_of (has_ticket t) (stop_list s.routes)
-    some = let names = names_stop s t first.0 first.1.0 in stop_counts t (stop_list s.routes) names.stop_there.0 names.stop_there.1
+    some = let names = names_stop s t first.0 first.1.0 in found_counted (has_ticket t) (stop_list s.routes) names.stop_there.0 names.stop_there.1
 
     now : (after_extend s t at).routes ≡ put_behind t new s.routes
     now = ap (λ r. (unless_refused s r (λ k. record s { last = k; routes = put_behind t (record { ticket = k; place = Some at }) s.routes })).routes) e

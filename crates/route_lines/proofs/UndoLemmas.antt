@@ -10,7 +10,7 @@ use Rattle.route_lines.specs.Routes.{has_ticket, ticket_of, previous_in, route_o
 use Rattle.route_lines.specs.Sound.{total, count_of, AreWritten, IsSound}
 use Rattle.route_lines.specs.State.{State, Stop, Route, Mark, Place, place, stop, mark, stop_list, place_of, stop_of, mark_of}
 use Rattle.route_lines.specs.declared.refusal.Refusal.TheVariants.{Unknown, Gone}
-use Rattle.route_lines.proofs.CutLemmas.{all_weaker, found_passes, count-any, any-count, found_if_any}
+use Rattle.route_lines.proofs.CutLemmas.{all_weaker, found_passes, count-any, any-count, found_if_any, found_counted}
 use Rattle.route_lines.proofs.LinkLemmas.{Links, Links-ext, Links-next_stop, next_stop-is, found_if_counted, relinked, all_both, all_counted}
 use Rattle.route_lines.proofs.RelinkLemmas.{is_ticket, leads_to, starts_at, leads_at_most, none_leads_to_start, Links-linked, Links-unlinked}
 use Rattle.route_lines.proofs.RouteLemmas.{AreWritten-linked, total-linked, all_linked, AreWritten-unlinked, total-unlinked, all_unlinked, exchanged_keeps}
@@ -436,17 +436,6 @@ names_stop s t u e = at ((t == 0) || nat_lt s.last t) (place_of s.places t) (sto
 named_stop : (s : State) (t : ℕ) → NamesStop s t → (u : Stop) × (stop_holder s t ≡ Ok u)
 named_stop s t names = (names.stop_there.0, rw (names.given, names.no_place, names.stop_there.1) refl)
 
-pub stop_counts : (t : ℕ) (xs : List Stop) (u : Stop) → find (has_ticket t) xs ≡ Some u → 1 ≤ count_of (has_ticket t) xs
-stop_counts t xs u e = count-any (has_ticket t) xs (some xs e)
-  where
-    some : (ys : List Stop) → find (has_ticket t) ys ≡ Some u → list_any (has_ticket t) ys ≡ true
-    some [] f = cc
-    some (y ∷ ys) f = go (has_ticket t y) f (some ys)
-      where
-        go : (b : Bool) → cond b (Some y) (find (has_ticket t) ys) ≡ Some u → (find (has_ticket t) ys ≡ Some u → list_any (has_ticket t) ys ≡ true) → (b || list_any (has_ticket t) ys) ≡ true
-        go true g h = refl
-        go false g h = h g
-
 unfoldable pub with_routes : State → List Route → State
 with_routes s routes = record s { routes = routes }
 
@@ -455,7 +444,7 @@ unfolding with_routes
 names_with s t routes names same = record {
   given = names.given;
   no_place = names.no_place;
-  stop_there = found_if_any (has_ticket t) (stop_list routes) (any-count (has_ticket t) (stop_list routes) (omega (arith, same, stop_counts t (stop_list s.routes) names.stop_there.0 names.stop_there.1)));
+  stop_there = found_if_any (has_ticket t) (stop_list routes) (any-count (has_ticket t) (stop_list routes) (omega (arith, same, found_counted (has_ticket t) (stop_list s.routes) names.stop_there.0 names.stop_there.1)));
 }
 
 pub allowed-ok : (b : Bool) → allowed b ≡ Ok tt → b ≡ true
@@ -511,8 +500,8 @@ pub cut_undoes_join : (s : State) (t u : ℕ) → IsSound s → joined s t u ≡
 unfolding with_routes
 cut_undoes_join s t u sound e =
     let ok = joined-ok s t u e in
-    let t_in = stop_counts t (stop_list s.routes) ok.0.stop_there.0 ok.0.stop_there.1 in
-    let u_in = stop_counts u (stop_list s.routes) ok.1.stop_there.0 ok.1.stop_there.1 in
+    let t_in = found_counted (has_ticket t) (stop_list s.routes) ok.0.stop_there.0 ok.0.stop_there.1 in
+    let u_in = found_counted (has_ticket u) (stop_list s.routes) ok.1.stop_there.0 ok.1.stop_there.1 in
     let undone = unlinked-linked t u s.routes sound.routes ok.2 ok.3 t_in u_in in
     let names = names_with s t (linked t u s.routes) ok.0 (total-linked (λ x. cond (has_ticket t x) 1 0) t u s.routes sound.routes) in
     ap (λ r. after_cut r t) (after_join-ok s t u e)
@@ -523,8 +512,8 @@ pub swap_undoes_swap : (s : State) (t u : ℕ) → IsSound s → swapped s t u �
 unfolding with_routes
 swap_undoes_swap s t u sound e =
     let ok = swapped-ok s t u e in
-    let t_in = stop_counts t (stop_list s.routes) ok.0.stop_there.0 ok.0.stop_there.1 in
-    let u_in = stop_counts u (stop_list s.routes) ok.1.stop_there.0 ok.1.stop_there.1 in
+    let t_in = found_counted (has_ticket t) (stop_list s.routes) ok.0.stop_there.0 ok.0.stop_there.1 in
+    let u_in = found_counted (has_ticket u) (stop_list s.routes) ok.1.stop_there.0 ok.1.stop_there.1 in
     let undone = exchanged-exchanged t u ok.2.0 ok.3.0 s.routes sound.routes ok.2.1 ok.3.1 t_in u_in in
     let kept = total-exchanged t u s.routes sound.routes in
     let names = names_with s t (exchanged t u s.routes) ok.0 (kept (λ x. cond (has_ticket t x) 1 0)) in

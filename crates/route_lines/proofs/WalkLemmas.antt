@@ -8,11 +8,10 @@ use Rattle.route_lines.specs.Leads.{head_or, Leads}
 use Rattle.route_lines.specs.Routes.{has_ticket, round, has_stop, next_stop, route_of, walk_in, walk_from}
 use Rattle.route_lines.specs.Sound.{total, count_of, AreWritten, IsSound}
 use Rattle.route_lines.specs.State.{State, Stop, Route, stop_list, stop_of}
-use Rattle.route_lines.proofs.CutLemmas.{before_onward, all_weaker, all_front, all_back, found_in, found_passes, total-append, count-any, count-none}
+use Rattle.route_lines.proofs.CutLemmas.{before_onward, all_weaker, all_front, all_back, found_in, found_passes, total-append, count-any, count-none, found_counted}
 use Rattle.route_lines.proofs.LinkLemmas.{Leads-back, Leads-round, closing_of, Links, Links-next_stop, all_both, all_counted, found_if_counted, own_route}
 use Rattle.route_lines.proofs.RelinkLemmas.{is_ticket, leads_to, starts_if_none_leads, starts_parts}
 use Rattle.route_lines.proofs.RouteLemmas.{all_stops_with, all_round, total-round, with_found}
-use Rattle.route_lines.proofs.UndoLemmas.{stop_counts}
 
 -- ---- lists that lead alike
 
@@ -161,7 +160,7 @@ walked_both_ways s front behind t sound known leads first = from front refl
     by x rest is here = ap (λ o. option_map_or (walk_in t.ticket) o []) found ∙ walked st.route.is_ring begins.0
       where
         st : Standing routes x.ticket
-        st = standing routes x.ticket sound.routes (stop_counts x.ticket (stop_list routes) x here)
+        st = standing routes x.ticket sound.routes (found_counted (has_ticket x.ticket) (stop_list routes) x here)
 
         begins : (st.route.is_ring ≡ false) × (head_or None st.route.stops ≡ Some x.ticket)
         begins = starts_parts x.ticket st.route (starts_if_none_leads (next_stop routes) x.ticket st.route st.leads (none_of (next_stop routes) x.ticket st.route.stops (λ u. first u x rest is)) st.has)
@@ -208,7 +207,7 @@ walked_round s t behind sound known leads off = ap (λ o. option_map_or (walk_in
     next = next_stop routes
 
     st : Standing routes t.ticket
-    st = standing routes t.ticket sound.routes (stop_counts t.ticket (stop_list routes) t known.0)
+    st = standing routes t.ticket sound.routes (found_counted (has_ticket t.ticket) (stop_list routes) t known.0)
 
     xs : List Stop
     xs = st.route.stops

@@ -1,10 +1,10 @@
 -- What each call on a store answers, and the state after it.
-use Rattle.std.specs.Prelude.{ℕ, ◌+◌, ◌==◌, ◌&&◌, ◌∷◌, ◌++◌, Bool, List, [], Option, None, Some, Result, Ok, Err, if◌then◌else◌, nat_lt, nat_le, map, find, reverse, is_some, is_none}
+use Rattle.std.specs.Prelude.{ℕ, ◌+◌, ◌==◌, ◌&&◌, ◌∷◌, ◌++◌, Bool, List, [], Option, None, Some, Result, Ok, Err, if◌then◌else◌, nat_lt, nat_le, map, filter, not, find, reverse, is_some, is_none}
 use Rattle.std.specs.Option.{option_map}
 use Rattle.std.specs.Borrow.{Bor}
 use Rattle.route_lines.specs.Cuts.{before, behind, first_item, last_item}
-use Rattle.route_lines.specs.Routes.{linear, next_stop, previous_stop, put_behind, linked, unlinked, exchanged, walk_from}
-use Rattle.route_lines.specs.State.{State, Place, Stop, Item, place, stop, mark, with_key, holder, is_full_of_places, is_full_of_stops, is_full_of_marks}
+use Rattle.route_lines.specs.Routes.{linear, next_stop, previous_stop, put_behind, linked, unlinked, taken_out, exchanged, walk_from}
+use Rattle.route_lines.specs.State.{State, Place, Stop, Route, Mark, Item, place, stop, mark, with_key, holder, is_full_of_places, is_full_of_stops, is_full_of_marks}
 use Rattle.route_lines.specs.declared.placed.Placed.{Placed}
 use Rattle.route_lines.specs.declared.placed.Placed.TheVariants.{New, Old}
 use Rattle.route_lines.specs.declared.shown.Shown.{Shown}
@@ -186,3 +186,50 @@ after_mark s at t =
       last = ticket;
       marks = s.marks ++ record { ticket = ticket; place = Some at; stop = Some t } ∷ [];
     })
+
+-- ---- removals
+
+-- a reference, which is gone where it names the ticket
+abbrev pub unless_is : ℕ → Option ℕ → Option ℕ
+unless_is t None = None
+unless_is t (Some u) = if u == t then None else Some u
+
+-- a stop and a mark whose place may be the one that has the ticket, and a mark whose stop may be
+abbrev pub clear_stop : ℕ → Stop → Stop
+clear_stop t u = record u { place = unless_is t u.place }
+
+abbrev pub clear_mark : ℕ → Mark → Mark
+clear_mark t m = record m { place = unless_is t m.place }
+
+abbrev pub clear_mark_stop : ℕ → Mark → Mark
+clear_mark_stop t m = record m { stop = unless_is t m.stop }
+
+abbrev pub clear_route : ℕ → Route → Route
+clear_route t r = record r { stops = map (clear_stop t) r.stops }
+
+-- the state without a place, a stop or a mark: each reference to it is gone
+abbrev pub without_place : State → ℕ → State
+without_place s t =
+    record s {
+      places = filter (λ p. not (p.ticket == t)) s.places;
+      routes = map (clear_route t) s.routes;
+      marks = map (clear_mark t) s.marks;
+    }
+
+abbrev pub without_stop : State → ℕ → State
+without_stop s t = record s { routes = taken_out t s.routes; marks = map (clear_mark_stop t) s.marks }
+
+abbrev pub without_mark : State → ℕ → State
+without_mark s t = record s { marks = filter (λ m. not (m.ticket == t)) s.marks }
+
+-- `remove`: any living item
+abbrev pub removed : State → ℕ → Result Unit Refusal
+removed s t = and_then (holder s t) (λ item. Ok tt)
+
+abbrev pub after_removed : State → ℕ → State
+after_removed s t = unless_refused s (holder s t) without
+  where
+    without : Item → State
+    without (place p) = without_place s t
+    without (stop u) = without_stop s t
+    without (mark m) = without_mark s t

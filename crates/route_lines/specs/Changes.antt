@@ -1,8 +1,8 @@
 -- What a change makes of a state.
 use Rattle.route_lines.specs.State.{State, empty}
-use Rattle.route_lines.specs.Calls.{after_place, after_start, after_extend, after_join, after_cut, after_swap, after_mark}
+use Rattle.route_lines.specs.Calls.{after_place, after_start, after_extend, after_join, after_cut, after_swap, after_mark, after_removed}
 use Rattle.route_lines.specs.declared.change.Change.{Change}
-use Rattle.route_lines.specs.declared.change.Change.TheVariants.{Open, Place, Start, Extend, Join, Cut, Swap, Mark}
+use Rattle.route_lines.specs.declared.change.Change.TheVariants.{Open, Place, Start, Extend, Join, Cut, Swap, Mark, Remove}
 
 abbrev pub changed : State → Change → State
 changed s (Open places stops marks last) = empty (record { places = places; stops = stops; marks = marks }) last
@@ -13,3 +13,4 @@ changed s (Join t u) = after_join s t u
 changed s (Cut t) = after_cut s t
 changed s (Swap t u) = after_swap s t u
 changed s (Mark at t) = after_mark s at t
+changed s (Remove t) = after_removed s t

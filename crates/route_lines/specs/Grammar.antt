@@ -5,7 +5,7 @@ use Rattle.std.specs.Str.{bytes_eq}
 use Rattle.route_lines.specs.Number.{IsNumber, number_of}
 use Rattle.route_lines.specs.Word.{IsWord, word_of}
 use Rattle.route_lines.specs.declared.command.Command.{Command}
-use Rattle.route_lines.specs.declared.command.Command.TheVariants.{Place, Show, Find, Floor, After, Before, All, Start, Extend, Join, Cut, Swap, Walk, Mark}
+use Rattle.route_lines.specs.declared.command.Command.TheVariants.{Place, Show, Find, Floor, After, Before, All, Remove, Start, Extend, Join, Cut, Swap, Walk, Mark, Pack}
 
 -- the line is these bytes and then a number, or a number, a space and a number: in decimal digits without leading zeros
 abbrev pub SpellsNumber : List ℕ → List ℕ → ℕ → Type 0
@@ -25,6 +25,7 @@ Spells line (Floor key) = SpellsNumber line (codes "floor ") key
 Spells line (After ticket) = SpellsNumber line (codes "after ") ticket
 Spells line (Before ticket) = SpellsNumber line (codes "before ") ticket
 Spells line All = line ≡ codes "all"
+Spells line (Remove ticket) = SpellsNumber line (codes "remove ") ticket
 Spells line (Start place) = SpellsNumber line (codes "start ") place
 Spells line (Extend stop place) = SpellsNumbers line (codes "extend ") stop place
 Spells line (Join stop next) = SpellsNumbers line (codes "join ") stop next
@@ -32,6 +33,7 @@ Spells line (Cut stop) = SpellsNumber line (codes "cut ") stop
 Spells line (Swap stop other) = SpellsNumbers line (codes "swap ") stop other
 Spells line (Walk stop) = SpellsNumber line (codes "walk ") stop
 Spells line (Mark place stop) = SpellsNumbers line (codes "mark ") place stop
+Spells line Pack = line ≡ codes "pack"
 
 -- the fields of a line: the parts between single spaces
 abbrev pub fields_of : List ℕ → List (List ℕ)
@@ -46,7 +48,7 @@ command_by (row ∷ rows) verb = if bytes_eq verb row.0 then Some row.1 else com
 abbrev pub number_verbs : ℕ → List (List ℕ × Command)
 number_verbs n =
     (codes "show", Show n) ∷ (codes "find", Find n) ∷ (codes "floor", Floor n) ∷ (codes "after", After n)
-    ∷ (codes "before", Before n) ∷ (codes "start", Start n) ∷ (codes "cut", Cut n) ∷ (codes "walk", Walk n) ∷ []
+    ∷ (codes "before", Before n) ∷ (codes "remove", Remove n) ∷ (codes "start", Start n) ∷ (codes "cut", Cut n) ∷ (codes "walk", Walk n) ∷ []
 
 abbrev pub command_of_number : List ℕ → ℕ → Option Command
 command_of_number verb n = command_by (number_verbs n) verb
@@ -59,9 +61,13 @@ numbers_verbs m n =
 abbrev pub command_of_numbers : List ℕ → ℕ → ℕ → Option Command
 command_of_numbers verb m n = command_by (numbers_verbs m n) verb
 
+-- those that stand alone
+abbrev pub lone_verbs : List (List ℕ × Command)
+lone_verbs = (codes "all", All) ∷ (codes "pack", Pack) ∷ []
+
 -- the command that a line's fields spell, the first of them its verb
 abbrev pub command_of_one_field : List ℕ → Option Command
-command_of_one_field verb = if bytes_eq verb (codes "all") then Some All else None
+command_of_one_field verb = command_by lone_verbs verb
 
 abbrev pub command_of_two_fields : List ℕ → List ℕ → Option Command
 command_of_two_fields verb field = option_and_then (command_of_number verb) (number_of field)

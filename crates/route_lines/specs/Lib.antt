@@ -12,6 +12,7 @@ pub mod Run
 pub mod Searches
 pub mod Sound
 pub mod State
+pub mod Sweeps
 pub mod Text
 pub mod Unfinished
 pub mod Watched

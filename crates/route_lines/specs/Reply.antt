@@ -1,9 +1,9 @@
 -- The text that answers a command, and the state after it. Each reply line ends with an LF.
 use Rattle.std.specs.Prelude.{ℕ, ◌++◌, ◌∷◌, List, [], Option, None, Some, Result, Ok, Err, codes, decimal, flat_map}
 use Rattle.route_lines.specs.State.{State, Place, Stop}
-use Rattle.route_lines.specs.Calls.{placed, after_place, placed_near, after_place_near, shown, found, floor_of, place_after, place_before, started, after_start, extended, after_extend, joined, after_join, parted, after_cut, swapped, after_swap, walked, marked, after_mark}
+use Rattle.route_lines.specs.Calls.{placed, after_place, placed_near, after_place_near, shown, found, floor_of, place_after, place_before, started, after_start, extended, after_extend, joined, after_join, parted, after_cut, swapped, after_swap, walked, marked, after_mark, removed, after_removed}
 use Rattle.route_lines.specs.declared.command.Command.{Command}
-use Rattle.route_lines.specs.declared.command.Command.TheVariants.{Place as PlaceLine, Show, Find, Floor, After, Before, All, Start, Extend, Join, Cut, Swap, Walk, Mark}
+use Rattle.route_lines.specs.declared.command.Command.TheVariants.{Place as PlaceLine, Show, Find, Floor, After, Before, All, Remove, Start, Extend, Join, Cut, Swap, Walk, Mark, Pack}
 use Rattle.route_lines.specs.declared.placed.Placed.{Placed}
 use Rattle.route_lines.specs.declared.placed.Placed.TheVariants.{New, Old}
 use Rattle.route_lines.specs.declared.shown.Shown.{Shown}
@@ -85,6 +85,7 @@ reply s (Some (Floor key)) = ended (found_line (floor_of s key))
 reply s (Some (After ticket)) = ended (neighbor_line (place_after s ticket))
 reply s (Some (Before ticket)) = ended (neighbor_line (place_before s ticket))
 reply s (Some All) = places_text s.places
+reply s (Some (Remove ticket)) = ended (done_line (removed s ticket))
 reply s (Some (Start place)) = ended (ticket_line (started s place))
 reply s (Some (Extend stop place)) = ended (ticket_line (extended s stop place))
 reply s (Some (Join stop other)) = ended (done_line (joined s stop other))
@@ -92,8 +93,9 @@ reply s (Some (Cut stop)) = ended (done_line (parted s stop))
 reply s (Some (Swap stop other)) = ended (done_line (swapped s stop other))
 reply s (Some (Walk stop)) = walk_text (walked s stop)
 reply s (Some (Mark place stop)) = ended (ticket_line (marked s place stop))
+reply s (Some Pack) = ended (done_line (Ok tt))
 
--- the state after it: a question changes nothing
+-- the state after it: a question changes nothing, and a pack nothing but where items lie
 abbrev pub next : State → Option Command → State
 next s None = s
 next s (Some (PlaceLine key word None)) = after_place s key word
@@ -104,6 +106,7 @@ next s (Some (Floor key)) = s
 next s (Some (After ticket)) = s
 next s (Some (Before ticket)) = s
 next s (Some All) = s
+next s (Some (Remove ticket)) = after_removed s ticket
 next s (Some (Start place)) = after_start s place
 next s (Some (Extend stop place)) = after_extend s stop place
 next s (Some (Join stop other)) = after_join s stop other
@@ -111,3 +114,4 @@ next s (Some (Cut stop)) = after_cut s stop
 next s (Some (Swap stop other)) = after_swap s stop other
 next s (Some (Walk stop)) = s
 next s (Some (Mark place stop)) = after_mark s place stop
+next s (Some Pack) = s

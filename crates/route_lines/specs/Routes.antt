@@ -105,6 +105,21 @@ unlinked s routes = from (route_of routes s)
         then put_route (linear (back ++ front)) (without s routes)
         else put_route (linear front) (put_route (linear back) (without s routes))
 
+-- a stop less: its route without it, a ring written anew
+abbrev pub taken_out : ℕ → List Route → List Route
+taken_out s routes = from (route_of routes s)
+  where
+    from : Option Route → List Route
+    from None = routes
+    from (Some r) =
+        let rest = filter (λ t. not (has_ticket s t)) r.stops in
+        put_route (if r.is_ring then ring rest else linear rest) (without s routes)
+
+-- where a stop leads once `s`, which led to `after`, is taken out: past it
+abbrev pub past : ℕ → Option ℕ → Option ℕ → Option ℕ
+past s after None = None
+past s after (Some n) = if n == s then after else Some n
+
 -- `s` and `u` exchange the stops that follow them
 abbrev pub exchanged : ℕ → ℕ → List Route → List Route
 exchanged s u routes = from (next_stop routes s) (next_stop routes u)

@@ -13,7 +13,16 @@ place_count s = length s.places
 abbrev pub living_count : State → ℕ
 living_count s = length s.places + length (stop_list s.routes) + length s.marks
 
--- from the old counts on at most so many comparisons with keys, with first and with second tickets, and no look
+-- from the old counts on at most so many comparisons with keys, with first and with second tickets
+pub record ComparesWithin (old new : Counts) (keys firsts seconds : ℕ) : Type 0 where
+  pub key_rises : old.key ≤ new.key
+  pub first_rises : old.first ≤ new.first
+  pub second_rises : old.second ≤ new.second
+  pub key : new.key ≤ old.key + keys
+  pub first : new.first ≤ old.first + firsts
+  pub second : new.second ≤ old.second + seconds
+
+-- the same of a call that makes no look
 pub record CountsWithin (old new : Counts) (keys firsts seconds : ℕ) : Type 0 where
   pub key_rises : old.key ≤ new.key
   pub first_rises : old.first ≤ new.first
@@ -34,4 +43,4 @@ most_tickets s command = most_comparisons (living_count s)
 
 -- from the old counts on at most what this command may take in this state
 abbrev pub CountsFor : State → Option Command → Counts → Counts → Type 0
-CountsFor s command old new = CountsWithin old new (most_keys s command) (most_tickets s command) (most_tickets s command)
+CountsFor s command old new = ComparesWithin old new (most_keys s command) (most_tickets s command) (most_tickets s command)

@@ -6,7 +6,7 @@ use Rattle.route_lines.specs.Routes.{has_ticket, first_ticket}
 use Rattle.route_lines.specs.State.{State, Place, Route, Mark, stop_list}
 use Rattle.route_lines.specs.Word.{IsWord}
 use Rattle.route_lines.specs.declared.change.Change.{Change}
-use Rattle.route_lines.specs.declared.change.Change.TheVariants.{Open, Place as PlaceChange, Start, Extend, Join, Cut, Swap, Mark as MarkChange}
+use Rattle.route_lines.specs.declared.change.Change.TheVariants.{Open, Place as PlaceChange, Start, Extend, Join, Cut, Swap, Mark as MarkChange, Remove}
 
 -- each key is below those behind it
 abbrev pub KeysRise : List Place → Type 0
@@ -81,3 +81,4 @@ IsPossible (Join t u) = Unit {0}
 IsPossible (Cut t) = Unit {0}
 IsPossible (Swap t u) = Unit {0}
 IsPossible (MarkChange at t) = Unit {0}
+IsPossible (Remove t) = Unit {0}

@@ -20,4 +20,6 @@ pub enum Change {
     Swap(u64, u64),
     /// A mark of this place and this stop.
     Mark(u64, u64),
+    /// The place, stop or mark of the ticket ends, and each reference to it is gone.
+    Remove(u64),
 }

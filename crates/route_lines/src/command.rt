@@ -33,6 +33,10 @@ pub enum Command {
     },
     /// `all`: every place in the order of the keys.
     All,
+    /// `remove T`: the place, stop or mark of the ticket ends.
+    Remove {
+        ticket: u64,
+    },
     /// `start P`: a stop at this place, alone on a linear route.
     Start {
         place: u64,
@@ -65,4 +69,6 @@ pub enum Command {
         place: u64,
         stop: u64,
     },
+    /// `pack`: references to what has ended are swept, and what lives moves to the front of its arena.
+    Pack,
 }

@@ -1,7 +1,9 @@
 //! What holds of the definitions that the contracts cite. The functions do nothing: their contracts are the laws.
 mod calls;
 mod grammar;
+mod looks;
 mod places;
+mod removals;
 mod replies;
 mod routes;
 mod states;
@@ -11,7 +13,12 @@ pub use counted_search::laws::the_bound_is_the_greatest;
 pub use grammar::{
     commands_have_one_line, lines_have_one_command, spellings_are_found, spellings_are_short_lines,
 };
+pub use looks::sweeps;
 pub use places::hints_change_no_reply;
+pub use removals::{
+    removed_marks_leave_all_else, removed_places_leave_no_reference,
+    removed_stops_join_their_neighbors, removed_tickets_are_gone,
+};
 pub use replies::replies_have_short_lines;
 pub use routes::{
     cuts_part_one_stop, cuts_undo_joins, extensions_add_one_stop, extensions_lead_through,

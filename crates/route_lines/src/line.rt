@@ -46,6 +46,9 @@ fn read_one_field(verb: &[u8]) -> Option<Command>
     if verb == b"all".as_slice() {
         return Some(Command::All);
     }
+    if verb == b"pack".as_slice() {
+        return Some(Command::Pack);
+    }
     None
 }
 
@@ -73,6 +76,9 @@ fn command_of_number(verb: &[u8], number: u64) -> Option<Command>
     }
     if verb == b"before".as_slice() {
         return Some(Command::Before { ticket: number });
+    }
+    if verb == b"remove".as_slice() {
+        return Some(Command::Remove { ticket: number });
     }
     if verb == b"start".as_slice() {
         return Some(Command::Start { place: number });

@@ -201,7 +201,7 @@ impl ReplyText {
         }
     }
 
-    /// What `join`, `cut` and `swap` answered.
+    /// What `remove`, `join`, `cut`, `swap` and `pack` answered.
     pub fn push_done(&mut self, done: Result<(), Refusal>)
         requires { HasRoom self.old 59 }
         ensures { self.new ≡ self.old ++ ended (done_line done) }
