@@ -1,5 +1,5 @@
 -- What the end of an item makes of what is held. References are left alone: those to the item find nothing from then on.
-use Rattle.std.proofs.Common.{◌≡◌, ◌≢◌, ◌∙◌, sym, ap, subst, refl, Bool, true, false, ◌==◌, if◌then◌else◌, ℕ, ◌+◌, ◌<◌, ◌≤◌, List, [], ◌∷◌, length, not, filter, Option, Some, None, IsSome, is_some, true≢false, arith, inl, inr}
+use Rattle.std.proofs.Common.{◌≡◌, ◌≢◌, ◌∙◌, sym, ap, subst, refl, Bool, true, false, ◌==◌, if◌then◌else◌, ℕ, ◌+◌, ◌<◌, ◌≤◌, List, [], ◌∷◌, length, not, filter, find, Option, Some, None, IsSome, is_some, true≢false, arith, inl, inr}
 use Rattle.std.specs.Option.{option_map}
 use Rattle.std.proofs.lemmas.Bool.{ne_eqb, eq-eqb}
 use Rattle.std.proofs.lemmas.Bool.Decides.{eqb_tells}
@@ -225,6 +225,16 @@ each_mapped c a b same (Some v) = ap Some (same v)
 pub unchanged : {X : Type 0} (o : Option X) → o ≡ option_map (λ x. x) o
 unchanged None = refl
 unchanged (Some x) = refl
+
+-- what is found under a ticket has it
+pub found_has : {X : Type 0} (ticket : X → ℕ) (t : ℕ) (xs : List X) (x : X) → find (λ y. ticket y == t) xs ≡ Some x → ticket x ≡ t
+found_has {X} ticket t [] x is = absurd (let no : ◌≡◌ {A = Option X} None (Some x) = is in cc)
+found_has ticket t (y ∷ xs) x is = elim (eqb_tells (ticket y) t) [
+  | inl same ↦
+      let found : find (λ z. ticket z == t) (y ∷ xs) ≡ Some y = rw same.0 refl in
+      ap ticket (some_same (sym is ∙ found)) ∙ same.1
+  | inr other ↦ let skip : find (λ z. ticket z == t) (y ∷ xs) ≡ find (λ z. ticket z == t) xs = rw other.0 refl in found_has ticket t xs x (sym skip ∙ is)
+]
 
 -- what a pointer that finds an item stands at
 pub stands_under : {T : Type 0} (at : ℕ → Option (ℕ × T)) (i g : ℕ) → IsSome (value_if g (at i)) → (x : T) × ((value_if g (at i) ≡ Some x) × (at i ≡ Some (g, x)))

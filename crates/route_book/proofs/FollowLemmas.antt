@@ -16,7 +16,7 @@ next_renext : (o : Option Ends) (k : ℕ) → IsSome o → next_in (renext (Some
 next_renext None k some = absurd (false≢true some)
 next_renext (Some e) k some = refl
 
-next_with_prev : (ends : ℕ → Option Ends) (q : ℕ) (p : Option ℕ) (i : ℕ) → next_at (with_prev ends q p) i ≡ next_at ends i
+pub next_with_prev : (ends : ℕ → Option Ends) (q : ℕ) (p : Option ℕ) (i : ℕ) → next_at (with_prev ends q p) i ≡ next_at ends i
 next_with_prev ends q p i = at (i == q)
   where
     at : (b : Bool) → next_in (cond b (reprev p (ends i)) (ends i)) ≡ next_in (ends i)

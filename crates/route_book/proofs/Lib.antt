@@ -1,5 +1,9 @@
 pub mod BookPackLemmas
 pub mod ChainLemmas
+pub mod EndLemmas
+pub mod EndMarkLemmas
+pub mod EndPlaceLemmas
+pub mod EndStopLemmas
 pub mod ExtendLemmas
 pub mod FollowLemmas
 pub mod HoldLemmas
@@ -13,6 +17,7 @@ pub mod NeighborLemmas
 pub mod NewItemLemmas
 pub mod NewLemmas
 pub mod NoteLemmas
+pub mod OrderLemmas
 pub mod PackLemmas
 pub mod PassedLemmas
 pub mod PlaceLemmas
@@ -21,7 +26,6 @@ pub mod RewordLemmas
 pub mod RoomLemmas
 pub mod SettledLemmas
 pub mod StartLemmas
-pub mod StepLemmas
 pub mod StopLemmas
 pub mod StopWalkLemmas
 pub mod WalkedLemmas

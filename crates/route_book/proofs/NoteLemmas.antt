@@ -170,3 +170,13 @@ module _ {P T : Type 0} (index generation : P → ℕ) (ticket : T → ℕ) (boo
             by : (b : Bool) → (if b then Some (e.generation, p) else before j) ≡ (if b then Some (e.generation, p) else old j)
             by true = refl
             by false = same j
+
+-- the same items below two bounds
+module _ {T : Type 0} (ticket : T → ℕ) (book : List Entry) (at : ℕ → Option (ℕ × T)) where
+  pub mirrored_all : (low high : ℕ) (m : Mirror) → ((k : ℕ) → IsSome (at k) → k < low) → ((k : ℕ) → IsSome (at k) → k < high)
+      → IsMirrored ticket book at low m → IsMirrored ticket book at high m
+  mirrored_all low high m all all' mirrored = record {
+    filled = λ j h t e below is known. mirrored.filled j h t e (all j (ap is_some is)) is known;
+    only = λ i h q is. (let n = mirrored.only i h q is in
+        record { below = all' q.0 (ap is_some n.stands); item = n.item; stands = n.stands; entry = n.entry; known = n.known; index = n.index; generation = n.generation });
+  }

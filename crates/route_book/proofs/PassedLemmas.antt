@@ -1,4 +1,4 @@
--- How many indexes a walk has passed, what entries that are listed carry, and a list that is written from its front on.
+-- How many live indexes a walk has passed, and where entries go that keep the order of their indexes.
 use Rattle.std.proofs.Common.{◌≡◌, ◌≢◌, ◌∙◌, sym, ap, subst, refl, Bool, true, false, ◌==◌, if◌then◌else◌, ℕ, zero, suc, ◌+◌, ◌-◌, ◌<◌, ◌≤◌, ◌⊎◌, inl, inr, List, [], ◌∷◌, ◌++◌, length, map, take, drop, set, get_or, find, slice_index, slice_get, Option, Some, None, IsSome, is_some, true≢false, arith}
 use Rattle.std.specs.Option.{option_map}
 use Rattle.std.specs.List.Sorted.{IsStrictlyIncreasing}
@@ -133,33 +133,6 @@ module _ {T : Type 0} where
         (suc rest.0, rest.1)
   ]
 
--- a list that is written from its front on
-module _ {A : Type 0} (f : A → A) where
-  pub write_next : (xs : List A) (i : ℕ) (x : A) → slice_get xs i ≡ Some x → set (map f (take i xs) ++ drop i xs) i (f x) ≡ map f (take (i + 1) xs) ++ drop (i + 1) xs
-  write_next [] i x is = absurd (let no : ◌≡◌ {A = Option A} None (Some x) = is in cc)
-  write_next (y ∷ xs) zero x is = let same : y ≡ x = (let s : Some y ≡ Some x = is in cc) in ap (λ z. f z ∷ xs) (sym same)
-  write_next (y ∷ xs) (suc i) x is =
-      let next : suc i + 1 ≡ suc (i + 1) = omega arith in
-      ap (λ l. f y ∷ l) (write_next xs i x is) ∙ sym (ap (λ n. map f (take n (y ∷ xs)) ++ drop n (y ∷ xs)) next)
-
-  pub not_yet : (xs : List A) (i : ℕ) → slice_get (map f (take i xs) ++ drop i xs) i ≡ slice_get xs i
-  not_yet [] zero = refl
-  not_yet [] (suc i) = refl
-  not_yet (y ∷ xs) zero = refl
-  not_yet (y ∷ xs) (suc i) = not_yet xs i
-
-  pub all_written : (xs : List A) (i : ℕ) → length xs ≤ i → map f (take i xs) ++ drop i xs ≡ map f xs
-  all_written [] zero up = refl
-  all_written [] (suc i) up = refl
-  all_written (y ∷ xs) zero up = absurd (omega (arith, up))
-  all_written (y ∷ xs) (suc i) up = ap (λ l. f y ∷ l) (all_written xs i (omega (arith, up)))
-
-  pub written_length : (xs : List A) (i : ℕ) → length (map f (take i xs) ++ drop i xs) ≡ length xs
-  written_length [] zero = refl
-  written_length [] (suc i) = refl
-  written_length (y ∷ xs) zero = refl
-  written_length (y ∷ xs) (suc i) = ap suc (written_length xs i)
-
 -- a listed entry for each live index
 module _ {T : Type 0} (at : ℕ → Option (ℕ × T)) (listed : List (ℕ × (ℕ × T))) (entry_listed : (j : ℕ) → at j ≡ look_up listed j) (increase : IsStrictlyIncreasing (map index_of listed)) where
   below_as : {A : Type 0} (f g : ℕ → Option A) → ((j : ℕ) → f j ≡ g j) → (n : ℕ) → live_below f n ≡ live_below g n
@@ -171,73 +144,6 @@ module _ {T : Type 0} (at : ℕ → Option (ℕ × T)) (listed : List (ℕ × (�
       below_as at (look_up listed) entry_listed high
       ∙ below_listed 0 listed (rise_from 0 listed increase (λ some. omega arith)) high (λ j some. all j (subst IsSome (sym (entry_listed j)) some))
       ∙ counted
-
--- one index more is recast
-module _ {V : Type 0} (cast : V → V) (at0 at at' : ℕ → Option (ℕ × V)) (low i g : ℕ) (v v' : V)
-    (passed : (j : ℕ) → j < low → at j ≡ option_map (λ (e : ℕ × V). (let z : ℕ × V = (e.0, cast e.1) in z)) (at0 j)) (ahead : (j : ℕ) → low ≤ j → at j ≡ at0 j)
-    (up : low ≤ i) (between : (j : ℕ) → low ≤ j → j < i → at j ≡ None) (value : Some v ≡ value_if g (at i)) (is : v' ≡ cast v)
-    (writes : (j : ℕ) → at' j ≡ with_value_at at i v' j) where
-  stands : at i ≡ Some (g, v)
-  stands = by (at i) refl value
-    where
-      by : (o : Option (ℕ × V)) → at i ≡ o → Some v ≡ value_if g o → at i ≡ Some (g, v)
-      by None at_i found = absurd (let no : Some v ≡ None = found in cc)
-      by (Some x) at_i found = elim (eqb_tells x.0 g) [
-        | inl same ↦
-            let e : value_if g (Some x) ≡ Some x.1 = rw same.0 refl in
-            let both : Some x.1 ≡ Some v = sym e ∙ sym found in
-            let own : x.1 ≡ v = cc in
-            at_i ∙ ap (λ k. Some (k, x.1)) same.1 ∙ ap (λ y. Some (g, y)) own
-        | inr other ↦
-            let e : value_if g (Some x) ≡ None = rw other.0 refl in
-            absurd (let no : Some v ≡ None = found ∙ e in cc)
-      ]
-
-  other_index : (j : ℕ) → j ≢ i → at' j ≡ at j
-  other_index j other = writes j ∙ rw (ne_eqb j i other) refl
-
-  pub cast_passed : (j : ℕ) → j < i + 1 → at' j ≡ option_map (λ (e : ℕ × V). (let z : ℕ × V = (e.0, cast e.1) in z)) (at0 j)
-  cast_passed j below = elim (eqb_tells j i) [
-    | inl same ↦
-        let was : at0 j ≡ Some (g, v) = ap at0 same.1 ∙ sym (ahead i up) ∙ stands in
-        let now : at' j ≡ Some (g, v') = writes j ∙ rw same.0 (ap (option_map (λ (e : ℕ × V). (let z : ℕ × V = (e.0, v') in z))) stands) in
-        now ∙ ap (λ y. Some (g, y)) is ∙ sym (ap (option_map (λ (e : ℕ × V). (let z : ℕ × V = (e.0, cast e.1) in z))) was)
-    | inr other ↦ elim (leb_tells low j) [
-        | inr less ↦ other_index j other.1 ∙ passed j less.1
-        | inl back ↦
-            let none = between j back.1 (let o = other.1 in omega (arith, o, below)) in
-            let was : at0 j ≡ None = sym (ahead j back.1) ∙ none in
-            other_index j other.1 ∙ none ∙ sym (ap (option_map (λ (e : ℕ × V). (let z : ℕ × V = (e.0, cast e.1) in z))) was)
-      ]
-  ]
-
-  pub cast_ahead : (j : ℕ) → i + 1 ≤ j → at' j ≡ at0 j
-  cast_ahead j past = other_index j (λ e. omega (arith, e, past)) ∙ ahead j (omega (arith, past, up))
-
-  -- the indexes that are live are the same
-  pub cast_live : (j : ℕ) → IsSome (at' j) → IsSome (at j)
-  cast_live j some = elim (eqb_tells j i) [
-    | inl same ↦ subst IsSome (sym (ap at same.1 ∙ stands)) refl
-    | inr other ↦ subst IsSome (other_index j other.1) some
-  ]
-
-  pub cast_count : live_below at0 (i + 1) ≡ live_below at0 low + 1
-  cast_count = below_passed at0 low i up (λ j back less. sym (ahead j back) ∙ between j back less) (subst IsSome (sym (sym (ahead i up) ∙ stands)) refl)
-
--- a list that a loop writes from its front on
-module _ {A : Type 0} (f : A → A) where
-  write_here : (xs : List A) (i : ℕ) (x : A) → i < length xs → x ≡ get_or (map f (take i xs) ++ drop i xs) i x
-      → set (map f (take i xs) ++ drop i xs) i (f x) ≡ map f (take (i + 1) xs) ++ drop (i + 1) xs
-  write_here [] i x less is = absurd (omega (arith, less))
-  write_here (y ∷ xs) zero x less is = ap (λ z. f z ∷ xs) is
-  write_here (y ∷ xs) (suc i) x less is =
-      let next : suc i + 1 ≡ suc (i + 1) = omega arith in
-      ap (λ l. f y ∷ l) (write_here xs i x (omega (arith, less)) is) ∙ sym (ap (λ n. map f (take n (y ∷ xs)) ++ drop n (y ∷ xs)) next)
-
-  pub written_on : (xs ys : List A) (i : ℕ) (x z : A) → ys ≡ map f (take i xs) ++ drop i xs → i < length xs → x ≡ get_or ys i x → z ≡ f (get_or ys i x)
-      → set ys i z ≡ map f (take (i + 1) xs) ++ drop (i + 1) xs
-  written_on xs ys i x z is less at new =
-      ap (λ l. set l i z) is ∙ ap (set (map f (take i xs) ++ drop i xs) i) (new ∙ ap f (sym at)) ∙ write_here xs i x less (at ∙ ap (λ l. get_or l i x) is)
 
 -- entries that are moved in the order of a list
 module _ {T : Type 0} where

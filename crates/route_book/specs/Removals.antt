@@ -9,8 +9,10 @@ use Rattle.ticket_book.specs.declared.entry.Kind.{Kind}
 use Rattle.ticket_book.specs.declared.entry.Kind.TheVariants.{Place as OfPlace, Stop as OfStop, Mark as OfMark}
 use Rattle.route_lines.specs.State.{State, Place, Item, place, stop, mark, holder, stop_list}
 use Rattle.route_lines.specs.Calls.{after_removed}
+use Rattle.route_lines.specs.declared.command.Command.{Command}
+use Rattle.route_lines.specs.declared.command.Command.TheVariants.{Remove, Pack}
 use Rattle.route_lines.specs.declared.refusal.Refusal.{Refusal}
-use Rattle.route_book.specs.Book.{Book}
+use Rattle.route_book.specs.Book.{Book, KeepsItems}
 use Rattle.route_book.specs.Holds.{IsLive}
 use Rattle.route_book.specs.Item.{StopView, MarkView}
 
@@ -98,3 +100,9 @@ module _ {I : Type 0} where
     pub order : order_in number new.places ≡ range_with_len 1 (length new.state.places)
     pub stops : (i g : ℕ) (v : StopView) → values_in new.stops i ≡ Some (g, v) → IsLive (entry_in new.places) v.place
     pub marks : (i g : ℕ) (m : MarkView) → entry_at new.marks i ≡ Some (g, m) → IsLive (entry_in new.places) m.place × IsLive (values_in new.stops) m.stop
+
+  -- what a line does to items, counters and looks, by its command
+  abbrev pub Steps : (I → ℕ) → Option ℕ → Option Command → ℕ → ℕ → Book I → Book I → Type 0
+  Steps number last (Some (Remove t)) before after old new = Removes last t before after old new (holder old.state t)
+  Steps number last (Some Pack) before after old new = IsPacked number last before after old new
+  Steps number last command before after old new = KeepsItems old new × (after ≡ before)

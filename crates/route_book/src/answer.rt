@@ -8,7 +8,7 @@ ghost use Rattle.route_lines.specs.Searches.{CountsFor, CountsWithin, living_cou
 ghost use Rattle.route_lines.specs.Watched.{inner_of, failed_of};
 ghost use Rattle.route_lines.specs.Written.{AppendsBeginning};
 ghost use Rattle.route_lines.specs.declared.command.Command.{Command as Asked};
-ghost use Rattle.route_book.specs.Book.{KeepsItems};
+ghost use Rattle.route_book.specs.Removals.{Steps};
 
 use crate::backing::BookBacking;
 use crate::book::{RouteBook, Walk};
@@ -33,7 +33,7 @@ impl<P: PtrCore, B: BookBacking<P>> RouteBook<P, B> {
         counts: &mut Counts,
     ) -> io::Result<()>
         ensures state { self.new.state ≡ next self.old.state (command_of line.now) }
-        ensures kept { KeepsItems self.old self.new }
+        ensures steps { Steps P.Inx.number P.Gen.last (command_of line.now) counts.old.looks counts.new.looks self.old self.new }
         ensures ok { OnOk result (Appends (W.contents (inner_of writer.old))
             (W.contents (inner_of writer.new)) (reply self.old.state (command_of line.now))) }
         ensures ok_failed { OnOk result (failed_of writer.new ≡ failed_of writer.old) }
@@ -54,7 +54,7 @@ impl<P: PtrCore, B: BookBacking<P>> RouteBook<P, B> {
         counts: &mut Counts,
     ) -> io::Result<()>
         ensures state { self.new.state ≡ next self.old.state command }
-        ensures kept { KeepsItems self.old self.new }
+        ensures steps { Steps P.Inx.number P.Gen.last command counts.old.looks counts.new.looks self.old self.new }
         ensures ok { OnOk result (Appends (W.contents (inner_of writer.old))
             (W.contents (inner_of writer.new)) (reply self.old.state command)) }
         ensures ok_failed { OnOk result (failed_of writer.new ≡ failed_of writer.old) }
@@ -82,7 +82,7 @@ impl<P: PtrCore, B: BookBacking<P>> RouteBook<P, B> {
     fn push_reply(&mut self, command: Command, text: &mut ReplyText, counts: &mut Counts)
         requires { text.old ≡ [] }
         ensures state { self.new.state ≡ next self.old.state (Some command) }
-        ensures kept { KeepsItems self.old self.new }
+        ensures steps { Steps P.Inx.number P.Gen.last (Some command) counts.old.looks counts.new.looks self.old self.new }
         ensures text { command ≢ Asked.All → ((stop : ℕ) → command ≢ Asked.Walk stop)
             → text.new ≡ reply self.old.state (Some command) }
         ensures counts { CountsFor self.old.state (Some command) counts.old counts.new }
@@ -102,11 +102,16 @@ impl<P: PtrCore, B: BookBacking<P>> RouteBook<P, B> {
                 text.push_ticket(self.extend_counted(stop, place, counts));
             }
             Command::Join { stop, next } => text.push_done(self.join_counted(stop, next, counts)),
+            Command::Remove { ticket } => text.push_done(self.remove_counted(ticket, counts)),
             Command::Cut { stop } => text.push_done(self.cut_counted(stop, counts)),
             Command::Swap { stop, other } => text.push_done(self.swap_counted(stop, other, counts)),
             Command::Mark { place, stop } => text.push_ticket(self.mark_counted(
                 place, stop, counts,
             )),
+            Command::Pack => {
+                self.pack_counted(counts);
+                text.push_done(Ok(()));
+            }
             Command::All => {}
             Command::Walk { stop: _ } => {}
         }

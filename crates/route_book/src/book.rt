@@ -20,6 +20,7 @@ mod making;
 mod marks;
 mod packing;
 mod placing;
+mod removing;
 mod routes;
 mod stops;
 mod walking;

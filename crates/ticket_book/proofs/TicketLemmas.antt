@@ -21,7 +21,7 @@ use Rattle.triple_arena_ord.specs.Ordered.{Ordered, IsOrdered, StandsBeside, ent
 use Rattle.ticket_book.specs.InArena.{entries_of}
 use Rattle.ticket_book.specs.Tickets.{Entry, TicketsRise, lookup}
 
-some_same : {X : Type 0} (x y : X) → Some x ≡ Some y → x ≡ y
+pub some_same : {X : Type 0} (x y : X) → Some x ≡ Some y → x ≡ y
 some_same x y e = cc
 
 -- ---- a list of entries
@@ -60,13 +60,13 @@ ascending (x ∷ y ∷ l) rise (suc k) d low high =
 abbrev pub along : (ℕ → Option (ℕ × Entry)) → List ℕ → List Entry
 along at w = map (λ x. x.1.1) (entries_along at w)
 
-along_some : (at : ℕ → Option (ℕ × Entry)) (i : ℕ) (w : List ℕ) (e : ℕ × Entry) → at i ≡ Some e → along at (i ∷ w) ≡ e.1 ∷ along at w
+pub along_some : (at : ℕ → Option (ℕ × Entry)) (i : ℕ) (w : List ℕ) (e : ℕ × Entry) → at i ≡ Some e → along at (i ∷ w) ≡ e.1 ∷ along at w
 along_some at i w e is = rw is refl
 
-along_none : (at : ℕ → Option (ℕ × Entry)) (i : ℕ) (w : List ℕ) → at i ≡ None → along at (i ∷ w) ≡ along at w
+pub along_none : (at : ℕ → Option (ℕ × Entry)) (i : ℕ) (w : List ℕ) → at i ≡ None → along at (i ∷ w) ≡ along at w
 along_none at i w is = rw is refl
 
-along-append : (at : ℕ → Option (ℕ × Entry)) (v w : List ℕ) → along at (v ++ w) ≡ along at v ++ along at w
+pub along-append : (at : ℕ → Option (ℕ × Entry)) (v w : List ℕ) → along at (v ++ w) ≡ along at v ++ along at w
 along-append at [] w = refl
 along-append at (i ∷ v) w = by (at i) refl (along-append at v w)
   where

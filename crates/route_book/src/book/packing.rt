@@ -1,5 +1,6 @@
 //! A pack: all items at the first indexes, and no dead reference.
 ghost use Rattle.std.specs.Prelude.{◌≡◌};
+ghost use Rattle.route_lines.specs.Searches.{ComparesWithin};
 ghost use Rattle.route_book.specs.Compressed.{IsAllCompressed};
 ghost use Rattle.route_book.specs.Removals.{IsPacked};
 
@@ -8,11 +9,12 @@ use crate::book::RouteBook;
 use crate::items::{Mark, Place, Stop};
 use crate::mirrors::{mirror_marks, mirror_places, mirror_stops};
 use crate::recasts::{recast_all_marks, recast_all_stops};
+use route_lines::Counts;
 use triple_arena::{Arena, ArenaSlots, ArenaTrait, CompactArenaTrait};
 use triple_arena_chain::{ChainArena, ChainSlots};
 use triple_arena_ord::laws::entries_stand_in_the_list;
 use triple_arena_ord::{OrdSlots, SimpleOrdArena};
-use triple_arena_ptr::{Probes, PtrCore};
+use triple_arena_ptr::PtrCore;
 
 // Moves the items of the three arenas to the first indexes, places and stops in the order of their lists. All counters
 // start again.
@@ -50,25 +52,26 @@ impl<P: PtrCore, B: BookBacking<P>> RouteBook<P, B> {
     pub fn pack(&mut self)
         ensures state { self.new.state ≡ self.old.state }
     {
-        self.pack_counted(&mut Probes::new());
+        self.pack_counted(&mut Counts::new());
     }
 
-    /// The same, with the looks at stored references counted.
-    pub fn pack_counted(&mut self, looks: &mut Probes)
+    /// The same, with the looks at stored references counted. Its searches by ticket are not.
+    pub fn pack_counted(&mut self, counts: &mut Counts)
         ensures state { self.new.state ≡ self.old.state }
-        ensures packed { IsPacked P.Inx.number P.Gen.last looks.old looks.new self.old self.new }
+        ensures packed { IsPacked P.Inx.number P.Gen.last counts.old.looks counts.new.looks self.old self.new }
+        ensures counts { ComparesWithin counts.old counts.new 0 0 0 }
     {
         entries_stand_in_the_list::<P, Place>();
         compress_all(&mut self.places, &mut self.stops, &mut self.marks);
         mirror_places(&self.places, &self.tickets, &mut self.place_mirror);
         mirror_stops(&self.stops, &self.tickets, &mut self.stop_mirror);
         mirror_marks(&self.marks, &self.tickets, &mut self.mark_mirror);
-        recast_all_stops(&mut self.stops, &self.place_mirror, looks);
+        recast_all_stops(&mut self.stops, &self.place_mirror, &mut counts.looks);
         recast_all_marks(
             &mut self.marks,
             &self.place_mirror,
             &self.stop_mirror,
-            looks,
+            &mut counts.looks,
         );
         self.tickets
             .renew(&self.place_mirror, &self.stop_mirror, &self.mark_mirror);

@@ -4,8 +4,8 @@ use Rattle.std.proofs.Common.{◌≡◌, ◌∙◌, ◌≤◌, sym, ap, subst, r
 use Rattle.triple_arena.specs.DirectContent.{entry_at}
 use Rattle.route_book.specs.Packing.{IsMirrored}
 use Rattle.ticket_book.specs.Mirrors.{numbers}
-use Rattle.route_book.proofs.NoteLemmas.{mirrored_gap}
-use Rattle.route_book.proofs.StepLemmas.{step_is, end_all, mirrored_all}
+use Rattle.route_book.proofs.NoteLemmas.{mirrored_all, mirrored_gap}
+use Rattle.ticket_book.proofs.WalkLemmas.{step_is, end_all}
 use Rattle.route_book.proofs.mirrors.mirror_places.Goals as goal
 
 pub note_place-requires-clause-mirrored : goal.note_place-requires-clause-mirrored

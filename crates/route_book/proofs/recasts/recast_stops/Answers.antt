@@ -1,9 +1,9 @@
-use Rattle.std.proofs.Common.{arith, ◌≡◌, ◌∙◌, ◌+◌, ◌*◌, ◌<◌, ◌≤◌, sym, ap, subst, refl, ℕ}
-use Rattle.route_book.specs.Packing.{recast_stop, recast_mark}
+use Rattle.std.proofs.Common.{arith, ◌≡◌, ◌∙◌, ◌+◌, ◌*◌, ◌<◌, ◌≤◌, sym, ap, subst, refl, ℕ, IsSome, is_some}
 use Rattle.ticket_book.specs.Mirrors.{numbers}
+use Rattle.ticket_book.proofs.WalkLemmas.{step_is, end_all, all_before, cast_ahead, cast_all, cast_first, cast_gap, cast_live, cast_passed, stands_at, value_written}
 use Rattle.triple_arena_chain.specs.Renaming.{live_below}
-use Rattle.route_book.proofs.StepLemmas.{step_is, end_all, all_before}
-use Rattle.route_book.proofs.PassedLemmas.{cast_passed, cast_ahead, cast_live, cast_count, counted_below}
+use Rattle.route_book.specs.Packing.{recast_stop}
+use Rattle.route_book.proofs.PassedLemmas.{below_passed, counted_below}
 use Rattle.route_book.proofs.recasts.recast_stops.Goals as goal
 
 pub loop-p-preserved-in-Some-get_mut : goal.loop-p-preserved-in-Some-get_mut
@@ -12,28 +12,38 @@ loop-p-preserved-in-Some-get_mut g c =
     let at0 = g.A.ArenaTrait.entry_at c.args.stops.now in
     let at = g.A.ArenaTrait.entry_at c.loop-p.stops in
     let i = g.P.PtrCore.index c.in-Some.p in
+    let h = g.P.PtrCore.generation c.in-Some.p in
     let low = (g.A.ArenaTrait.walk c.loop-p.walk).low in
     let cast = recast_stop (numbers g.P.PtrCore.index g.P.PtrCore.generation (g.M.ArenaTrait.entry_at c.args.places.now)) in
     let st = step_is at (g.A.ArenaTrait.walk c.loop-p.walk) (g.A.ArenaTrait.walk c.advance.new.self) inv.rises _ _ (g.met.A.ArenaTrait.advances _ _ _ _ c.in-Some.ensures.given) in
-    let writes = g.met.A.ArenaTrait.entry_with_value c.loop-p.stops i c.recast.new.self in
     let at' = g.A.ArenaTrait.entry_at (g.A.ArenaTrait.with_value c.loop-p.stops i c.recast.new.self) in
     let v = c.in-Some-get_mut.stop.now in
-    let value = c.in-Some-get_mut.ensures.value in
+    let stands = stands_at at i h v c.in-Some-get_mut.ensures.value in
+    let made = value_written at at' i h v c.recast.new.self stands (g.met.A.ArenaTrait.entry_with_value c.loop-p.stops i c.recast.new.self) in
     let count : live_below at0 (g.A.ArenaTrait.walk c.advance.new.self).low ≡ live_below at0 low + 1 =
-        ap (live_below at0) st.low ∙ cast_count cast at0 at at' low i _ v c.recast.new.self inv.passed inv.ahead st.up st.between value c.recast.ensures writes in
+    ap (live_below at0) st.low
+    ∙ below_passed at0 low i st.up (cast_gap cast at0 at at' low i h v c.recast.new.self inv.passed inv.ahead st.up st.between stands c.recast.ensures made.0 made.1)
+    (ap is_some (cast_first cast at0 at at' low i h v c.recast.new.self inv.passed inv.ahead st.up st.between stands c.recast.ensures made.0 made.1)) in
     let tick = c.tick.ensures in
     let looks = inv.looks in
     record {
       rises = st.still_rises;
-      reaches = λ j some. subst (λ h. j ≤ h) (sym st.high) (inv.reaches j (cast_live cast at0 at at' low i _ v c.recast.new.self inv.passed inv.ahead st.up st.between value c.recast.ensures writes j some));
-      passed = λ j below. cast_passed cast at0 at at' low i _ v c.recast.new.self inv.passed inv.ahead st.up st.between value c.recast.ensures writes j (subst (λ l. j < l) st.low below);
-      ahead = λ j past. cast_ahead cast at0 at at' low i _ v c.recast.new.self inv.passed inv.ahead st.up st.between value c.recast.ensures writes j (subst (λ l. l ≤ j) st.low past);
+      reaches = λ j some. subst (λ k. j ≤ k) (sym st.high) (inv.reaches j (cast_live cast at0 at at' low i h v c.recast.new.self inv.passed inv.ahead st.up st.between stands c.recast.ensures made.0 made.1 j some));
+      passed = λ j below. cast_passed cast at0 at at' low i h v c.recast.new.self inv.passed inv.ahead st.up st.between stands c.recast.ensures made.0 made.1 j (subst (λ l. j < l) st.low below);
+      ahead = λ j past. cast_ahead cast at0 at at' low i h v c.recast.new.self inv.passed inv.ahead st.up st.between stands c.recast.ensures made.0 made.1 j (subst (λ l. l ≤ j) st.low past);
       live = g.met.A.ArenaTrait.live_with_value _ _ _ ∙ inv.live;
       counter = g.met.A.ArenaTrait.counter_with_value _ _ _ ∙ inv.counter;
       room = g.met.A.ArenaTrait.room_with_value _ _ _ ∙ inv.room;
       kept = λ f law. law _ _ _ ∙ inv.kept f law;
       looks = omega (arith, tick, looks, count);
     }
+
+pub returns-clause-entries : goal.returns-clause-entries
+returns-clause-entries g c =
+    let inv = c.loop-p.invariant in
+    let at = g.A.ArenaTrait.entry_at c.loop-p.stops in
+    cast_all (recast_stop (numbers g.P.PtrCore.index g.P.PtrCore.generation (g.M.ArenaTrait.entry_at c.args.places.now))) (g.A.ArenaTrait.entry_at c.args.stops.now) at (g.A.ArenaTrait.walk c.loop-p.walk).low inv.passed inv.ahead
+    (end_all at (g.A.ArenaTrait.walk c.loop-p.walk) (g.A.ArenaTrait.walk c.advance.new.self) inv.rises inv.reaches (g.met.A.ArenaTrait.advances _ _ _ _ c.in_default.ensures.given))
 
 pub returns-clause-looks : goal.returns-clause-looks
 returns-clause-looks g c =
