@@ -9,6 +9,7 @@ pub mod NewLinkLemmas
 pub mod NewStopLemmas
 pub mod NextStopLemmas
 pub mod NumberLemmas
+pub mod PackLemmas
 pub mod PastLemmas
 pub mod PreviousLemmas
 pub mod RelinkLemmas

@@ -5,7 +5,7 @@ use Rattle.std.specs.Option.{ok_or}
 use Rattle.std.proofs.lemmas.Bool.{false≢true, eq-eqb, eqb-true, ltb-true, ltb-false, leb-false}
 use Rattle.std.proofs.lemmas.List.{length-map}
 use Rattle.route_lines.specs.State.{Rooms, State, Place, Stop, Route, Mark, Item, place, stop, mark, with_key, stop_list, living, holder, empty, is_full_of_places, is_full_of_stops, is_full_of_marks, last_ticket}
-use Rattle.route_lines.specs.Calls.{put, reworded, place_holder, stop_holder, and_then, next_ticket, unless_refused, after_place, started, after_start, extended, after_extend, joined, after_join, parted, after_cut, swapped, after_swap, marked, after_mark, clear_stop, clear_mark, clear_mark_stop, without_place, without_stop, without_mark, after_removed}
+use Rattle.route_lines.specs.Calls.{put, reworded, place_holder, stop_holder, and_then, next_ticket, unless_refused, after_place, started, after_start, extended, after_extend, joined, after_join, parted, after_cut, swapped, after_swap, marked, after_mark, clear_mark, clear_mark_stop, without_place, without_stop, without_mark, after_removed}
 use Rattle.route_lines.specs.Changes.{changed}
 use Rattle.route_lines.specs.Grammar.{command_of}
 use Rattle.route_lines.specs.Reply.{next}

@@ -1,8 +1,8 @@
 -- How many looks a list of calls makes: sweeps by removals, times the generations between two of them, and the counters' excess are
 -- at most the removals.
-use Rattle.std.proofs.Common.{◌≡◌, ◌∙◌, sym, ap, subst, refl, ℕ, zero, suc, ◌+◌, ◌-◌, ◌*◌, ◌/◌, ◌<◌, ◌≤◌, List, [], ◌∷◌, arith}
+use Rattle.std.proofs.Common.{ap, ℕ, ◌+◌, ◌-◌, ◌*◌, ◌/◌, ◌≤◌, List, [], ◌∷◌, arith}
 use Rattle.std.proofs.lemmas.Nat.{le-div}
-use Rattle.route_lines.specs.Sweeps.{Tally, Step, EndPlace, EndStop, EndPlaceAfterPack, EndStopAfterPack, Pack, Other, IsStep, AreSteps, packs, removals, AreFew}
+use Rattle.route_lines.specs.Sweeps.{Tally, Step, EndPlace, EndStop, EndPlaceAfterPack, EndStopAfterPack, Pack, Other, AreSteps, packs, removals, AreFew}
 
 abbrev swept : Step → ℕ
 swept EndPlace = 0

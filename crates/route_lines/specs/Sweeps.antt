@@ -1,5 +1,5 @@
 -- What each call does to the two counters and to the looks, and how many looks a list of calls makes.
-use Rattle.std.specs.Prelude.{◌≡◌, ℕ, zero, suc, ◌+◌, ◌-◌, ◌*◌, ◌/◌, ◌<◌, ◌≤◌, List, [], ◌∷◌}
+use Rattle.std.specs.Prelude.{◌≡◌, ℕ, ◌+◌, ◌-◌, ◌*◌, ◌/◌, ◌<◌, ◌≤◌, List, [], ◌∷◌}
 
 -- the counters of the places and of the stops, and the looks so far
 pub record Tally : Type 0 where
