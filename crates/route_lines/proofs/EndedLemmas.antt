@@ -97,7 +97,7 @@ one_mark s t m sound e =
 
 -- ---- a removed ticket is gone
 
-gone_if_none : (s : State) (t : ℕ) → (t == 0) || nat_lt s.last t ≡ false → place_of s.places t ≡ None → stop_of s.routes t ≡ None → mark_of s.marks t ≡ None → holder s t ≡ Err Gone
+pub gone_if_none : (s : State) (t : ℕ) → (t == 0) || nat_lt s.last t ≡ false → place_of s.places t ≡ None → stop_of s.routes t ≡ None → mark_of s.marks t ≡ None → holder s t ≡ Err Gone
 gone_if_none s t given no_place no_stop no_mark = rw (given, no_place, no_stop, no_mark) refl
 
 pub gone-removed : (s : State) (t : ℕ) → IsSound s → removed s t ≡ Ok tt → holder (after_removed s t) t ≡ Err Gone

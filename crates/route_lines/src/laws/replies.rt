@@ -15,8 +15,8 @@ pub fn replies_have_short_lines()
         → rest_of (reply s command) ≡ [] }
 {}
 
-/// The text that answers lines is their replies, and `pack` lines between other lines add their own `ok` and nothing else:
-/// without them each other line has the same reply, and the state at the end is the same.
+/// The text that answers lines is their replies, one after another. A `pack` line is answered `ok`. Without those lines each
+/// other line has the same reply, and the state at the end is the same.
 pub fn packs_change_no_reply()
     ensures text { (s : State) (lines : List Line)
         → replies s lines ≡ flat_map (λ a. a.1) (answered s lines) }
