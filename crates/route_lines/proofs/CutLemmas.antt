@@ -1,5 +1,5 @@
 -- Lists cut at an item, and what their items weigh.
-use Rattle.std.proofs.Common.{◌≡◌, ap, subst, refl, Bool, true, false, ◌||◌, ℕ, ◌+◌, ◌≤◌, List, [], ◌∷◌, ◌++◌, length, Option, Some, None, IfSome, cond, find, filter, reverse, sym, arith}
+use Rattle.std.proofs.Common.{◌≡◌, ◌∙◌, ap, subst, refl, Bool, true, false, ◌||◌, ℕ, ◌+◌, ◌≤◌, List, [], ◌∷◌, ◌++◌, length, Option, Some, None, IfSome, cond, find, filter, reverse, sym, arith}
 use Rattle.std.specs.List.{AllByRecursion, list_any}
 use Rattle.std.proofs.lemmas.Bool.{false≢true}
 use Rattle.std.proofs.lemmas.List.{reverse-append}
@@ -152,3 +152,10 @@ none_found {X} test xs none = at (find test xs) refl
     at : (o : Option X) → find test xs ≡ o → find test xs ≡ None
     at None e = e
     at (Some x) e = absurd (omega (arith, none, found_counted test xs x e))
+
+pub not_found : {X : Type 0} (test : X → Bool) (xs : List X) → find test xs ≡ None → count_of test xs ≡ 0
+not_found test xs none = at (list_any test xs) refl
+  where
+    at : (b : Bool) → list_any test xs ≡ b → count_of test xs ≡ 0
+    at true e = let some = found_if_any test xs e in let no : None ≡ Some some.0 = sym none ∙ some.1 in cc
+    at false e = count-none test xs e

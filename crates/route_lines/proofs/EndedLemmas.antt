@@ -1,11 +1,10 @@
 -- What a removal leaves, by the kind of item that ends.
-use Rattle.std.proofs.Common.{◌≡◌, ◌≢◌, ◌∙◌, sym, ap, subst, refl, Bool, true, false, ◌||◌, ◌==◌, ℕ, ◌+◌, ◌≤◌, List, [], ◌∷◌, length, Option, Some, None, Result, Ok, Err, cond, nat_lt, map, find, option_map, arith}
-use Rattle.std.specs.List.{AllByRecursion}
+use Rattle.std.proofs.Common.{◌≡◌, ◌∙◌, ap, subst, refl, Bool, true, false, ◌||◌, ◌==◌, ℕ, List, [], ◌∷◌, Option, Some, None, Result, Ok, Err, cond, nat_lt, map, find, option_map, arith}
 use Rattle.std.specs.Option.{option_or, ok_or}
 use Rattle.std.proofs.lemmas.Bool.{eq-eqb}
 use Rattle.route_lines.specs.Calls.{clear_stop, clear_route, clear_mark, clear_mark_stop, without_place, without_stop, without_mark, removed, after_removed}
 use Rattle.route_lines.specs.Leads.{head_or, Leads}
-use Rattle.route_lines.specs.Routes.{has_ticket, next_stop, taken_out}
+use Rattle.route_lines.specs.Routes.{has_ticket, next_stop}
 use Rattle.route_lines.specs.Sound.{count_of, AreWritten, IsSound}
 use Rattle.route_lines.specs.State.{State, Place, Stop, Route, Mark, Item, place, stop, mark, stop_list, place_of, stop_of, mark_of, holder}
 use Rattle.route_lines.specs.declared.refusal.Refusal.{Refusal}
@@ -98,7 +97,7 @@ one_mark s t m sound e =
 
 -- ---- a removed ticket is gone
 
-gone_if_none : (s : State) (t : ℕ) → (t == 0) || nat_lt s.last t ≡ false → place_of s.places t ≡ None → stop_of s.routes t ≡ None → mark_of s.marks t ≡ None → holder s t ≡ Err Gone
+pub gone_if_none : (s : State) (t : ℕ) → (t == 0) || nat_lt s.last t ≡ false → place_of s.places t ≡ None → stop_of s.routes t ≡ None → mark_of s.marks t ≡ None → holder s t ≡ Err Gone
 gone_if_none s t given no_place no_stop no_mark = rw (given, no_place, no_stop, no_mark) refl
 
 pub gone-removed : (s : State) (t : ℕ) → IsSound s → removed s t ≡ Ok tt → holder (after_removed s t) t ≡ Err Gone

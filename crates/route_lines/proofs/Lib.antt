@@ -2,6 +2,7 @@ pub mod AlongLemmas
 pub mod CommandLineLemmas
 pub mod CutLemmas
 pub mod EndedLemmas
+pub mod GoneLemmas
 pub mod GrammarLemmas
 pub mod LineTextLemmas
 pub mod LinkLemmas
@@ -9,6 +10,7 @@ pub mod NewLinkLemmas
 pub mod NewStopLemmas
 pub mod NextStopLemmas
 pub mod NumberLemmas
+pub mod PackLemmas
 pub mod PastLemmas
 pub mod PreviousLemmas
 pub mod RelinkLemmas

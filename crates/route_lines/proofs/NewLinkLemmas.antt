@@ -1,12 +1,11 @@
 -- What a new stop makes of which stop leads to which.
 use Rattle.std.proofs.Common.{◌≡◌, ◌≢◌, ◌∙◌, sym, ap, subst, refl, Bool, true, false, ◌==◌, ◌⊎◌, inl, inr, ℕ, ◌+◌, ◌<◌, ◌≤◌, List, [], ◌∷◌, ◌++◌, Option, Some, None, Ok, cond, arith}
-use Rattle.std.specs.List.{AllByRecursion}
 use Rattle.std.proofs.lemmas.Bool.{eq-eqb, eqb-true, ne_eqb, cases_lt}
 use Rattle.route_lines.specs.Calls.{place_holder, stop_holder, next_ticket, started, after_start, extended, after_extend, unless_refused}
 use Rattle.route_lines.specs.Cuts.{up_to, behind}
 use Rattle.route_lines.specs.Leads.{head_or, Leads}
 use Rattle.route_lines.specs.Routes.{has_ticket, linear, has_stop, next_stop, put_behind}
-use Rattle.route_lines.specs.Sound.{total, count_of, AreWritten, IsSound}
+use Rattle.route_lines.specs.Sound.{count_of, AreWritten, IsSound}
 use Rattle.route_lines.specs.State.{State, Stop, Route, stop_list, is_full_of_stops}
 use Rattle.route_lines.proofs.CutLemmas.{up_to_behind, all_append, total-append, count-any, count-none, found_counted}
 use Rattle.route_lines.proofs.LinkLemmas.{Leads-append, Leads-front, Leads-back, Leads-ext, closing_of, Links, Links-next_stop, next_stop-is, relinked, apart_relinked, Links-apart, Leads-up_to}

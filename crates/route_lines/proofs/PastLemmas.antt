@@ -112,7 +112,7 @@ module _ (next : ℕ → Option ℕ) (s : ℕ) where
               go false f m = subst (λ c. Leads led_past c (y ∷ rest_of s ys)) leads m
       at false e later =
           let first : past s (next s) (next x.ticket) ≡ head_or (Some x.ticket) (rest_of s xs) =
-              ap (past s (next s)) h.0 ∙ head_past (Some x.ticket) xs (omega (arith, once)) h.1 ∙ ap (λ b. head_or (cond b (next s) (Some x.ticket)) (rest_of s xs)) e in
+          ap (past s (next s)) h.0 ∙ head_past (Some x.ticket) xs (omega (arith, once)) h.1 ∙ ap (λ b. head_or (cond b (next s) (Some x.ticket)) (rest_of s xs)) e in
           (first, later)
 
   -- ---- along all routes

@@ -1,10 +1,9 @@
 -- Lists without the items of a ticket, and items whose references to it are gone.
-use Rattle.std.proofs.Common.{◌≡◌, ◌∙◌, sym, ap, subst, refl, Bool, true, false, ◌||◌, ◌==◌, ℕ, ◌+◌, ◌<◌, ◌≤◌, List, [], ◌∷◌, ◌++◌, length, Option, Some, None, IfSome, Result, Ok, Err, cond, not, nat_lt, map, filter, find, option_map, arith}
+use Rattle.std.proofs.Common.{◌≡◌, ◌∙◌, sym, ap, subst, refl, Bool, true, false, ◌==◌, ℕ, ◌+◌, ◌<◌, ◌≤◌, List, [], ◌∷◌, ◌++◌, length, Option, Some, None, IfSome, cond, not, map, filter, find, option_map, arith}
 use Rattle.std.specs.List.{AllByRecursion}
-use Rattle.std.specs.Option.{option_or, ok_or}
 use Rattle.std.proofs.lemmas.Bool.{eq-eqb, eqb-true, false≢true}
 use Rattle.std.proofs.lemmas.List.{length-map, map-append}
-use Rattle.route_lines.specs.Calls.{unless_is, clear_stop, clear_route, clear_mark}
+use Rattle.route_lines.specs.Calls.{unless_is, clear_stop, clear_route}
 use Rattle.route_lines.specs.Number.{IsNumber}
 use Rattle.route_lines.specs.Routes.{has_ticket, first_ticket}
 use Rattle.route_lines.specs.Sound.{KeysRise, RoutesRise, MarksRise, total, count_of, IsWritten, AreWritten}

@@ -5,7 +5,7 @@ use Rattle.std.specs.Option.{ok_or}
 use Rattle.std.proofs.lemmas.Bool.{false≢true, eq-eqb, eqb-true, ltb-true, ltb-false, leb-false}
 use Rattle.std.proofs.lemmas.List.{length-map}
 use Rattle.route_lines.specs.State.{Rooms, State, Place, Stop, Route, Mark, Item, place, stop, mark, with_key, stop_list, living, holder, empty, is_full_of_places, is_full_of_stops, is_full_of_marks, last_ticket}
-use Rattle.route_lines.specs.Calls.{put, reworded, place_holder, stop_holder, and_then, next_ticket, unless_refused, after_place, started, after_start, extended, after_extend, joined, after_join, parted, after_cut, swapped, after_swap, marked, after_mark, clear_stop, clear_mark, clear_mark_stop, without_place, without_stop, without_mark, after_removed}
+use Rattle.route_lines.specs.Calls.{put, reworded, place_holder, stop_holder, and_then, next_ticket, unless_refused, after_place, started, after_start, extended, after_extend, joined, after_join, parted, after_cut, swapped, after_swap, marked, after_mark, clear_mark, clear_mark_stop, without_place, without_stop, without_mark, after_removed}
 use Rattle.route_lines.specs.Changes.{changed}
 use Rattle.route_lines.specs.Grammar.{command_of}
 use Rattle.route_lines.specs.Reply.{next}
@@ -67,7 +67,7 @@ KeysRise-put new (q ∷ ps) none h =
         let above = ltb-false new.key q.key e in
         (all_put (λ p. q.key < p.key) new ps (omega (arith, above, apart)) h.0, behind)
 
-count-put : (test : Place → Bool) (new : Place) (ps : List Place) → count_of test (put new ps) ≡ cond (test new) 1 0 + count_of test ps
+pub count-put : (test : Place → Bool) (new : Place) (ps : List Place) → count_of test (put new ps) ≡ cond (test new) 1 0 + count_of test ps
 count-put test new [] = omega arith
 count-put test new (q ∷ ps) = at (nat_lt new.key q.key) (count-put test new ps)
   where
@@ -96,7 +96,7 @@ KeysRise-reworded key word (p ∷ ps) h = (
   KeysRise-reworded key word ps h.1,
 )
 
-count-reworded : (key : ℕ) (word : List ℕ) (t : ℕ) (ps : List Place) → count_of (λ p. p.ticket == t) (reworded key word ps) ≡ count_of (λ p. p.ticket == t) ps
+pub count-reworded : (key : ℕ) (word : List ℕ) (t : ℕ) (ps : List Place) → count_of (λ p. p.ticket == t) (reworded key word ps) ≡ count_of (λ p. p.ticket == t) ps
 count-reworded key word t [] = refl
 count-reworded key word t (p ∷ ps) = at (p.key == key) (count-reworded key word t ps)
   where
@@ -222,10 +222,10 @@ IsSound-after_place s key word is_word sound = at (with_key key s.places) refl
     })
 
 -- a stop more, under the next ticket
-record IsMore (s : State) (new : Stop) (routes : List Route) : Type 1 where
-  written : AreWritten routes
-  total : (weight : Stop → ℕ) → total weight (stop_list routes) ≤ weight new + total weight (stop_list s.routes)
-  all : (P : Stop → Type 0) → P new → AllByRecursion P (stop_list s.routes) → AllByRecursion P (stop_list routes)
+pub record IsMore (s : State) (new : Stop) (routes : List Route) : Type 1 where
+  pub written : AreWritten routes
+  pub total : (weight : Stop → ℕ) → total weight (stop_list routes) ≤ weight new + total weight (stop_list s.routes)
+  pub all : (P : Stop → Type 0) → P new → AllByRecursion P (stop_list s.routes) → AllByRecursion P (stop_list routes)
 
 IsSound-more_stops : (s : State) (new : Stop) (routes : List Route) → new.ticket ≡ s.last + 1 → is_full_of_stops s ≡ false → IsMore s new routes → IsSound s → IsSound (record s { last = s.last + 1; routes = routes })
 IsSound-more_stops s new routes is room more sound =
@@ -244,14 +244,14 @@ IsSound-more_stops s new routes is room more sound =
       marks_fit = sound.marks_fit;
     }
 
-more_by_start : (s : State) (new : Stop) → new.ticket ≡ s.last + 1 → IsSound s → IsMore s new (s.routes ++ linear (new ∷ []) ∷ [])
+pub more_by_start : (s : State) (new : Stop) → new.ticket ≡ s.last + 1 → IsSound s → IsMore s new (s.routes ++ linear (new ∷ []) ∷ [])
 more_by_start s new is sound = record {
   written = AreWritten-more s.last s.routes new sound.given_stops (omega (arith, is)) sound.routes;
   total = λ weight. omega (arith, ap (total weight) (stop_list-more s.routes new), total-append weight (stop_list s.routes) (new ∷ []));
   all = λ P p h. subst (AllByRecursion P) (sym (stop_list-more s.routes new)) (all_append P (stop_list s.routes) (new ∷ []) h (p, tt));
 }
 
-more_by_extend : (s : State) (t : ℕ) (new : Stop) → new.ticket ≡ s.last + 1 → IsSound s → IsMore s new (put_behind t new s.routes)
+pub more_by_extend : (s : State) (t : ℕ) (new : Stop) → new.ticket ≡ s.last + 1 → IsSound s → IsMore s new (put_behind t new s.routes)
 more_by_extend s t new is sound = record {
   written = AreWritten-put_behind s.last t new s.routes sound.given_stops (omega (arith, is)) sound.routes;
   total = λ weight. total-put_behind weight t new s.routes (sound.routes.once t);
@@ -259,10 +259,10 @@ more_by_extend s t new is sound = record {
 }
 
 -- the same stops on other routes
-record IsSame (s : State) (routes : List Route) : Type 1 where
-  written : AreWritten routes
-  total : (weight : Stop → ℕ) → total weight (stop_list routes) ≡ total weight (stop_list s.routes)
-  all : (P : Stop → Type 0) → AllByRecursion P (stop_list s.routes) → AllByRecursion P (stop_list routes)
+pub record IsSame (s : State) (routes : List Route) : Type 1 where
+  pub written : AreWritten routes
+  pub total : (weight : Stop → ℕ) → total weight (stop_list routes) ≡ total weight (stop_list s.routes)
+  pub all : (P : Stop → Type 0) → AllByRecursion P (stop_list s.routes) → AllByRecursion P (stop_list routes)
 
 IsSound-same_stops : (s : State) (routes : List Route) → IsSame s routes → IsSound s → IsSound (record s { routes = routes })
 IsSound-same_stops s routes same sound = record {
@@ -279,24 +279,24 @@ IsSound-same_stops s routes same sound = record {
   marks_fit = sound.marks_fit;
 }
 
-same_by_nothing : (s : State) → IsSound s → IsSame s s.routes
+pub same_by_nothing : (s : State) → IsSound s → IsSame s s.routes
 same_by_nothing s sound = record { written = sound.routes; total = λ weight. refl; all = λ P h. h }
 
-same_by_cut : (s : State) (t : ℕ) (routes : List Route) → IsSame s routes → IsSame s (unlinked t routes)
+pub same_by_cut : (s : State) (t : ℕ) (routes : List Route) → IsSame s routes → IsSame s (unlinked t routes)
 same_by_cut s t routes same = record {
   written = AreWritten-unlinked t routes same.written;
   total = λ weight. total-unlinked weight t routes same.written ∙ same.total weight;
   all = λ P h. all_unlinked P t routes (same.all P h);
 }
 
-same_by_join : (s : State) (t u : ℕ) (routes : List Route) → IsSame s routes → IsSame s (linked t u routes)
+pub same_by_join : (s : State) (t u : ℕ) (routes : List Route) → IsSame s routes → IsSame s (linked t u routes)
 same_by_join s t u routes same = record {
   written = AreWritten-linked t u routes same.written;
   total = λ weight. total-linked weight t u routes same.written ∙ same.total weight;
   all = λ P h. all_linked P t u routes (same.all P h);
 }
 
-same_by_swap : (s : State) (t u : ℕ) → IsSound s → IsSame s (exchanged t u s.routes)
+pub same_by_swap : (s : State) (t u : ℕ) → IsSound s → IsSame s (exchanged t u s.routes)
 same_by_swap s t u sound = exchanged_keeps (IsSame s) t u s.routes (same_by_cut s) (same_by_join s) (same_by_nothing s sound)
 
 MarksRise-more : (last : ℕ) (new : Mark) (marks : List Mark) → AllByRecursion (λ m. (0 < m.ticket) × (m.ticket ≤ last)) marks → last < new.ticket → MarksRise marks → MarksRise (marks ++ new ∷ [])
@@ -417,7 +417,7 @@ IsSound-without_mark s t sound = record {
 }
 
 -- what each removal keeps
-keeps_removed : (Keeps : State → Type 0) (s : State) (t : ℕ) → Keeps s → Keeps (without_place s t) → Keeps (without_stop s t) → Keeps (without_mark s t) → Keeps (after_removed s t)
+pub keeps_removed : (Keeps : State → Type 0) (s : State) (t : ℕ) → Keeps s → Keeps (without_place s t) → Keeps (without_stop s t) → Keeps (without_mark s t) → Keeps (after_removed s t)
 keeps_removed Keeps s t old no_place no_stop no_mark = at (holder s t) refl
   where
     at : (r : Result Item Refusal) → holder s t ≡ r → Keeps (after_removed s t)
@@ -573,8 +573,20 @@ IsNumbered-changed s (Remove t) is numbered = IsNumbered-after_removed s t numbe
 
 -- ---- lines
 
--- what each possible change keeps, every line keeps
-kept_by_lines : (Keeps : State → Type 0) → ((s : State) (change : Change) → IsPossible change → Keeps s → Keeps (changed s change))
+-- a change that does not begin anew
+abbrev pub GoesOn : Change → Type 0
+GoesOn (Open places stops marks last) = ⊥
+GoesOn (PlaceChange key word) = Unit {0}
+GoesOn (Start at) = Unit {0}
+GoesOn (Extend t at) = Unit {0}
+GoesOn (Join t u) = Unit {0}
+GoesOn (Cut t) = Unit {0}
+GoesOn (Swap t u) = Unit {0}
+GoesOn (MarkChange at t) = Unit {0}
+GoesOn (Remove t) = Unit {0}
+
+-- what each possible change keeps that goes on, every line keeps
+pub kept_by_lines : (Keeps : State → Type 0) → ((s : State) (change : Change) → IsPossible change → GoesOn change → Keeps s → Keeps (changed s change))
     → (s : State) (lines : List Line) → Keeps s → Keeps (after_lines s lines)
 kept_by_lines Keeps kept s [] keeps = keeps
 kept_by_lines Keeps kept s (line ∷ lines) keeps = kept_by_lines Keeps kept (next s (command_in line)) lines (by_line line)
@@ -585,28 +597,28 @@ kept_by_lines Keeps kept s (line ∷ lines) keeps = kept_by_lines Keeps kept (ne
       where
         at : (o : Option Command) → command_of bytes ≡ o → Keeps (next s o)
         at None e = keeps
-        at (Some (PlaceLine key word None)) e = let spelled = command_of-found bytes (PlaceLine key word None) e in kept s (PlaceChange key word) (spelled.0, spelled.1) keeps
+        at (Some (PlaceLine key word None)) e = let spelled = command_of-found bytes (PlaceLine key word None) e in kept s (PlaceChange key word) (spelled.0, spelled.1) tt keeps
         at (Some (PlaceLine key word (Some near))) e =
             let spelled = command_of-found bytes (PlaceLine key word (Some near)) e in
-            keeps_unless_refused Keeps s (place_holder s near) _ keeps (λ p passed. kept s (PlaceChange key word) (spelled.0, spelled.1) keeps)
+            keeps_unless_refused Keeps s (place_holder s near) _ keeps (λ p passed. kept s (PlaceChange key word) (spelled.0, spelled.1) tt keeps)
         at (Some (Show ticket)) e = keeps
         at (Some (Find key)) e = keeps
         at (Some (Floor key)) e = keeps
         at (Some (After ticket)) e = keeps
         at (Some (Before ticket)) e = keeps
         at (Some All) e = keeps
-        at (Some (RemoveLine t)) e = kept s (Remove t) tt keeps
-        at (Some (StartLine at_place)) e = kept s (Start at_place) tt keeps
-        at (Some (ExtendLine t at_place)) e = kept s (Extend t at_place) tt keeps
-        at (Some (JoinLine t u)) e = kept s (Join t u) tt keeps
-        at (Some (CutLine t)) e = kept s (Cut t) tt keeps
-        at (Some (SwapLine t u)) e = kept s (Swap t u) tt keeps
+        at (Some (RemoveLine t)) e = kept s (Remove t) tt tt keeps
+        at (Some (StartLine at_place)) e = kept s (Start at_place) tt tt keeps
+        at (Some (ExtendLine t at_place)) e = kept s (Extend t at_place) tt tt keeps
+        at (Some (JoinLine t u)) e = kept s (Join t u) tt tt keeps
+        at (Some (CutLine t)) e = kept s (Cut t) tt tt keeps
+        at (Some (SwapLine t u)) e = kept s (Swap t u) tt tt keeps
         at (Some (Walk t)) e = keeps
-        at (Some (MarkLine at_place t)) e = kept s (MarkChange at_place t) tt keeps
+        at (Some (MarkLine at_place t)) e = kept s (MarkChange at_place t) tt tt keeps
         at (Some Pack) e = keeps
 
 pub IsSound-from_empty : (rooms : Rooms) (last : ℕ) (lines : List Line) → IsSound (after_lines (empty rooms last) lines)
-IsSound-from_empty rooms last lines = kept_by_lines IsSound IsSound-changed (empty rooms last) lines (IsSound-empty rooms last)
+IsSound-from_empty rooms last lines = kept_by_lines IsSound (λ s change is on sound. IsSound-changed s change is sound) (empty rooms last) lines (IsSound-empty rooms last)
 
 pub IsNumbered-from_empty : (rooms : Rooms) (last : ℕ) (lines : List Line) → IsNumber last → IsNumbered (after_lines (empty rooms last) lines)
-IsNumbered-from_empty rooms last lines small = kept_by_lines IsNumbered IsNumbered-changed (empty rooms last) lines (IsNumbered-empty rooms last small)
+IsNumbered-from_empty rooms last lines small = kept_by_lines IsNumbered (λ s change is on numbered. IsNumbered-changed s change is numbered) (empty rooms last) lines (IsNumbered-empty rooms last small)

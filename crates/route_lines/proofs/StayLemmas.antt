@@ -1,6 +1,6 @@
 -- The stops stay as they were where routes are joined, cut and exchanged, and a new stop stands under its ticket.
 use Rattle.std.proofs.Common.{◌≡◌, ◌≢◌, ◌∙◌, sym, ap, subst, refl, Bool, true, false, ℕ, ◌+◌, ◌≤◌, List, [], ◌∷◌, ◌++◌, length, Option, Some, None, IfSome, Result, Ok, Err, cond, find, arith, length-append}
-use Rattle.std.specs.List.{AllByRecursion, list_any}
+use Rattle.std.specs.List.{AllByRecursion}
 use Rattle.std.specs.Option.{option_or}
 use Rattle.std.proofs.lemmas.Bool.{eq-eqb, eqb-true, ne_eqb}
 use Rattle.std.proofs.lemmas.List.Folds.{find-append}
@@ -10,7 +10,7 @@ use Rattle.route_lines.specs.Routes.{has_ticket, has_stop, linked, unlinked, exc
 use Rattle.route_lines.specs.Sound.{total, count_of, AreWritten, IsSound}
 use Rattle.route_lines.specs.State.{State, Stop, Route, stop_list, stop_of, is_full_of_stops}
 use Rattle.route_lines.specs.declared.refusal.Refusal.{Refusal}
-use Rattle.route_lines.proofs.CutLemmas.{up_to_behind, found_in, found_passes, found_if_any, total-append, length-total, count-any, count-none, found_counted, none_found}
+use Rattle.route_lines.proofs.CutLemmas.{up_to_behind, found_in, found_passes, total-append, length-total, count-any, count-none, found_counted, none_found, not_found}
 use Rattle.route_lines.proofs.NewStopLemmas.{none_above, put_behind-none}
 use Rattle.route_lines.proofs.RouteLemmas.{AreWritten-linked, total-linked, all_linked, AreWritten-unlinked, total-unlinked, all_unlinked, exchanged_keeps}
 use Rattle.route_lines.proofs.SoundLemmas.{and_then-ok}
@@ -18,20 +18,13 @@ use Rattle.route_lines.proofs.UndoLemmas.{own_stop, names_stop}
 
 -- ---- by ticket
 
-not_found : (k : ℕ) (xs : List Stop) → find (has_ticket k) xs ≡ None → count_of (has_ticket k) xs ≡ 0
-not_found k xs none = at (list_any (has_ticket k) xs) refl
-  where
-    at : (b : Bool) → list_any (has_ticket k) xs ≡ b → count_of (has_ticket k) xs ≡ 0
-    at true e = let some = found_if_any (has_ticket k) xs e in let no : None ≡ Some some.0 = sym none ∙ some.1 in cc
-    at false e = count-none (has_ticket k) xs e
-
 -- two lists with as many stops under each ticket, where each stop of the one is what the other has under its ticket
 pub same_found : (xs ys : List Stop) → ((k : ℕ) → count_of (has_ticket k) ys ≡ count_of (has_ticket k) xs) → AllByRecursion (λ t. find (has_ticket t.ticket) xs ≡ Some t) ys
     → (k : ℕ) → find (has_ticket k) ys ≡ find (has_ticket k) xs
 same_found xs ys same among k = at (find (has_ticket k) ys) refl
   where
     at : (o : Option Stop) → find (has_ticket k) ys ≡ o → find (has_ticket k) ys ≡ find (has_ticket k) xs
-    at None e = e ∙ sym (none_found (has_ticket k) xs (sym (same k) ∙ not_found k ys e))
+    at None e = e ∙ sym (none_found (has_ticket k) xs (sym (same k) ∙ not_found (has_ticket k) ys e))
     at (Some y) e =
         let own : find (has_ticket y.ticket) xs ≡ Some y = subst (λ o. IfSome o (λ t. find (has_ticket t.ticket) xs ≡ Some t)) e (found_in (λ t. find (has_ticket t.ticket) xs ≡ Some t) (has_ticket k) ys among) in
         let ticket : y.ticket ≡ k = eqb-true y.ticket k (found_passes (has_ticket k) ys y e) in

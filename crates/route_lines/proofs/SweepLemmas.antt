@@ -1,9 +1,9 @@
--- How many looks a list of calls makes: sweeps by removals, times the generations between two of them, and the counters' excess are
--- at most the removals.
-use Rattle.std.proofs.Common.{◌≡◌, ◌∙◌, sym, ap, subst, refl, ℕ, zero, suc, ◌+◌, ◌-◌, ◌*◌, ◌/◌, ◌<◌, ◌≤◌, List, [], ◌∷◌, arith}
+-- How many looks a list of calls makes: the removals so far pay for those that swept.
+use Rattle.std.proofs.Common.{ap, ℕ, ◌+◌, ◌-◌, ◌*◌, ◌/◌, ◌≤◌, List, [], ◌∷◌, arith}
 use Rattle.std.proofs.lemmas.Nat.{le-div}
-use Rattle.route_lines.specs.Sweeps.{Tally, Step, EndPlace, EndStop, EndPlaceAfterPack, EndStopAfterPack, Pack, Other, IsStep, AreSteps, packs, removals, AreFew}
+use Rattle.route_lines.specs.Sweeps.{Tally, Step, EndPlace, EndStop, EndPlaceAfterPack, EndStopAfterPack, Pack, Other, AreSteps, packs, removals, AreFew}
 
+-- how many of the steps are removals that sweep
 abbrev swept : Step → ℕ
 swept EndPlace = 0
 swept EndStop = 0
@@ -16,7 +16,7 @@ abbrev all_swept : List Step → ℕ
 all_swept [] = 0
 all_swept (step ∷ steps) = swept step + all_swept steps
 
--- `high` bounds both counters' excess over 3; `paid` is what the sweeps so far took of the removals so far
+-- what the sweeps took of the removals so far, and what either counter has above 3, are at most those removals
 record IsPaid (top paid done : ℕ) (a : Tally) : Type 0 where
   places : paid + (a.places - 3) ≤ done
   stops : paid + (a.stops - 3) ≤ done
@@ -24,6 +24,7 @@ record IsPaid (top paid done : ℕ) (a : Tally) : Type 0 where
   stops_up : a.stops ≤ top
 
 module _ (top most : ℕ) (three : 3 ≤ top) where
+  -- how many removals a sweep takes
   abbrev d : ℕ
   d = top - 2
 

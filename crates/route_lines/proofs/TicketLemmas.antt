@@ -1,7 +1,7 @@
 -- What a refused call leaves, and which ticket a call gives.
-use Rattle.std.proofs.Common.{◌≡◌, sym, refl, Bool, true, false, ℕ, ◌+◌, List, Option, Some, None, Ok, Err}
-use Rattle.route_lines.specs.Calls.{place_holder, stop_holder, placed, after_place, started, after_start, extended, after_extend, marked, after_mark}
-use Rattle.route_lines.specs.State.{State, Place, with_key, is_full_of_places, is_full_of_stops, is_full_of_marks}
+use Rattle.std.proofs.Common.{◌≡◌, sym, refl, Bool, true, false, ℕ, ◌+◌, List, Option, Some, None, Result, Ok, Err}
+use Rattle.route_lines.specs.Calls.{place_holder, stop_holder, placed, after_place, started, after_start, extended, after_extend, marked, after_mark, removed, after_removed}
+use Rattle.route_lines.specs.State.{State, Place, Item, with_key, holder, is_full_of_places, is_full_of_stops, is_full_of_marks}
 use Rattle.route_lines.specs.declared.placed.Placed.TheVariants.{New, Old}
 use Rattle.route_lines.specs.declared.refusal.Refusal.{Refusal}
 use Rattle.route_lines.specs.declared.refusal.Refusal.TheVariants.{Full}
@@ -14,6 +14,13 @@ place-refused s key word refusal e = by (with_key key s.places) (is_full_of_plac
     by (Some p) b f g = let old : placed s key word ≡ Ok (Old p.ticket p.word) = rw f refl in cc
     by None true f g = rw (f, g) refl
     by None false f g = let new : placed s key word ≡ Ok (New (s.last + 1)) = rw (f, g) refl in cc
+
+pub remove-refused : (s : State) (t : ℕ) (refusal : Refusal) → removed s t ≡ Err refusal → after_removed s t ≡ s
+remove-refused s t refusal e = by (holder s t) refl
+  where
+    by : (r : Result Item Refusal) → holder s t ≡ r → after_removed s t ≡ s
+    by (Ok item) f = let done : removed s t ≡ Ok tt = rw f refl in cc
+    by (Err other) f = rw f refl
 
 pub place-new : (s : State) (key ticket : ℕ) (word : List ℕ) → placed s key word ≡ Ok (New ticket) → (ticket ≡ s.last + 1) × ((after_place s key word).last ≡ ticket)
 place-new s key ticket word e = by (with_key key s.places) (is_full_of_places s) refl refl

@@ -1,6 +1,6 @@
 -- A cut undoes a join, and a swap undoes itself.
 use Rattle.std.proofs.Common.{◌≡◌, ◌≢◌, ◌∙◌, sym, ap, refl, Bool, true, false, ◌||◌, ◌&&◌, ◌==◌, ◌⊎◌, inl, inr, ℕ, ◌+◌, ◌≤◌, List, [], ◌∷◌, Option, Some, None, Ok, Err, cond, find, is_some, is_none, nat_lt, arith}
-use Rattle.std.specs.List.{AllByRecursion, list_any}
+use Rattle.std.specs.List.{AllByRecursion}
 use Rattle.std.specs.Option.{option_map, option_or, option_and_then, ok_or}
 use Rattle.std.proofs.lemmas.Bool.{eq-eqb, eqb-true, eqb-false, ne_eqb}
 use Rattle.route_lines.specs.Calls.{stop_holder, allowed, unless_refused, joined, after_join, parted, after_cut, swapped, after_swap}

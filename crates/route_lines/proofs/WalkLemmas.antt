@@ -6,10 +6,10 @@ use Rattle.std.proofs.lemmas.Bool.{eq-eqb, eqb-true, ne_eqb}
 use Rattle.route_lines.specs.Cuts.{before, onward}
 use Rattle.route_lines.specs.Leads.{head_or, Leads}
 use Rattle.route_lines.specs.Routes.{has_ticket, round, has_stop, next_stop, route_of, walk_in, walk_from}
-use Rattle.route_lines.specs.Sound.{total, count_of, AreWritten, IsSound}
+use Rattle.route_lines.specs.Sound.{count_of, AreWritten, IsSound}
 use Rattle.route_lines.specs.State.{State, Stop, Route, stop_list, stop_of}
-use Rattle.route_lines.proofs.CutLemmas.{before_onward, all_weaker, all_front, all_back, found_in, found_passes, total-append, count-any, count-none, found_counted}
-use Rattle.route_lines.proofs.LinkLemmas.{Leads-back, Leads-round, closing_of, Links, Links-next_stop, all_both, all_counted, found_if_counted, own_route}
+use Rattle.route_lines.proofs.CutLemmas.{before_onward, all_weaker, all_back, found_in, found_passes, total-append, count-any, found_counted}
+use Rattle.route_lines.proofs.LinkLemmas.{Leads-back, Leads-round, closing_of, Links-next_stop, all_both, all_counted, found_if_counted, own_route}
 use Rattle.route_lines.proofs.RelinkLemmas.{is_ticket, leads_to, starts_if_none_leads, starts_parts}
 use Rattle.route_lines.proofs.RouteLemmas.{all_stops_with, all_round, total-round, with_found}
 

@@ -194,7 +194,7 @@ abbrev pub unless_is : ℕ → Option ℕ → Option ℕ
 unless_is t None = None
 unless_is t (Some u) = if u == t then None else Some u
 
--- a stop and a mark whose place may be the one that has the ticket, and a mark whose stop may be
+-- a stop and a mark without the place that has the ticket, and a mark without the stop
 abbrev pub clear_stop : ℕ → Stop → Stop
 clear_stop t u = record u { place = unless_is t u.place }
 
@@ -204,6 +204,7 @@ clear_mark t m = record m { place = unless_is t m.place }
 abbrev pub clear_mark_stop : ℕ → Mark → Mark
 clear_mark_stop t m = record m { stop = unless_is t m.stop }
 
+-- a route of such stops
 abbrev pub clear_route : ℕ → Route → Route
 clear_route t r = record r { stops = map (clear_stop t) r.stops }
 

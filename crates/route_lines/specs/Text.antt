@@ -1,10 +1,11 @@
 -- The lines of an input, the text that answers them, and the state after them.
-use Rattle.std.specs.Prelude.{ℕ, ◌++◌, ◌==◌, ◌∷◌, List, [], Option, None, map}
+use Rattle.std.specs.Prelude.{ℕ, ◌++◌, ◌==◌, ◌∷◌, Bool, true, false, List, [], Option, Some, None, map}
 use Rattle.std.specs.List.{slice_split}
 use Rattle.route_lines.specs.State.{State}
 use Rattle.route_lines.specs.Grammar.{command_of}
 use Rattle.route_lines.specs.Reply.{reply, next}
 use Rattle.route_lines.specs.declared.command.Command.{Command}
+use Rattle.route_lines.specs.declared.command.Command.TheVariants.{Pack}
 
 -- a line without its LF, or what follows the last LF of an input
 pub data Line : Type 0 where
@@ -47,6 +48,19 @@ command_in (unended bytes) = None
 abbrev pub replies : State → List Line → List ℕ
 replies s [] = []
 replies s (line ∷ lines) = reply s (command_in line) ++ replies (next s (command_in line)) lines
+
+-- each line with its reply
+abbrev pub answered : State → List Line → List (Line × List ℕ)
+answered s [] = []
+answered s (line ∷ lines) = (line, reply s (command_in line)) ∷ answered (next s (command_in line)) lines
+
+-- whether a line is `pack`
+abbrev pub is_pack : Line → Bool
+is_pack line = is (command_in line)
+  where
+    is : Option Command → Bool
+    is (Some Pack) = true
+    is command = false
 
 abbrev pub after_lines : State → List Line → State
 after_lines s [] = s

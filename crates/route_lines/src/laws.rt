@@ -19,7 +19,7 @@ pub use removals::{
     removed_marks_leave_all_else, removed_places_leave_no_reference,
     removed_stops_join_their_neighbors, removed_tickets_are_gone,
 };
-pub use replies::replies_have_short_lines;
+pub use replies::{packs_change_no_reply, replies_have_short_lines};
 pub use routes::{
     cuts_part_one_stop, cuts_undo_joins, extensions_add_one_stop, extensions_lead_through,
     joins_lead_on, lists_are_walked_both_ways, rings_are_walked_once, routes_lead_along,

@@ -1,6 +1,6 @@
 //! What holds of every call that may be refused, and of every call that gives a ticket.
 ghost use Rattle.std.specs.Prelude.{◌≡◌, ◌+◌, ℕ, List, Ok, Err};
-ghost use Rattle.route_lines.specs.Calls.{after_cut, after_extend, after_join, after_mark, after_place, after_start, after_swap, extended, joined, marked, parted, placed, started, swapped};
+ghost use Rattle.route_lines.specs.Calls.{after_cut, after_extend, after_join, after_mark, after_place, after_removed, after_start, after_swap, extended, joined, marked, parted, placed, removed, started, swapped};
 ghost use Rattle.route_lines.specs.State.{State};
 ghost use Rattle.route_lines.specs.declared.placed.Placed.TheVariants.{New};
 ghost use Rattle.route_lines.specs.declared.refusal.Refusal.{Refusal};
@@ -21,6 +21,8 @@ pub fn refused_calls_change_nothing()
         → after_swap s t u ≡ s }
     ensures mark { (s : State) (at t : ℕ) (refusal : Refusal) → marked s at t ≡ Err refusal
         → after_mark s at t ≡ s }
+    ensures remove { (s : State) (t : ℕ) (refusal : Refusal) → removed s t ≡ Err refusal
+        → after_removed s t ≡ s }
 {}
 
 /// A new ticket is the one after the last, and is the last one from then on.

@@ -1,10 +1,11 @@
 //! What holds of removals.
-ghost use Rattle.std.specs.Prelude.{◌≡◌, ◌≢◌, ◌==◌, ◌+◌, ℕ, None, Ok, Err, if◌then◌else◌, length};
+ghost use Rattle.std.specs.Prelude.{◌≡◌, ◌≢◌, ◌==◌, ◌+◌, ℕ, List, None, Ok, Err, if◌then◌else◌, length};
 ghost use Rattle.std.specs.Option.{option_map};
 ghost use Rattle.route_lines.specs.Calls.{after_removed, clear_mark, clear_mark_stop, clear_stop, removed};
 ghost use Rattle.route_lines.specs.Routes.{next_stop, past};
 ghost use Rattle.route_lines.specs.Sound.{IsSound};
 ghost use Rattle.route_lines.specs.State.{Mark, Place, State, Stop, holder, mark, mark_of, place, place_of, stop, stop_list, stop_of};
+ghost use Rattle.route_lines.specs.Text.{Line, after_lines};
 ghost use Rattle.route_lines.specs.declared.refusal.Refusal.TheVariants.{Gone};
 
 /// A removed place is gone, and so is each reference to it. All else stays, and which stop follows which.
@@ -54,10 +55,13 @@ pub fn removed_marks_leave_all_else()
         → length (after_removed s t).marks + 1 ≡ length s.marks }
 {}
 
-/// A removal gives no ticket and changes no room, and the removed ticket is gone.
+/// A removal gives no ticket and changes no room, and the removed ticket is gone. A ticket that is gone stays so, whatever lines
+/// follow.
 pub fn removed_tickets_are_gone()
     ensures last { (s : State) (t : ℕ) → (after_removed s t).last ≡ s.last }
     ensures rooms { (s : State) (t : ℕ) → (after_removed s t).rooms ≡ s.rooms }
     ensures gone { (s : State) (t : ℕ) → IsSound s → removed s t ≡ Ok tt
         → holder (after_removed s t) t ≡ Err Gone }
+    ensures for_ever { (s : State) (t : ℕ) (lines : List Line) → IsSound s
+        → holder s t ≡ Err Gone → holder (after_lines s lines) t ≡ Err Gone }
 {}

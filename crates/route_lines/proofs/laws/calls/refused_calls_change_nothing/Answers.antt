@@ -1,5 +1,5 @@
 use Rattle.std.proofs.Common.{refl}
-use Rattle.route_lines.proofs.TicketLemmas.{place-refused}
+use Rattle.route_lines.proofs.TicketLemmas.{place-refused, remove-refused}
 use Rattle.route_lines.proofs.laws.calls.refused_calls_change_nothing.Goals as goal
 
 pub returns : goal.returns
@@ -11,4 +11,5 @@ returns c = record {
   cut = λ s t refusal e. rw e refl;
   swap = λ s t u refusal e. rw e refl;
   mark = λ s at t refusal e. rw e refl;
+  remove = remove-refused;
 }

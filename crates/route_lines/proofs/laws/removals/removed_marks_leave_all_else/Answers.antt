@@ -1,4 +1,4 @@
-use Rattle.std.proofs.Common.{refl, ◌==◌, ◌+◌, length, arith}
+use Rattle.std.proofs.Common.{refl, ◌==◌, arith}
 use Rattle.route_lines.specs.State.{Mark}
 use Rattle.route_lines.proofs.EndedLemmas.{one_mark}
 use Rattle.route_lines.proofs.RemovedLemmas.{find-filter, length-filter}

@@ -1,4 +1,4 @@
-use Rattle.std.proofs.Common.{refl, ◌+◌, length, arith}
+use Rattle.std.proofs.Common.{refl, arith}
 use Rattle.std.proofs.lemmas.List.{length-map}
 use Rattle.route_lines.specs.Calls.{clear_mark_stop}
 use Rattle.route_lines.specs.State.{Mark}
