@@ -106,6 +106,12 @@ module _ (s s' : State) (f : Found) (order : List Place) (ends : ℕ → Option 
 
 -- ---- what ties a store's parts
 
+-- what the model tells of the removal of a mark
+pub record IsMarkGone (s s' : State) (t : ℕ) : Type 0 where
+  pub is : s' ≡ without_mark s t
+  pub marks : (u : ℕ) → mark_of s'.marks u ≡ (if u == t then None else mark_of s.marks u)
+  pub mark_count : length s'.marks + 1 ≡ length s.marks
+
 module _ {I : Type 0} (number : I → ℕ) (rooms : Rooms) (last : ℕ) (s : State) (places : Ordered I Place) (stops : Content (IndexLink I StopView)) (marks marks' : Content MarkView)
     (book : List Entry) (b : IsBook number rooms last s places stops marks book)
     (i g : ℕ) (v : MarkView) (found : value_if g (entry_at marks i) ≡ Some v)
@@ -120,21 +126,20 @@ module _ {I : Type 0} (number : I → ℕ) (rooms : Rooms) (last : ℕ) (s : Sta
   pub marks_stay : (k h : ℕ) (w : MarkView) → entry_at marks k ≡ Some (h, w) → w.ticket ≢ v.ticket → entry_at marks' k ≡ Some (h, w)
   marks_stay = others_stay (λ (w : MarkView). w.ticket) (entry_at marks) (entry_at marks') i g v stood removed.entries own
 
-  module _ (s' : State) (is : s' ≡ without_mark s v.ticket) (sound : IsSound s')
-      (marks_are : (u : ℕ) → mark_of s'.marks u ≡ (if u == v.ticket then None else mark_of s.marks u)) (mark_count : length s'.marks + 1 ≡ length s.marks) where
+  module _ (s' : State) (laws : IsMarkGone s s' v.ticket) (sound : IsSound s') where
     held : IsHeld s' (found_in places stops marks') (in_order number places) (ends_in number stops) (without_ticket v.ticket book)
     held = mark_ended s s' (found_in places stops marks) (in_order number places) (ends_in number stops) book b.held i g v stood (entry_at marks') removed.entries
-        (ap (λ (x : State). x.last) is) (ap (λ (x : State). x.places) is) (ap (λ (x : State). x.routes) is) marks_are
+        (ap (λ (x : State). x.last) laws.is) (ap (λ (x : State). x.places) laws.is) (ap (λ (x : State). x.routes) laws.is) laws.marks
 
     pub mark_leaves : IsBook number rooms last s' places stops marks' (without_ticket v.ticket book)
     mark_leaves = record {
       held = held;
       keys_rise = sound.keys;
       within = record {
-        rooms_are = ap (λ (x : State). x.rooms) is ∙ b.within.rooms_are;
-        place_count = ap (λ (x : State). length x.places) is ∙ b.within.place_count;
-        stop_count = ap (λ (x : State). length (stop_list x.routes)) is ∙ b.within.stop_count;
-        mark_count = (let n = b.within.mark_count in let z = removed.live in omega (arith, n, z, mark_count));
+        rooms_are = ap (λ (x : State). x.rooms) laws.is ∙ b.within.rooms_are;
+        place_count = ap (λ (x : State). length x.places) laws.is ∙ b.within.place_count;
+        stop_count = ap (λ (x : State). length (stop_list x.routes)) laws.is ∙ b.within.stop_count;
+        mark_count = (let n = b.within.mark_count in let z = removed.live in let l = laws.mark_count in omega (arith, n, z, l));
         places_fit = b.within.places_fit;
         stops_fit = b.within.stops_fit;
         marks_fit = (let n = b.within.marks_fit in let z = removed.live in omega (arith, n, z));
@@ -142,7 +147,7 @@ module _ {I : Type 0} (number : I → ℕ) (rooms : Rooms) (last : ℕ) (s : Sta
         stop_room = b.within.stop_room;
         mark_room = subst (λ r. rooms.marks ≤ capacity r) (sym removed.room) b.within.mark_room;
       };
-      last_is = ap (λ (x : State). x.last) is ∙ b.last_is;
+      last_is = ap (λ (x : State). x.last) laws.is ∙ b.last_is;
       entries = (let n = b.entries in let z = removed.live in let l = length_without v.ticket book 0 s.last _ b.held.rise (b.held.marks_in i g v stood) in omega (arith, n, z, l));
       marks_differ = differ_of_rise s'.marks sound.marks;
     }

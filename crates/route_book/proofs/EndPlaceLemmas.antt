@@ -158,6 +158,17 @@ module _ (s s' : State) (f : Found) (order order' : List Place) (ends : ℕ → 
 
 -- ---- what ties a store's parts
 
+-- what the model tells of the removal of a place
+pub record IsPlaceGone (s s' : State) (t : ℕ) : Type 0 where
+  pub is : s' ≡ without_place s t
+  pub places : (u : ℕ) → place_of s'.places u ≡ (if u == t then None else place_of s.places u)
+  pub stops : (u : ℕ) → stop_of s'.routes u ≡ option_map (clear_stop t) (stop_of s.routes u)
+  pub marks : (u : ℕ) → mark_of s'.marks u ≡ option_map (clear_mark t) (mark_of s.marks u)
+  pub next : (u : ℕ) → next_stop s'.routes u ≡ next_stop s.routes u
+  pub place_count : length s'.places + 1 ≡ length s.places
+  pub stop_count : length (stop_list s'.routes) ≡ length (stop_list s.routes)
+  pub mark_count : length s'.marks ≡ length s.marks
+
 module _ {I : Type 0} (number : I → ℕ) (rooms : Rooms) (last : ℕ) (s : State) (places places' : Ordered I Place) (stops : Content (IndexLink I StopView)) (marks : Content MarkView)
     (book : List Entry) (b : IsBook number rooms last s places stops marks book)
     (i g : ℕ) (p : Place) (found : value_if g (entry_in places i) ≡ Some p) (ordered : IsOrdered number places)
@@ -185,27 +196,22 @@ module _ {I : Type 0} (number : I → ℕ) (rooms : Rooms) (last : ℕ) (s : Sta
   pub places_stay : (k h : ℕ) (q : Place) → entry_in places k ≡ Some (h, q) → q.ticket ≢ p.ticket → entry_in places' k ≡ Some (h, q)
   places_stay = others_stay (λ (q : Place). q.ticket) (entry_in places) (entry_in places') i g p stood removed.entries own
 
-  module _ (s' : State) (is : s' ≡ without_place s p.ticket) (sound : IsSound s')
-      (places_are : (u : ℕ) → place_of s'.places u ≡ (if u == p.ticket then None else place_of s.places u))
-      (stops_are : (u : ℕ) → stop_of s'.routes u ≡ option_map (clear_stop p.ticket) (stop_of s.routes u))
-      (marks_are : (u : ℕ) → mark_of s'.marks u ≡ option_map (clear_mark p.ticket) (mark_of s.marks u))
-      (next_is : (u : ℕ) → next_stop s'.routes u ≡ next_stop s.routes u)
-      (place_count : length s'.places + 1 ≡ length s.places) (stop_count : length (stop_list s'.routes) ≡ length (stop_list s.routes)) (mark_count : length s'.marks ≡ length s.marks) where
+  module _ (s' : State) (laws : IsPlaceGone s s' p.ticket) (sound : IsSound s') where
     held : IsHeld s' (found_in places' stops marks) (in_order number places') (ends_in number stops) (without_ticket p.ticket book)
     held = place_ended s s' (found_in places stops marks) (in_order number places) (in_order number places') (ends_in number stops) book b.held
-        i g p stood (entry_in places') removed.entries places'.chains.counter place_steps (ap (λ (x : State). x.last) is)
-        (order_is ∙ ap (filter (λ (q : Place). not (q.ticket == p.ticket))) (sym b.held.in_order) ∙ sym (ap (λ (x : State). x.places) is))
-        places_are stops_are marks_are next_is
+        i g p stood (entry_in places') removed.entries places'.chains.counter place_steps (ap (λ (x : State). x.last) laws.is)
+        (order_is ∙ ap (filter (λ (q : Place). not (q.ticket == p.ticket))) (sym b.held.in_order) ∙ sym (ap (λ (x : State). x.places) laws.is))
+        laws.places laws.stops laws.marks laws.next
 
     pub place_leaves : IsBook number rooms last s' places' stops marks (without_ticket p.ticket book)
     place_leaves = record {
       held = held;
       keys_rise = sound.keys;
       within = record {
-        rooms_are = ap (λ (x : State). x.rooms) is ∙ b.within.rooms_are;
-        place_count = (let n = b.within.place_count in let z = removed.size in omega (arith, n, z, place_count));
-        stop_count = stop_count ∙ b.within.stop_count;
-        mark_count = mark_count ∙ b.within.mark_count;
+        rooms_are = ap (λ (x : State). x.rooms) laws.is ∙ b.within.rooms_are;
+        place_count = (let n = b.within.place_count in let z = removed.size in let l = laws.place_count in omega (arith, n, z, l));
+        stop_count = laws.stop_count ∙ b.within.stop_count;
+        mark_count = laws.mark_count ∙ b.within.mark_count;
         places_fit = (let n = b.within.places_fit in let z = removed.size in omega (arith, n, z));
         stops_fit = b.within.stops_fit;
         marks_fit = b.within.marks_fit;
@@ -213,7 +219,7 @@ module _ {I : Type 0} (number : I → ℕ) (rooms : Rooms) (last : ℕ) (s : Sta
         stop_room = b.within.stop_room;
         mark_room = b.within.mark_room;
       };
-      last_is = ap (λ (x : State). x.last) is ∙ b.last_is;
+      last_is = ap (λ (x : State). x.last) laws.is ∙ b.last_is;
       entries = (let n = b.entries in let z = removed.size in let l = length_without p.ticket book 0 s.last _ b.held.rise (b.held.places_in i g p stood) in omega (arith, n, z, l));
       marks_differ = differ_of_rise s'.marks sound.marks;
     }

@@ -224,6 +224,15 @@ module _ (s s' : State) (f : Found) (order : List Place) (ends ends' : ℕ → O
 
 -- ---- what ties a store's parts
 
+-- what the model tells of the removal of a stop
+pub record IsStopGone (s s' : State) (t : ℕ) : Type 0 where
+  pub is : s' ≡ without_stop s t
+  pub stops : (u : ℕ) → stop_of s'.routes u ≡ (if u == t then None else stop_of s.routes u)
+  pub marks : (u : ℕ) → mark_of s'.marks u ≡ option_map (clear_mark_stop t) (mark_of s.marks u)
+  pub next : (u : ℕ) → u ≢ t → next_stop s'.routes u ≡ past t (next_stop s.routes t) (next_stop s.routes u)
+  pub stop_count : length (stop_list s'.routes) + 1 ≡ length (stop_list s.routes)
+  pub mark_count : length s'.marks ≡ length s.marks
+
 module _ {I : Type 0} (number : I → ℕ) (rooms : Rooms) (last : ℕ) (s : State) (places : Ordered I Place) (stops stops' : Content (IndexLink I StopView)) (marks : Content MarkView)
     (book : List Entry) (b : IsBook number rooms last s places stops marks book)
     (i g : ℕ) (v : StopView) (found : value_if g (values_in stops i) ≡ Some v) (chained : IsChained number stops)
@@ -242,25 +251,21 @@ module _ {I : Type 0} (number : I → ℕ) (rooms : Rooms) (last : ℕ) (s : Sta
   pub stops_stay : (k h : ℕ) (w : StopView) → values_in stops k ≡ Some (h, w) → w.ticket ≢ v.ticket → values_in stops' k ≡ Some (h, w)
   stops_stay = others_stay (λ (w : StopView). w.ticket) (values_in stops) (values_in stops') i g v stood taken.values own
 
-  module _ (s' : State) (is : s' ≡ without_stop s v.ticket) (sound : IsSound s')
-      (stops_are : (u : ℕ) → stop_of s'.routes u ≡ (if u == v.ticket then None else stop_of s.routes u))
-      (marks_are : (u : ℕ) → mark_of s'.marks u ≡ option_map (clear_mark_stop v.ticket) (mark_of s.marks u))
-      (next_is : (u : ℕ) → u ≢ v.ticket → next_stop s'.routes u ≡ past v.ticket (next_stop s.routes v.ticket) (next_stop s.routes u))
-      (stop_count : length (stop_list s'.routes) + 1 ≡ length (stop_list s.routes)) (mark_count : length s'.marks ≡ length s.marks) where
+  module _ (s' : State) (laws : IsStopGone s s' v.ticket) (sound : IsSound s') where
     held : IsHeld s' (found_in places stops' marks) (in_order number places) (ends_in number stops') (without_ticket v.ticket book)
     held = stop_ended s s' (found_in places stops marks) (in_order number places) (ends_in number stops) (ends_in number stops') book b.held
-        i g v stood (values_in stops') taken.values stops'.counter stop_steps chained.agreed (live_ends number stops) taken.ends next_is
-        (ap (λ (x : State). x.last) is) (ap (λ (x : State). x.places) is) stops_are marks_are
+        i g v stood (values_in stops') taken.values stops'.counter stop_steps chained.agreed (live_ends number stops) taken.ends laws.next
+        (ap (λ (x : State). x.last) laws.is) (ap (λ (x : State). x.places) laws.is) laws.stops laws.marks
 
     pub stop_leaves : IsBook number rooms last s' places stops' marks (without_ticket v.ticket book)
     stop_leaves = record {
       held = held;
       keys_rise = sound.keys;
       within = record {
-        rooms_are = ap (λ (x : State). x.rooms) is ∙ b.within.rooms_are;
-        place_count = ap (λ (x : State). length x.places) is ∙ b.within.place_count;
-        stop_count = (let n = b.within.stop_count in let z = taken.live in omega (arith, n, z, stop_count));
-        mark_count = mark_count ∙ b.within.mark_count;
+        rooms_are = ap (λ (x : State). x.rooms) laws.is ∙ b.within.rooms_are;
+        place_count = ap (λ (x : State). length x.places) laws.is ∙ b.within.place_count;
+        stop_count = (let n = b.within.stop_count in let z = taken.live in let l = laws.stop_count in omega (arith, n, z, l));
+        mark_count = laws.mark_count ∙ b.within.mark_count;
         places_fit = b.within.places_fit;
         stops_fit = (let n = b.within.stops_fit in let z = taken.live in omega (arith, n, z));
         marks_fit = b.within.marks_fit;
@@ -268,7 +273,7 @@ module _ {I : Type 0} (number : I → ℕ) (rooms : Rooms) (last : ℕ) (s : Sta
         stop_room = subst (λ r. rooms.stops ≤ capacity r) (sym taken.room) b.within.stop_room;
         mark_room = b.within.mark_room;
       };
-      last_is = ap (λ (x : State). x.last) is ∙ b.last_is;
+      last_is = ap (λ (x : State). x.last) laws.is ∙ b.last_is;
       entries = (let n = b.entries in let z = taken.live in let l = length_without v.ticket book 0 s.last _ b.held.rise (b.held.stops_in i g v stood) in omega (arith, n, z, l));
       marks_differ = differ_of_rise s'.marks sound.marks;
     }

@@ -22,6 +22,7 @@ pub mod PackLemmas
 pub mod PassedLemmas
 pub mod PlaceLemmas
 pub mod RelinkLemmas
+pub mod RemovalLemmas
 pub mod RewordLemmas
 pub mod RoomLemmas
 pub mod SettledLemmas

@@ -14,6 +14,7 @@ use Rattle.route_book.specs.Item.{StopView, MarkView}
 use Rattle.ticket_book.specs.Tickets.{Entry}
 use Rattle.route_book.specs.Holds.{IsLive}
 use Rattle.route_book.specs.Book.{IsBook}
+use Rattle.route_book.specs.Removals.{references_in}
 use Rattle.route_book.specs.Compressed.{IsAllCompressed}
 use Rattle.route_book.specs.Packing.{IsMirrored, IsBooked, recast_stop, recast_mark}
 use Rattle.ticket_book.specs.Mirrors.{Mirror, renewed_entry}
@@ -59,7 +60,7 @@ module _ {I : Type 0} (number : I → ℕ) (last : Option ℕ) (rooms : Rooms) (
   places_in_order = all.laid.runs ∙ ap (range_with_len 1) (sym b.within.place_count)
 
   pub looks_made : (before between after : ℕ) → between ≡ before + live_count stops1 → after ≡ between + 2 * live_count marks1
-      → after ≡ before + length (stop_list s.routes) + 2 * length s.marks
+      → after ≡ before + references_in s
   looks_made before between after one two =
       let n = b.within.stop_count in let o = b.within.mark_count in let p = all.canonical.live in let q = all.compressed.live in
       omega (arith, one, two, n, o, p, q)
@@ -121,13 +122,3 @@ module _ {I : Type 0} (number : I → ℕ) (last : Option ℕ) (rooms : Rooms) (
 
     pub whole_stop_counter : stops'.counter ≡ second_generation last
     whole_stop_counter = stops_counter ∙ all.canonical.counter
-
-    -- the mirrors still have the room
-    pub places_mirrored : (room : ℕ) → arena_capacity places.chains ≤ room → arena_capacity places'.chains ≤ room
-    places_mirrored room up = subst (λ r. capacity r ≤ room) (sym all.laid.room) up
-
-    pub stops_mirrored : (room : ℕ) → arena_capacity stops ≤ room → arena_capacity stops' ≤ room
-    stops_mirrored room up = subst (λ r. capacity r ≤ room) (sym (stops_room ∙ all.canonical.room)) up
-
-    pub marks_mirrored : (room : ℕ) → arena_capacity marks ≤ room → arena_capacity marks' ≤ room
-    marks_mirrored room up = subst (λ r. capacity r ≤ room) (sym (marks_room ∙ all.compressed.room)) up

@@ -24,6 +24,18 @@ OthersStay {T} ticket t old new = (i g : ℕ) (x : T) → old i ≡ Some (g, x) 
 abbrev pub references_in : State → ℕ
 references_in s = length (stop_list s.routes) + 2 * length s.marks
 
+-- the kind of an item
+abbrev pub kind_of : Item → Kind
+kind_of (place p) = OfPlace
+kind_of (stop v) = OfStop
+kind_of (mark m) = OfMark
+
+-- an item has ended after a pack: so many references were looked at, and its arena's counter is one above the other's
+pub record IsEndedAfterPack (before after counter counter' : ℕ) (last : Option ℕ) (s : State) : Type 0 where
+  pub looks : after ≡ before + references_in s
+  pub own : counter ≡ second_generation last + 1
+  pub other : counter' ≡ second_generation last
+
 module _ {I : Type 0} where
   -- a place has ended: its arena's counter is one up, and stops and marks are as they were, with their references
   pub record IsPlaceEnded (t : ℕ) (old new : Book I) : Type 0 where
@@ -45,12 +57,6 @@ module _ {I : Type 0} where
     pub places : new.places ≡ old.places
     pub stops : new.stops ≡ old.stops
 
-  -- an item has ended after a pack: so many references were looked at, and its arena's counter is one above the other's
-  pub record IsEndedAfterPack (before after ended other : ℕ) (last : Option ℕ) (s : State) : Type 0 where
-    pub looks : after ≡ before + references_in s
-    pub ended : ended ≡ second_generation last + 1
-    pub other : other ≡ second_generation last
-
   -- what became of an item of a kind whose removal does not start a counter again
   abbrev pub IsEnded : Kind → ℕ → Book I → Book I → Type 0
   IsEnded OfPlace t old new = IsPlaceEnded t old new
@@ -62,12 +68,6 @@ module _ {I : Type 0} where
   removal_wraps last b OfPlace = next_wraps last b.places.chains.counter
   removal_wraps last b OfStop = next_wraps last b.stops.counter
   removal_wraps last b OfMark = false
-
-  -- the kind of an item
-  abbrev pub kind_of : Item → Kind
-  kind_of (place p) = OfPlace
-  kind_of (stop v) = OfStop
-  kind_of (mark m) = OfMark
 
   -- an item of a kind has ended: with no look, or after a pack where its counter would have started again
   abbrev pub IsRemoved : Option ℕ → Kind → ℕ → ℕ → ℕ → Book I → Book I → Type 0

@@ -1,3 +1,4 @@
+//! What a store stands in: its stacks, and what they take their memory from.
 ghost use Rattle.std.specs.Prelude.{◌≡◌, ◌↔◌, ℕ, Bool, true, false, Option, Some, None};
 ghost use Rattle.std.proofs.Common.{refl, rules};
 ghost use Rattle.triple_arena_stack.specs.Room.{Room, IsBeyond};

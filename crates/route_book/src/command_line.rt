@@ -1,3 +1,4 @@
+//! The program over a store: its arguments, its exit status, and what it tells.
 ghost use Rattle.std.specs.Prelude.{◌≡◌, ◌<◌, ◌≤◌, ◌+◌, ◌-◌, ◌^◌, ◌↔◌, ◌⊎◌, ℕ, Some, IfSome, IsNone, codes, map, string_bytes};
 ghost use Rattle.route_lines.specs.CommandLine.{Answers, AnswersWholeLines, BeginsToAnswer, Tells, refusal_of, refused_line, room_sum, rooms_of};
 ghost use Rattle.route_lines.specs.State.{Rooms, empty};

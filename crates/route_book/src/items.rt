@@ -1,3 +1,4 @@
+//! What the arenas of a store hold: places, stops and marks, and references between them.
 ghost use Rattle.std.specs.Prelude.{◌≡◌};
 ghost use Rattle.std.specs.Option.{option_map};
 ghost use Rattle.route_book.specs.Item.{pointer_of};

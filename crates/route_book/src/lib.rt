@@ -19,7 +19,6 @@ mod backing;
 mod book;
 mod command_line;
 mod items;
-mod lab;
 mod mirrors;
 mod parts;
 mod place_arena;

@@ -1,3 +1,4 @@
+//! An input, answered line by line.
 ghost use Rattle.std.specs.Prelude.{◌≡◌, ◌⊎◌, ℕ, ◌+◌, ◌-◌, ◌<◌, ◌++◌, ◌^◌, List, [], IfErr, OnOk, OnErr, map};
 ghost use Rattle.std.specs.Io.KnownBytes.{Consumes, IsAtEnd};
 ghost use Rattle.route_lines.specs.Run.{Carries, OnRead, OnWrite, OnTooLong, StopsWithin};

@@ -1,5 +1,5 @@
 -- What the entries along a list are where one is taken out, and where each is renewed.
-use Rattle.std.proofs.Common.{◌≡◌, ◌≢◌, ◌∙◌, sym, ap, subst, refl, Bool, true, false, ◌==◌, if◌then◌else◌, ℕ, ◌+◌, ◌<◌, List, [], ◌∷◌, ◌++◌, map, filter, not, Option, Some, None, IsSome, IfSome, is_some, option_map, true≢false, arith, inl, inr}
+use Rattle.std.proofs.Common.{◌≡◌, ◌≢◌, ◌∙◌, sym, ap, subst, refl, Bool, true, false, ◌==◌, if◌then◌else◌, ℕ, ◌+◌, ◌<◌, List, [], ◌∷◌, ◌++◌, map, filter, not, Option, Some, None, IsSome, OnSome, option_map, true≢false, arith, inl, inr}
 use Rattle.std.specs.List.{AllByRecursion}
 use Rattle.std.proofs.lemmas.Bool.{eq-eqb, ne_eqb}
 use Rattle.std.proofs.lemmas.Bool.Decides.{eqb_tells}
@@ -11,7 +11,7 @@ use Rattle.triple_arena_chain.specs.UniquenessLaws.{linear_apart}
 use Rattle.triple_arena_ord.specs.Ordered.{Ordered, IsOrdered, entry_in, order_in}
 use Rattle.triple_arena_ord.specs.Removal.{IsEntryRemoved}
 use Rattle.ticket_book.specs.InArena.{entries_of}
-use Rattle.ticket_book.specs.Tickets.{Entry, TicketsRise, without_ticket}
+use Rattle.ticket_book.specs.Tickets.{Entry, TicketsRise, lookup, without_ticket}
 use Rattle.ticket_book.proofs.TicketLemmas.{along, along-append, along_none, along_some, some_same}
 
 -- ---- an entry less
@@ -85,16 +85,31 @@ module _ {I : Type 0} (number : I → ℕ) (old new : Ordered I Entry) (ordered 
         ∙ ap (λ l. along at removed.order.before ++ l) (along_without at (entry_in new) i removed.entries removed.order.after apart.1)
         ∙ sym (ap (without_ticket e.ticket) split ∙ one_out (along at removed.order.before) (along at removed.order.after) e (subst TicketsRise split rise))
 
-  -- whatever a removal finds, the tickets still rise
-  pub rise_out : {A : Type 0} (last : Option ℕ) (i g : ℕ) (answer : Option A) (value : A → Entry) → option_map value answer ≡ value_if g (entry_in old i)
-      → ((a : A) → answer ≡ Some a → IsEntryRemoved number last i old new) → (answer ≡ None → new ≡ old) → TicketsRise (entries_of number new)
-  rise_out {A} last i g answer value is removed same = by answer refl
-    where
-      by : (o : Option A) → answer ≡ o → TicketsRise (entries_of number new)
-      by None none = subst (λ o. TicketsRise (entries_of number o)) (sym (same none)) rise
-      by (Some a) some =
-          subst TicketsRise (sym (entry_out last i g (removed a some) (value a) (sym is ∙ ap (option_map value) some)))
-          (still_rise (value a).ticket (entries_of number old) rise)
+  -- what a removal tells that finds an entry
+  module _ {A : Type 0} (last : Option ℕ) (i g : ℕ) (answer : Option A) (e : Entry) (is : Some e ≡ value_if g (entry_in old i)) (value : A → Entry)
+      (found : option_map value answer ≡ value_if g (entry_in old i)) (removed : OnSome answer (IsEntryRemoved number last i old new)) where
+    gone : IsEntryRemoved number last i old new
+    gone = by answer (found ∙ sym is) removed
+      where
+        by : (o : Option A) → option_map value o ≡ Some e → OnSome o (IsEntryRemoved number last i old new) → IsEntryRemoved number last i old new
+        by None none h = absurd (let no : ◌≡◌ {A = Option Entry} None (Some e) = none in cc)
+        by (Some a) some h = h
+
+    pub entry_taken : entries_of number new ≡ without_ticket e.ticket (entries_of number old)
+    entry_taken = entry_out last i g gone e (sym is)
+
+    pub rise_taken : TicketsRise (entries_of number new)
+    rise_taken = subst TicketsRise (sym entry_taken) (still_rise e.ticket (entries_of number old) rise)
+
+-- an entry that is found under a ticket has it
+pub ticket_of_found : (t : ℕ) (xs : List Entry) (e : Entry) → lookup xs t ≡ Some e → e.ticket ≡ t
+ticket_of_found t [] e is = absurd (let no : ◌≡◌ {A = Option Entry} None (Some e) = is in cc)
+ticket_of_found t (x ∷ xs) e is = elim (eqb_tells x.ticket t) [
+  | inl same ↦
+      let found : lookup (x ∷ xs) t ≡ Some x = rw same.0 refl in
+      ap (λ (y : Entry). y.ticket) (some_same e x (sym is ∙ found)) ∙ same.1
+  | inr other ↦ let skip : lookup (x ∷ xs) t ≡ lookup xs t = rw other.0 refl in ticket_of_found t xs e (sym skip ∙ is)
+]
 
 -- ---- each entry renewed
 

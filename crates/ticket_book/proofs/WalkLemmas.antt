@@ -48,7 +48,7 @@ all_before old at low ahead all j some = elim (leb_tells low j) [
 
 -- an entry that a pointer finds
 pub stands_at : {V : Type 0} (at : ℕ → Option (ℕ × V)) (i g : ℕ) (v : V) → Some v ≡ value_if g (at i) → at i ≡ Some (g, v)
-stands_at at i g v value = by (at i) refl value
+stands_at {V} at i g v value = by (at i) refl value
   where
     by : (o : Option (ℕ × V)) → at i ≡ o → Some v ≡ value_if g o → at i ≡ Some (g, v)
     by None at_i found = absurd (let no : Some v ≡ None = found in cc)

@@ -1,9 +1,9 @@
-ghost use Rattle.std.specs.Prelude.{◌≡◌, ◌+◌, ◌<◌, ◌≤◌, ◌++◌, [], ◌∷◌, length, map, Some, None, IfOk, IfSome, IfNone, IsSome};
+//! The book of living tickets.
+ghost use Rattle.std.specs.Prelude.{◌≡◌, ◌+◌, ◌<◌, ◌≤◌, ◌++◌, [], ◌∷◌, length, map, true, false, Some, None, IfOk, IfSome, IfNone};
 ghost use Rattle.std.specs.Option.{option_map};
 ghost use Rattle.counted_search.specs.Searches.{most_comparisons};
 ghost use Rattle.ticket_book.specs.Mirrors.{numbers, renewed_entry};
-ghost use Rattle.ticket_book.specs.Tickets.{AreBelow, Entry as EntryView, asked, lookup, without_ticket};
-ghost use Rattle.triple_arena.specs.Entries.{value_if};
+ghost use Rattle.ticket_book.specs.Tickets.{AreBelow, Entry as EntryView, asked, lookup, stays, without_ticket};
 ghost use Rattle.triple_arena.specs.ArenaRoom.{room_of};
 ghost use Rattle.triple_arena_ord.specs.Growth.{IsRoomRefusal};
 
@@ -17,6 +17,7 @@ use triple_arena_chain::LinkNoGen;
 use triple_arena_ord::laws::{entries_stand_in_the_list, the_list_has_as_many_entries_as_are_live};
 use triple_arena_ord::{InsertKind, OrdSlots, SimpleOrdArena, SimpleOrdArenaNode};
 use triple_arena_ptr::{Probes, PtrCore, ReallocationError};
+use unreached::unreached;
 
 /// A slot of a ticket book.
 pub type TicketSlot<P> = ArenaSlot<P, LinkNoGen<P, SimpleOrdArenaNode<P, Entry<P>>>>;
@@ -35,11 +36,9 @@ impl<P: PtrCore, S: OrdSlots<P, Entry<P>>> Model for TicketBook<P, S> {
     ghost use Rattle.ticket_book.specs.InArena.{entries_of, asked_in, asked_beside};
     ghost use Rattle.ticket_book.specs.Tickets.{TicketsRise};
     ghost use Rattle.triple_arena.specs.Content.{arena_capacity};
-    ghost use Rattle.triple_arena_ord.specs.Ordered.{entry_in};
 
     ghost view = { λ b. record {
       entries = entries_of P.Inx.number b.arena;
-      slots = entry_in b.arena;
       capacity = arena_capacity b.arena.chains;
       asked_below = asked_in P.Inx.number b.arena 0;
       asked_along = asked_beside P.Inx.number b.arena;
@@ -67,33 +66,14 @@ impl<P: PtrCore, S: OrdSlots<P, Entry<P>>> TicketBook<P, S> {
         ensures ticks { probes.new ≡ probes.old + asked self.now ticket }
         ensures bound { asked self.now ticket ≤ most_comparisons (length self.now.entries) }
     {
-        match self.seek_counted(ticket, probes) {
-            Some(at) => self.entry(at),
-            None => None,
-        }
-    }
-
-    /// The pointer under which the entry of a ticket stands in the book, by the same search.
-    pub fn seek_counted(&self, ticket: u64, probes: &mut Probes) -> Option<P>
-        ensures found { IfSome result (λ at. value_if (P.generation at) (self.now.slots (P.index at))
-            ≡ lookup self.now.entries ticket) }
-        ensures live { IfSome result (λ at. IsSome (lookup self.now.entries ticket)) }
-        ensures none { IfNone result (lookup self.now.entries ticket ≡ None) }
-        ensures ticks { probes.new ≡ probes.old + asked self.now ticket }
-        ensures bound { asked self.now ticket ≤ most_comparisons (length self.now.entries) }
-    {
         entries_stand_in_the_list::<P, Entry<P>>();
         the_list_has_as_many_entries_as_are_live::<P, Entry<P>>();
         // The list is as it must be.
         let _ = self.arena.len();
-        self.arena.find_key_counted(&ticket, probes)
-    }
-
-    /// The entry under a pointer of the book.
-    pub fn entry(&self, at: P) -> Option<&Entry<P>>
-        ensures { option_map (λ e. e.now) result ≡ value_if (P.generation at) (self.now.slots (P.index at)) }
-    {
-        self.arena.get(at)
+        match self.arena.find_key_counted(&ticket, probes) {
+            Some(p) => self.arena.get(p),
+            None => None,
+        }
     }
 
     /// A ticket above all others. It is compared with none.
@@ -122,15 +102,42 @@ impl<P: PtrCore, S: OrdSlots<P, Entry<P>>> TicketBook<P, S> {
         }
     }
 
-    /// Takes out the ticket whose entry stands under a pointer of the book. No entry moves.
-    pub fn end(&mut self, at: P)
-        ensures entries { (e : EntryView) → value_if (P.generation at) (self.old.slots (P.index at)) ≡ Some e
-            → self.new.entries ≡ without_ticket e.ticket self.old.entries }
+    /// Takes out a ticket, by the same search, and answers the kind of its item and the pointer to it. It stays where it is of
+    /// a kind that has to, which the last part of the answer tells.
+    pub fn take_counted(
+        &mut self,
+        ticket: u64,
+        places_stay: bool,
+        stops_stay: bool,
+        probes: &mut Probes,
+    ) -> Option<(Kind, P, bool)>
+        ensures found { IfSome result (λ r. (e : EntryView) × ((lookup self.old.entries ticket ≡ Some e)
+            × ((r.0 ≡ e.kind) × ((P.index r.1 ≡ e.index) × ((P.generation r.1 ≡ e.generation)
+            × (r.2 ≡ stays places_stay stops_stay e.kind)))))) }
+        ensures out { IfSome result (λ r. r.2 ≡ false → self.new.entries ≡ without_ticket ticket self.old.entries) }
+        ensures kept { IfSome result (λ r. r.2 ≡ true → self.new ≡ self.old) }
+        ensures none { IfNone result ((lookup self.old.entries ticket ≡ None) × (self.new ≡ self.old)) }
         ensures capacity { self.new.capacity ≡ self.old.capacity }
+        ensures ticks { probes.new ≡ probes.old + asked self.old ticket }
+        ensures bound { asked self.old ticket ≤ most_comparisons (length self.old.entries) }
     {
+        entries_stand_in_the_list::<P, Entry<P>>();
+        the_list_has_as_many_entries_as_are_live::<P, Entry<P>>();
         // The list is as it must be.
         let _ = self.arena.len();
+        let Some(at) = self.arena.find_key_counted(&ticket, probes) else {
+            return None;
+        };
+        let Some(entry) = self.arena.get(at) else {
+            unreached!()
+        };
+        let kind = entry.kind();
+        let item = entry.at();
+        if stays(places_stay, stops_stay, kind) {
+            return Some((kind, item, true));
+        }
         let _ = self.arena.remove(at);
+        Some((kind, item, false))
     }
 
     /// Each pointer becomes what the mirror of its kind has under it. One that the mirror has not stays.
@@ -146,5 +153,16 @@ impl<P: PtrCore, S: OrdSlots<P, Entry<P>>> TicketBook<P, S> {
         ensures capacity { self.new.capacity ≡ self.old.capacity }
     {
         renew_entries(&mut self.arena, places, stops, marks);
+    }
+}
+
+// Whether an entry of a kind has to stay.
+fn stays(places: bool, stops: bool, kind: Kind) -> bool
+    ensures { result ≡ stays places stops kind }
+{
+    match kind {
+        Kind::Place => places,
+        Kind::Stop => stops,
+        Kind::Mark => false,
     }
 }

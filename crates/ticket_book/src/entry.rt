@@ -1,3 +1,4 @@
+//! What the book has for a ticket.
 ghost use Rattle.std.specs.Prelude.{◌≡◌};
 
 use std::marker::Model;

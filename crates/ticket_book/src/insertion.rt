@@ -1,3 +1,4 @@
+//! An insertion where a place is known and there is room.
 ghost use Rattle.std.specs.Prelude.{◌≡◌, ◌<◌, ℕ, Option};
 ghost use Rattle.std.specs.declared.cmp.Ordering.{Ordering as Way};
 ghost use Rattle.triple_arena.specs.Content.{arena_capacity};

@@ -18,7 +18,6 @@ use ticket_book::Kind;
 use triple_arena::ArenaTrait;
 use triple_arena_chain::ChainArenaTrait;
 use triple_arena_ptr::{Probes, PtrCore, PtrGenCore};
-use unreached::unreached;
 
 // Whether the next step of a counter starts it again.
 fn wraps<P: PtrCore>(counter: P::Gen) -> bool
@@ -68,43 +67,38 @@ impl<P: PtrCore, B: BookBacking<P>> RouteBook<P, B> {
         if ticket == 0 || ticket > self.last {
             return Err(Refusal::Unknown);
         }
-        let Some(at) = self.tickets.seek_counted(ticket, probes) else {
+        let places_wrap = wraps::<P>(self.places.generation());
+        let stops_wrap = wraps::<P>(self.stops.generation());
+        let Some((kind, item, stays)) =
+            self.tickets
+                .take_counted(ticket, places_wrap, stops_wrap, probes)
+        else {
             return Err(Refusal::Gone);
         };
-        let Some(entry) = self.tickets.entry(at) else {
-            unreached!()
-        };
-        let item = entry.at();
+        if stays {
+            return Ok(false);
+        }
         changes_keep_states_sound();
-        match entry.kind() {
+        match kind {
             Kind::Place => {
-                if wraps::<P>(self.places.generation()) {
-                    return Ok(false);
-                }
                 removed_places_leave_no_reference();
                 // The list is as it must be.
                 let _ = self.places.len();
                 let _ = self.places.remove(item);
-                self.tickets.end(at);
                 self.held = self.held.changed(&Change::Remove(ticket));
                 Ok(true)
             }
             Kind::Stop => {
-                if wraps::<P>(self.stops.generation()) {
-                    return Ok(false);
-                }
                 removed_stops_join_their_neighbors();
                 // The links are as they must be.
                 let _ = self.stops.len();
                 let _ = self.stops.remove_link_no_gen(item);
-                self.tickets.end(at);
                 self.held = self.held.changed(&Change::Remove(ticket));
                 Ok(true)
             }
             Kind::Mark => {
                 removed_marks_leave_all_else();
                 let _ = self.marks.remove(item);
-                self.tickets.end(at);
                 self.held = self.held.changed(&Change::Remove(ticket));
                 Ok(true)
             }

@@ -12,13 +12,13 @@ pub note_place-requires-clause-mirrored : goal.note_place-requires-clause-mirror
 note_place-requires-clause-mirrored g c =
     let st = step_is (entry_in c.args.places.now) c.loop-p.walk c.advance.new.self c.loop-p.invariant.rises _ _
         c.in-Some.ensures.given in
-    mirrored_gap (λ (x : Place). x.ticket) c.args.book.now (entry_in c.args.places.now) c.loop-p.walk.low (g.P.PtrCore.index c.in-Some.p)
+    mirrored_gap (λ (x : Place). x.ticket) c.args.book.now.entries (entry_in c.args.places.now) c.loop-p.walk.low (g.P.PtrCore.index c.in-Some.p)
     (numbers g.P.PtrCore.index g.P.PtrCore.generation (entry_at c.loop-p.mirror)) st.up st.between c.loop-p.invariant.mirrored
 
 pub returns-clause-mirrored : goal.returns-clause-mirrored
 returns-clause-mirrored g c =
     λ low all.
-        mirrored_all (λ (x : Place). x.ticket) c.args.book.now (entry_in c.args.places.now) c.loop-p.walk.low low
+        mirrored_all (λ (x : Place). x.ticket) c.args.book.now.entries (entry_in c.args.places.now) c.loop-p.walk.low low
         (numbers g.P.PtrCore.index g.P.PtrCore.generation (entry_at c.loop-p.mirror))
         (end_all (entry_in c.args.places.now) c.loop-p.walk c.advance.new.self c.loop-p.invariant.rises
             c.loop-p.invariant.reaches c.in_default.ensures.given) all c.loop-p.invariant.mirrored
@@ -30,7 +30,7 @@ loop-p-preserved g c =
     record {
       rises = st.still_rises;
       reaches = λ j some. subst (λ h. j ≤ h) (sym st.high) (inv.reaches j some);
-      mirrored = subst (λ l. IsMirrored (λ (x : Place). x.ticket) c.args.book.now (entry_in c.args.places.now) l (numbers g.P.PtrCore.index g.P.PtrCore.generation (entry_at c.note_place.new.mirror)))
+      mirrored = subst (λ l. IsMirrored (λ (x : Place). x.ticket) c.args.book.now.entries (entry_in c.args.places.now) l (numbers g.P.PtrCore.index g.P.PtrCore.generation (entry_at c.note_place.new.mirror)))
           (sym st.low) c.note_place.ensures.mirrored;
       room = c.note_place.ensures.room ∙ inv.room;
     }

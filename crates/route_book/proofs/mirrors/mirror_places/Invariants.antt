@@ -12,7 +12,7 @@ invariant-loop-p g l =
     record {
       rises : l.walk.falls ≡ false;
       reaches : (j : ℕ) → IsSome (entry_in l.places j) → j ≤ l.walk.high;
-      mirrored : IsMirrored (λ (x : Place). x.ticket) l.book (entry_in l.places) l.walk.low
+      mirrored : IsMirrored (λ (x : Place). x.ticket) l.book.entries (entry_in l.places) l.walk.low
           (numbers g.P.PtrCore.index g.P.PtrCore.generation (entry_at l.mirror));
       room : l.mirror.room ≡ l.fn.mirror.room;
     }

@@ -5,7 +5,7 @@ use Rattle.triple_arena_ord.specs.Ordered.{entry_in, order_in}
 use Rattle.ticket_book.specs.Tickets.{Tickets, asked, lookup}
 use Rattle.ticket_book.proofs.AskedLemmas.{asked_there, asked_within}
 use Rattle.ticket_book.proofs.TicketLemmas.{ascending, lookup_found, lookup_missing}
-use Rattle.ticket_book.proofs.book.TicketBook.seek_counted.Goals as goal
+use Rattle.ticket_book.proofs.book.TicketBook.find_counted.Goals as goal
 
 pub returns-in-Some-clause-found : goal.returns-in-Some-clause-found
 returns-in-Some-clause-found g c =

@@ -1,0 +1,187 @@
+-- What a removal is told by the book, by its arena and by the model, and what it tells.
+use Rattle.std.proofs.Common.{◌≡◌, ◌≢◌, ◌∙◌, sym, ap, subst, refl, Bool, true, false, ◌==◌, ◌||◌, nat_lt, if◌then◌else◌, ℕ, ◌+◌, ◌≤◌, List, length, Option, Some, None, IsSome, Result, Ok, Err}
+use Rattle.std.specs.Option.{ok_or, option_map, option_or}
+use Rattle.triple_arena_ptr.specs.Generation.{next_wraps}
+use Rattle.triple_arena.specs.Changes.{IsRemoved as IsGoneFrom}
+use Rattle.triple_arena.specs.Content.{Content, entry_at, live_count, some_counter}
+use Rattle.triple_arena.specs.Entries.{value_if}
+use Rattle.triple_arena_chain.specs.declared.link.IndexLink.{IndexLink}
+use Rattle.triple_arena_chain.specs.Links.{values_in, IsChained, IsTakenOut}
+use Rattle.triple_arena_ord.specs.Ordered.{Ordered, IsOrdered, entry_in}
+use Rattle.triple_arena_ord.specs.Removal.{IsEntryRemoved}
+use Rattle.ticket_book.specs.declared.entry.Kind.{Kind}
+use Rattle.ticket_book.specs.declared.entry.Kind.TheVariants.{Place as OfPlace, Stop as OfStop, Mark as OfMark}
+use Rattle.ticket_book.specs.Tickets.{Entry, lookup, without_ticket}
+use Rattle.route_lines.specs.Calls.{after_removed}
+use Rattle.route_lines.specs.Sound.{IsSound}
+use Rattle.route_lines.specs.State.{State, Rooms, Place, Stop, Mark, Item, place, stop, mark, holder, living, place_of, stop_of, mark_of, stop_list}
+use Rattle.route_lines.specs.declared.refusal.Refusal.{Refusal}
+use Rattle.route_lines.specs.declared.refusal.Refusal.TheVariants.{Unknown, Gone}
+use Rattle.route_book.specs.Book.{Book, found_in, IsBook}
+use Rattle.route_book.specs.Holds.{Found, item_under, state_mark, state_stop}
+use Rattle.route_book.specs.Item.{StopView, MarkView}
+use Rattle.route_book.specs.Removals.{IsPlaceEnded, IsStopEnded, IsMarkEnded, OthersStay, Tries, kind_of, removal_wraps}
+use Rattle.route_book.proofs.EndLemmas.{found_has}
+use Rattle.route_book.proofs.EndMarkLemmas.{IsMarkGone, mark_leaves, marks_stay}
+use Rattle.route_book.proofs.EndPlaceLemmas.{IsPlaceGone, place_leaves, place_steps, places_stay}
+use Rattle.route_book.proofs.EndStopLemmas.{IsStopGone, stop_leaves, stop_steps, stops_stay}
+use Rattle.route_book.proofs.HoldLemmas.{holder_found, some_same}
+
+-- what stands under an option that is mapped
+made_of : {X Y : Type 0} (f : X → Y) (o : Option X) (y : Y) → option_map f o ≡ Some y → (x : X) × ((o ≡ Some x) × (f x ≡ y))
+made_of f None y is = absurd (let no : ◌≡◌ {A = Option _} None (Some y) = is in cc)
+made_of f (Some x) y is = (x, (refl, some_same is))
+
+-- the item that a ticket has, has it
+module _ (s : State) (t : ℕ) where
+  living_in : (item : Item) → holder s t ≡ Ok item → living s t ≡ Some item
+  living_in item is = by ((t == 0) || nat_lt s.last t) (living s t) is
+    where
+      by : (unknown : Bool) (o : Option Item) → (if unknown then Err Unknown else ok_or o Gone) ≡ Ok item → o ≡ Some item
+      by true o is = absurd (let no : ◌≡◌ {A = Result Item Refusal} (Err Unknown) (Ok item) = is in cc)
+      by false None is = absurd (let no : ◌≡◌ {A = Result Item Refusal} (Err Gone) (Ok item) = is in cc)
+      by false (Some x) is = ap Some (let same : ◌≡◌ {A = Result Item Refusal} (Ok x) (Ok item) = is in ok_same same)
+        where
+          ok_same : {X Y : Type 0} {x y : X} → ◌≡◌ {A = Result X Y} (Ok x) (Ok y) → x ≡ y
+          ok_same e = cc
+
+  place_ticket : (p : Place) → holder s t ≡ Ok (place p) → p.ticket ≡ t
+  place_ticket p is = by (place_of s.places t) refl (stop_of s.routes t) (mark_of s.marks t) (living_in (place p) is)
+    where
+      by : (o : Option Place) → place_of s.places t ≡ o → (m : Option Stop) (n : Option Mark) → option_or (option_map place o) (option_or (option_map stop m) (option_map mark n)) ≡ Some (place p) → p.ticket ≡ t
+      by (Some q) there m n has = found_has (λ (x : Place). x.ticket) t s.places p (there ∙ ap Some (let same : ◌≡◌ {A = Option Item} (Some (place q)) (Some (place p)) = has in cc))
+      by None there None None has = absurd (let no : ◌≡◌ {A = Option Item} None (Some (place p)) = has in cc)
+      by None there None (Some n) has = absurd (let no : ◌≡◌ {A = Option Item} (Some (mark n)) (Some (place p)) = has in cc)
+      by None there (Some m) n has = absurd (let no : ◌≡◌ {A = Option Item} (Some (stop m)) (Some (place p)) = has in cc)
+
+  stop_ticket : (u : Stop) → holder s t ≡ Ok (stop u) → u.ticket ≡ t
+  stop_ticket u is = by (place_of s.places t) (stop_of s.routes t) refl (mark_of s.marks t) (living_in (stop u) is)
+    where
+      by : (o : Option Place) (m : Option Stop) → stop_of s.routes t ≡ m → (n : Option Mark) → option_or (option_map place o) (option_or (option_map stop m) (option_map mark n)) ≡ Some (stop u) → u.ticket ≡ t
+      by (Some q) m there n has = absurd (let no : ◌≡◌ {A = Option Item} (Some (place q)) (Some (stop u)) = has in cc)
+      by None (Some m) there n has = found_has (λ (x : Stop). x.ticket) t (stop_list s.routes) u (there ∙ ap Some (let same : ◌≡◌ {A = Option Item} (Some (stop m)) (Some (stop u)) = has in cc))
+      by None None there None has = absurd (let no : ◌≡◌ {A = Option Item} None (Some (stop u)) = has in cc)
+      by None None there (Some n) has = absurd (let no : ◌≡◌ {A = Option Item} (Some (mark n)) (Some (stop u)) = has in cc)
+
+  mark_ticket : (m : Mark) → holder s t ≡ Ok (mark m) → m.ticket ≡ t
+  mark_ticket m is = by (place_of s.places t) (stop_of s.routes t) (mark_of s.marks t) refl (living_in (mark m) is)
+    where
+      by : (o : Option Place) (u : Option Stop) (n : Option Mark) → mark_of s.marks t ≡ n → option_or (option_map place o) (option_or (option_map stop u) (option_map mark n)) ≡ Some (mark m) → m.ticket ≡ t
+      by (Some q) u n there has = absurd (let no : ◌≡◌ {A = Option Item} (Some (place q)) (Some (mark m)) = has in cc)
+      by None (Some u) n there has = absurd (let no : ◌≡◌ {A = Option Item} (Some (stop u)) (Some (mark m)) = has in cc)
+      by None None None there has = absurd (let no : ◌≡◌ {A = Option Item} None (Some (mark m)) = has in cc)
+      by None None (Some n) there has = found_has (λ (x : Mark). x.ticket) t s.marks m (there ∙ ap Some (let same : ◌≡◌ {A = Option Item} (Some (mark n)) (Some (mark m)) = has in cc))
+
+module _ {I : Type 0} (number : I → ℕ) (rooms : Rooms) (last : ℕ) (s : State) (places : Ordered I Place) (stops : Content (IndexLink I StopView)) (marks : Content MarkView)
+    (book : List Entry) (b : IsBook number rooms last s places stops marks book) (k : Book I) (view : record { state = s; places = places; stops = stops; marks = marks } ≡ k)
+    (t : ℕ) (positive : t ≢ 0) (given : t ≤ s.last) (e : Entry) (found : lookup book t ≡ Some e) (i g : ℕ) (index : i ≡ e.index) (generation : g ≡ e.generation) where
+  abbrev f : Found
+  f = found_in places stops marks
+
+  under : (kind : Kind) → e.kind ≡ kind → (item : Item) × ((holder s t ≡ Ok item) × (item_under f kind i g ≡ Some item))
+  under kind is =
+      let there = holder_found s f _ _ book b.held t positive given e found in
+      (there.0, (there.1.0, ap (λ q. item_under f q i g) (sym is) ∙ ap (λ n. item_under f e.kind n g) index ∙ ap (item_under f e.kind e.index) generation ∙ there.1.1))
+
+  -- ---- a place
+
+  module _ (kind : e.kind ≡ OfPlace) where
+    pub found_place : (p : Place) × ((value_if g (entry_in places i) ≡ Some p) × (holder s t ≡ Ok (place p)))
+    found_place =
+        let u = under OfPlace kind in
+        let m = made_of place (value_if g (entry_in places i)) u.0 u.1.1 in
+        (m.0, (m.1.0, u.1.0 ∙ ap Ok (sym m.1.1)))
+
+    module _ (ordered : IsOrdered number places) (places' : Ordered I Place)
+        (final : Option ℕ) (top : ℕ) (counts : final ≡ Some top) (calm : next_wraps final places.chains.counter ≡ false) (removed : IsEntryRemoved number final i places places') where
+      abbrev p : Place
+      p = found_place.0
+
+      ticket : p.ticket ≡ t
+      ticket = place_ticket s t p found_place.1.1
+
+      pub place_out : (s' : State) → IsPlaceGone s s' t → IsSound s' → IsBook number rooms last s' places' stops marks (without_ticket t book)
+      place_out s' laws sound =
+          subst (λ u. IsPlaceGone s s' u → IsBook number rooms last s' places' stops marks (without_ticket u book)) ticket
+          (λ gone. place_leaves number rooms last s places places' stops marks book b i g p found_place.1.0 ordered final top counts calm removed s' gone sound) laws
+
+      pub place_tries : (s' : State) → s' ≡ after_removed s t → Tries final t k (record { state = s'; places = places'; stops = stops; marks = marks }) (Ok true)
+      place_tries s' is =
+          subst (λ x. Tries final t x (record { state = s'; places = places'; stops = stops; marks = marks }) (Ok true)) view
+          (place p, (found_place.1.1, (calm, (record {
+            counter = place_steps number rooms last s places places' stops marks book b i g p found_place.1.0 ordered final top counts calm removed;
+            others = subst (λ u. OthersStay (λ (q : Place). q.ticket) u (entry_in places) (entry_in places')) ticket
+                (places_stay number rooms last s places places' stops marks book b i g p found_place.1.0 ordered final top counts calm removed);
+            stops = refl;
+            marks = refl;
+          }, is))))
+
+    pub place_wraps : (final : Option ℕ) → next_wraps final places.chains.counter ≡ true → Tries final t k k (Ok false)
+    place_wraps final wraps = subst (λ x. Tries final t x x (Ok false)) view (place found_place.0, (found_place.1.1, (wraps, refl)))
+
+  -- ---- a stop
+
+  module _ (kind : e.kind ≡ OfStop) where
+    pub found_stop : (v : StopView) × ((value_if g (values_in stops i) ≡ Some v) × (holder s t ≡ Ok (stop (state_stop f v))))
+    found_stop =
+        let u = under OfStop kind in
+        let m = made_of (λ v. stop (state_stop f v)) (value_if g (values_in stops i)) u.0 u.1.1 in
+        (m.0, (m.1.0, u.1.0 ∙ ap Ok (sym m.1.1)))
+
+    module _ (chained : IsChained number stops) (stops' : Content (IndexLink I StopView))
+        (final : Option ℕ) (top : ℕ) (counts : final ≡ Some top) (calm : next_wraps final stops.counter ≡ false) (taken : IsTakenOut number final i stops stops') where
+      abbrev v : StopView
+      v = found_stop.0
+
+      stop_named : v.ticket ≡ t
+      stop_named = stop_ticket s t (state_stop f v) found_stop.1.1
+
+      pub stop_out : (s' : State) → IsStopGone s s' t → IsSound s' → IsBook number rooms last s' places stops' marks (without_ticket t book)
+      stop_out s' laws sound =
+          subst (λ u. IsStopGone s s' u → IsBook number rooms last s' places stops' marks (without_ticket u book)) stop_named
+          (λ gone. stop_leaves number rooms last s places stops stops' marks book b i g v found_stop.1.0 chained final top counts calm taken s' gone sound) laws
+
+      pub stop_tries : (s' : State) → s' ≡ after_removed s t → Tries final t k (record { state = s'; places = places; stops = stops'; marks = marks }) (Ok true)
+      stop_tries s' is =
+          subst (λ x. Tries final t x (record { state = s'; places = places; stops = stops'; marks = marks }) (Ok true)) view
+          (stop (state_stop f v), (found_stop.1.1, (calm, (record {
+            counter = stop_steps number rooms last s places stops stops' marks book b i g v found_stop.1.0 chained final top counts calm taken;
+            others = subst (λ u. OthersStay (λ (w : StopView). w.ticket) u (values_in stops) (values_in stops')) stop_named
+                (stops_stay number rooms last s places stops stops' marks book b i g v found_stop.1.0 chained final top counts calm taken);
+            places = refl;
+            marks = refl;
+          }, is))))
+
+    pub stop_wraps : (final : Option ℕ) → next_wraps final stops.counter ≡ true → Tries final t k k (Ok false)
+    stop_wraps final wraps = subst (λ x. Tries final t x x (Ok false)) view (stop (state_stop f found_stop.0), (found_stop.1.1, (wraps, refl)))
+
+  -- ---- a mark
+
+  module _ (kind : e.kind ≡ OfMark) where
+    pub found_mark : (v : MarkView) × ((value_if g (entry_at marks i) ≡ Some v) × (holder s t ≡ Ok (mark (state_mark f v))))
+    found_mark =
+        let u = under OfMark kind in
+        let m = made_of (λ v. mark (state_mark f v)) (value_if g (entry_at marks i)) u.0 u.1.1 in
+        (m.0, (m.1.0, u.1.0 ∙ ap Ok (sym m.1.1)))
+
+    module _ (marks' : Content MarkView) (final : Option ℕ) (removed : IsGoneFrom entry_at live_count some_counter (λ (c : Content MarkView). c.room) final i marks marks') where
+      abbrev w : MarkView
+      w = found_mark.0
+
+      mark_named : w.ticket ≡ t
+      mark_named = mark_ticket s t (state_mark f w) found_mark.1.1
+
+      pub mark_out : (s' : State) → IsMarkGone s s' t → IsSound s' → IsBook number rooms last s' places stops marks' (without_ticket t book)
+      mark_out s' laws sound =
+          subst (λ u. IsMarkGone s s' u → IsBook number rooms last s' places stops marks' (without_ticket u book)) mark_named
+          (λ gone. mark_leaves number rooms last s places stops marks marks' book b i g w found_mark.1.0 final removed s' gone sound) laws
+
+      pub mark_tries : (s' : State) → s' ≡ after_removed s t → Tries final t k (record { state = s'; places = places; stops = stops; marks = marks' }) (Ok true)
+      mark_tries s' is =
+          subst (λ x. Tries final t x (record { state = s'; places = places; stops = stops; marks = marks' }) (Ok true)) view
+          (mark (state_mark f w), (found_mark.1.1, (refl, (record {
+            others = subst (λ u. OthersStay (λ (x : MarkView). x.ticket) u (entry_at marks) (entry_at marks')) mark_named
+                (marks_stay number rooms last s places stops marks marks' book b i g w found_mark.1.0 final removed);
+            places = refl;
+            stops = refl;
+          }, is))))
