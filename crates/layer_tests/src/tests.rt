@@ -1,6 +1,3 @@
-mod base;
-mod calls;
-mod chains;
-mod layouts;
-mod ordered;
+mod links;
+mod pairs;
 mod values;
