@@ -1,6 +1,5 @@
 //! Insertions by an entry, of each kind, in each form.
-use crate::changes::item;
-use crate::items::{Counting, Item, Pairs};
+use crate::items::{Counting, Item, Pairs, item};
 use crate::knots::Knots;
 use crate::searches::limit_from;
 use crate::work::{Limit, Since};

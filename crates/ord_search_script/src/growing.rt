@@ -1,7 +1,6 @@
 //! Many calls in a row, of whose comparisons one answer tells the most.
-use crate::changes::item;
 use crate::entries::{enter, kind, limit_of};
-use crate::items::{Counting, Item, Pairs};
+use crate::items::{Counting, Item, Pairs, item};
 use crate::knots::Knots;
 use crate::searches::{Place, place_of, search};
 use crate::work::{Limit, Since, Work};
