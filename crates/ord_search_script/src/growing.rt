@@ -83,7 +83,7 @@ fn put<P: ShownPtr, K: Counting, S: OrdSlots<P, Item<K>>>(
     let k = *item.k();
     let since = Since::now(k);
     let i = match kind::<P, K>(name, &k, start, num) {
-        Some(kind) => match enter(arena, "entry_insert", kind, item) {
+        Some(kind) => match enter(arena, "entry_insert", kind, Some(item)) {
             Ok((told, _)) => told.any().inx(),
             Err(_) => start,
         },
