@@ -1,6 +1,7 @@
-//! Tests of links, kinds and pairs as values: their texts, comparisons and hashes, which no script can see.
+//! Tests that no script can make: links, kinds and pairs as values, with their texts, comparisons and hashes; and what
+//! becomes of values that have a `Drop`.
 //!
-//! The tests over arenas stand in `checks/layer-tests`, and run beside the gate.
+//! Other tests over arenas stand in `checks/layer-tests`, and run beside the gate.
 #![tactic(auto)]
 
 #[cfg(test)]

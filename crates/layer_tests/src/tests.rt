@@ -1,3 +1,5 @@
+mod calls;
+mod drops;
 mod links;
 mod pairs;
 mod values;
