@@ -4,6 +4,7 @@
 case $check in
     layer-tests) crate=layer_tests ;;
     store-tests) crate=route_book_sequences ;;
+    user-tests) crate=user_sequences ;;
 esac
 tar -C "$top" --exclude=out -cf - crates crates.txt HANDLES | tar -C "$work" -xf -
 tests=$work/crates/$crate/src/tests
