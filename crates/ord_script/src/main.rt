@@ -18,7 +18,7 @@ use script::{Call, ShownPtr, Transcript};
 use std::alloc::Global;
 use std::io;
 use triple_arena::{NonZeroInxArray, NonZeroInxVec, P0, P1, P3, P5, Ptr};
-use triple_arena_ord::{OrdSlots, SimpleOrdArena};
+use triple_arena_ord::OrdSlots;
 
 type InArray<P> = NonZeroInxArray<Slot<P>, 8>;
 
