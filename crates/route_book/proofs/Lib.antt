@@ -1,3 +1,4 @@
+pub mod AfterPackLemmas
 pub mod BookPackLemmas
 pub mod ChainLemmas
 pub mod EndLemmas
