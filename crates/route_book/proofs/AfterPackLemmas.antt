@@ -1,5 +1,5 @@
 -- What a removal makes of a store that was packed first, since a counter would have started again.
-use Rattle.std.proofs.Common.{◌≡◌, ◌∙◌, sym, ap, subst, refl, Bool, true, false, ℕ, ◌+◌, Option, Some, Result, Ok, Err, true≢false}
+use Rattle.std.proofs.Common.{◌≡◌, ◌∙◌, sym, ap, subst, refl, Bool, true, false, ℕ, ◌+◌, Option, Result, Ok, Err, true≢false}
 use Rattle.triple_arena_ptr.specs.Generation.{next_wraps, second_generation}
 use Rattle.ticket_book.specs.declared.entry.Kind.{Kind}
 use Rattle.ticket_book.specs.declared.entry.Kind.TheVariants.{Place as OfPlace, Stop as OfStop, Mark as OfMark}

@@ -1,26 +1,26 @@
 -- What `mark` makes of what is held, and of what ties a store's parts.
-use Rattle.std.proofs.Common.{◌≡◌, ◌≢◌, ◌∙◌, sym, ap, subst, refl, Bool, true, false, ◌==◌, ◌||◌, nat_lt, if◌then◌else◌, ℕ, ◌+◌, ◌<◌, ◌≤◌, List, [], ◌∷◌, ◌++◌, length, Option, Some, None, IsSome, IfSome, true≢false, Result, Ok, Err, arith, length-append, find, inl, inr}
+use Rattle.std.proofs.Common.{◌≡◌, ◌≢◌, ◌∙◌, sym, ap, subst, refl, Bool, true, false, ◌==◌, ◌||◌, nat_lt, ℕ, ◌+◌, ◌<◌, ◌≤◌, List, [], ◌∷◌, ◌++◌, length, Option, Some, None, IsSome, true≢false, Result, Ok, Err, arith, length-append, find, inl, inr}
 use Rattle.std.specs.Option.{option_map, option_or}
 use Rattle.std.proofs.lemmas.Bool.{ne_eqb, eq-eqb, leb-false}
 use Rattle.std.proofs.lemmas.Bool.Decides.{eqb_tells}
 use Rattle.std.proofs.lemmas.List.Folds.{find-append}
 use Rattle.triple_arena.specs.Entries.{value_if, with_entry}
-use Rattle.triple_arena.specs.Content.{Content, entry_at, live_count, arena_capacity}
+use Rattle.triple_arena.specs.Content.{Content, entry_at, live_count}
 use Rattle.triple_arena_stack.specs.Room.{capacity}
 use Rattle.triple_arena_chain.specs.Chains.{Ends}
 use Rattle.triple_arena_chain.specs.declared.link.IndexLink.{IndexLink}
 use Rattle.triple_arena_chain.specs.Links.{ends_in, values_in}
-use Rattle.triple_arena_ord.specs.Ordered.{Ordered, entry_in, size_in}
+use Rattle.triple_arena_ord.specs.Ordered.{Ordered, entry_in}
 use Rattle.ticket_book.specs.declared.entry.Kind.{Kind}
 use Rattle.ticket_book.specs.declared.entry.Kind.TheVariants.{Place as OfPlace, Stop as OfStop, Mark as OfMark}
 use Rattle.ticket_book.specs.Tickets.{Entry, lookup}
 use Rattle.route_lines.specs.Calls.{place_holder, stop_holder, marked, after_mark}
-use Rattle.route_lines.specs.State.{State, Rooms, Place, Stop, Route, Mark, place_of, stop_list, stop_of, mark_of, is_full_of_marks, last_ticket}
+use Rattle.route_lines.specs.State.{State, Rooms, Place, Stop, Mark, place_of, stop_list, stop_of, mark_of, is_full_of_marks}
 use Rattle.route_lines.specs.declared.refusal.Refusal.{Refusal}
 use Rattle.route_lines.specs.declared.refusal.Refusal.TheVariants.{Full, Unknown, Gone, Kind as Refused}
 use Rattle.route_book.specs.Item.{StopView, MarkView}
 use Rattle.route_book.specs.Holds.{Found, entry, state_mark, state_stop, place_at, stop_at, mark_at, place_under, stop_under, mark_under, IsFilled, IsLive, IsSettled, IsHeld}
-use Rattle.route_book.specs.Book.{MarksDiffer, found_in, in_order, IsBook, IsWithin, KeepsItems}
+use Rattle.route_book.specs.Book.{MarksDiffer, found_in, in_order, IsBook, KeepsItems}
 use Rattle.route_book.proofs.HoldLemmas.{some_same, Rise-add, lookup_none, lookup_added, lookup_other, lookup_kept}
 use Rattle.route_book.proofs.NeighborLemmas.{has_ticket, held_place}
 use Rattle.route_book.proofs.SettledLemmas.{live_settled}

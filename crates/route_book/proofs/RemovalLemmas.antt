@@ -1,5 +1,5 @@
 -- What a removal is told by the book, by its arena and by the model, and what it tells.
-use Rattle.std.proofs.Common.{◌≡◌, ◌≢◌, ◌∙◌, sym, ap, subst, refl, Bool, true, false, ◌==◌, ◌||◌, nat_lt, if◌then◌else◌, ℕ, ◌+◌, ◌≤◌, List, length, Option, Some, None, IsSome, OnSome, true≢false, inl, inr, Result, Ok, Err}
+use Rattle.std.proofs.Common.{◌≡◌, ◌≢◌, ◌∙◌, sym, ap, subst, refl, Bool, true, false, ◌==◌, ◌||◌, nat_lt, if◌then◌else◌, ℕ, ◌≤◌, List, Option, Some, None, OnSome, true≢false, inl, inr, Result, Ok, Err}
 use Rattle.std.specs.Option.{ok_or, option_map, option_or}
 use Rattle.std.proofs.lemmas.Bool.Decides.{eqb_tells}
 use Rattle.triple_arena_ptr.specs.Generation.{next_wraps}
@@ -21,7 +21,7 @@ use Rattle.route_lines.specs.declared.refusal.Refusal.TheVariants.{Unknown, Gone
 use Rattle.route_book.specs.Book.{Book, found_in, IsBook}
 use Rattle.route_book.specs.Holds.{Found, item_under, state_mark, state_stop}
 use Rattle.route_book.specs.Item.{StopView, MarkView}
-use Rattle.route_book.specs.Removals.{IsPlaceEnded, IsStopEnded, IsMarkEnded, OthersStay, Tries, kind_of, removal_wraps}
+use Rattle.route_book.specs.Removals.{OthersStay, Tries}
 use Rattle.route_book.proofs.EndLemmas.{found_has}
 use Rattle.route_book.proofs.EndMarkLemmas.{IsMarkGone, mark_leaves, marks_stay}
 use Rattle.route_book.proofs.EndPlaceLemmas.{IsPlaceGone, place_leaves, place_steps, places_stay}
@@ -111,14 +111,25 @@ module _ {I : Type 0} (number : I → ℕ) (rooms : Rooms) (last : ℕ) (s : Sta
 
       pub place_tries : (s' : State) → s' ≡ after_removed s t → Tries final t k (record { state = s'; places = places'; stops = stops; marks = marks }) (Ok true)
       place_tries s' is =
-          subst (λ x. Tries final t x (record { state = s'; places = places'; stops = stops; marks = marks }) (Ok true)) view
-          (place p, (found_place.1.1, (calm, (record {
-            counter = place_steps number rooms last s places places' stops marks book b i g p found_place.1.0 ordered final top counts calm removed;
-            others = subst (λ u. OthersStay (λ (q : Place). q.ticket) u (entry_in places) (entry_in places')) ticket
-                (places_stay number rooms last s places places' stops marks book b i g p found_place.1.0 ordered final top counts calm removed);
-            stops = refl;
-            marks = refl;
-          }, is))))
+          subst (λ x. Tries final t x (record { state = s'; places = places'; stops = stops; marks = marks }) (Ok true)) view (
+            place p,
+            (
+              found_place.1.1,
+              (
+                calm,
+                (
+                  record {
+                    counter = place_steps number rooms last s places places' stops marks book b i g p found_place.1.0 ordered final top counts calm removed;
+                    others = subst (λ u. OthersStay (λ (q : Place). q.ticket) u (entry_in places) (entry_in places')) ticket
+                        (places_stay number rooms last s places places' stops marks book b i g p found_place.1.0 ordered final top counts calm removed);
+                    stops = refl;
+                    marks = refl;
+                  },
+                  is,
+                ),
+              ),
+            ),
+          )
 
     place_wraps : (final : Option ℕ) → next_wraps final places.chains.counter ≡ true → Tries final t k as_seen (Ok false)
     place_wraps final wraps = subst (λ x. Tries final t x as_seen (Ok false)) view (place found_place.0, (found_place.1.1, (wraps, refl)))
@@ -147,14 +158,25 @@ module _ {I : Type 0} (number : I → ℕ) (rooms : Rooms) (last : ℕ) (s : Sta
 
       pub stop_tries : (s' : State) → s' ≡ after_removed s t → Tries final t k (record { state = s'; places = places; stops = stops'; marks = marks }) (Ok true)
       stop_tries s' is =
-          subst (λ x. Tries final t x (record { state = s'; places = places; stops = stops'; marks = marks }) (Ok true)) view
-          (stop (state_stop f v), (found_stop.1.1, (calm, (record {
-            counter = stop_steps number rooms last s places stops stops' marks book b i g v found_stop.1.0 chained final top counts calm taken;
-            others = subst (λ u. OthersStay (λ (w : StopView). w.ticket) u (values_in stops) (values_in stops')) stop_named
-                (stops_stay number rooms last s places stops stops' marks book b i g v found_stop.1.0 chained final top counts calm taken);
-            places = refl;
-            marks = refl;
-          }, is))))
+          subst (λ x. Tries final t x (record { state = s'; places = places; stops = stops'; marks = marks }) (Ok true)) view (
+            stop (state_stop f v),
+            (
+              found_stop.1.1,
+              (
+                calm,
+                (
+                  record {
+                    counter = stop_steps number rooms last s places stops stops' marks book b i g v found_stop.1.0 chained final top counts calm taken;
+                    others = subst (λ u. OthersStay (λ (w : StopView). w.ticket) u (values_in stops) (values_in stops')) stop_named
+                        (stops_stay number rooms last s places stops stops' marks book b i g v found_stop.1.0 chained final top counts calm taken);
+                    places = refl;
+                    marks = refl;
+                  },
+                  is,
+                ),
+              ),
+            ),
+          )
 
     stop_wraps : (final : Option ℕ) → next_wraps final stops.counter ≡ true → Tries final t k as_seen (Ok false)
     stop_wraps final wraps = subst (λ x. Tries final t x as_seen (Ok false)) view (stop (state_stop f found_stop.0), (found_stop.1.1, (wraps, refl)))
@@ -182,13 +204,24 @@ module _ {I : Type 0} (number : I → ℕ) (rooms : Rooms) (last : ℕ) (s : Sta
 
       pub mark_tries : (s' : State) → s' ≡ after_removed s t → Tries final t k (record { state = s'; places = places; stops = stops; marks = marks' }) (Ok true)
       mark_tries s' is =
-          subst (λ x. Tries final t x (record { state = s'; places = places; stops = stops; marks = marks' }) (Ok true)) view
-          (mark (state_mark f w), (found_mark.1.1, (refl, (record {
-            others = subst (λ u. OthersStay (λ (x : MarkView). x.ticket) u (entry_at marks) (entry_at marks')) mark_named
-                (marks_stay number rooms last s places stops marks marks' book b i g w found_mark.1.0 final removed);
-            places = refl;
-            stops = refl;
-          }, is))))
+          subst (λ x. Tries final t x (record { state = s'; places = places; stops = stops; marks = marks' }) (Ok true)) view (
+            mark (state_mark f w),
+            (
+              found_mark.1.1,
+              (
+                refl,
+                (
+                  record {
+                    others = subst (λ u. OthersStay (λ (x : MarkView). x.ticket) u (entry_at marks) (entry_at marks')) mark_named
+                        (marks_stay number rooms last s places stops marks marks' book b i g w found_mark.1.0 final removed);
+                    places = refl;
+                    stops = refl;
+                  },
+                  is,
+                ),
+              ),
+            ),
+          )
 
   -- ---- what stays, since a counter would start again
 

@@ -71,9 +71,9 @@ impl<P: PtrCore, B: BookBacking<P>> RouteBook<P, B> {
         }
         let places_wrap = wraps::<P>(self.places.generation());
         let stops_wrap = wraps::<P>(self.stops.generation());
-        let Some(taken) =
-            self.tickets
-                .take_counted(ticket, places_wrap, stops_wrap, probes)
+        let Some(taken) = self
+            .tickets
+            .take_counted(ticket, places_wrap, stops_wrap, probes)
         else {
             return Err(Refusal::Gone);
         };

@@ -1,4 +1,4 @@
-use Rattle.std.proofs.Common.{arith, ◌≡◌, ◌≢◌, ◌∙◌, ◌≤◌, ap, sym, subst, refl, false}
+use Rattle.std.proofs.Common.{arith, ◌≡◌, ◌≢◌, ◌∙◌, ◌≤◌, ap, sym, subst, false}
 use Rattle.triple_arena_ptr.specs.Generation.{next_wraps}
 use Rattle.triple_arena_stack.specs.Room.{capacity}
 use Rattle.triple_arena.specs.DirectContent.{arena_capacity as mirror_capacity}
