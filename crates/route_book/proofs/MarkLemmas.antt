@@ -235,15 +235,6 @@ module _ (s : State) (t : ℕ) (x : Stop) (held : stop_holder s t ≡ Ok x) wher
   stop_ticket : x.ticket ≡ t
   stop_ticket = has_stop (stop_list s.routes) t x held_stop
 
--- a new mark names the place and the stop that were found
-pub mark_named : (s : State) (f : Found) (pt st pi pg si sg ticket : ℕ) (p : Place) (u : StopView) (v : MarkView) → place_holder s pt ≡ Ok p → stop_holder s st ≡ Ok (state_stop f u)
-    → value_if pg (f.places pi) ≡ Some p → value_if sg (f.stops si) ≡ Some u → v.ticket ≡ ticket → v.place ≡ Some (pi, pg) → v.stop ≡ Some (si, sg)
-    → state_mark f v ≡ record { ticket = ticket; place = Some pt; stop = Some st }
-mark_named s f pt st pi pg si sg ticket p u v place stop found_place found_stop is to by =
-    let one = has_ticket s.places pt p (held_place s pt p place) in
-    let two = stop_ticket s st (state_stop f u) stop in
-    rw (is, to, by, found_place, found_stop, one, two) refl
-
 -- a mark where there is room
 module _ {I : Type 0} (number : I → ℕ) (rooms : Rooms) (last : ℕ) (s : State) (places : Ordered I Place) (stops : Content (IndexLink I StopView)) (marks marks' : Content MarkView)
     (book : List Entry) (b : IsBook number rooms last s places stops marks book)
