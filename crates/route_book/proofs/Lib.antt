@@ -30,5 +30,6 @@ pub mod SettledLemmas
 pub mod StartLemmas
 pub mod StopLemmas
 pub mod StopWalkLemmas
+pub mod SweepStepLemmas
 pub mod WalkedLemmas
 pub mod WholeLemmas

@@ -30,6 +30,7 @@ mod place_arena;
 mod places;
 mod recasts;
 mod running;
+mod sweep_steps;
 
 pub use backing::{
     BookBacking, MarkSlot, OnArray, OnFixed, OnHeap, OnLimited, PlaceSlot, StopSlot,
@@ -43,4 +44,5 @@ pub use route_lines::{
     read_number,
 };
 pub use running::run;
+pub use sweep_steps::lines_are_sweep_steps;
 pub use triple_arena_ptr::{Probes, PtrCore};
