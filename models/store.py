@@ -1,237 +1,209 @@
 #!/usr/bin/env python3
-"""What a route book must answer, by a model that knows nothing of the library: tickets, links by ticket, and a sorted list.
+"""Plays the sections of the program `store_script` by the rules of `store_rules.py`, and writes random ones.
 
-usage: store.py SEED LINES >stdin 2>stdout                     writes random lines, and what must be answered to them
-       store.py rooms SEED                                     writes the rooms of the store that they are for
-       store.py answer PLACES STOPS MARKS [LAST] <stdin        writes what a store with these rooms must answer
+usage: store.py SEED LINES >stdin 2>stdout     random sections with so many lines each, and what must be written
+       store.py answer <stdin >stdout          what must be written for these sections
+       store.py rooms SEED                     the arguments of the program `route_book` for random lines
+       store.py lines SEED LINES >stdin 2>stdout     these lines, and what must be answered to them
 
 With `removals` as its last word it knows the lines `remove` and `pack` too, which are bad without it.
-It is written from the rules of the lines and not from the library. A random run is what `route_book_program` answers.
+`crates/store_script/src/main.rt` says how a section is written. How many comparisons a search makes hangs on the tree, so
+what a section of `inputs` or `answer` wants stands in the section.
 """
 import random
-import re
 import sys
 
-LAST_TICKET = 2**64 - 1
-NUMBER = '(0|[1-9][0-9]*)'
-WORD = '([a-z0-9]{1,16})'
-# The fields of each line behind its verb: n is a number and w a word.
-FORMS = {'show': 'n', 'find': 'n', 'floor': 'n', 'after': 'n', 'before': 'n', 'all': '', 'start': 'n', 'extend': 'nn',
-         'join': 'nn', 'cut': 'n', 'swap': 'nn', 'walk': 'n', 'mark': 'nn', 'place': 'nw'}
-REMOVALS = {'remove': 'n', 'pack': ''}
+sys.dont_write_bytecode = True
+
+from store_rules import FORMS, LAST_TICKET, Store
+
+# The greatest index of each pointer type, and its greatest generation.
+POINTERS = {'P0': (2**64 - 1, 2**64 - 1), 'P1': (255, 255), 'P5': (2**64 - 1, 1), 'N3': (255, 3)}
+BACKINGS = ('heap', 'limited', 'fixed', 'array')
+ARRAY_ROOM = 10
+# No machine has room for so many items.
+TOO_MANY = 2**60
+# How many bytes a read takes, and a reply gathers before it is written, and the longest line of a reply with its LF.
+PIECE, GATHERED, LONGEST = 4096, 4096, 59
+PLAYS_OF_AN_INPUT = 5
 
 
-class Refused(Exception):
-    """A line is refused, with this reply."""
+class Fault(Exception):
+    """A read or a write failed, and so does the run."""
 
 
-def spelled(line, forms):
-    """The verb and the fields of a line, or None where it spells no command."""
-    if len(line) > 69:
-        return None
-    text = line.decode('latin-1')
-    for verb, form in forms.items():
-        fields = ''.join(' ' + (NUMBER if field == 'n' else WORD) for field in form)
-        hint = f'(?: near {NUMBER})?' if verb == 'place' else ''
-        found = re.fullmatch(verb + fields + hint, text)
-        if found:
-            values = list(found.groups())
-            values = [v if v is None or field == 'w' else int(v) for field, v in zip(form + 'n', values)]
-            if all(not isinstance(v, int) or v < 2**64 for v in values):
-                return verb, values
+class Page:
+    """A writer, with the count of its calls and of those that failed."""
+
+    def __init__(self, how, taken, room):
+        self.how, self.taken, self.room = how, taken or 2**64, room or 2**64
+        self.text, self.calls, self.failed, self.flushed = '', 0, 0, 0
+
+    def fail(self, kind):
+        self.failed += 1
+        raise Fault(kind)
+
+    def send(self, rest):
+        while rest:
+            self.calls += 1
+            taken = min(self.taken, self.room, len(rest))
+            if not taken:
+                self.fail('WriteZero' if self.how == 'stalling' else 'Interrupted')
+            self.text += rest[:taken]
+            self.room -= taken
+            rest = rest[taken:]
+
+    def answer(self, lines):
+        """Writes the lines of a reply, in as few writes as may be."""
+        gathered = ''
+        for line in lines:
+            if GATHERED - len(gathered) < LONGEST:
+                self.send(gathered)
+                gathered = ''
+            gathered += line + '\n'
+        self.send(gathered)
+
+    def flush(self):
+        self.calls += 1
+        self.flushed += 1
+        if self.how == 'unflushed':
+            self.fail('Interrupted')
+
+
+class Input:
+    """A reader, with the count of its calls and of those that failed."""
+
+    def __init__(self, data, how, step):
+        self.left, self.how, self.step = data, how, step or PIECE
+        self.calls, self.failed = 0, 0
+
+    def read(self):
+        self.calls += 1
+        if not self.left and self.how == 'broken':
+            self.failed += 1
+            raise Fault('Interrupted')
+        size = min(self.step, PIECE)
+        piece, self.left = self.left[:size], self.left[size:]
+        return piece
+
+
+def run(store, reader, page):
+    """Answers an input, and says how that ended."""
+    line = ''
+    while True:
+        try:
+            piece = reader.read()
+        except Fault as fault:
+            return f'read failed Some({fault})'
+        *whole, rest = (line + piece).split('\n')
+        try:
+            for line in whole:
+                page.answer(store.reply(line.encode()))
+            line = rest
+            if not piece:
+                page.answer(['bad'] if rest else [])
+                page.flush()
+                return 'ok'
+        except Fault as fault:
+            return f'write failed Some({fault})'
+
+
+def play_run(store, words, lines):
+    """What a run over a store writes, with its own line."""
+    what, how, *numbers = words.split(' ') + [''] * (' ' not in words)
+    read, taken, room = ([int(number) for number in numbers] + [0] * 3)[:3]
+    page = Page(how, taken, room)
+    if what == 'run':
+        reader = Input(lines, how, read)
+        end = run(store, reader, page)
+        return (f'>{words}\n{page.text}-> {end}, unread {len(reader.left)}, flushed {page.flushed}, '
+                f'reads and failed ones ({reader.calls}, {reader.failed}), '
+                f'writes and failed ones ({page.calls}, {page.failed})\n')
+    for line in lines.removesuffix('\n').split('\n'):
+        answer_line(store, line, page, what == 'sweeps')
+    return f'>{words}\n{page.text}'
+
+
+def answer_line(store, line, page, tells_sweeps):
+    """Answers a line alone; or, if it says which comparisons are wanted of the line before, writes that."""
+    if line.startswith('='):
+        page.text += line + '\n'
+        return
+    try:
+        page.answer(store.reply(line.encode()))
+    except Fault as fault:
+        page.text += f'-> {fault}\n'
+    if tells_sweeps:
+        page.text += f"= {store.looks} {store.counters['place']} {store.counters['stop']}\n"
+
+
+def refusal(pointers, backing, rooms, refused):
+    """What a store of these rooms writes if it cannot be made, or None."""
+    greatest, generations = POINTERS[pointers]
+    if generations < 3:
+        return 'room refused: generation\n'
+    if sum(rooms) > greatest:
+        return 'room refused: index\n'
+    if backing == 'array':
+        return 'room refused: stack\n' if sum(rooms) > ARRAY_ROOM else None
+    if max(rooms) > TOO_MANY:
+        return 'room refused: memory\n'
+    # Each arena with room takes memory for itself and for its mirror, and the ticket book for itself.
+    if 0 < refused <= requests(rooms):
+        return 'room refused: memory\nmemory was refused\n'
     return None
 
 
-class Store:
-    """A store. `next` and `previous` lead from a stop to its neighbors, and lack one that it does not have."""
+def requests(rooms):
+    """The requests for memory that make a store on the heap."""
+    return 2 * sum(room > 0 for room in rooms) + any(rooms)
 
-    def __init__(self, places, stops, marks, last=0, removals=False):
-        self.rooms = {'place': places, 'stop': stops, 'mark': marks}
-        self.last = last
-        self.forms = dict(FORMS, **REMOVALS) if removals else FORMS
-        self.place, self.stop, self.mark = {}, {}, {}
-        self.next, self.previous = {}, {}
 
-    # ---- tickets
+def play_over(pointers, backing, numbers, lines, removals):
+    """What a section's lines write over a new store."""
+    *rooms, last, refused = numbers
+    text = refusal(pointers, backing, rooms, refused)
+    if text is not None:
+        return text
+    store = Store(*rooms, last, removals, POINTERS[pointers][1])
+    if lines.startswith('>'):
+        return ''.join(play_run(store, *part.partition('\n')[::2]) for part in lines[1:].split('>'))
+    page = Page('plain', 0, 0)
+    end = run(store, Input(lines, 'plain', 0), page)
+    return f'{page.text}-> {end}, unread 0, flushed {page.flushed}\n'
 
-    def wanted(self, ticket, *kinds):
-        """The refusals by a ticket: it must name an item of one of these kinds."""
-        if not 1 <= ticket <= self.last:
-            raise Refused('unknown')
-        living = [kind for kind in ('place', 'stop', 'mark') if ticket in getattr(self, kind)]
-        if not living:
-            raise Refused('gone')
-        if living[0] not in kinds:
-            raise Refused('kind')
-        return living[0]
 
-    def ticket(self, kind):
-        """A new ticket for an item of a kind."""
-        if len(getattr(self, kind)) >= self.rooms[kind] or self.last == LAST_TICKET:
-            raise Refused('full')
-        self.last += 1
-        return self.last
+def play(section, removals):
+    """What a section writes."""
+    comment, _, behind = section.partition('\n')
+    header, _, lines = behind.partition('\n')
+    pointers, backings, *numbers = header.split(' ')
+    numbers = ([int(number) for number in numbers] + [0] * 5)[:5]
+    texts = [play_over(kind, backing, numbers, lines, removals)
+             for kind in pointers.split(',') for backing in backings.split(',')]
+    assert all(text == texts[0] for text in texts), f'the stores of a section differ: {comment}'
+    plays = len(texts) * (1 if lines.startswith('>') else PLAYS_OF_AN_INPUT)
+    return f'#{comment}\n{header}\n{texts[0]}{plays} plays\n'
 
-    def by_key(self):
-        """The tickets of the places in the order of their keys."""
-        return sorted(self.place, key=lambda t: self.place[t][0])
 
-    # ---- lines: each answers the lines of its reply
+def answer(script, removals):
+    """What a script writes."""
+    return ''.join(play(section, removals) for section in script.split('#') if section)
 
-    def do_place(self, key, word, near):
-        if near is not None:
-            self.wanted(near, 'place')
-        for t, (k, old) in self.place.items():
-            if k == key:
-                self.place[t] = (key, word)
-                return [f'{t} old {old}']
-        t = self.ticket('place')
-        self.place[t] = (key, word)
-        return [str(t)]
 
-    def do_show(self, t):
-        kind = self.wanted(t, 'place', 'stop', 'mark')
-        if kind == 'place':
-            return ['%d %s' % self.place[t]]
-        if kind == 'stop':
-            return [f'at {self.reference(self.stop[t], self.place)}']
-        place, stop = self.mark[t]
-        return [f'{self.reference(place, self.place)} {self.reference(stop, self.stop)}']
-
-    @staticmethod
-    def reference(ticket, living):
-        return str(ticket) if ticket in living else 'gone'
-
-    def do_find(self, key):
-        return [str(next((t for t, (k, _) in self.place.items() if k == key), 'none'))]
-
-    def do_floor(self, key):
-        below = [t for t in self.by_key() if self.place[t][0] <= key]
-        return [str(below[-1]) if below else 'none']
-
-    def beside(self, t, step):
-        self.wanted(t, 'place')
-        order = self.by_key()
-        at = order.index(t) + step
-        return [str(order[at]) if 0 <= at < len(order) else 'none']
-
-    def do_after(self, t):
-        return self.beside(t, 1)
-
-    def do_before(self, t):
-        return self.beside(t, -1)
-
-    def do_all(self):
-        return ['%d %d %s' % (t, *self.place[t]) for t in self.by_key()] + ['end']
-
-    def do_start(self, place):
-        self.wanted(place, 'place')
-        t = self.ticket('stop')
-        self.stop[t] = place
-        return [str(t)]
-
-    def do_extend(self, stop, place):
-        self.wanted(stop, 'stop')
-        self.wanted(place, 'place')
-        t = self.ticket('stop')
-        self.stop[t] = place
-        behind = self.next.get(stop)
-        self.link(stop, t)
-        if behind is not None:
-            self.link(t, behind)
-        return [str(t)]
-
-    def link(self, stop, behind):
-        self.next[stop], self.previous[behind] = behind, stop
-
-    def do_join(self, stop, other):
-        self.wanted(stop, 'stop')
-        self.wanted(other, 'stop')
-        if stop in self.next or other in self.previous:
-            raise Refused('no')
-        self.link(stop, other)
-        return ['ok']
-
-    def do_cut(self, stop):
-        self.wanted(stop, 'stop')
-        if stop not in self.next:
-            raise Refused('no')
-        del self.previous[self.next.pop(stop)]
-        return ['ok']
-
-    def do_swap(self, stop, other):
-        self.wanted(stop, 'stop')
-        self.wanted(other, 'stop')
-        if stop not in self.next or other not in self.next:
-            raise Refused('no')
-        first, second = self.next[stop], self.next[other]
-        self.link(stop, second)
-        self.link(other, first)
-        return ['ok']
-
-    def do_walk(self, stop):
-        self.wanted(stop, 'stop')
-        walk = [stop]
-        while self.next.get(walk[-1], stop) != stop:
-            walk.append(self.next[walk[-1]])
-        if walk[-1] not in self.next:
-            back = self.previous.get(stop)
-            while back is not None:
-                walk.append(back)
-                back = self.previous.get(back)
-        return [f'{t} {self.reference(self.stop[t], self.place)}' for t in walk] + ['end']
-
-    def do_mark(self, place, stop):
-        self.wanted(place, 'place')
-        self.wanted(stop, 'stop')
-        t = self.ticket('mark')
-        self.mark[t] = (place, stop)
-        return [str(t)]
-
-    def do_remove(self, t):
-        kind = self.wanted(t, 'place', 'stop', 'mark')
-        del getattr(self, kind)[t]
-        if kind == 'stop':
-            behind, before = self.next.pop(t, None), self.previous.pop(t, None)
-            if behind == t:
-                return ['ok']
-            for ends, own in ((self.next, before), (self.previous, behind)):
-                if own is not None:
-                    del ends[own]
-            if behind is not None and before is not None:
-                self.link(before, behind)
-        return ['ok']
-
-    def do_pack(self):
-        return ['ok']
-
-    # ---- inputs
-
-    def reply(self, line):
-        command = spelled(line, self.forms)
-        if command is None:
-            return ['bad']
-        verb, fields = command
-        try:
-            return getattr(self, 'do_' + verb)(*fields)
-        except Refused as refusal:
-            return [str(refusal)]
-
-    def text(self, data):
-        """The replies to the lines of an input, and to what follows the last LF, if there is anything."""
-        *whole, rest = data.split(b'\n')
-        replies = [reply for line in whole for reply in self.reply(line)] + ['bad'] * bool(rest)
-        return ''.join(reply + '\n' for reply in replies)
+# The rooms of places, stops and marks, in an array and elsewhere.
+SMALL = [1, 3, 4], [0, 2, 4], [0, 1, 2]
+LARGE = [1, 4, 12, 40], [0, 2, 9, 40, 90], [0, 1, 5, 20]
 
 
 class Writer:
     """Writes random lines that mostly fit what the store holds."""
 
-    def __init__(self, seed, removals=False):
-        self.random = random.Random(seed)
-        self.rooms = [self.random.choice(sizes) for sizes in ([1, 4, 12, 40], [0, 2, 9, 40, 90], [0, 1, 5, 20])]
-        self.keys = self.random.choice([3, 20, 200])
-        self.store = Store(*self.rooms, removals=removals)
+    def __init__(self, pick, sizes, last, removals):
+        self.random = pick
+        self.rooms = [pick.choice(choices) for choices in sizes]
+        self.keys = pick.choice([3, 20, 200])
+        self.store = Store(*self.rooms, last, removals)
 
     def key(self):
         if self.random.random() < 0.02:
@@ -245,10 +217,14 @@ class Writer:
         if living and chance < 0.9:
             # Late ones often, since they hang together.
             return self.random.choice(living[-6:] if chance < 0.4 else living)
-        return self.random.choice([0, self.store.last + 1, self.random.randrange(self.store.last + 1), LAST_TICKET, 2**64])
+        last = self.store.last
+        return self.random.choice([0, last + 1, self.random.randrange(last + 1), LAST_TICKET, 2**64])
 
     def word(self):
         return ''.join(self.random.choice('abcxyz019') for _ in range(self.random.choice([1, 2, 3, 8, 16])))
+
+    def hint(self):
+        return ['near', self.ticket('place')] if self.random.random() < 0.3 else []
 
     def end(self):
         """A stop without a next one, and one without a previous one, if there are any."""
@@ -265,12 +241,13 @@ class Writer:
         return self.random.choice(linked) if linked and self.random.random() < 0.85 else self.ticket('stop')
 
     def line(self):
-        verbs = ['place'] * 4 + ['start', 'walk', 'join'] * 3 + ['extend', 'swap'] * 4 + ['cut', 'mark', 'show', 'floor', 'find', 'after', 'before', 'all']
+        verbs = ['place'] * 4 + ['start', 'walk', 'join'] * 3 + ['extend', 'swap'] * 4
+        verbs += ['cut', 'mark', 'show', 'floor', 'find', 'after', 'before', 'all']
         if self.store.forms is not FORMS:
             verbs += ['remove'] * 4 + ['pack']
         verb = self.random.choice(verbs)
         fields = {
-            'place': lambda: [self.key(), self.word()] + (['near', self.ticket('place')] if self.random.random() < 0.3 else []),
+            'place': lambda: [self.key(), self.word()] + self.hint(),
             'find': lambda: [self.key()], 'floor': lambda: [self.key()], 'all': lambda: [], 'pack': lambda: [],
             'after': lambda: [self.ticket('place')], 'before': lambda: [self.ticket('place')],
             'start': lambda: [self.ticket('place')], 'extend': lambda: [self.ticket('stop'), self.ticket('place')],
@@ -298,20 +275,61 @@ class Writer:
         return '\n'.join(written) + '\n'
 
 
+def random_run(writer, count):
+    """A run of so many lines, whose streams may fail."""
+    pick = writer.random
+    how = pick.choice(['plain', 'plain', 'broken', 'stalling', 'unflushed'])
+    room = pick.choice([0, 20, 200]) if how in ('plain', 'stalling') else 0
+    words = f"run {how} {pick.choice([0, 1, 2, 3, 7, 64])} {pick.choice([0, 1, 5])} {room}"
+    lines = writer.lines(count)
+    # The last line may have no LF.
+    return f'>{words}\n' + (lines if pick.random() < 0.5 else lines[:-1])
+
+
+def random_section(pick, pointers, backings, count, removals, runs=()):
+    """A section's lines with its header over each of these: one input, or runs of these kinds."""
+    last = pick.choice([0, 0, 0, LAST_TICKET - 25])
+    writer = Writer(pick, SMALL if 'array' in backings else LARGE, last, removals)
+    rooms = writer.rooms
+    header = f'{pointers} {backings} {rooms[0]} {rooms[1]} {rooms[2]} {last} {requests(rooms) + 1}'
+    part = max(count // max(len(runs), 1), 1)
+    lines = ''.join(random_run(writer, part) if kind == 'run' else f'>{kind}\n' + writer.lines(part) for kind in runs)
+    return f'{header}\n' + (lines or writer.lines(count))
+
+
+def random_sections(seed, count, removals):
+    pick = random.Random(seed)
+    sections = [random_section(pick, 'P0,P1,N3', ','.join(backings), count, removals)
+                for backings in (BACKINGS, BACKINGS[:3])]
+    sections += [random_section(pick, 'P0,P1,N3', 'heap', count, removals, ['run'] * 8)]
+    sections += [random_section(pick, kind, backing, count, removals, ['sweeps'])
+                 for kind, backing in (('P1', 'heap'), ('N3', 'array'), ('N3', 'limited'))]
+    return ''.join(f'# random lines of seed {seed}\n{section}' for section in sections)
+
+
+def random_lines(seed, count, removals):
+    """The rooms of the program `route_book`, and lines for it."""
+    writer = Writer(random.Random(seed), LARGE, 0, removals)
+    return writer.rooms, writer.lines(count)
+
+
 def main(words):
     removals = words[-1:] == ['removals']
     words = words[:-1] if removals else words
-    if words[:1] == ['answer'] and 4 <= len(words) <= 5 and all(map(str.isdigit, words[1:])):
-        print(Store(*map(int, words[1:]), removals=removals).text(sys.stdin.buffer.read()), end='')
+    if words == ['answer']:
+        print(answer(sys.stdin.buffer.read().decode(), removals), end='')
     elif words[:1] == ['rooms'] and len(words) == 2:
-        print(*Writer(int(words[1])).rooms)
-    elif len(words) == 2:
-        writer = Writer(int(words[0]), removals)
-        lines = writer.lines(int(words[1]))
+        print(*random_lines(int(words[1]), 0, removals)[0])
+    elif words[:1] == ['lines'] and len(words) == 3:
+        rooms, lines = random_lines(*map(int, words[1:]), removals)
         print(lines, end='')
-        print(Store(*writer.rooms, removals=removals).text(lines.encode()), end='', file=sys.stderr)
+        print(Store(*rooms, removals=removals).text(lines.encode()), end='', file=sys.stderr)
+    elif len(words) == 2:
+        script = random_sections(*map(int, words), removals)
+        print(script, end='')
+        print(answer(script, removals), end='', file=sys.stderr)
     else:
-        sys.exit('usage: store.py SEED LINES | rooms SEED | answer PLACES STOPS MARKS [LAST], and `removals` behind it')
+        sys.exit('usage: store.py SEED LINES | answer | rooms SEED | lines SEED LINES, and `removals` behind it')
 
 
 if __name__ == '__main__':
