@@ -1,11 +1,13 @@
 #!/usr/bin/env python3
-"""What ord_script must answer, by a model that knows nothing of the library: one list of entries, a counter and the free slots.
+"""What ord_script and ord_search_script must answer, by a model that knows nothing of the library: one list of entries, a
+counter and the free slots.
 
-usage: ord.py SEED LINES >stdin 2>stdout    writes random sections, and what must be answered
-       ord.py answer <stdin >stdout        writes what must be answered to these sections
+usage: ord.py SEED LINES >stdin 2>stdout             writes random sections of ord_script, and what must be answered
+       ord.py searches SEED LINES >stdin 2>stdout    the same of ord_search_script, whose headers have five words
+       ord.py answer <stdin >stdout                  writes what must be answered to these sections, of either
 
-What the rules leave open (which of two neighbors a search answers, which of several equal keys, the tree's shape) the script
-tells in a form that does not hang on it, and where it cannot, the model refuses the line.
+What the rules leave open (which of two neighbors a search answers, which of several equal keys, the tree's shape) the scripts
+tell in a form that does not hang on it, and where they cannot, the model refuses the line.
 """
 import random
 import sys
@@ -67,7 +69,9 @@ def halving(part, parent, top, nodes):
 
 
 class Arena:
-    def __init__(self, kind, stack, room, heap):
+    def __init__(self, kind, stack, room, heap, counting):
+        # Whether insertions and searches are told with a note on their comparisons.
+        self.counting = counting
         self.kind, self.heap, self.last, self.top = kind, heap, LAST[kind], TOP[kind]
         self.e, self.order, self.slots, self.free, self.counter = {}, [], 0, [], 2
         # The nodes of the tree, where its shape is known.
@@ -242,6 +246,12 @@ class Arena:
             return self.place(self.e[i][1], False), self.work()
         return None
 
+    def found(self, place):
+        """What a search without a note answers, where there is one answer alone."""
+        if place.startswith(('Anywhere', 'OneOf')):
+            raise Open
+        return 'None' if place == 'Nowhere' else f'Some({place[3:-1]})'
+
     # Insertions.
 
     def kind_place(self, kind, k, i, num):
@@ -290,11 +300,12 @@ class Arena:
         return told, self.put(n, k, v) if used else None, work
 
     def insert(self, k, v, growing):
+        """What an insertion tells, and the note on comparisons."""
         told, _, work = self.enter('normal', k, v, 0, 0, growing, True)
         for word in ('New(', 'Replacing('):
             if word in told:
                 told = told.replace(word, '', 1).replace('),', ',', 1)
-        return f'({told}, {work})'
+        return told, work
 
     def grow(self, kind, factor, last, num, start):
         worst, i = 'Nothing', self.i(start)
@@ -333,7 +344,7 @@ class Arena:
         if len(self.equals(k)) > 1:
             raise Open
         told, at = [option(self.name(i))], self.neighbor(i, step)
-        told += self.answer('remove_inx', [j]) + [self.insert(k, 0, True)[1:].rpartition(', ')[0]]
+        told += self.answer('remove_inx', [j]) + [self.insert(k, 0, True)[0]]
         if at is not None and at in self.e:
             told += [self.name(n) for n in self.walk(at, step)]
         return told + ['None']
@@ -347,10 +358,11 @@ class Arena:
         if ':' in verb:
             return self.answer_named(verb, x, y, z, u, w)
         if verb in ('insert', 'insert_reallocating', 'insert_within_capacity'):
-            return [self.insert(x, y, verb != 'insert_within_capacity')]
+            told, work = self.insert(x, y, verb != 'insert_within_capacity')
+            return [f'({told}, {work})' if self.counting else told]
         if verb.startswith('find_') and not verb.endswith('inx_ptr'):
             place, work = self.search(verb, x, y, self.i(z), self.g(u))
-            return [f'({place}, {work})']
+            return [f'({place}, {work})' if self.counting else self.found(place)]
         if verb == 'remove_odd':
             if not self.ascends() or any(len(self.equals(k)) > 1 for k in range(1, x + 1, 2)):
                 raise Open
@@ -513,10 +525,10 @@ class Section:
     """A section that is being played, with one request for memory refused, or none."""
 
     def __init__(self, header, nth):
-        kind, stack, room = header.split()[:3]
+        kind, stack, *room = header.split()
         heap = Heap(nth)
-        self.a = Arena(kind, stack, int(room), heap)
-        self.b = Arena('P1', 'heap', 0, heap)
+        self.a = Arena(kind, stack, int(room[0]) if room else 0, heap, bool(room))
+        self.b = Arena('P1', 'heap', 0, heap, bool(room))
 
     def play(self, line):
         """What the script writes for a line."""
@@ -537,9 +549,8 @@ def answers(script):
     for section in script.split('\n\n'):
         header, *lines = section.rstrip('\n').split('\n')
         told.append(header)
-        first, last = (int(word) for word in header.split()[3:5])
-        for nth in range(first, last + 1):
-            told.append(f'refused request -> {nth}')
+        for nth in turns(header):
+            told += [f'refused request -> {nth}'] if nth is not None else []
             try:
                 play = Section(header, nth)
             except Refused as refused:
@@ -553,22 +564,39 @@ def answers(script):
     return told
 
 
+def turns(header):
+    """The requests for memory that are refused in turn, where the header names them."""
+    words = header.split()[3:]
+    return range(int(words[0]), int(words[1]) + 1) if words else [None]
+
+
 KINDS = ('normal', 'nonhereditary', 'linear', 'nonhereditary_linear')
 SEARCHES = [f'{verb}{form}' for verb in ('find_key', 'find_similar_key', 'find_key_linear', 'find_similar_key_linear', 'find_with', 'find_similar_with')
             for form in ('', '_counted')]
-COMMON = ['insert', 'insert', 'insert_within_capacity', 'insert_reallocating', 'entry', 'entry', 'entry', 'remove', 'remove', 'remove_inx', 'search',
-          'search', 'search', 'search', 'invalidate', 'advancer_ordered', 'walk_over_a_change', 'get', 'get_inx_link_no_gen', 'show', 'check', 'first',
-          'last', 'set_value', 'advancer_inx', 'compare', 'repair']
-RARE = ['clear', 'drain', 'drain_ordered', 'walk_and_remove', 'iter', 'vals', 'ptrs', 'iter_ordered', 'into_iter', 'advancer', 'manual', 'set_key',
-        'generation', 'singular_generation', 'inc_generation', 'set_generation', 'len', 'is_empty', 'capacity', 'max_capacity', 'reallocate_min_capacity',
-        'find_first_inx_ptr', 'find_last_inx_ptr', '_check_invariants', 'contains', 'index', 'get_inx', 'get_inx_unwrap', 'index_set', 'set_inx',
-        'set_inx_unwrap', 'empty', 'find_with_the_pointer', 'each', 'get_inx_node', 'get_inx_node', 'rank', 'rank',
-        'compress_canonical', 'compress_canonical', 'remove_odd', 'grow']
+# The arenas of each script, and its calls: those that are made often, and others.
+ARENAS = {
+    'lists': [('P0', 'heap'), ('P3', 'heap'), ('N3', 'heap'), ('P0', 'array'), ('P1', 'array'), ('P5', 'array')],
+    'searches': [(kind, stack) for kind in LAST for stack in ('heap', 'limited', 'boxed')] + [('P0', 'array'), ('P1', 'array')],
+}
+COMMON = {
+    'lists': ['insert', 'insert', 'insert', 'insert', 'remove', 'remove_inx', 'find_key', 'invalidate', 'advancer_ordered', 'walk_over_a_change', 'get',
+              'get_inx_link_no_gen', 'show', 'first', 'last', 'set_value', 'advancer_inx', 'compare', 'repair'],
+    'searches': ['insert', 'insert', 'insert_within_capacity', 'insert_reallocating', 'entry', 'entry', 'entry', 'remove', 'remove_inx', 'search', 'search',
+                 'search', 'search', 'invalidate', 'show', 'check', 'repair'],
+}
+RARE = {
+    'lists': ['clear', 'drain', 'drain_ordered', 'walk_and_remove', 'iter', 'vals', 'ptrs', 'iter_ordered', 'into_iter', 'advancer', 'set_key', 'generation',
+              'singular_generation', 'inc_generation', 'set_generation', 'len', 'is_empty', 'find_first_inx_ptr', 'find_last_inx_ptr', 'contains', 'index',
+              'get_inx', 'get_inx_unwrap', 'index_set', 'set_inx', 'set_inx_unwrap'],
+    'searches': ['clear', 'manual', 'generation', 'len', 'capacity', 'max_capacity', 'reallocate_min_capacity', '_check_invariants', 'empty',
+                 'find_with_the_pointer', 'each', 'get_inx_node', 'get_inx_node', 'rank', 'rank', 'compress_canonical', 'compress_canonical', 'remove_odd',
+                 'grow'],
+}
 
 
-def a_line(r, s, most):
+def a_line(r, script, s, most):
     """A line for an arena with some entries, mostly at one that lives."""
-    verb = r.choice(COMMON) if r.random() < 0.8 else r.choice(RARE)
+    verb = r.choice((COMMON if r.random() < 0.8 else RARE)[script])
     k, v = r.randrange(most), r.randrange(100)
     i = r.choice(s.order) if s.order and r.random() < 0.85 else r.randrange(1, 12)
     g = s.e[i][0] if i in s.e and r.random() < 0.9 else r.randrange(1, 6)
@@ -591,7 +619,7 @@ def a_line(r, s, most):
             if key > keys[n + 1]:
                 at = s.order[n + 1] if n % 2 else s.order[n]
                 return 'remove_inx', [at]
-        return 'check', []
+        return 'show', []
     if verb == 'find_with_the_pointer':
         i = s.order[0] if s.order else i
         return verb, [0, 0, i, s.e[i][0] if i in s.e else 2]
@@ -602,23 +630,27 @@ def a_line(r, s, most):
         'each': (f'each:{r.choice(SEARCHES)}', [0, most, num, i, g]), 'grow': (f'grow:{r.choice(KINDS + ("insert",))}', [r.choice([1, 1008, 389]), most, 7, i]),
         'drain': (verb, [r.randrange(6)]), 'drain_ordered': (verb, [r.randrange(6)]), 'reallocate_min_capacity': (verb, [r.randrange(20)]),
         'set_generation': (verb, [r.randrange(1, 6)]), 'compress_canonical': (verb, [r.randrange(2)]), 'remove_odd': (verb, [r.randrange(most)]),
-    }.get(verb, (verb, {'insert': [k, v], 'insert_within_capacity': [k, v], 'insert_reallocating': [k, v], 'remove': [i, g], 'invalidate': [i, g],
+    }.get(verb, (verb, {'find_key': [k], 'insert': [k, v], 'insert_within_capacity': [k, v], 'insert_reallocating': [k, v], 'remove': [i, g], 'invalidate': [i, g],
                         'get': [i, g], 'contains': [i, g], 'index': [i, g]}.get(verb, [i] if verb.endswith(('inx', 'unwrap', 'gen', 'node', 'rank')) else [])))
 
 
-def section(r, kind, stack, lines):
-    room = {'heap': r.choice([0, 0, 3, 9]), 'limited': r.choice([0, 5]), 'boxed': r.choice([0, 4, 12]), 'array': r.choice([0, 7])}[stack]
-    nth = r.choice([0, 0, 1, 2, 3, 4])
-    header = f'{kind} {stack} {room} {nth} {nth}'
-    asked, told = [header], [header, f'refused request -> {nth}']
+def section(r, script, lines):
+    kind, stack = r.choice(ARENAS[script])
+    header = f'{kind} {stack}'
+    if script == 'searches':
+        room = {'heap': r.choice([0, 0, 3, 9]), 'limited': r.choice([0, 5]), 'boxed': r.choice([0, 4, 12]), 'array': r.choice([0, 7])}[stack]
+        nth = r.choice([0, 0, 1, 2, 3, 4])
+        header += f' {room} {nth} {nth}'
+    nth = turns(header)[0]
+    asked, told = [header], [header] + ([f'refused request -> {nth}'] if nth is not None else [])
     try:
         play = Section(header, nth)
     except Refused as refused:
         return asked, told + [f'{header} -> {refused}']
     most = r.choice([8, 20, 60])
     while len(asked) <= lines:
-        whom = 'a' if r.random() < 0.9 else 'b'
-        verb, words = a_line(r, play.a if whom == 'a' else play.b, most)
+        whom = 'b' if script == 'lists' and r.random() < 0.1 else 'a'
+        verb, words = a_line(r, script, play.a if whom == 'a' else play.b, most)
         if verb == 'compare':
             whom, verb, words = r.choice(['ab', 'ba']), r.choice(['canonical_eq', 'canonical_partial_cmp', 'canonical_cmp']), []
         line = ' '.join([whom, verb, *map(str, words)])
@@ -632,16 +664,17 @@ def section(r, kind, stack, lines):
 
 
 def main():
-    if sys.argv[1:] == ['answer']:
+    words = sys.argv[1:]
+    if words == ['answer']:
         print('\n'.join(answers(sys.stdin.read())))
         return
-    if len(sys.argv) != 3:
-        sys.exit('usage: ord.py SEED LINES | answer')
-    r = random.Random(int(sys.argv[1]))
-    each, left = [], int(sys.argv[2])
+    script = words.pop(0) if words[:1] == ['searches'] else 'lists'
+    if len(words) != 2:
+        sys.exit('usage: ord.py [searches] SEED LINES | answer')
+    r = random.Random(int(words[0]))
+    each, left = [], int(words[1])
     while left > 0:
-        kind, stack = r.choice(list(LAST)), r.choice(['heap', 'limited', 'boxed', 'array'])
-        each.append(section(r, kind, stack, min(left, r.choice([40, 100, 250]))))
+        each.append(section(r, script, min(left, r.choice([40, 100, 250]))))
         left -= len(each[-1][0])
     print('\n\n'.join('\n'.join(it[0]) for it in each))
     print('\n'.join('\n'.join(it[1]) for it in each), file=sys.stderr)

@@ -1,6 +1,7 @@
-//! Tests of the arenas, the chain arenas and the ordered arenas that no script can make: of values and keys of types of
-//! their own, of two pointer types or two kinds of stack at once, of arenas that are taken by value, of what the bounds
-//! of an iterator say, and of generations that no counting reaches.
+//! Tests that no script can make: links, kinds and pairs as values, with their texts, comparisons and hashes; and what
+//! becomes of values that have a `Drop`.
+//!
+//! Other tests over arenas stand in `checks/layer-tests`, and run beside the gate.
 #![tactic(auto)]
 
 #[cfg(test)]

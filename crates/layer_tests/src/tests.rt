@@ -1,6 +1,5 @@
-mod base;
 mod calls;
-mod chains;
-mod layouts;
-mod ordered;
+mod drops;
+mod links;
+mod pairs;
 mod values;

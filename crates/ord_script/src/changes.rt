@@ -1,29 +1,32 @@
-//! The calls that change an arena beside its insertions.
-use crate::items::{Counting, Item, Pairs};
+//! The calls that change an arena.
+use crate::items::{Item, Pairs};
 use crate::walks::{walk_and_remove, walk_over_a_change};
 use script::{Call, ShownPtr, Transcript, generation};
 use triple_arena_ord::{OrdPair, OrdSlots};
 
 /// Makes such a call, and says whether there is one of that name.
-pub fn changes<P: ShownPtr, K: Counting, S: OrdSlots<P, Item<K>>>(
-    arena: &mut Pairs<P, K, S>,
+pub fn changes<P: ShownPtr, S: OrdSlots<P, Item>>(
+    arena: &mut Pairs<P, S>,
     transcript: &mut Transcript,
     call: &Call<'_>,
-    zero: K,
 ) -> bool {
-    removes(arena, transcript, call)
-        || drains(arena, transcript, call, zero)
+    moves(arena, transcript, call)
+        || drains(arena, transcript, call)
         || counts(arena, transcript, call)
-        || writes(arena, transcript, call, zero)
+        || writes(arena, transcript, call)
 }
 
-fn removes<P: ShownPtr, K: Counting, S: OrdSlots<P, Item<K>>>(
-    arena: &mut Pairs<P, K, S>,
+fn moves<P: ShownPtr, S: OrdSlots<P, Item>>(
+    arena: &mut Pairs<P, S>,
     transcript: &mut Transcript,
     call: &Call<'_>,
 ) -> bool {
     let line = call.line;
     match call.verb {
+        "insert" => {
+            let new = OrdPair::new(call.first, call.second);
+            transcript.answer(line, &arena.insert(new));
+        }
         "remove" => transcript.answer(line, &arena.remove(call.pointer())),
         "remove_inx" => transcript.answer(line, &arena.remove_inx(call.index())),
         "invalidate" => transcript.answer(line, &arena.invalidate(call.pointer())),
@@ -33,26 +36,25 @@ fn removes<P: ShownPtr, K: Counting, S: OrdSlots<P, Item<K>>>(
     true
 }
 
-fn drains<P: ShownPtr, K: Counting, S: OrdSlots<P, Item<K>>>(
-    arena: &mut Pairs<P, K, S>,
+fn drains<P: ShownPtr, S: OrdSlots<P, Item>>(
+    arena: &mut Pairs<P, S>,
     transcript: &mut Transcript,
     call: &Call<'_>,
-    zero: K,
 ) -> bool {
     match call.verb {
         "drain" => drain(arena, transcript, call),
         "drain_ordered" => drain_ordered(arena, transcript, call),
         "walk_and_remove" => walk_and_remove(arena, transcript, call),
         "walk_over_a_change" => {
-            walk_over_a_change(arena, transcript, call, item(call.fifth, 0, zero))
+            walk_over_a_change(arena, transcript, call, OrdPair::new(call.fifth, 0))
         }
         _ => return false,
     }
     true
 }
 
-fn counts<P: ShownPtr, K: Counting, S: OrdSlots<P, Item<K>>>(
-    arena: &mut Pairs<P, K, S>,
+fn counts<P: ShownPtr, S: OrdSlots<P, Item>>(
+    arena: &mut Pairs<P, S>,
     transcript: &mut Transcript,
     call: &Call<'_>,
 ) -> bool {
@@ -63,37 +65,32 @@ fn counts<P: ShownPtr, K: Counting, S: OrdSlots<P, Item<K>>>(
             transcript.line(line);
         }
         "inc_generation" => transcript.answer(line, &arena.inc_generation()),
-        "compress_canonical" => transcript.answer(line, &arena.compress_canonical(call.first == 1)),
-        "reallocate_min_capacity" => {
-            transcript.answer(line, &arena.reallocate_min_capacity(call.first as usize))
-        }
         _ => return false,
     }
     true
 }
 
-fn writes<P: ShownPtr, K: Counting, S: OrdSlots<P, Item<K>>>(
-    arena: &mut Pairs<P, K, S>,
+fn writes<P: ShownPtr, S: OrdSlots<P, Item>>(
+    arena: &mut Pairs<P, S>,
     transcript: &mut Transcript,
     call: &Call<'_>,
-    zero: K,
 ) -> bool {
     let line = call.line;
     match call.verb {
         "set" => {
-            let new = item(call.third, call.fourth, zero);
+            let new = OrdPair::new(call.third, call.fourth);
             transcript.answer(line, &set(arena, call.pointer(), new));
         }
         "set_inx" => {
-            let new = item(call.second, call.third, zero);
+            let new = OrdPair::new(call.second, call.third);
             transcript.answer(line, &set_inx(arena, call.index(), new));
         }
         "index_set" => {
-            let new = item(call.third, call.fourth, zero);
+            let new = OrdPair::new(call.third, call.fourth);
             transcript.answer(line, &index_set(arena, call.pointer(), new));
         }
         "set_inx_unwrap" => {
-            let new = item(call.second, call.third, zero);
+            let new = OrdPair::new(call.second, call.third);
             transcript.answer(line, &set_inx_unwrap(arena, call.index(), new));
         }
         "set_value" => transcript.answer(line, &set_value(arena, call.pointer(), call.third)),
@@ -102,17 +99,12 @@ fn writes<P: ShownPtr, K: Counting, S: OrdSlots<P, Item<K>>>(
     true
 }
 
-/// The item of a key and a value.
-pub fn item<K: Counting>(n: u64, v: u64, zero: K) -> Item<K> {
-    OrdPair::new(zero.with(n), v)
-}
-
 // Writes through `get_mut`, and answers what stood there.
-fn set<P: ShownPtr, K: Counting, S: OrdSlots<P, Item<K>>>(
-    arena: &mut Pairs<P, K, S>,
+fn set<P: ShownPtr, S: OrdSlots<P, Item>>(
+    arena: &mut Pairs<P, S>,
     p: P,
-    item: Item<K>,
-) -> Option<Item<K>> {
+    item: Item,
+) -> Option<Item> {
     match arena.get_mut(p) {
         Some(own) => {
             let was = *own;
@@ -124,11 +116,11 @@ fn set<P: ShownPtr, K: Counting, S: OrdSlots<P, Item<K>>>(
 }
 
 // Writes through `get_inx_mut`, and answers what stood there.
-fn set_inx<P: ShownPtr, K: Counting, S: OrdSlots<P, Item<K>>>(
-    arena: &mut Pairs<P, K, S>,
+fn set_inx<P: ShownPtr, S: OrdSlots<P, Item>>(
+    arena: &mut Pairs<P, S>,
     i: P::Inx,
-    item: Item<K>,
-) -> Option<Item<K>> {
+    item: Item,
+) -> Option<Item> {
     match arena.get_inx_mut(i) {
         Some(own) => {
             let was = *own;
@@ -140,11 +132,7 @@ fn set_inx<P: ShownPtr, K: Counting, S: OrdSlots<P, Item<K>>>(
 }
 
 // Writes by `arena[p]`, where the pointer is valid, and says whether it is.
-fn index_set<P: ShownPtr, K: Counting, S: OrdSlots<P, Item<K>>>(
-    arena: &mut Pairs<P, K, S>,
-    p: P,
-    item: Item<K>,
-) -> bool {
+fn index_set<P: ShownPtr, S: OrdSlots<P, Item>>(arena: &mut Pairs<P, S>, p: P, item: Item) -> bool {
     if !arena.contains(p) {
         return false;
     }
@@ -153,10 +141,10 @@ fn index_set<P: ShownPtr, K: Counting, S: OrdSlots<P, Item<K>>>(
 }
 
 // Writes at an index that is live, and says whether it is.
-fn set_inx_unwrap<P: ShownPtr, K: Counting, S: OrdSlots<P, Item<K>>>(
-    arena: &mut Pairs<P, K, S>,
+fn set_inx_unwrap<P: ShownPtr, S: OrdSlots<P, Item>>(
+    arena: &mut Pairs<P, S>,
     i: P::Inx,
-    item: Item<K>,
+    item: Item,
 ) -> bool {
     if arena.get_inx(i).is_none() {
         return false;
@@ -166,8 +154,8 @@ fn set_inx_unwrap<P: ShownPtr, K: Counting, S: OrdSlots<P, Item<K>>>(
 }
 
 // Writes the value of a pair alone, and answers the one that it had.
-fn set_value<P: ShownPtr, K: Counting, S: OrdSlots<P, Item<K>>>(
-    arena: &mut Pairs<P, K, S>,
+fn set_value<P: ShownPtr, S: OrdSlots<P, Item>>(
+    arena: &mut Pairs<P, S>,
     p: P,
     v: u64,
 ) -> Option<u64> {
@@ -182,8 +170,8 @@ fn set_value<P: ShownPtr, K: Counting, S: OrdSlots<P, Item<K>>>(
 }
 
 // Takes so many items of a drain by index, and tells how many are left when it is let go.
-fn drain<P: ShownPtr, K: Counting, S: OrdSlots<P, Item<K>>>(
-    arena: &mut Pairs<P, K, S>,
+fn drain<P: ShownPtr, S: OrdSlots<P, Item>>(
+    arena: &mut Pairs<P, S>,
     transcript: &mut Transcript,
     call: &Call<'_>,
 ) {
@@ -195,8 +183,8 @@ fn drain<P: ShownPtr, K: Counting, S: OrdSlots<P, Item<K>>>(
 }
 
 // Takes so many items of a drain along the list, and tells how many are left when it is let go.
-fn drain_ordered<P: ShownPtr, K: Counting, S: OrdSlots<P, Item<K>>>(
-    arena: &mut Pairs<P, K, S>,
+fn drain_ordered<P: ShownPtr, S: OrdSlots<P, Item>>(
+    arena: &mut Pairs<P, S>,
     transcript: &mut Transcript,
     call: &Call<'_>,
 ) {

@@ -1,46 +1,28 @@
 //! `ord_script` reads sections of calls from the standard input, makes each call at an ordered arena, and writes each line
 //! again with the call's answer behind it.
 //!
-//! Sections are split by an empty line. The first line of one is `POINTER STACK ROOM FIRST LAST`, and the others are calls,
-//! one a line: `WHOM CALL NUMBERS`. The arena `a` is over that pointer and stack, with that room, the arena `b` over `P1` and
-//! a vector. The items are pairs of a key and a value; the keys count their comparisons. A section is played once for
-//! each request for memory from the first to the last, which is refused; 0 refuses none.
+//! Sections are split by an empty line. The first line of one is `POINTER STACK`, and the others are calls, one a line:
+//! `WHOM CALL NUMBERS`. The arena `a` is over that pointer and stack, the arena `b` over `P1` and a vector. The items are
+//! pairs of a key and a value. Insertions of each kind, searches and the tree are in `ord_search_script`.
 #![tactic(auto)]
 
-ghost use Rattle.std.specs.Prelude.{◌<◌};
-
 mod changes;
-mod check;
-mod entries;
-mod growing;
-mod insertions;
 mod items;
-mod knots;
 mod reads;
-mod searches;
 mod several;
 mod walks;
-mod work;
 
-use items::{Counting, Item, Key, Pairs, Slot};
+use items::{Item, Pairs, Slot};
 use narrow_ptr::N3;
-use refusing_allocator::RefusingAllocator;
 use script::{Call, ShownPtr, Transcript};
 use std::alloc::Global;
-use std::cell::Cell;
 use std::io;
-use triple_arena::{
-    NonZeroInxArray, NonZeroInxBoxedSlice, NonZeroInxLimitedVec, NonZeroInxVec, P0, P1, P3, P5,
-    Ptr, ReallocationError,
-};
-use triple_arena_ord::{OrdSlots, SimpleOrdArena};
+use triple_arena::{NonZeroInxArray, NonZeroInxVec, P0, P1, P3, P5, Ptr};
+use triple_arena_ord::OrdSlots;
 
-type Heap<'a> = &'a RefusingAllocator<Global>;
+type InArray<P> = NonZeroInxArray<Slot<P>, 8>;
 
-type InArray<'a, P> = NonZeroInxArray<Slot<P, Key<'a>>, 8>;
-
-// The stack of the arena `b`.
-type Other<'a> = NonZeroInxVec<Slot<P1, Key<'a>>, Heap<'a>>;
+type OnHeap<P> = NonZeroInxVec<Slot<P>, Global>;
 
 fn main(rt: HostRuntime) -> io::Result<()> {
     let script = io::read_to_string(rt.alloc(), rt.reader())?;
@@ -52,165 +34,43 @@ fn main(rt: HostRuntime) -> io::Result<()> {
     Ok(())
 }
 
-fn play(alloc: Global, transcript: &mut Transcript, section: &str) {
-    let (header, calls) = section.split_once('\n').unwrap_or((section, ""));
+fn play(heap: Global, transcript: &mut Transcript, section: &str) {
+    let (header, lines) = section.split_once('\n').unwrap_or((section, ""));
     transcript.line(header);
-    let header = Call::new(header);
-    for nth in header.second..=header.third {
-        transcript.answer("refused request", &nth);
-        let heap = RefusingAllocator::new(alloc, refused(nth));
-        let count = Cell::new(0u64);
-        let script = Script {
-            header,
-            lines: calls,
-        };
-        if let Err(refused) = play_over(&heap, Key::zero(&count), transcript, script) {
-            transcript.answer(header.line, &refused);
-        }
+    match header {
+        "P0 heap" => over::<P0, P1, OnHeap<P0>, OnHeap<P1>>(heap, heap, transcript, lines),
+        "P3 heap" => over::<P3, P1, OnHeap<P3>, OnHeap<P1>>(heap, heap, transcript, lines),
+        "N3 heap" => over::<N3, P1, OnHeap<N3>, OnHeap<P1>>(heap, heap, transcript, lines),
+        "P0 array" => over::<P0, P1, InArray<P0>, OnHeap<P1>>((), heap, transcript, lines),
+        "P1 array" => over::<P1, P1, InArray<P1>, OnHeap<P1>>((), heap, transcript, lines),
+        "P5 array" => over::<P5, P1, InArray<P5>, OnHeap<P1>>((), heap, transcript, lines),
+        _ => transcript.answer(header, &"no such arenas"),
     }
 }
 
-fn refused(nth: u64) -> u64
-    ensures { 0 < result }
-{
-    if nth == 0 { u64::MAX } else { nth }
-}
-
-// The calls of a section.
-#[derive(Clone, Copy)]
-struct Script<'a> {
-    header: Call<'a>,
-    lines: &'a str,
-}
-
-fn play_over<'a>(
-    heap: Heap<'a>,
-    zero: Key<'a>,
-    transcript: &mut Transcript,
-    script: Script<'_>,
-) -> Result<(), ReallocationError> {
-    if script.header.verb == "array" {
-        return over_array(heap, zero, transcript, script);
-    }
-    match script.header.whom {
-        "P0" => over_stack::<P0>(heap, zero, transcript, script),
-        "P1" => over_stack::<P1>(heap, zero, transcript, script),
-        "P3" => over_stack::<P3>(heap, zero, transcript, script),
-        "P5" => over_stack::<P5>(heap, zero, transcript, script),
-        "N3" => over_stack::<N3>(heap, zero, transcript, script),
-        _ => Err(ReallocationError::BeyondMaxCapacity),
-    }
-}
-
-// Over arrays, whose size is known only where the pointer type is.
-fn over_array<'a>(
-    heap: Heap<'a>,
-    zero: Key<'a>,
-    transcript: &mut Transcript,
-    script: Script<'_>,
-) -> Result<(), ReallocationError> {
-    match script.header.whom {
-        "P0" => over::<P0, P1, Key<'a>, InArray<'a, P0>, Other<'a>>(
-            (),
-            heap,
-            zero,
-            transcript,
-            script,
-        ),
-        "P1" => over::<P1, P1, Key<'a>, InArray<'a, P1>, Other<'a>>(
-            (),
-            heap,
-            zero,
-            transcript,
-            script,
-        ),
-        "P3" => over::<P3, P1, Key<'a>, InArray<'a, P3>, Other<'a>>(
-            (),
-            heap,
-            zero,
-            transcript,
-            script,
-        ),
-        "P5" => over::<P5, P1, Key<'a>, InArray<'a, P5>, Other<'a>>(
-            (),
-            heap,
-            zero,
-            transcript,
-            script,
-        ),
-        "N3" => over::<N3, P1, Key<'a>, InArray<'a, N3>, Other<'a>>(
-            (),
-            heap,
-            zero,
-            transcript,
-            script,
-        ),
-        _ => Err(ReallocationError::BeyondMaxCapacity),
-    }
-}
-
-fn over_stack<'a, P: Ptr>(
-    heap: Heap<'a>,
-    zero: Key<'a>,
-    transcript: &mut Transcript,
-    script: Script<'_>,
-) -> Result<(), ReallocationError> {
-    match script.header.verb {
-        "heap" => over::<P, P1, Key<'a>, NonZeroInxVec<Slot<P, Key<'a>>, Heap<'a>>, Other<'a>>(
-            heap, heap, zero, transcript, script,
-        ),
-        "limited" => {
-            over::<P, P1, Key<'a>, NonZeroInxLimitedVec<Slot<P, Key<'a>>, Heap<'a>>, Other<'a>>(
-                heap, heap, zero, transcript, script,
-            )
-        }
-        "boxed" => {
-            over::<P, P1, Key<'a>, NonZeroInxBoxedSlice<Slot<P, Key<'a>>, Heap<'a>>, Other<'a>>(
-                heap, heap, zero, transcript, script,
-            )
-        }
-        _ => Err(ReallocationError::BeyondMaxCapacity),
-    }
-}
-
-fn over<P: Ptr, Q: Ptr, K: Counting, S: OrdSlots<P, Item<K>>, R: OrdSlots<Q, Item<K>>>(
+// Makes the calls of a section at two new arenas.
+fn over<P: Ptr, Q: Ptr, S: OrdSlots<P, Item>, R: OrdSlots<Q, Item>>(
     first: S::Alloc,
     second: R::Alloc,
-    zero: K,
     transcript: &mut Transcript,
-    script: Script<'_>,
-) -> Result<(), ReallocationError> {
-    let a = arena::<P, K, S>(first, script.header.first as usize);
-    let b = arena::<Q, K, R>(second, 0);
-    let (mut a, mut b) = (a?, b?);
-    for line in script.lines.lines() {
-        play_line(&mut a, &mut b, transcript, &Call::new(line), zero);
-    }
-    Ok(())
-}
-
-// An arena with so much room, which is asked for where it is not 0.
-fn arena<P: ShownPtr, K: Counting, S: OrdSlots<P, Item<K>>>(
-    alloc: S::Alloc,
-    room: usize,
-) -> Result<Pairs<P, K, S>, ReallocationError> {
-    if room == 0 {
-        Ok(SimpleOrdArena::new(alloc))
-    } else {
-        SimpleOrdArena::with_min_capacity(alloc, room)
+    lines: &str,
+) {
+    let mut a = Pairs::<P, S>::new(first);
+    let mut b = Pairs::<Q, R>::new(second);
+    for line in lines.lines() {
+        play_line(&mut a, &mut b, transcript, &Call::new(line));
     }
 }
 
-fn play_line<P: Ptr, Q: Ptr, K: Counting, S: OrdSlots<P, Item<K>>, R: OrdSlots<Q, Item<K>>>(
-    a: &mut Pairs<P, K, S>,
-    b: &mut Pairs<Q, K, R>,
+fn play_line<P: Ptr, Q: Ptr, S: OrdSlots<P, Item>, R: OrdSlots<Q, Item>>(
+    a: &mut Pairs<P, S>,
+    b: &mut Pairs<Q, R>,
     transcript: &mut Transcript,
     call: &Call<'_>,
-    zero: K,
 ) {
     match call.whom {
-        "a" => show_or_play(a, transcript, call, zero),
-        "b" => show_or_play(b, transcript, call, zero),
+        "a" => show_or_play(a, transcript, call),
+        "b" => show_or_play(b, transcript, call),
         "ab" => several::compare(a, b, transcript, call),
         "ba" => several::compare(b, a, transcript, call),
         _ => transcript.line(call.line),
@@ -218,34 +78,28 @@ fn play_line<P: Ptr, Q: Ptr, K: Counting, S: OrdSlots<P, Item<K>>, R: OrdSlots<Q
 }
 
 // The text of an arena asks more of its pointers than the calls do.
-fn show_or_play<P: Ptr, K: Counting, S: OrdSlots<P, Item<K>>>(
-    arena: &mut Pairs<P, K, S>,
+fn show_or_play<P: Ptr, S: OrdSlots<P, Item>>(
+    arena: &mut Pairs<P, S>,
     transcript: &mut Transcript,
     call: &Call<'_>,
-    zero: K,
 ) {
     if call.verb == "show" {
         transcript.answer(call.line, arena);
     } else {
-        play_at(arena, transcript, call, zero);
+        play_at(arena, transcript, call);
     }
 }
 
 // Makes the call that a line names.
-fn play_at<P: ShownPtr, K: Counting, S: OrdSlots<P, Item<K>>>(
-    arena: &mut Pairs<P, K, S>,
+fn play_at<P: ShownPtr, S: OrdSlots<P, Item>>(
+    arena: &mut Pairs<P, S>,
     transcript: &mut Transcript,
     call: &Call<'_>,
-    zero: K,
 ) {
     if !(reads::reads(arena, transcript, call)
         || reads::asks(arena, transcript, call)
         || walks::walks(arena, transcript, call)
-        || searches::searches(arena, transcript, call, zero)
-        || changes::changes(arena, transcript, call, zero)
-        || insertions::inserts(arena, transcript, call, zero)
-        || growing::grows(arena, transcript, call, zero)
-        || entries::enters(arena, transcript, call, zero))
+        || changes::changes(arena, transcript, call))
     {
         transcript.answer(call.line, &"no such call");
     }

@@ -1,12 +1,11 @@
 //! The calls that read an arena.
-use crate::check::check;
-use crate::items::{Counting, Item, Pairs};
+use crate::items::{Item, Pairs};
 use script::{Call, ShownPtr, Transcript};
 use triple_arena_ord::OrdSlots;
 
 /// Makes a call that asks for a number or an end, and says whether there is one of that name.
-pub fn asks<P: ShownPtr, K: Counting, S: OrdSlots<P, Item<K>>>(
-    arena: &Pairs<P, K, S>,
+pub fn asks<P: ShownPtr, S: OrdSlots<P, Item>>(
+    arena: &Pairs<P, S>,
     transcript: &mut Transcript,
     call: &Call<'_>,
 ) -> bool {
@@ -14,13 +13,12 @@ pub fn asks<P: ShownPtr, K: Counting, S: OrdSlots<P, Item<K>>>(
     match call.verb {
         "len" => transcript.answer(line, &arena.len()),
         "is_empty" => transcript.answer(line, &arena.is_empty()),
-        "capacity" => transcript.answer(line, &arena.capacity()),
-        "max_capacity" => transcript.answer(line, &arena.max_capacity()),
         "generation" => transcript.answer(line, &arena.generation()),
         "singular_generation" => transcript.answer(line, &arena.singular_generation()),
         "first" => transcript.answer(line, &arena.first()),
         "last" => transcript.answer(line, &arena.last()),
         "find_first_inx_ptr" => transcript.answer(line, &arena.find_first_inx_ptr()),
+        "find_key" => transcript.answer(line, &arena.find_key(&call.first)),
         "find_last_inx_ptr" => transcript.answer(line, &arena.find_last_inx_ptr()),
         _ => return false,
     }
@@ -28,39 +26,27 @@ pub fn asks<P: ShownPtr, K: Counting, S: OrdSlots<P, Item<K>>>(
 }
 
 /// Makes a call that reads an entry, or all of them, and says whether there is one of that name.
-pub fn reads<P: ShownPtr, K: Counting, S: OrdSlots<P, Item<K>>>(
-    arena: &Pairs<P, K, S>,
+pub fn reads<P: ShownPtr, S: OrdSlots<P, Item>>(
+    arena: &Pairs<P, S>,
     transcript: &mut Transcript,
     call: &Call<'_>,
 ) -> bool {
     let line = call.line;
     match call.verb {
-        "check" => transcript.answer(line, &check(arena)),
-        "_check_invariants" => check_invariants(arena, transcript, line),
         "contains" => transcript.answer(line, &arena.contains(call.pointer())),
         "get" => transcript.answer(line, &arena.get(call.pointer())),
         "get_inx" => transcript.answer(line, &arena.get_inx(call.index())),
         "index" => index(arena, transcript, call),
         "get_inx_unwrap" => get_inx_unwrap(arena, transcript, call),
         "get_inx_link_no_gen" => link(arena, transcript, call),
-        "get_inx_node" => node(arena, transcript, call),
-        "rank" => rank(arena, transcript, call),
         _ => return false,
     }
     true
 }
 
-fn check_invariants<P: ShownPtr, K: Counting, S: OrdSlots<P, Item<K>>>(
-    arena: &Pairs<P, K, S>,
-    transcript: &mut Transcript,
-    line: &str,
-) {
-    transcript.answer(line, &Pairs::<P, K, S>::_check_invariants(arena));
-}
-
 // Reads by `arena[p]`, where the pointer is valid.
-fn index<P: ShownPtr, K: Counting, S: OrdSlots<P, Item<K>>>(
-    arena: &Pairs<P, K, S>,
+fn index<P: ShownPtr, S: OrdSlots<P, Item>>(
+    arena: &Pairs<P, S>,
     transcript: &mut Transcript,
     call: &Call<'_>,
 ) {
@@ -72,8 +58,8 @@ fn index<P: ShownPtr, K: Counting, S: OrdSlots<P, Item<K>>>(
     }
 }
 
-fn get_inx_unwrap<P: ShownPtr, K: Counting, S: OrdSlots<P, Item<K>>>(
-    arena: &Pairs<P, K, S>,
+fn get_inx_unwrap<P: ShownPtr, S: OrdSlots<P, Item>>(
+    arena: &Pairs<P, S>,
     transcript: &mut Transcript,
     call: &Call<'_>,
 ) {
@@ -86,8 +72,8 @@ fn get_inx_unwrap<P: ShownPtr, K: Counting, S: OrdSlots<P, Item<K>>>(
 }
 
 // The generation, the neighbors and the item at an index.
-fn link<P: ShownPtr, K: Counting, S: OrdSlots<P, Item<K>>>(
-    arena: &Pairs<P, K, S>,
+fn link<P: ShownPtr, S: OrdSlots<P, Item>>(
+    arena: &Pairs<P, S>,
     transcript: &mut Transcript,
     call: &Call<'_>,
 ) {
@@ -95,33 +81,6 @@ fn link<P: ShownPtr, K: Counting, S: OrdSlots<P, Item<K>>>(
         Some((generation, link)) => {
             transcript.answer(call.line, &(generation, link.prev_next(), link.t))
         }
-        None => transcript.answer(call.line, &"not live"),
-    }
-}
-
-// The generation, the neighbors, the item, the parent and the children at an index.
-fn node<P: ShownPtr, K: Counting, S: OrdSlots<P, Item<K>>>(
-    arena: &Pairs<P, K, S>,
-    transcript: &mut Transcript,
-    call: &Call<'_>,
-) {
-    match arena.get_inx_node(call.index()) {
-        Some((generation, link)) => {
-            transcript.answer(call.line, &(generation, link.prev_next(), &link.t.t));
-            transcript.answer(call.line, &(link.t.p_back, link.t.p_tree0, link.t.p_tree1));
-        }
-        None => transcript.answer(call.line, &"not live"),
-    }
-}
-
-// The rank at an index.
-fn rank<P: ShownPtr, K: Counting, S: OrdSlots<P, Item<K>>>(
-    arena: &Pairs<P, K, S>,
-    transcript: &mut Transcript,
-    call: &Call<'_>,
-) {
-    match arena.get_inx_node(call.index()) {
-        Some((_, link)) => transcript.answer(call.line, &link.t.rank),
         None => transcript.answer(call.line, &"not live"),
     }
 }

@@ -1,5 +1,5 @@
 //! Walks by indexes and along the list, by advancers and by iterators.
-use crate::items::{Counting, Item, Pairs};
+use crate::items::{Item, Pairs};
 use script::{Call, ShownPtr, Transcript};
 use triple_arena::Advancer;
 use triple_arena_ord::OrdSlots;
@@ -9,8 +9,8 @@ use triple_arena_ord::ord_iterators::OrderedPtrAdvancer;
 const LONGEST: u64 = 4096;
 
 /// Makes a walk that changes nothing, and says whether there is one of that name.
-pub fn walks<P: ShownPtr, K: Counting, S: OrdSlots<P, Item<K>>>(
-    arena: &Pairs<P, K, S>,
+pub fn walks<P: ShownPtr, S: OrdSlots<P, Item>>(
+    arena: &Pairs<P, S>,
     transcript: &mut Transcript,
     call: &Call<'_>,
 ) -> bool {
@@ -51,8 +51,8 @@ fn walk<P: ShownPtr, C, W: Advancer<C, Item = P> + Drop>(
     transcript.answer(line, &advancer.advance(arena));
 }
 
-fn ordered<P: ShownPtr, K: Counting, S: OrdSlots<P, Item<K>>>(
-    arena: &Pairs<P, K, S>,
+fn ordered<P: ShownPtr, S: OrdSlots<P, Item>>(
+    arena: &Pairs<P, S>,
     transcript: &mut Transcript,
     call: &Call<'_>,
 ) {
@@ -62,8 +62,8 @@ fn ordered<P: ShownPtr, K: Counting, S: OrdSlots<P, Item<K>>>(
     }
 }
 
-fn ptrs<P: ShownPtr, K: Counting, S: OrdSlots<P, Item<K>>>(
-    arena: &Pairs<P, K, S>,
+fn ptrs<P: ShownPtr, S: OrdSlots<P, Item>>(
+    arena: &Pairs<P, S>,
     transcript: &mut Transcript,
     line: &str,
 ) {
@@ -72,8 +72,8 @@ fn ptrs<P: ShownPtr, K: Counting, S: OrdSlots<P, Item<K>>>(
     }
 }
 
-fn vals<P: ShownPtr, K: Counting, S: OrdSlots<P, Item<K>>>(
-    arena: &Pairs<P, K, S>,
+fn vals<P: ShownPtr, S: OrdSlots<P, Item>>(
+    arena: &Pairs<P, S>,
     transcript: &mut Transcript,
     line: &str,
 ) {
@@ -82,8 +82,8 @@ fn vals<P: ShownPtr, K: Counting, S: OrdSlots<P, Item<K>>>(
     }
 }
 
-fn iter<P: ShownPtr, K: Counting, S: OrdSlots<P, Item<K>>>(
-    arena: &Pairs<P, K, S>,
+fn iter<P: ShownPtr, S: OrdSlots<P, Item>>(
+    arena: &Pairs<P, S>,
     transcript: &mut Transcript,
     line: &str,
 ) {
@@ -92,8 +92,8 @@ fn iter<P: ShownPtr, K: Counting, S: OrdSlots<P, Item<K>>>(
     }
 }
 
-fn iter_ordered<P: ShownPtr, K: Counting, S: OrdSlots<P, Item<K>>>(
-    arena: &Pairs<P, K, S>,
+fn iter_ordered<P: ShownPtr, S: OrdSlots<P, Item>>(
+    arena: &Pairs<P, S>,
     transcript: &mut Transcript,
     line: &str,
 ) {
@@ -102,8 +102,8 @@ fn iter_ordered<P: ShownPtr, K: Counting, S: OrdSlots<P, Item<K>>>(
     }
 }
 
-fn into_iter<P: ShownPtr, K: Counting, S: OrdSlots<P, Item<K>>>(
-    arena: &Pairs<P, K, S>,
+fn into_iter<P: ShownPtr, S: OrdSlots<P, Item>>(
+    arena: &Pairs<P, S>,
     transcript: &mut Transcript,
     line: &str,
 ) {
@@ -113,8 +113,8 @@ fn into_iter<P: ShownPtr, K: Counting, S: OrdSlots<P, Item<K>>>(
 }
 
 /// Goes along the list from a pointer, and removes each entry that it comes to.
-pub fn walk_and_remove<P: ShownPtr, K: Counting, S: OrdSlots<P, Item<K>>>(
-    arena: &mut Pairs<P, K, S>,
+pub fn walk_and_remove<P: ShownPtr, S: OrdSlots<P, Item>>(
+    arena: &mut Pairs<P, S>,
     transcript: &mut Transcript,
     call: &Call<'_>,
 ) {
@@ -124,8 +124,8 @@ pub fn walk_and_remove<P: ShownPtr, K: Counting, S: OrdSlots<P, Item<K>>>(
     }
 }
 
-fn remove_along<P: ShownPtr, K: Counting, S: OrdSlots<P, Item<K>>>(
-    arena: &mut Pairs<P, K, S>,
+fn remove_along<P: ShownPtr, S: OrdSlots<P, Item>>(
+    arena: &mut Pairs<P, S>,
     transcript: &mut Transcript,
     line: &str,
     advancer: OrderedPtrAdvancer<P>,
@@ -141,11 +141,11 @@ fn remove_along<P: ShownPtr, K: Counting, S: OrdSlots<P, Item<K>>>(
 
 /// Goes along the list from a pointer over an arena that changes: after the first step the entry at an index is removed, and
 /// an item is put in.
-pub fn walk_over_a_change<P: ShownPtr, K: Counting, S: OrdSlots<P, Item<K>>>(
-    arena: &mut Pairs<P, K, S>,
+pub fn walk_over_a_change<P: ShownPtr, S: OrdSlots<P, Item>>(
+    arena: &mut Pairs<P, S>,
     transcript: &mut Transcript,
     call: &Call<'_>,
-    item: Item<K>,
+    item: Item,
 ) {
     match arena.advancer_ordered(call.pointer(), call.third == 1) {
         Some(mut advancer) => {

@@ -1,7 +1,3 @@
 mod calls;
 mod documents;
 mod examples;
-mod order_books;
-mod playlists;
-mod searches;
-mod values;

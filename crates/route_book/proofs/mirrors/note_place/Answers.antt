@@ -1,30 +1,34 @@
 use Rattle.triple_arena_ord.specs.Ordered.{entry_in}
 use Rattle.route_lines.specs.State.{Place}
-use Rattle.std.proofs.Common.{◌≡◌, ◌∙◌, sym, ap, refl, Some, None, true≢false, rules}
+use Rattle.std.proofs.Common.{◌≡◌, ◌∙◌, ◌<◌, ◌≤◌, sym, ap, subst, refl, Some, None}
 use Rattle.std.specs.Option.{option_map}
 use Rattle.triple_arena.specs.DirectContent.{entry_at, arena_capacity, DirectContent}
 use Rattle.ticket_book.specs.Tickets.{Entry, lookup}
 use Rattle.route_book.proofs.NoteLemmas.{note_known, note_fits, note_vacant, note_done}
 use Rattle.route_book.proofs.mirrors.note_place.Goals as goal
 
-pub unreached-requires-in_default-find_counted : goal.unreached-requires-in_default-find_counted
-unreached-requires-in_default-find_counted g c =
+pub unreached-unreachable-requires-in_default-find_counted : goal.unreached-unreachable-requires-in_default-find_counted
+unreached-unreachable-requires-in_default-find_counted g c =
     note_known g.P.PtrCore.index g.P.PtrCore.generation (λ (x : Place). x.ticket) c.args.book.now.entries (entry_in c.args.places.now) c.args.p c.in-Some.item.now
     c.in-Some.ensures c.ticket.result c.ticket.ensures (arena_capacity c.args.mirror.now) c.requires.booked
-    (sym c.find_counted.ensures.found ∙ ap (option_map (λ e. e.now)) c.in_default-find_counted.is)
+    (sym c.in_default-find_counted.ensures.found)
 
 pub put-requires : goal.put-requires
 put-requires g c =
-    let found : lookup c.args.book.now.entries c.ticket.result ≡ Some _ = sym c.in-Some-find_counted.ensures.found ∙ ap Some (sym c.entry.view_is) in
+    let found : lookup c.args.book.now.entries c.ticket.result ≡ Some _ = sym c.in-Some-find_counted.ensures.found in
     let fits = note_fits g.P.PtrCore.index g.P.PtrCore.generation (λ (x : Place). x.ticket) c.args.book.now.entries (entry_in c.args.places.now) c.args.p c.in-Some.item.now
         c.in-Some.ensures c.ticket.result c.ticket.ensures (arena_capacity c.args.mirror.now) c.requires.booked _ found (entry_at c.args.mirror.now) c.requires.mirrored in
     let vacant = note_vacant g.P.PtrCore.index g.P.PtrCore.generation (λ (x : Place). x.ticket) c.args.book.now.entries (entry_in c.args.places.now) c.args.p c.in-Some.item.now
         c.in-Some.ensures c.ticket.result c.ticket.ensures (arena_capacity c.args.mirror.now) c.requires.booked _ found (entry_at c.args.mirror.now) c.requires.mirrored in
-    record { positive = fits.0; fits = fits.1; vacant = vacant }
+    record {
+      positive = subst (λ k. 0 < k) (sym c.at.ensures.index) fits.0;
+      fits = subst (λ k. k ≤ arena_capacity c.args.mirror.now) (sym c.at.ensures.index) fits.1;
+      vacant = ap (entry_at c.args.mirror.now) c.at.ensures.index ∙ vacant;
+    }
 
 pub returns-clause-mirrored : goal.returns-clause-mirrored
 returns-clause-mirrored g c =
-    let found : lookup c.args.book.now.entries c.ticket.result ≡ Some _ = sym c.in-Some-find_counted.ensures.found ∙ ap Some (sym c.entry.view_is) in
+    let found : lookup c.args.book.now.entries c.ticket.result ≡ Some _ = sym c.in-Some-find_counted.ensures.found in
     note_done g.P.PtrCore.index g.P.PtrCore.generation (λ (x : Place). x.ticket) c.args.book.now.entries (entry_in c.args.places.now) c.args.p c.in-Some.item.now
     c.in-Some.ensures c.ticket.result c.ticket.ensures (arena_capacity c.args.mirror.now) c.requires.booked _ found (entry_at c.args.mirror.now) c.requires.mirrored
-    _ _ _ _ (λ j. refl) refl refl c.put.ensures.entries
+    _ _ _ _ (λ j. refl) c.at.ensures.index c.at.ensures.generation c.put.ensures.entries

@@ -7,8 +7,9 @@ use Rattle.route_book.proofs.WholeLemmas.{ready_places, ready_stops, ready_marks
 use Rattle.route_book.proofs.book.RouteBook.pack_counted.Goals as goal
 
 pub mirror_places-requires : goal.mirror_places-requires
-mirror_places-requires g c =
-    ready_places g.P.Inx.PtrInxCore.number g.P.Gen.PtrGenCore.last _ _ _ _ _ _ _ _ _ _ c.self.invariant.book c.compress_all.ensures c.entries_stand_in_the_list.ensures _ refl _ c.self.invariant.place_mirror
+mirror_places-requires g c = record {
+  booked = ready_places g.P.Inx.PtrInxCore.number g.P.Gen.PtrGenCore.last _ _ _ _ _ _ _ _ _ _ c.self.invariant.book c.compress_all.ensures c.entries_stand_in_the_list.ensures _ refl _ c.self.invariant.place_mirror;
+}
 
 pub mirror_stops-requires : goal.mirror_stops-requires
 mirror_stops-requires g c =

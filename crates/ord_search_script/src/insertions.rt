@@ -1,6 +1,5 @@
 //! The calls that put an item in where its key belongs, or at an entry.
-use crate::changes::item;
-use crate::items::{Counting, Item, Pairs};
+use crate::items::{Counting, Item, Pairs, item};
 use crate::knots::Knots;
 use crate::work::{Limit, Since};
 use script::{Call, ShownPtr, Transcript};

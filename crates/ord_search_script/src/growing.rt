@@ -1,7 +1,6 @@
 //! Many calls in a row, of whose comparisons one answer tells the most.
-use crate::changes::item;
 use crate::entries::{enter, kind, limit_of};
-use crate::items::{Counting, Item, Pairs};
+use crate::items::{Counting, Item, Pairs, item};
 use crate::knots::Knots;
 use crate::searches::{Place, place_of, search};
 use crate::work::{Limit, Since, Work};
@@ -84,7 +83,7 @@ fn put<P: ShownPtr, K: Counting, S: OrdSlots<P, Item<K>>>(
     let k = *item.k();
     let since = Since::now(k);
     let i = match kind::<P, K>(name, &k, start, num) {
-        Some(kind) => match enter(arena, "entry_insert", kind, item) {
+        Some(kind) => match enter(arena, "entry_insert", kind, Some(item)) {
             Ok((told, _)) => told.any().inx(),
             Err(_) => start,
         },

@@ -1,6 +1,5 @@
 //! Insertions by an entry, of each kind, in each form.
-use crate::changes::item;
-use crate::items::{Counting, Item, Pairs};
+use crate::items::{Counting, Item, Pairs, item};
 use crate::knots::Knots;
 use crate::searches::limit_from;
 use crate::work::{Limit, Since};
@@ -27,11 +26,8 @@ pub fn enters<P: ShownPtr, K: Counting, S: OrdSlots<P, Item<K>>>(
     };
     let limit = limit_of(arena, name, start, call.fourth, arena.ascends());
     let since = Since::now(zero);
-    let told = if call.fifth == 1 {
-        let_go(arena, form, kind)
-    } else {
-        enter(arena, form, kind, new)
-    };
+    let used = if call.fifth == 1 { None } else { Some(new) };
+    let told = enter(arena, form, kind, used);
     let comparisons = since.count();
     transcript.answer(call.line, &(told, limit.held(comparisons, comparisons)));
     true
@@ -82,12 +78,12 @@ pub fn limit_of<P: ShownPtr, A: Knots<P>>(
     }
 }
 
-/// Puts an item in by an entry of this form.
+/// Puts an item in by an entry of this form, or lets the entry go where there is none.
 pub fn enter<P: ShownPtr, K: Counting, S: OrdSlots<P, Item<K>>>(
     arena: &mut Pairs<P, K, S>,
     form: &str,
     kind: OrdInsertKind<P, &K>,
-    item: Item<K>,
+    item: Option<Item<K>>,
 ) -> Entered<P, K> {
     match form {
         "entry_insert" => enter_growing(arena, kind, item),
@@ -99,42 +95,38 @@ pub fn enter<P: ShownPtr, K: Counting, S: OrdSlots<P, Item<K>>>(
 fn enter_growing<P: ShownPtr, K: Counting, S: OrdSlots<P, Item<K>>>(
     arena: &mut Pairs<P, K, S>,
     kind: OrdInsertKind<P, &K>,
-    item: Item<K>,
+    item: Option<Item<K>>,
 ) -> Entered<P, K> {
     let entry = arena.entry_insert(kind)?;
     let told = entry.ptr();
-    Ok((told, entry.insert(item)))
+    match item {
+        Some(item) => Ok((told, entry.insert(item))),
+        None => Ok((told, None)),
+    }
 }
 
 fn enter_reallocating<P: ShownPtr, K: Counting, S: OrdSlots<P, Item<K>>>(
     arena: &mut Pairs<P, K, S>,
     kind: OrdInsertKind<P, &K>,
-    item: Item<K>,
+    item: Option<Item<K>>,
 ) -> Entered<P, K> {
     let entry = arena.entry_insert_reallocating(kind)?;
     let told = entry.ptr();
-    Ok((told, entry.insert(item)))
+    match item {
+        Some(item) => Ok((told, entry.insert(item))),
+        None => Ok((told, None)),
+    }
 }
 
 fn enter_within_capacity<P: ShownPtr, K: Counting, S: OrdSlots<P, Item<K>>>(
     arena: &mut Pairs<P, K, S>,
     kind: OrdInsertKind<P, &K>,
-    item: Item<K>,
+    item: Option<Item<K>>,
 ) -> Entered<P, K> {
     let entry = arena.entry_insert_within_capacity(kind)?;
     let told = entry.ptr();
-    Ok((told, entry.insert(item)))
-}
-
-// What an entry of this form tells, which is let go then.
-fn let_go<P: ShownPtr, K: Counting, S: OrdSlots<P, Item<K>>>(
-    arena: &mut Pairs<P, K, S>,
-    form: &str,
-    kind: OrdInsertKind<P, &K>,
-) -> Entered<P, K> {
-    match form {
-        "entry_insert" => Ok((arena.entry_insert(kind)?.ptr(), None)),
-        "entry_insert_reallocating" => Ok((arena.entry_insert_reallocating(kind)?.ptr(), None)),
-        _ => Ok((arena.entry_insert_within_capacity(kind)?.ptr(), None)),
+    match item {
+        Some(item) => Ok((told, entry.insert(item))),
+        None => Ok((told, None)),
     }
 }

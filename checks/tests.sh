@@ -1,0 +1,17 @@
+# Runs tests that the gate does not prove: the modules of the folder $check, beside those of the crate of tests that they
+# belong to. A test is proved as code, and each of these would cost the gate minutes, so they run with no proof. It takes
+# about two minutes. They end in .txt, since the gate lets no .rt file stand outside a crate.
+case $check in
+    layer-tests) crate=layer_tests ;;
+    store-tests) crate=route_book_sequences ;;
+    user-tests) crate=user_sequences ;;
+esac
+tar -C "$top" --exclude=out -cf - crates crates.txt HANDLES | tar -C "$work" -xf -
+tests=$work/crates/$crate/src/tests
+for text in "$here/$check"/*.rt.txt; do
+    name=$(basename -- "$text" .rt.txt)
+    cp -- "$text" "$tests/$name.rt"
+    echo "mod $name;" >>"$tests.rt"
+done
+(cd -- "$work/crates/$crate" && rt try --test) | tee "$work/said"
+grep -q '^test result: ok' "$work/said"
