@@ -8,6 +8,7 @@ ghost use Rattle.triple_arena_ord.specs.Ordered.{entry_in};
 ghost use Rattle.route_lines.specs.Calls.{place_holder, stop_holder};
 ghost use Rattle.route_lines.specs.Routes.{next_stop};
 ghost use Rattle.route_lines.specs.Searches.{living_count};
+ghost use Rattle.route_lines.specs.Sound.{IsSound};
 ghost use Rattle.route_lines.specs.State.{Place as PlaceView, holder, is_full_of_places, mark_of, stop_list, stop_of};
 ghost use Rattle.route_book.specs.Book.{found_of, in_order};
 ghost use Rattle.route_book.specs.Follows.{AreRoutes, LeadAs};
@@ -145,6 +146,7 @@ impl<P: PtrCore, B: BookBacking<P>> RouteBook<P, B> {
     /// The arena of the places. Along its list they are the places of the state.
     pub fn places_arena(&self) -> &SimpleOrdArena<P, Place, B::Places>
         ensures content { result.now ≡ self.now.places }
+        ensures sound { IsSound self.now.state }
         ensures order { self.now.state.places ≡ in_order P.Inx.number result.now }
     {
         &self.places
@@ -154,6 +156,7 @@ impl<P: PtrCore, B: BookBacking<P>> RouteBook<P, B> {
     /// the state names.
     pub fn stops_arena(&self) -> &ChainArena<P, Stop<P>, B::Stops>
         ensures content { result.now ≡ self.now.stops }
+        ensures sound { IsSound self.now.state }
         ensures routes { AreRoutes (stop_in (found_of self.now)) (ends_in P.Inx.number result.now) self.now.state.routes }
         ensures next { LeadAs (λ (t : StopView). t.ticket) (values_in result.now) (ends_in P.Inx.number result.now)
             (next_stop self.now.state.routes) }
@@ -171,6 +174,7 @@ impl<P: PtrCore, B: BookBacking<P>> RouteBook<P, B> {
     /// The arena of the marks. Its references find the place and the stop that the state names.
     pub fn marks_arena(&self) -> &Arena<P, Mark<P>, B::Marks>
         ensures content { result.now ≡ self.now.marks }
+        ensures sound { IsSound self.now.state }
         ensures items { (i g : ℕ) (m : MarkView) → entry_at result.now i ≡ Some (g, m)
             → mark_of self.now.state.marks m.ticket ≡ Some (state_mark (found_of self.now) m) }
         ensures count { live_count result.now ≡ length self.now.state.marks }

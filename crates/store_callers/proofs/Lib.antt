@@ -1,0 +1,2 @@
+mod DispatchLemmas
+mod ReferenceLemmas
