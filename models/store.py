@@ -6,7 +6,6 @@ usage: store.py SEED LINES >stdin 2>stdout     random sections with so many line
        store.py rooms SEED                     the arguments of the program `route_book` for random lines
        store.py lines SEED LINES >stdin 2>stdout     these lines, and what must be answered to them
 
-With `removals` as its last word it knows the lines `remove` and `pack` too, which are bad without it.
 `crates/store_script/src/main.rt` says how a section is written. How many comparisons a search makes hangs on the tree, so
 what a section of `inputs` or `answer` wants stands in the section.
 """
@@ -15,7 +14,7 @@ import sys
 
 sys.dont_write_bytecode = True
 
-from store_rules import FORMS, LAST_TICKET, Store
+from store_rules import LAST_TICKET, Store
 
 # The greatest index of each pointer type, and its greatest generation.
 POINTERS = {'P0': (2**64 - 1, 2**64 - 1), 'P1': (255, 255), 'P5': (2**64 - 1, 1), 'N3': (255, 3)}
@@ -159,13 +158,13 @@ def requests(rooms):
     return 2 * sum(room > 0 for room in rooms) + any(rooms)
 
 
-def play_over(pointers, backing, numbers, lines, removals):
+def play_over(pointers, backing, numbers, lines):
     """What a section's lines write over a new store."""
     *rooms, last, refused = numbers
     text = refusal(pointers, backing, rooms, refused)
     if text is not None:
         return text
-    store = Store(*rooms, last, removals, POINTERS[pointers][1])
+    store = Store(*rooms, last, POINTERS[pointers][1])
     if lines.startswith('>'):
         return ''.join(play_run(store, *part.partition('\n')[::2]) for part in lines[1:].split('>'))
     page = Page('plain', 0, 0)
@@ -173,22 +172,22 @@ def play_over(pointers, backing, numbers, lines, removals):
     return f'{page.text}-> {end}, unread 0, flushed {page.flushed}\n'
 
 
-def play(section, removals):
+def play(section):
     """What a section writes."""
     comment, _, behind = section.partition('\n')
     header, _, lines = behind.partition('\n')
     pointers, backings, *numbers = header.split(' ')
     numbers = ([int(number) for number in numbers] + [0] * 5)[:5]
-    texts = [play_over(kind, backing, numbers, lines, removals)
+    texts = [play_over(kind, backing, numbers, lines)
              for kind in pointers.split(',') for backing in backings.split(',')]
     assert all(text == texts[0] for text in texts), f'the stores of a section differ: {comment}'
     plays = len(texts) * (1 if lines.startswith('>') else PLAYS_OF_AN_INPUT)
     return f'#{comment}\n{header}\n{texts[0]}{plays} plays\n'
 
 
-def answer(script, removals):
+def answer(script):
     """What a script writes."""
-    return ''.join(play(section, removals) for section in script.split('#') if section)
+    return ''.join(play(section) for section in script.split('#') if section)
 
 
 # The rooms of places, stops and marks, in an array and elsewhere.
@@ -199,11 +198,11 @@ LARGE = [1, 4, 12, 40], [0, 2, 9, 40, 90], [0, 1, 5, 20]
 class Writer:
     """Writes random lines that mostly fit what the store holds."""
 
-    def __init__(self, pick, sizes, last, removals):
+    def __init__(self, pick, sizes, last):
         self.random = pick
         self.rooms = [pick.choice(choices) for choices in sizes]
         self.keys = pick.choice([3, 20, 200])
-        self.store = Store(*self.rooms, last, removals)
+        self.store = Store(*self.rooms, last)
 
     def key(self):
         if self.random.random() < 0.02:
@@ -242,9 +241,7 @@ class Writer:
 
     def line(self):
         verbs = ['place'] * 4 + ['start', 'walk', 'join'] * 3 + ['extend', 'swap'] * 4
-        verbs += ['cut', 'mark', 'show', 'floor', 'find', 'after', 'before', 'all']
-        if self.store.forms is not FORMS:
-            verbs += ['remove'] * 4 + ['pack']
+        verbs += ['cut', 'mark', 'show', 'floor', 'find', 'after', 'before', 'all', 'pack'] + ['remove'] * 4
         verb = self.random.choice(verbs)
         fields = {
             'place': lambda: [self.key(), self.word()] + self.hint(),
@@ -286,10 +283,10 @@ def random_run(writer, count):
     return f'>{words}\n' + (lines if pick.random() < 0.5 else lines[:-1])
 
 
-def random_section(pick, pointers, backings, count, removals, runs=()):
+def random_section(pick, pointers, backings, count, runs=()):
     """A section's lines with its header over each of these: one input, or runs of these kinds."""
     last = pick.choice([0, 0, 0, LAST_TICKET - 25])
-    writer = Writer(pick, SMALL if 'array' in backings else LARGE, last, removals)
+    writer = Writer(pick, SMALL if 'array' in backings else LARGE, last)
     rooms = writer.rooms
     header = f'{pointers} {backings} {rooms[0]} {rooms[1]} {rooms[2]} {last} {requests(rooms) + 1}'
     part = max(count // max(len(runs), 1), 1)
@@ -297,39 +294,37 @@ def random_section(pick, pointers, backings, count, removals, runs=()):
     return f'{header}\n' + (lines or writer.lines(count))
 
 
-def random_sections(seed, count, removals):
+def random_sections(seed, count):
     pick = random.Random(seed)
-    sections = [random_section(pick, 'P0,P1,N3', ','.join(backings), count, removals)
+    sections = [random_section(pick, 'P0,P1,N3', ','.join(backings), count)
                 for backings in (BACKINGS, BACKINGS[:3])]
-    sections += [random_section(pick, 'P0,P1,N3', 'heap', count, removals, ['run'] * 8)]
-    sections += [random_section(pick, kind, backing, count, removals, ['sweeps'])
+    sections += [random_section(pick, 'P0,P1,N3', 'heap', count, ['run'] * 8)]
+    sections += [random_section(pick, kind, backing, count, ['sweeps'])
                  for kind, backing in (('P1', 'heap'), ('N3', 'array'), ('N3', 'limited'))]
     return ''.join(f'# random lines of seed {seed}\n{section}' for section in sections)
 
 
-def random_lines(seed, count, removals):
+def random_lines(seed, count):
     """The rooms of the program `route_book`, and lines for it."""
-    writer = Writer(random.Random(seed), LARGE, 0, removals)
+    writer = Writer(random.Random(seed), LARGE, 0)
     return writer.rooms, writer.lines(count)
 
 
 def main(words):
-    removals = words[-1:] == ['removals']
-    words = words[:-1] if removals else words
     if words == ['answer']:
-        print(answer(sys.stdin.buffer.read().decode(), removals), end='')
+        print(answer(sys.stdin.buffer.read().decode()), end='')
     elif words[:1] == ['rooms'] and len(words) == 2:
-        print(*random_lines(int(words[1]), 0, removals)[0])
+        print(*random_lines(int(words[1]), 0)[0])
     elif words[:1] == ['lines'] and len(words) == 3:
-        rooms, lines = random_lines(*map(int, words[1:]), removals)
+        rooms, lines = random_lines(*map(int, words[1:]))
         print(lines, end='')
-        print(Store(*rooms, removals=removals).text(lines.encode()), end='', file=sys.stderr)
+        print(Store(*rooms).text(lines.encode()), end='', file=sys.stderr)
     elif len(words) == 2:
-        script = random_sections(*map(int, words), removals)
+        script = random_sections(*map(int, words))
         print(script, end='')
-        print(answer(script, removals), end='', file=sys.stderr)
+        print(answer(script), end='', file=sys.stderr)
     else:
-        sys.exit('usage: store.py SEED LINES | answer | rooms SEED | lines SEED LINES, and `removals` behind it')
+        sys.exit('usage: store.py SEED LINES | answer | rooms SEED | lines SEED LINES')
 
 
 if __name__ == '__main__':

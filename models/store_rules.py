@@ -9,20 +9,19 @@ NUMBER = '(0|[1-9][0-9]*)'
 WORD = '([a-z0-9]{1,16})'
 # The fields of each line behind its verb: n is a number and w a word.
 FORMS = {'show': 'n', 'find': 'n', 'floor': 'n', 'after': 'n', 'before': 'n', 'all': '', 'start': 'n', 'extend': 'nn',
-         'join': 'nn', 'cut': 'n', 'swap': 'nn', 'walk': 'n', 'mark': 'nn', 'place': 'nw'}
-REMOVALS = {'remove': 'n', 'pack': ''}
+         'join': 'nn', 'cut': 'n', 'swap': 'nn', 'walk': 'n', 'mark': 'nn', 'place': 'nw', 'remove': 'n', 'pack': ''}
 
 
 class Refused(Exception):
     """A line is refused, with this reply."""
 
 
-def spelled(line, forms):
+def spelled(line):
     """The verb and the fields of a line, or None where it spells no command."""
     if len(line) > 69:
         return None
     text = line.decode('latin-1')
-    for verb, form in forms.items():
+    for verb, form in FORMS.items():
         fields = ''.join(' ' + (NUMBER if field == 'n' else WORD) for field in form)
         hint = f'(?: near {NUMBER})?' if verb == 'place' else ''
         found = re.fullmatch(verb + fields + hint, text)
@@ -41,11 +40,10 @@ class Store:
     line looked at.
     """
 
-    def __init__(self, places, stops, marks, last=0, removals=False, generations=LAST_TICKET):
+    def __init__(self, places, stops, marks, last=0, generations=LAST_TICKET):
         self.rooms = {'place': places, 'stop': stops, 'mark': marks}
         self.last, self.generations, self.looks = last, generations, 0
         self.counters = {'place': 2, 'stop': 2}
-        self.forms = dict(FORMS, **REMOVALS) if removals else FORMS
         self.place, self.stop, self.mark = {}, {}, {}
         self.next, self.previous = {}, {}
 
@@ -212,7 +210,7 @@ class Store:
 
     def reply(self, line):
         self.looks = 0
-        command = spelled(line, self.forms)
+        command = spelled(line)
         if command is None:
             return ['bad']
         verb, fields = command

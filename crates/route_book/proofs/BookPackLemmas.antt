@@ -1,12 +1,10 @@
 -- What a pack leaves of what ties a store's parts, over what the calls on the three arenas tell.
-use Rattle.std.proofs.Common.{◌≡◌, ◌≢◌, ◌∙◌, sym, ap, subst, refl, Bool, true, false, if◌then◌else◌, ℕ, zero, suc, ◌+◌, ◌<◌, ◌≤◌, List, [], ◌∷◌, ◌++◌, length, map, slice_get, slice_index_or, get_or, Option, Some, None, IsSome, is_some, true≢false, arith, filter_map}
+use Rattle.std.proofs.Common.{◌≡◌, ◌∙◌, sym, ap, subst, refl, true, ℕ, suc, ◌<◌, ◌≤◌, List, [], ◌∷◌, ◌++◌, length, map, Option, Some, None, IsSome, is_some, true≢false, arith}
 use Rattle.std.specs.Option.{option_map}
-use Rattle.std.proofs.lemmas.Option.{slice_get-map}
 use Rattle.triple_arena_ptr.specs.Generation.{second_generation}
-use Rattle.triple_arena_stack.specs.Room.{Room, capacity}
-use Rattle.triple_arena.specs.Entries.{value_if, look_up}
-use Rattle.triple_arena.specs.Content.{Content, entry_at, live_count, arena_capacity, some_counter}
-use Rattle.triple_arena.specs.Compression.{renewed, index_of, value_of, generation_of, entry_of_listed, generation_given}
+use Rattle.triple_arena_stack.specs.Room.{capacity}
+use Rattle.triple_arena.specs.Content.{Content, entry_at, live_count, some_counter}
+use Rattle.triple_arena.specs.Compression.{value_of}
 use Rattle.triple_arena.specs.Changes.{IsCompressed}
 use Rattle.triple_arena.specs.LiveEntries.{live_entries, entry-listed, live_entries-increase}
 use Rattle.triple_arena_chain.specs.declared.link.IndexLink.{IndexLink}
@@ -22,8 +20,8 @@ use Rattle.triple_arena_ord.specs.CanonicalLayout.{IsLaidInOrder}
 use Rattle.route_lines.specs.State.{Place, State, Rooms}
 use Rattle.ticket_book.specs.declared.entry.Kind.TheVariants.{Place as OfPlace, Stop as OfStop, Mark as OfMark}
 use Rattle.route_book.specs.Item.{StopView, MarkView}
-use Rattle.ticket_book.specs.Tickets.{Entry, lookup}
-use Rattle.route_book.specs.Holds.{Found, found_by, entry, IsLive, IsHeld}
+use Rattle.ticket_book.specs.Tickets.{Entry}
+use Rattle.route_book.specs.Holds.{Found, IsLive, IsHeld}
 use Rattle.route_book.specs.Book.{found_in, in_order, IsBook}
 use Rattle.route_book.specs.Packing.{IsMoved, IsMirror, IsMirrored, IsBooked, recast_stop, recast_mark}
 use Rattle.ticket_book.specs.Mirrors.{Mirror, renewed_entry}
@@ -89,7 +87,7 @@ module _ {I : Type 0} (number : I → ℕ) (last : Option ℕ) (places places' :
     onto = λ k h p is.
         let w = on_mapped laid.to (order_in number places) k (subst (λ l. On l k) laid.order (stand' k (ap is_some is))) in
         let there : option_map (λ (e : ℕ × Place). (let z : ℕ × Place = (second_generation last, e.1) in z)) (entry_in places w.0) ≡ Some (h, p) =
-            sym (laid.entries w.0 w.1.0) ∙ ap (entry_in places') w.1.1 ∙ is in
+        sym (laid.entries w.0 w.1.0) ∙ ap (entry_in places') w.1.1 ∙ is in
         let x = mapped_some (λ (e : ℕ × Place). (let z : ℕ × Place = (second_generation last, e.1) in z)) (entry_in places w.0) (h, p) there in
         (w.0, (x.0.0, (x.1.0 ∙ ap (λ v. Some (x.0.0, v)) (ap (λ (z : ℕ × Place). z.1) x.1.1), (w.1.1, sym (ap (λ (z : ℕ × Place). z.0) x.1.1)))));
   }
@@ -128,7 +126,7 @@ module _ {I T : Type 0} (number : I → ℕ) where
     onto = λ k h t is.
         let w = c.renamed.onto k (ends_live new k (ap is_some is)) in
         let there : option_map (λ (e : ℕ × T). (let z : ℕ × T = (second_generation last, e.1) in z)) (values_in old w.0) ≡ Some (h, t) =
-            sym (c.values w.0 w.1) ∙ ap (values_in new) w.2 ∙ is in
+        sym (c.values w.0 w.1) ∙ ap (values_in new) w.2 ∙ is in
         let x = mapped_some (λ (e : ℕ × T). (let z : ℕ × T = (second_generation last, e.1) in z)) (values_in old w.0) (h, t) there in
         (w.0, (x.0.0, (x.1.0 ∙ ap (λ v. Some (x.0.0, v)) (ap (λ (z : ℕ × T). z.1) x.1.1), (w.2, sym (ap (λ (z : ℕ × T). z.0) x.1.1)))));
   }
@@ -218,9 +216,9 @@ module _ {I : Type 0} (number : I → ℕ) (last : Option ℕ) (rooms : Rooms) (
     held =
         subst (λ w. IsHeld s (found_in places' stops' marks') w (ends_in number stops') (map (renewed_entry m n o) book)) (sym (order_same number last places places' laid stand stand'))
         (subst (λ c. IsHeld s (record { places = entry_in places'; stops = values_in stops'; marks = entry_at marks'; place_counter = c; stop_counter = stops'.counter })
-            (in_order number places) (ends_in number stops') (map (renewed_entry m n o) book)) (sym counter_p)
+        (in_order number places) (ends_in number stops') (map (renewed_entry m n o) book)) (sym counter_p)
         (subst (λ c. IsHeld s (record { places = entry_in places'; stops = values_in stops'; marks = entry_at marks'; place_counter = g; stop_counter = c })
-            (in_order number places) (ends_in number stops') (map (renewed_entry m n o) book)) (sym counter_s) held_now))
+        (in_order number places) (ends_in number stops') (map (renewed_entry m n o) book)) (sym counter_s) held_now))
 
     pub pack_kept : IsBook number rooms given s places' stops' marks' (map (renewed_entry m n o) book)
     pack_kept = record {

@@ -1,5 +1,5 @@
 -- The routes of a state are chains of the interlinks.
-use Rattle.std.proofs.Common.{◌≡◌, ◌≢◌, ◌∙◌, sym, ap, subst, refl, Bool, true, false, ◌==◌, ℕ, ◌+◌, ◌≤◌, List, [], ◌∷◌, ◌++◌, Option, Some, None, IsSome, IfSome, is_some, true≢false, cond, if◌then◌else◌, arith}
+use Rattle.std.proofs.Common.{◌≡◌, ◌≢◌, ◌∙◌, sym, ap, subst, refl, Bool, true, false, ℕ, ◌+◌, ◌≤◌, List, [], ◌∷◌, ◌++◌, Option, Some, None, IsSome, IfSome, true≢false, cond, if◌then◌else◌, arith}
 use Rattle.std.specs.List.{AllByRecursion}
 use Rattle.std.specs.Option.{option_map, option_to_list}
 use Rattle.std.proofs.lemmas.Bool.{eq-eqb}
@@ -10,7 +10,7 @@ use Rattle.route_lines.specs.Cuts.{first_item}
 use Rattle.route_lines.specs.Leads.{head_or, Leads, closes_at}
 use Rattle.route_lines.specs.Routes.{has_ticket}
 use Rattle.route_lines.specs.Sound.{count_of}
-use Rattle.route_lines.specs.State.{Stop, Route, stop_list, stop_of}
+use Rattle.route_lines.specs.State.{Stop, Route, stop_list}
 use Rattle.route_book.specs.Follows.{along, IsRoute}
 use Rattle.route_book.proofs.StopWalkLemmas.{ticket_by}
 

@@ -1,21 +1,16 @@
 -- What the end of an item makes of what is held. References are left alone: those to the item find nothing from then on.
-use Rattle.std.proofs.Common.{◌≡◌, ◌≢◌, ◌∙◌, sym, ap, subst, refl, Bool, true, false, ◌==◌, if◌then◌else◌, ℕ, ◌+◌, ◌<◌, ◌≤◌, List, [], ◌∷◌, length, not, filter, find, Option, Some, None, IsSome, is_some, true≢false, arith, inl, inr}
+use Rattle.std.proofs.Common.{◌≡◌, ◌≢◌, ◌∙◌, sym, ap, subst, refl, Bool, true, false, ◌==◌, if◌then◌else◌, ℕ, ◌+◌, ◌≤◌, List, [], ◌∷◌, length, find, Option, Some, None, IsSome, true≢false, arith, inl, inr}
 use Rattle.std.specs.Option.{option_map}
 use Rattle.std.proofs.lemmas.Bool.{ne_eqb, eq-eqb}
 use Rattle.std.proofs.lemmas.Bool.Decides.{eqb_tells}
 use Rattle.triple_arena.specs.Entries.{value_if, without}
 use Rattle.triple_arena_chain.specs.Chains.{Ends}
 use Rattle.ticket_book.specs.declared.entry.Kind.{Kind}
-use Rattle.ticket_book.specs.declared.entry.Kind.TheVariants.{Place as OfPlace, Stop as OfStop, Mark as OfMark}
 use Rattle.ticket_book.specs.Tickets.{Entry, lookup, without_ticket}
-use Rattle.route_lines.specs.Calls.{clear_mark, clear_mark_stop, clear_stop, unless_is}
-use Rattle.route_lines.specs.Routes.{next_stop}
+use Rattle.route_lines.specs.Calls.{unless_is}
 use Rattle.route_lines.specs.State.{State, Place, Stop, Mark, place_of, stop_of, mark_of}
-use Rattle.route_book.specs.Follows.{LeadAs}
-use Rattle.route_book.specs.Item.{StopView, MarkView}
-use Rattle.route_book.specs.Holds.{Found, found_by, state_stop, state_mark, place_under, stop_under, mark_under, place_at, stop_at, mark_at, IsFilled, entry, Rise, IsSettled, AreUpTo, IsHeld}
+use Rattle.route_book.specs.Holds.{Found, found_by, place_under, stop_under, mark_under, place_at, stop_at, mark_at, IsFilled, Rise, IsHeld}
 use Rattle.route_book.proofs.HoldLemmas.{some_same}
-use Rattle.route_book.proofs.SettledLemmas.{settled_left, up_to_left}
 
 -- ---- the book without a ticket
 

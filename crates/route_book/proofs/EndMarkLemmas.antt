@@ -3,7 +3,7 @@ use Rattle.std.proofs.Common.{◌≡◌, ◌≢◌, ◌∙◌, sym, ap, subst, r
 use Rattle.std.specs.Option.{option_map}
 use Rattle.triple_arena_stack.specs.Room.{capacity}
 use Rattle.triple_arena.specs.Changes.{IsRemoved}
-use Rattle.triple_arena.specs.Content.{Content, entry_at, live_count, arena_capacity, some_counter}
+use Rattle.triple_arena.specs.Content.{Content, entry_at, live_count, some_counter}
 use Rattle.triple_arena.specs.Entries.{value_if, without}
 use Rattle.triple_arena_chain.specs.declared.link.IndexLink.{IndexLink}
 use Rattle.triple_arena_chain.specs.Chains.{Ends}
@@ -18,7 +18,7 @@ use Rattle.route_lines.specs.Sound.{IsSound}
 use Rattle.route_lines.specs.State.{State, Rooms, Place, Stop, Mark, place_of, stop_of, mark_of, stop_list}
 use Rattle.route_book.specs.Book.{found_in, in_order, IsBook}
 use Rattle.route_book.specs.Item.{StopView, MarkView}
-use Rattle.route_book.specs.Holds.{Found, state_stop, state_mark, place_under, stop_under, mark_under, place_at, stop_at, mark_at, IsFilled, entry, Rise, IsHeld}
+use Rattle.route_book.specs.Holds.{Found, state_stop, state_mark, mark_under, place_at, stop_at, mark_at, IsFilled, entry, Rise, IsHeld}
 use Rattle.route_book.proofs.HoldLemmas.{some_same}
 use Rattle.route_book.proofs.EndLemmas.{others_stay, was_other, still_found, IsKept, still_booked, still_filled, places_still, stops_still, marks_still, none_there, unchanged, found_has, stands_under, rise_without, length_without}
 use Rattle.route_book.proofs.OrderLemmas.{differ_of_rise}

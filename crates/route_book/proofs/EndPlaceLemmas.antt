@@ -1,30 +1,29 @@
 -- What the removal of a place leaves of what is held, and of what ties a store's parts.
-use Rattle.std.proofs.Common.{◌≡◌, ◌≢◌, ◌∙◌, sym, ap, subst, refl, Bool, true, false, not, ◌==◌, if◌then◌else◌, ℕ, ◌+◌, ◌<◌, ◌≤◌, List, [], ◌∷◌, ◌++◌, length, map, filter, Option, Some, None, IsSome, is_some, Ok, Err, arith, inl, inr}
+use Rattle.std.proofs.Common.{◌≡◌, ◌≢◌, ◌∙◌, sym, ap, subst, refl, false, not, ◌==◌, if◌then◌else◌, ℕ, ◌+◌, ◌≤◌, List, [], ◌∷◌, ◌++◌, length, map, filter, Option, Some, None, IsSome, is_some, arith}
 use Rattle.std.specs.Option.{option_map}
 use Rattle.std.proofs.lemmas.Bool.{ne_eqb, eq-eqb}
-use Rattle.std.proofs.lemmas.Bool.Decides.{eqb_tells}
-use Rattle.triple_arena_ptr.specs.Generation.{next_generation, next_wraps}
+use Rattle.triple_arena_ptr.specs.Generation.{next_wraps}
 use Rattle.triple_arena_stack.specs.Room.{capacity}
-use Rattle.triple_arena.specs.Content.{Content, entry_at, live_count, arena_capacity}
+use Rattle.triple_arena.specs.Content.{Content}
 use Rattle.triple_arena.specs.Entries.{value_if, without}
 use Rattle.triple_arena_chain.specs.declared.link.IndexLink.{IndexLink}
 use Rattle.triple_arena_chain.specs.Chains.{Apart, Ends, Off}
 use Rattle.triple_arena_chain.specs.ListLaws.{Apart-split}
 use Rattle.triple_arena_chain.specs.UniquenessLaws.{linear_apart}
-use Rattle.triple_arena_chain.specs.Links.{ends_in, values_in}
+use Rattle.triple_arena_chain.specs.Links.{ends_in}
 use Rattle.triple_arena_ord.specs.Ascending.{entries_along}
-use Rattle.triple_arena_ord.specs.Ordered.{Ordered, IsOrdered, entry_in, order_in, size_in}
+use Rattle.triple_arena_ord.specs.Ordered.{Ordered, IsOrdered, entry_in, order_in}
 use Rattle.triple_arena_ord.specs.Removal.{IsEntryRemoved}
 use Rattle.ticket_book.specs.declared.entry.Kind.{Kind}
 use Rattle.ticket_book.specs.declared.entry.Kind.TheVariants.{Place as OfPlace, Stop as OfStop, Mark as OfMark}
 use Rattle.ticket_book.specs.Tickets.{Entry, lookup, without_ticket}
-use Rattle.route_lines.specs.Calls.{after_removed, clear_mark, clear_stop, unless_is, without_place}
+use Rattle.route_lines.specs.Calls.{clear_mark, clear_stop, unless_is, without_place}
 use Rattle.route_lines.specs.Routes.{next_stop}
 use Rattle.route_lines.specs.Sound.{IsSound}
-use Rattle.route_lines.specs.State.{State, Rooms, Place, Stop, Mark, holder, place, place_of, stop_of, mark_of, stop_list}
+use Rattle.route_lines.specs.State.{State, Rooms, Place, place_of, stop_of, mark_of, stop_list}
 use Rattle.route_book.specs.Book.{found_in, in_order, IsBook}
 use Rattle.route_book.specs.Item.{StopView, MarkView}
-use Rattle.route_book.specs.Holds.{Found, found_by, state_stop, state_mark, place_under, stop_under, mark_under, place_at, IsFilled, entry, Rise, IsSettled, stop_at, mark_at, IsHeld}
+use Rattle.route_book.specs.Holds.{Found, found_by, state_stop, state_mark, place_under, place_at, IsFilled, entry, Rise, IsSettled, stop_at, mark_at, IsHeld}
 use Rattle.route_book.proofs.HoldLemmas.{some_same}
 use Rattle.route_book.proofs.SettledLemmas.{settled_left, up_to_left}
 use Rattle.route_book.proofs.EndLemmas.{unnamed, others_stay, was_other, still_found, IsKept, still_booked, still_filled, places_still, stops_still, marks_still, none_there, each_mapped, found_has, stands_under, rise_without, length_without}

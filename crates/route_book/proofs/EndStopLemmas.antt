@@ -1,14 +1,14 @@
 -- What the removal of a stop leaves of what is held, and of what ties a store's parts.
-use Rattle.std.proofs.Common.{◌≡◌, ◌≢◌, ◌∙◌, sym, ap, subst, refl, Bool, true, false, ◌==◌, if◌then◌else◌, ℕ, ◌+◌, ◌<◌, ◌≤◌, List, [], ◌∷◌, length, Option, Some, None, IsSome, is_some, true≢false, arith, inl, inr}
+use Rattle.std.proofs.Common.{◌≡◌, ◌≢◌, ◌∙◌, sym, ap, subst, refl, false, ◌==◌, if◌then◌else◌, ℕ, ◌+◌, ◌≤◌, List, length, Option, Some, None, IsSome, is_some, true≢false, arith, inl, inr}
 use Rattle.std.specs.Option.{option_map}
 use Rattle.std.proofs.lemmas.Bool.{ne_eqb, eq-eqb}
 use Rattle.std.proofs.lemmas.Bool.Decides.{eqb_tells}
 use Rattle.triple_arena_ptr.specs.Generation.{next_wraps}
 use Rattle.triple_arena_stack.specs.Room.{capacity}
-use Rattle.triple_arena.specs.Content.{Content, entry_at, live_count, arena_capacity}
+use Rattle.triple_arena.specs.Content.{Content}
 use Rattle.triple_arena.specs.Entries.{value_if, without}
 use Rattle.triple_arena_chain.specs.declared.link.IndexLink.{IndexLink}
-use Rattle.triple_arena_chain.specs.Chains.{Ends, IsAgreed, next_at, prev_at, next_in, prev_in, renext, with_next, with_next_if, with_prev_if, bridged, taken_from, taken_out}
+use Rattle.triple_arena_chain.specs.Chains.{Ends, IsAgreed, next_at, prev_at, next_in, prev_in, renext, with_next, with_next_if, bridged, taken_from, taken_out}
 use Rattle.triple_arena_chain.specs.Links.{ends_in, values_in, IsChained, IsTakenOut}
 use Rattle.triple_arena_ord.specs.Ordered.{Ordered}
 use Rattle.ticket_book.specs.declared.entry.Kind.{Kind}
@@ -17,11 +17,11 @@ use Rattle.ticket_book.specs.Tickets.{Entry, lookup, without_ticket}
 use Rattle.route_lines.specs.Calls.{clear_mark_stop, unless_is, without_stop}
 use Rattle.route_lines.specs.Routes.{next_stop, past}
 use Rattle.route_lines.specs.Sound.{IsSound}
-use Rattle.route_lines.specs.State.{State, Rooms, Place, Stop, Mark, place_of, stop_of, mark_of, stop_list}
+use Rattle.route_lines.specs.State.{State, Rooms, Place, Stop, place_of, stop_of, mark_of, stop_list}
 use Rattle.route_book.specs.Book.{found_in, in_order, IsBook}
 use Rattle.route_book.specs.Follows.{ticket_at, LeadAs}
 use Rattle.route_book.specs.Item.{StopView, MarkView}
-use Rattle.route_book.specs.Holds.{Found, found_by, state_stop, state_mark, place_under, stop_under, mark_under, place_at, stop_at, mark_at, IsFilled, entry, Rise, IsSettled, IsHeld}
+use Rattle.route_book.specs.Holds.{Found, found_by, state_stop, state_mark, stop_under, place_at, stop_at, mark_at, IsFilled, entry, Rise, IsSettled, IsHeld}
 use Rattle.route_book.proofs.FollowLemmas.{next_with_prev}
 use Rattle.route_book.proofs.HoldLemmas.{some_same}
 use Rattle.route_book.proofs.LinkLemmas.{live_ends}

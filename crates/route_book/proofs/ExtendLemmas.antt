@@ -1,5 +1,5 @@
 -- What `extend` makes of what ties a store's parts.
-use Rattle.std.proofs.Common.{◌≡◌, ◌≢◌, ◌∙◌, sym, ap, subst, refl, Bool, true, false, ℕ, ◌+◌, ◌<◌, ◌≤◌, List, [], ◌∷◌, ◌++◌, length, Option, Some, None, IsSome, IfSome, Ok, Err, arith, length-append}
+use Rattle.std.proofs.Common.{◌≡◌, ◌≢◌, ◌∙◌, sym, ap, subst, refl, true, false, ℕ, ◌+◌, ◌<◌, ◌≤◌, List, [], ◌∷◌, ◌++◌, length, Option, Some, None, IsSome, IfSome, Ok, Err, arith, length-append}
 use Rattle.std.specs.Option.{option_map}
 use Rattle.triple_arena.specs.Entries.{value_if}
 use Rattle.triple_arena.specs.Content.{Content, entry_at, live_count, arena_capacity}
@@ -10,10 +10,10 @@ use Rattle.triple_arena_chain.specs.declared.link.IndexLink.{IndexLink}
 use Rattle.triple_arena_chain.specs.declared.place.Place.{Place as LinkPlace}
 use Rattle.triple_arena_chain.specs.declared.place.Place.TheVariants.{Between}
 use Rattle.triple_arena_chain.specs.Links.{ends_in, ends_found, entry_ends, values_in, valued, IsChained, IsPlaced}
-use Rattle.triple_arena_ord.specs.Ordered.{Ordered, entry_in, size_in}
+use Rattle.triple_arena_ord.specs.Ordered.{Ordered, entry_in}
 use Rattle.ticket_book.specs.declared.entry.Kind.TheVariants.{Stop as OfStop}
 use Rattle.ticket_book.specs.Tickets.{Entry, AreBelow}
-use Rattle.route_lines.specs.Calls.{place_holder, stop_holder, extended, after_extend, unless_refused}
+use Rattle.route_lines.specs.Calls.{place_holder, stop_holder, extended, after_extend}
 use Rattle.route_lines.specs.Routes.{next_stop, put_behind}
 use Rattle.route_lines.specs.State.{State, Rooms, Place, Stop, Route, stop_list, stop_of, is_full_of_stops}
 use Rattle.route_lines.specs.declared.refusal.Refusal.{Refusal}
@@ -21,7 +21,7 @@ use Rattle.route_lines.specs.declared.refusal.Refusal.TheVariants.{Full}
 use Rattle.route_book.specs.Follows.{LeadAs}
 use Rattle.route_book.specs.Item.{StopView, MarkView}
 use Rattle.route_book.specs.Holds.{entry, state_stop, IsHeld}
-use Rattle.route_book.specs.Book.{Book, found_in, found_of, in_order, IsBook, IsWithin, KeepsItems}
+use Rattle.route_book.specs.Book.{Book, found_in, found_of, in_order, IsBook, KeepsItems}
 use Rattle.route_book.proofs.FollowLemmas.{lead_extended}
 use Rattle.route_book.proofs.HoldLemmas.{below_next}
 use Rattle.route_book.proofs.LinkLemmas.{IsAt, is_at, distinct, held_ticket, live_ends, unknown}

@@ -1,8 +1,8 @@
 -- What a change of the interlinks makes of which stop leads to which.
-use Rattle.std.proofs.Common.{◌≡◌, ◌≢◌, ◌∙◌, sym, ap, subst, refl, Bool, true, false, ◌==◌, ℕ, Option, Some, None, IsSome, cond, is_some, inl, inr}
+use Rattle.std.proofs.Common.{◌≡◌, ◌≢◌, ◌∙◌, sym, ap, subst, refl, Bool, true, false, ◌==◌, ℕ, Option, Some, None, IsSome, cond, is_some}
 use Rattle.std.specs.Option.{option_map}
 use Rattle.std.proofs.lemmas.Bool.{false≢true, eq-eqb, eqb-true, ne_eqb}
-use Rattle.triple_arena_chain.specs.Chains.{Ends, IsAgreed, next_in, prev_in, next_at, prev_at, renext, reprev, with_next, with_prev, with_prev_if, linked, unlinked, exchanged, added, placed}
+use Rattle.triple_arena_chain.specs.Chains.{Ends, IsAgreed, next_in, next_at, renext, reprev, with_next, with_prev, with_prev_if, linked, unlinked, exchanged, added, placed}
 use Rattle.triple_arena_chain.specs.ListLaws.{live_prev_in}
 use Rattle.route_book.specs.Follows.{ticket_at, LeadAs, AreDistinct}
 

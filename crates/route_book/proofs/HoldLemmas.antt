@@ -1,5 +1,5 @@
 -- What a look at the ticket book means for the state, and what one item more or less makes of what is held.
-use Rattle.std.proofs.Common.{◌≡◌, ◌≢◌, ◌∙◌, sym, ap, subst, refl, Bool, true, false, not, ◌==◌, ◌||◌, nat_lt, nat_le, if◌then◌else◌, ℕ, zero, suc, ◌+◌, ◌-◌, ◌<◌, ◌≤◌, ◌⊎◌, inl, inr, List, [], ◌∷◌, ◌++◌, length, Option, Some, None, IsSome, IfSome, is_some, true≢false, Result, Ok, Err, arith, find}
+use Rattle.std.proofs.Common.{◌≡◌, ◌≢◌, ◌∙◌, sym, ap, subst, refl, Bool, true, false, ◌==◌, ◌||◌, nat_lt, if◌then◌else◌, ℕ, ◌+◌, ◌<◌, ◌≤◌, inl, inr, List, [], ◌∷◌, ◌++◌, Option, Some, None, IsSome, true≢false, Ok, Err, arith}
 use Rattle.std.specs.Option.{option_map, option_or}
 use Rattle.std.proofs.lemmas.Bool.{ne_eqb, eq-eqb, le-ltb}
 use Rattle.std.proofs.lemmas.Bool.Decides.{eqb_tells}
@@ -11,7 +11,7 @@ use Rattle.ticket_book.specs.declared.entry.Kind.TheVariants.{Place as OfPlace, 
 use Rattle.route_lines.specs.declared.refusal.Refusal.TheVariants.{Gone, Unknown}
 use Rattle.ticket_book.specs.Tickets.{Entry, AreBelow, lookup}
 use Rattle.route_book.specs.Item.{StopView, MarkView}
-use Rattle.route_lines.specs.State.{State, Place, Stop, Route, Mark, Item, place, stop, mark, living, holder, place_of, stop_of, mark_of}
+use Rattle.route_lines.specs.State.{State, Place, Item, place, stop, mark, living, holder, place_of, stop_of, mark_of}
 use Rattle.route_lines.specs.Calls.{put}
 use Rattle.route_book.proofs.SettledLemmas.{found_added, settled_added, up_to_added}
 use Rattle.route_book.specs.Holds.{Found, found_by, state_stop, state_mark, place_under, stop_under, mark_under, item_under, place_at, stop_at, mark_at, IsFilled, IsItem, entry, Rise, IsSettled, IsHeld}

@@ -1,5 +1,5 @@
 -- Places in the order of their keys, and along the list of an arena.
-use Rattle.std.proofs.Common.{◌≡◌, ◌≢◌, ◌∙◌, sym, ap, subst, refl, Bool, true, false, ℕ, zero, suc, ◌+◌, ◌<◌, List, [], ◌∷◌, ◌++◌, map, length, Option, Some, None, IsSome, option_map, arith, append_assoc, nat_lt, if◌then◌else◌}
+use Rattle.std.proofs.Common.{◌≡◌, ◌≢◌, ◌∙◌, sym, ap, subst, refl, Bool, true, false, ℕ, zero, suc, ◌+◌, ◌<◌, List, [], ◌∷◌, ◌++◌, map, length, Option, Some, None, IsSome, option_map, arith, append_assoc}
 use Rattle.std.specs.List.{AllByRecursion}
 use Rattle.std.specs.List.Sorted.{IsSorted}
 use Rattle.std.specs.Cmp.{ranked, nat_cmp_is}
@@ -18,7 +18,7 @@ use Rattle.triple_arena_ord.specs.declared.node.IndexNode.{IndexNode}
 use Rattle.triple_arena_ord.specs.Ascending.{entries_along}
 use Rattle.triple_arena_ord.specs.Found.{Answers, IsSimilar}
 use Rattle.triple_arena_ord.specs.Inserted.{IsAdded, StandsAt}
-use Rattle.triple_arena_ord.specs.Ordered.{Ordered, IsOrdered, IsAscending, StandsBeside, entry_in, order_in, size_in, asked_of, asked_at}
+use Rattle.triple_arena_ord.specs.Ordered.{Ordered, IsOrdered, StandsBeside, entry_in, order_in, asked_of, asked_at}
 use Rattle.route_lines.specs.Calls.{put}
 use Rattle.route_lines.specs.Sound.{KeysRise}
 use Rattle.route_lines.specs.State.{Place, with_key}

@@ -1,3 +1,4 @@
+pub mod AfterPackLemmas
 pub mod BookPackLemmas
 pub mod ChainLemmas
 pub mod EndLemmas
@@ -29,5 +30,6 @@ pub mod SettledLemmas
 pub mod StartLemmas
 pub mod StopLemmas
 pub mod StopWalkLemmas
+pub mod SweepStepLemmas
 pub mod WalkedLemmas
 pub mod WholeLemmas

@@ -1,13 +1,13 @@
 -- What a stop that a ticket names is in the arena of the stops, and what other interlinks make of what ties a store's parts.
-use Rattle.std.proofs.Common.{◌≡◌, ◌≢◌, ◌∙◌, sym, ap, subst, refl, Bool, true, false, ◌==◌, ◌||◌, nat_lt, ℕ, ◌+◌, ◌<◌, ◌≤◌, List, [], ◌∷◌, length, Option, Some, None, IsSome, is_some, true≢false, Result, Ok, Err, arith, find, cond, inl, inr}
+use Rattle.std.proofs.Common.{◌≡◌, ◌≢◌, ◌∙◌, sym, ap, subst, refl, Bool, true, false, ◌==◌, ◌||◌, nat_lt, ℕ, ◌+◌, ◌≤◌, List, [], ◌∷◌, length, Option, Some, None, IsSome, Result, Ok, Err, arith, find, cond, inl, inr}
 use Rattle.std.specs.Option.{option_map}
-use Rattle.std.proofs.lemmas.Bool.{eq-eqb, eqb-true}
+use Rattle.std.proofs.lemmas.Bool.{eqb-true}
 use Rattle.std.proofs.lemmas.Bool.Decides.{eqb_tells}
 use Rattle.triple_arena.specs.Entries.{value_if}
-use Rattle.triple_arena.specs.Content.{Content, entry_at, get, live_count}
+use Rattle.triple_arena.specs.Content.{Content, entry_at, get}
 use Rattle.triple_arena_stack.specs.Room.{capacity}
 use Rattle.triple_arena_chain.specs.declared.link.IndexLink.{IndexLink}
-use Rattle.triple_arena_chain.specs.Chains.{Ends, IsAgreed, next_in, prev_in, next_at, prev_at}
+use Rattle.triple_arena_chain.specs.Chains.{Ends}
 use Rattle.triple_arena_chain.specs.Links.{ends_in, ends_found, link_ends, values_in, valued, entry_ends, IsKept}
 use Rattle.triple_arena_ord.specs.Ordered.{Ordered, entry_in}
 use Rattle.ticket_book.specs.declared.entry.Kind.{Kind as ItemKind}
@@ -21,7 +21,7 @@ use Rattle.route_lines.specs.declared.refusal.Refusal.TheVariants.{Unknown, Gone
 use Rattle.route_book.specs.Follows.{LeadAs, AreDistinct}
 use Rattle.route_book.specs.Item.{StopView, MarkView}
 use Rattle.route_book.specs.Holds.{Found, entry, state_stop, stop_under, stop_at, IsHeld}
-use Rattle.route_book.specs.Book.{found_in, in_order, IsBook, IsWithin, KeepsItems}
+use Rattle.route_book.specs.Book.{found_in, in_order, IsBook, KeepsItems}
 use Rattle.route_book.proofs.HoldLemmas.{some_same, lookup_given}
 
 -- ---- live indexes

@@ -1,5 +1,5 @@
 -- A list that is written in pieces: a line for each item, and then `end`.
-use Rattle.std.proofs.Common.{◌≡◌, ◌∙◌, ◌++◌, [], ◌∷◌, ℕ, List, Option, flat_map, codes, ap, refl, sym, subst, append-nil, append_assoc}
+use Rattle.std.proofs.Common.{◌≡◌, ◌∙◌, ◌++◌, [], ◌∷◌, ℕ, List, Option, flat_map, codes, ap, sym, subst, append-nil, append_assoc}
 use Rattle.std.specs.Io.KnownBytes.{Appends}
 use Rattle.std.proofs.KnownBytes.{Appends-nil, Appends-trans}
 use Rattle.route_lines.specs.Reply.{ended}

@@ -1,26 +1,26 @@
 -- What `mark` makes of what is held, and of what ties a store's parts.
-use Rattle.std.proofs.Common.{◌≡◌, ◌≢◌, ◌∙◌, sym, ap, subst, refl, Bool, true, false, ◌==◌, ◌||◌, nat_lt, if◌then◌else◌, ℕ, ◌+◌, ◌<◌, ◌≤◌, List, [], ◌∷◌, ◌++◌, length, Option, Some, None, IsSome, IfSome, true≢false, Result, Ok, Err, arith, length-append, find, inl, inr}
+use Rattle.std.proofs.Common.{◌≡◌, ◌≢◌, ◌∙◌, sym, ap, subst, refl, Bool, true, false, ◌==◌, ◌||◌, nat_lt, ℕ, ◌+◌, ◌<◌, ◌≤◌, List, [], ◌∷◌, ◌++◌, length, Option, Some, None, IsSome, true≢false, Result, Ok, Err, arith, length-append, find, inl, inr}
 use Rattle.std.specs.Option.{option_map, option_or}
 use Rattle.std.proofs.lemmas.Bool.{ne_eqb, eq-eqb, leb-false}
 use Rattle.std.proofs.lemmas.Bool.Decides.{eqb_tells}
 use Rattle.std.proofs.lemmas.List.Folds.{find-append}
 use Rattle.triple_arena.specs.Entries.{value_if, with_entry}
-use Rattle.triple_arena.specs.Content.{Content, entry_at, live_count, arena_capacity}
+use Rattle.triple_arena.specs.Content.{Content, entry_at, live_count}
 use Rattle.triple_arena_stack.specs.Room.{capacity}
 use Rattle.triple_arena_chain.specs.Chains.{Ends}
 use Rattle.triple_arena_chain.specs.declared.link.IndexLink.{IndexLink}
 use Rattle.triple_arena_chain.specs.Links.{ends_in, values_in}
-use Rattle.triple_arena_ord.specs.Ordered.{Ordered, entry_in, size_in}
+use Rattle.triple_arena_ord.specs.Ordered.{Ordered, entry_in}
 use Rattle.ticket_book.specs.declared.entry.Kind.{Kind}
 use Rattle.ticket_book.specs.declared.entry.Kind.TheVariants.{Place as OfPlace, Stop as OfStop, Mark as OfMark}
 use Rattle.ticket_book.specs.Tickets.{Entry, lookup}
 use Rattle.route_lines.specs.Calls.{place_holder, stop_holder, marked, after_mark}
-use Rattle.route_lines.specs.State.{State, Rooms, Place, Stop, Route, Mark, place_of, stop_list, stop_of, mark_of, is_full_of_marks, last_ticket}
+use Rattle.route_lines.specs.State.{State, Rooms, Place, Stop, Mark, place_of, stop_list, stop_of, mark_of, is_full_of_marks}
 use Rattle.route_lines.specs.declared.refusal.Refusal.{Refusal}
 use Rattle.route_lines.specs.declared.refusal.Refusal.TheVariants.{Full, Unknown, Gone, Kind as Refused}
 use Rattle.route_book.specs.Item.{StopView, MarkView}
 use Rattle.route_book.specs.Holds.{Found, entry, state_mark, state_stop, place_at, stop_at, mark_at, place_under, stop_under, mark_under, IsFilled, IsLive, IsSettled, IsHeld}
-use Rattle.route_book.specs.Book.{MarksDiffer, found_in, in_order, IsBook, IsWithin, KeepsItems}
+use Rattle.route_book.specs.Book.{MarksDiffer, found_in, in_order, IsBook, KeepsItems}
 use Rattle.route_book.proofs.HoldLemmas.{some_same, Rise-add, lookup_none, lookup_added, lookup_other, lookup_kept}
 use Rattle.route_book.proofs.NeighborLemmas.{has_ticket, held_place}
 use Rattle.route_book.proofs.SettledLemmas.{live_settled}
@@ -234,15 +234,6 @@ module _ (s : State) (t : ℕ) (x : Stop) (held : stop_holder s t ≡ Ok x) wher
 
   stop_ticket : x.ticket ≡ t
   stop_ticket = has_stop (stop_list s.routes) t x held_stop
-
--- a new mark names the place and the stop that were found
-pub mark_named : (s : State) (f : Found) (pt st pi pg si sg ticket : ℕ) (p : Place) (u : StopView) (v : MarkView) → place_holder s pt ≡ Ok p → stop_holder s st ≡ Ok (state_stop f u)
-    → value_if pg (f.places pi) ≡ Some p → value_if sg (f.stops si) ≡ Some u → v.ticket ≡ ticket → v.place ≡ Some (pi, pg) → v.stop ≡ Some (si, sg)
-    → state_mark f v ≡ record { ticket = ticket; place = Some pt; stop = Some st }
-mark_named s f pt st pi pg si sg ticket p u v place stop found_place found_stop is to by =
-    let one = has_ticket s.places pt p (held_place s pt p place) in
-    let two = stop_ticket s st (state_stop f u) stop in
-    rw (is, to, by, found_place, found_stop, one, two) refl
 
 -- a mark where there is room
 module _ {I : Type 0} (number : I → ℕ) (rooms : Rooms) (last : ℕ) (s : State) (places : Ordered I Place) (stops : Content (IndexLink I StopView)) (marks marks' : Content MarkView)

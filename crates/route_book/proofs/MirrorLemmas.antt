@@ -1,13 +1,12 @@
 -- Mirrors that are filled by tickets, and what they make of references.
-use Rattle.std.proofs.Common.{◌≡◌, ◌≢◌, ◌∙◌, sym, ap, subst, refl, Bool, true, false, ◌==◌, if◌then◌else◌, ℕ, ◌+◌, ◌<◌, ◌≤◌, ◌⊎◌, inl, inr, List, Option, Some, None, IsSome, IfSome, is_some, true≢false, arith}
-use Rattle.std.specs.Option.{option_map}
-use Rattle.std.proofs.lemmas.Bool.{ne_eqb, eq-eqb}
+use Rattle.std.proofs.Common.{◌≡◌, ◌∙◌, sym, ap, subst, refl, ℕ, ◌<◌, ◌≤◌, inl, inr, List, Option, Some, None, IsSome, is_some}
+use Rattle.std.proofs.lemmas.Bool.{eq-eqb}
 use Rattle.std.proofs.lemmas.Bool.Decides.{eqb_tells}
 use Rattle.triple_arena.specs.Entries.{value_if}
 use Rattle.ticket_book.specs.declared.entry.Kind.{Kind}
 use Rattle.ticket_book.specs.Tickets.{Entry, lookup}
 use Rattle.route_book.specs.Holds.{found_by, entry, IsLive}
-use Rattle.route_book.specs.Packing.{IsMoved, IsMirror, IsNoted, IsMirrored, IsBooked}
+use Rattle.route_book.specs.Packing.{IsMoved, IsMirror, IsMirrored, IsBooked}
 use Rattle.ticket_book.specs.Mirrors.{Mirror, renewed_pointer}
 
 some_same : {X : Type 0} {x y : X} → ◌≡◌ {A = Option X} (Some x) (Some y) → x ≡ y
@@ -63,8 +62,7 @@ module _ {T : Type 0} (to : ℕ → ℕ) (g : ℕ) (old new : ℕ → Option (�
         | inr other ↦ absurd (let no : None ≡ Some t = sym (let e : value_if h (Some x) ≡ None = rw other.0 refl in e) ∙ found in cc)
         | inl same ↦
             let val : x.1 ≡ t = some_same (sym (let e : value_if h (Some x) ≡ Some x.1 = rw same.0 refl in e) ∙ found) in
-            let is_old : old i ≡ Some (h, t) = at ∙ ap (λ n. Some (n, x.1)) same.1 ∙ ap (λ y. Some (h, y)) val in
-            (
+            let is_old : old i ≡ Some (h, t) = at ∙ ap (λ n. Some (n, x.1)) same.1 ∙ ap (λ y. Some (h, y)) val in (
               ap (value_if h) (mirror.into i h t is_old) ∙ rw (eq-eqb h h refl) refl,
               ap (value_if g) (moved.into i h t is_old) ∙ rw (eq-eqb g g refl) refl,
             )

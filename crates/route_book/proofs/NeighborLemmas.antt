@@ -1,5 +1,5 @@
 -- The places next to a place, and the last place whose key is not above another.
-use Rattle.std.proofs.Common.{◌≡◌, ◌≢◌, ◌∙◌, sym, ap, subst, refl, Bool, true, false, ◌==◌, ◌||◌, nat_le, nat_lt, Result, Ok, Err, if◌then◌else◌, ℕ, ◌+◌, ◌<◌, ◌≤◌, List, [], ◌∷◌, ◌++◌, map, reverse, Option, Some, None, IsSome, is_some, true≢false, option_map, arith, inl, inr, find, append_assoc}
+use Rattle.std.proofs.Common.{◌≡◌, ◌≢◌, ◌∙◌, sym, ap, subst, refl, Bool, true, false, ◌==◌, ◌||◌, nat_le, nat_lt, Result, Ok, Err, if◌then◌else◌, ℕ, ◌<◌, ◌≤◌, List, [], ◌∷◌, ◌++◌, reverse, Option, Some, None, IsSome, true≢false, option_map, arith, inl, inr, find, append_assoc}
 use Rattle.std.specs.Borrow.{Bor}
 use Rattle.std.specs.List.{AllByRecursion}
 use Rattle.std.specs.Option.{option_or}
@@ -29,7 +29,7 @@ use Rattle.route_lines.specs.State.{State, Place, Stop, Mark, place_of, stop_of,
 use Rattle.route_lines.specs.declared.refusal.Refusal.{Refusal}
 use Rattle.route_lines.specs.declared.refusal.Refusal.TheVariants.{Unknown, Gone, Kind}
 use Rattle.route_book.specs.Book.{in_order}
-use Rattle.route_book.proofs.KeyLemmas.{Asked, IsGap, along, along_some, along-append, asked, gap_greater, gap_less, live_along, split_at, split_once}
+use Rattle.route_book.proofs.KeyLemmas.{Asked, along, along_some, asked, gap_greater, gap_less, live_along, split_at, split_once}
 
 some_same : {X : Type 0} {x y : X} → ◌≡◌ {A = Option X} (Some x) (Some y) → x ≡ y
 some_same e = cc

@@ -1,5 +1,5 @@
 -- What `start` and `mark` make of the store that their callers see.
-use Rattle.std.proofs.Common.{◌≡◌, ◌≢◌, ◌∙◌, sym, ap, subst, refl, Bool, true, false, ℕ, ◌+◌, ◌<◌, ◌≤◌, List, [], ◌∷◌, ◌++◌, length, Option, Some, None, IsSome, IfSome, Ok, arith}
+use Rattle.std.proofs.Common.{◌≡◌, ◌≢◌, ◌∙◌, sym, ap, subst, refl, false, ℕ, ◌+◌, ◌<◌, List, [], ◌∷◌, ◌++◌, Some, None, IsSome, IfSome, Ok, arith}
 use Rattle.std.specs.Option.{option_map}
 use Rattle.triple_arena.specs.Entries.{value_if, with_entry}
 use Rattle.triple_arena.specs.Content.{Content, entry_at, live_count, arena_capacity}
@@ -12,7 +12,7 @@ use Rattle.ticket_book.specs.declared.entry.Kind.TheVariants.{Stop as OfStop, Ma
 use Rattle.ticket_book.specs.Tickets.{Entry}
 use Rattle.route_lines.specs.Calls.{place_holder, stop_holder, started, after_start, after_mark}
 use Rattle.route_lines.specs.Routes.{next_stop}
-use Rattle.route_lines.specs.State.{State, Rooms, Place, Stop, stop_list, is_full_of_stops, is_full_of_marks}
+use Rattle.route_lines.specs.State.{State, Rooms, Place, is_full_of_stops, is_full_of_marks}
 use Rattle.route_book.specs.Item.{StopView, MarkView}
 use Rattle.route_book.specs.Holds.{entry, state_mark, state_stop}
 use Rattle.route_book.specs.Book.{Book, found_in, found_of, IsBook, KeepsItems}

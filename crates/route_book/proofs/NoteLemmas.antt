@@ -1,11 +1,10 @@
 -- One pointer more in a mirror, and what its entries are as numbers.
-use Rattle.std.proofs.Common.{◌≡◌, ◌≢◌, ◌∙◌, sym, ap, subst, refl, Bool, true, false, ◌==◌, if◌then◌else◌, ℕ, ◌+◌, ◌<◌, ◌≤◌, ◌⊎◌, inl, inr, List, Option, Some, None, IsSome, is_some, true≢false, arith}
+use Rattle.std.proofs.Common.{◌≡◌, ◌≢◌, ◌∙◌, sym, ap, subst, refl, Bool, true, false, ◌==◌, if◌then◌else◌, ℕ, ◌+◌, ◌<◌, ◌≤◌, inl, inr, List, Option, Some, None, IsSome, is_some, arith}
 use Rattle.std.specs.Option.{option_map}
 use Rattle.std.proofs.lemmas.Bool.{ne_eqb, eq-eqb}
 use Rattle.std.proofs.lemmas.Bool.Decides.{eqb_tells, leb_tells}
 use Rattle.triple_arena.specs.Entries.{value_if, with_entry}
 use Rattle.ticket_book.specs.Tickets.{Entry, lookup}
-use Rattle.route_book.specs.Holds.{found_by}
 use Rattle.route_book.specs.Packing.{IsNoted, IsMirrored, IsBooked}
 use Rattle.ticket_book.specs.Mirrors.{Mirror, numbers}
 

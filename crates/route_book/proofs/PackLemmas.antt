@@ -1,11 +1,11 @@
 -- What a pack makes of what is held: the state stays.
-use Rattle.std.proofs.Common.{◌≡◌, ◌≢◌, ◌∙◌, sym, ap, subst, refl, Bool, true, false, ◌==◌, if◌then◌else◌, ℕ, ◌+◌, ◌<◌, ◌≤◌, inl, inr, List, [], ◌∷◌, ◌++◌, length, map, find, Option, Some, None, IsSome, IfSome, is_some, true≢false, arith}
-use Rattle.std.specs.Option.{option_map, option_to_list}
-use Rattle.std.proofs.lemmas.Bool.{ne_eqb, eq-eqb}
+use Rattle.std.proofs.Common.{◌≡◌, ◌∙◌, sym, ap, subst, refl, Bool, true, false, ◌==◌, if◌then◌else◌, ℕ, inl, inr, List, [], ◌∷◌, map, Option, Some, None, IsSome, is_some, true≢false, arith}
+use Rattle.std.specs.Option.{option_map}
+use Rattle.std.proofs.lemmas.Bool.{eq-eqb}
 use Rattle.std.proofs.lemmas.Bool.Decides.{eqb_tells}
 use Rattle.triple_arena.specs.Entries.{value_if}
 use Rattle.triple_arena_chain.specs.Chains.{Ends, next_at}
-use Rattle.route_lines.specs.State.{Place, State, Stop, Route, Mark, place_of, stop_of, mark_of}
+use Rattle.route_lines.specs.State.{Place, State}
 use Rattle.ticket_book.specs.declared.entry.Kind.{Kind}
 use Rattle.ticket_book.specs.declared.entry.Kind.TheVariants.{Place as OfPlace, Stop as OfStop, Mark as OfMark}
 use Rattle.route_book.specs.Item.{StopView, MarkView}
@@ -242,7 +242,7 @@ module _ (s : State) (f : Found) (order : List Place) (ends ends' : ℕ → Opti
             let w = stops.onto k c.0.0 c.0.1 c.1.0 in
             let name = renewed_live to_s gs f.stops at_s n stops mirror_s w.0 w.1.0 c.0.1 (at_own f.stops w.0 w.1.0 c.0.1 w.1.1.0) in
             let known = renamed_entry c.0.1.ticket OfStop w.0 w.1.0 (to_s w.0, gs) (h.stops_in w.0 w.1.0 c.0.1 w.1.1.0) name
-                ∙ ap (λ z. Some (entry c.0.1.ticket OfStop z gs)) w.1.1.1.0 ∙ ap (λ z. Some (entry c.0.1.ticket OfStop k z)) (sym w.1.1.1.1) in
+            ∙ ap (λ z. Some (entry c.0.1.ticket OfStop z gs)) w.1.1.1.0 ∙ ap (λ z. Some (entry c.0.1.ticket OfStop k z)) (sym w.1.1.1.1) in
             subst (λ (x : ℕ × StopView). lookup (map renew book) x.1.ticket ≡ Some (entry x.1.ticket OfStop k x.0)) c.1.1 known
 
         mark_in : (k g : ℕ) (v : MarkView) → new_m k ≡ Some (g, v) → lookup (map renew book) v.ticket ≡ Some (entry v.ticket OfMark k g)
@@ -251,5 +251,5 @@ module _ (s : State) (f : Found) (order : List Place) (ends ends' : ℕ → Opti
             let w = marks.onto k c.0.0 c.0.1 c.1.0 in
             let name = renewed_live to_m gm f.marks at_m o marks mirror_m w.0 w.1.0 c.0.1 (at_own f.marks w.0 w.1.0 c.0.1 w.1.1.0) in
             let known = renamed_entry c.0.1.ticket OfMark w.0 w.1.0 (to_m w.0, gm) (h.marks_in w.0 w.1.0 c.0.1 w.1.1.0) name
-                ∙ ap (λ z. Some (entry c.0.1.ticket OfMark z gm)) w.1.1.1.0 ∙ ap (λ z. Some (entry c.0.1.ticket OfMark k z)) (sym w.1.1.1.1) in
+            ∙ ap (λ z. Some (entry c.0.1.ticket OfMark z gm)) w.1.1.1.0 ∙ ap (λ z. Some (entry c.0.1.ticket OfMark k z)) (sym w.1.1.1.1) in
             subst (λ (x : ℕ × MarkView). lookup (map renew book) x.1.ticket ≡ Some (entry x.1.ticket OfMark k x.0)) c.1.1 known

@@ -1,11 +1,11 @@
 -- How many live indexes a walk has passed, and where entries go that keep the order of their indexes.
-use Rattle.std.proofs.Common.{◌≡◌, ◌≢◌, ◌∙◌, sym, ap, subst, refl, Bool, true, false, ◌==◌, if◌then◌else◌, ℕ, zero, suc, ◌+◌, ◌-◌, ◌<◌, ◌≤◌, ◌⊎◌, inl, inr, List, [], ◌∷◌, ◌++◌, length, map, take, drop, set, get_or, find, slice_index, slice_get, Option, Some, None, IsSome, is_some, true≢false, arith}
+use Rattle.std.proofs.Common.{◌≡◌, ◌≢◌, ◌∙◌, sym, ap, subst, refl, ◌==◌, if◌then◌else◌, ℕ, zero, suc, ◌+◌, ◌-◌, ◌<◌, ◌≤◌, inl, inr, List, [], ◌∷◌, length, map, slice_index, slice_get, Option, Some, None, IsSome, is_some, arith}
 use Rattle.std.specs.Option.{option_map}
 use Rattle.std.specs.List.Sorted.{IsStrictlyIncreasing}
 use Rattle.std.proofs.lemmas.Bool.{ne_eqb, eq-eqb}
-use Rattle.std.proofs.lemmas.Bool.Decides.{eqb_tells, leb_tells}
+use Rattle.std.proofs.lemmas.Bool.Decides.{eqb_tells}
 use Rattle.std.proofs.lemmas.Option.{slice_get-map}
-use Rattle.triple_arena.specs.Entries.{look_up, value_if, with_value_at}
+use Rattle.triple_arena.specs.Entries.{look_up}
 use Rattle.triple_arena.specs.Compression.{index_of, value_of, generation_of}
 use Rattle.route_book.specs.Packing.{IsMoved}
 use Rattle.triple_arena_chain.specs.Renaming.{live_below}
@@ -95,7 +95,7 @@ module _ {T : Type 0} where
   below_listed n (e ∷ l) rise high all =
       let here : IsSome (look_up (e ∷ l) e.0) = rw (eq-eqb e.0 e.0 refl) refl in
       let more = below_more (look_up l) (look_up (e ∷ l)) e.0 (low_none (e.0 + 1) l rise.1 e.0 (omega arith)) here
-              (λ j other. (let o : e.0 ≢ j = λ s. other (sym s) in rw (ne_eqb e.0 j o) refl)) high (all e.0 here) in
+      (λ j other. (let o : e.0 ≢ j = λ s. other (sym s) in rw (ne_eqb e.0 j o) refl)) high (all e.0 here) in
       let rest = below_listed (e.0 + 1) l rise.1 high (λ j some. all j (later j some (look_up l j) refl)) in
       omega (arith, more, rest)
     where
@@ -201,8 +201,8 @@ module _ {T : Type 0} where
     gen_is : (n : ℕ) (x y : ℕ × (ℕ × T)) → slice_get l n ≡ Some x → slice_get l' n ≡ Some y → y.1.0 ≡ g
     gen_is n x y is is' =
         let both : Some y.1.0 ≡ Some g =
-            sym (ap (option_map generation_of) is') ∙ sym (slice_get-map generation_of l' n) ∙ ap (λ v. slice_get v n) gens
-            ∙ slice_get-map (λ (e : ℕ × (ℕ × T)). g) l n ∙ ap (option_map (λ (e : ℕ × (ℕ × T)). g)) is in
+        sym (ap (option_map generation_of) is') ∙ sym (slice_get-map generation_of l' n) ∙ ap (λ v. slice_get v n) gens
+        ∙ slice_get-map (λ (e : ℕ × (ℕ × T)). g) l n ∙ ap (option_map (λ (e : ℕ × (ℕ × T)). g)) is in
         let same : y.1.0 ≡ g = cc in same
 
     pub listed_moved : IsMoved listed_to g at at'

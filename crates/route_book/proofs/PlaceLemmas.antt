@@ -1,5 +1,5 @@
 -- What `place` makes of what ties a store's parts.
-use Rattle.std.proofs.Common.{◌≡◌, ◌≢◌, ◌∙◌, sym, ap, subst, refl, Bool, true, false, ◌==◌, ◌||◌, if◌then◌else◌, nat_lt, ℕ, ◌+◌, ◌<◌, ◌≤◌, List, [], ◌∷◌, ◌++◌, length, map, Option, Some, None, IsSome, Ok, Err, arith, length-append, inl, inr, cond}
+use Rattle.std.proofs.Common.{◌≡◌, ◌≢◌, ◌∙◌, sym, ap, subst, refl, Bool, true, false, ◌==◌, ◌||◌, if◌then◌else◌, nat_lt, ℕ, ◌+◌, ◌<◌, ◌≤◌, List, [], ◌∷◌, ◌++◌, length, Option, Some, None, IsSome, Ok, Err, arith, length-append, inl, inr, cond}
 use Rattle.std.specs.List.{AllByRecursion}
 use Rattle.std.specs.Option.{option_map}
 use Rattle.std.proofs.lemmas.Bool.{false≢true, eq-eqb, leb-false, ltb-true, ltb-false}
@@ -14,12 +14,12 @@ use Rattle.ticket_book.specs.declared.entry.Kind.TheVariants.{Place as OfPlace}
 use Rattle.ticket_book.specs.Tickets.{Entry}
 use Rattle.route_lines.specs.Calls.{put, reworded, placed, after_place}
 use Rattle.route_lines.specs.Sound.{KeysRise}
-use Rattle.route_lines.specs.State.{State, Rooms, Place, with_key, is_full_of_places, last_ticket}
+use Rattle.route_lines.specs.State.{State, Rooms, Place, with_key, is_full_of_places}
 use Rattle.route_lines.specs.declared.placed.Placed.TheVariants.{New, Old}
 use Rattle.route_lines.specs.declared.refusal.Refusal.TheVariants.{Full}
 use Rattle.route_book.specs.Item.{StopView, MarkView}
 use Rattle.route_book.specs.Holds.{entry, IsHeld}
-use Rattle.route_book.specs.Book.{Book, found_in, in_order, IsBook, IsWithin, KeepsItems}
+use Rattle.route_book.specs.Book.{Book, found_in, in_order, IsBook, KeepsItems}
 use Rattle.route_book.proofs.HoldLemmas.{place_added, some_same}
 use Rattle.route_book.proofs.KeyLemmas.{along}
 use Rattle.route_book.proofs.RewordLemmas.{reword_entry, KeysRise-reworded, length-reworded, along_reworded, as_reworded, place_reworded}

@@ -1,5 +1,5 @@
 -- What `join`, `cut` and `swap` answer, and what they make of what ties a store's parts.
-use Rattle.std.proofs.Common.{◌≡◌, ◌≢◌, ◌↔◌, ◌∙◌, sym, ap, subst, refl, Bool, true, false, ◌||◌, ◌==◌, ℕ, ◌≤◌, List, [], ◌∷◌, ◌++◌, length, Option, Some, None, IsSome, is_some, is_none, true≢false, Result, Ok, Err, find, cond}
+use Rattle.std.proofs.Common.{◌≡◌, ◌≢◌, ◌↔◌, ◌∙◌, sym, ap, subst, refl, Bool, true, false, ◌||◌, ◌==◌, ℕ, ◌≤◌, List, [], ◌∷◌, ◌++◌, length, Option, Some, None, IsSome, true≢false, Result, Ok, Err, find, cond}
 use Rattle.std.specs.List.{list_any}
 use Rattle.std.specs.Option.{option_map, option_or, option_and_then}
 use Rattle.std.proofs.lemmas.List.Folds.{find-append}
@@ -13,14 +13,13 @@ use Rattle.triple_arena_chain.specs.ListLaws.{live_next_in, live_prev_in}
 use Rattle.triple_arena_chain.specs.Links.{ends_in, ends_found, values_in, IsKept, IsRelinked}
 use Rattle.triple_arena_ord.specs.Ordered.{Ordered}
 use Rattle.ticket_book.specs.Tickets.{Entry}
-use Rattle.route_lines.specs.Calls.{stop_holder, joined, after_join, parted, after_cut, swapped, after_swap, unless_refused, and_then, allowed}
+use Rattle.route_lines.specs.Calls.{stop_holder, joined, after_join, parted, after_cut, swapped, after_swap, unless_refused}
 use Rattle.route_lines.specs.Routes.{has_ticket, has_stop, next_in as next_on, route_of, next_stop, previous_stop}
 use Rattle.route_lines.specs.Routes as routes_of
-use Rattle.route_lines.specs.Sound.{IsSound}
 use Rattle.route_lines.specs.State.{State, Rooms, Place, Stop, Route, stop_list, stop_of}
 use Rattle.route_lines.specs.declared.refusal.Refusal.{Refusal}
 use Rattle.route_lines.specs.declared.refusal.Refusal.TheVariants.{No}
-use Rattle.route_book.specs.Follows.{ticket_at, LeadAs}
+use Rattle.route_book.specs.Follows.{ticket_at}
 use Rattle.route_book.specs.Item.{StopView, MarkView}
 use Rattle.route_book.specs.Holds.{state_stop}
 use Rattle.route_book.specs.Book.{Book, found_in, found_of, in_order, IsBook, KeepsItems}

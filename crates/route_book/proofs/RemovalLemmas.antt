@@ -1,18 +1,19 @@
 -- What a removal is told by the book, by its arena and by the model, and what it tells.
-use Rattle.std.proofs.Common.{◌≡◌, ◌≢◌, ◌∙◌, sym, ap, subst, refl, Bool, true, false, ◌==◌, ◌||◌, nat_lt, if◌then◌else◌, ℕ, ◌+◌, ◌≤◌, List, length, Option, Some, None, IsSome, Result, Ok, Err}
+use Rattle.std.proofs.Common.{◌≡◌, ◌≢◌, ◌∙◌, sym, ap, subst, refl, Bool, true, false, ◌==◌, ◌||◌, nat_lt, if◌then◌else◌, ℕ, ◌≤◌, List, Option, Some, None, OnSome, true≢false, inl, inr, Result, Ok, Err}
 use Rattle.std.specs.Option.{ok_or, option_map, option_or}
+use Rattle.std.proofs.lemmas.Bool.Decides.{eqb_tells}
 use Rattle.triple_arena_ptr.specs.Generation.{next_wraps}
 use Rattle.triple_arena.specs.Changes.{IsRemoved as IsGoneFrom}
-use Rattle.triple_arena.specs.Content.{Content, entry_at, live_count, some_counter}
+use Rattle.triple_arena.specs.Content.{Content, entry_at, get, live_count, some_counter}
 use Rattle.triple_arena.specs.Entries.{value_if}
 use Rattle.triple_arena_chain.specs.declared.link.IndexLink.{IndexLink}
-use Rattle.triple_arena_chain.specs.Links.{values_in, IsChained, IsTakenOut}
+use Rattle.triple_arena_chain.specs.Links.{values_in, valued, IsChained, IsTakenOut}
 use Rattle.triple_arena_ord.specs.Ordered.{Ordered, IsOrdered, entry_in}
 use Rattle.triple_arena_ord.specs.Removal.{IsEntryRemoved}
 use Rattle.ticket_book.specs.declared.entry.Kind.{Kind}
 use Rattle.ticket_book.specs.declared.entry.Kind.TheVariants.{Place as OfPlace, Stop as OfStop, Mark as OfMark}
-use Rattle.ticket_book.specs.Tickets.{Entry, lookup, without_ticket}
-use Rattle.route_lines.specs.Calls.{after_removed}
+use Rattle.ticket_book.specs.Tickets.{Entry, lookup, stays, without_ticket}
+use Rattle.route_lines.specs.Calls.{after_removed, without_mark, without_place, without_stop}
 use Rattle.route_lines.specs.Sound.{IsSound}
 use Rattle.route_lines.specs.State.{State, Rooms, Place, Stop, Mark, Item, place, stop, mark, holder, living, place_of, stop_of, mark_of, stop_list}
 use Rattle.route_lines.specs.declared.refusal.Refusal.{Refusal}
@@ -20,7 +21,7 @@ use Rattle.route_lines.specs.declared.refusal.Refusal.TheVariants.{Unknown, Gone
 use Rattle.route_book.specs.Book.{Book, found_in, IsBook}
 use Rattle.route_book.specs.Holds.{Found, item_under, state_mark, state_stop}
 use Rattle.route_book.specs.Item.{StopView, MarkView}
-use Rattle.route_book.specs.Removals.{IsPlaceEnded, IsStopEnded, IsMarkEnded, OthersStay, Tries, kind_of, removal_wraps}
+use Rattle.route_book.specs.Removals.{OthersStay, Tries}
 use Rattle.route_book.proofs.EndLemmas.{found_has}
 use Rattle.route_book.proofs.EndMarkLemmas.{IsMarkGone, mark_leaves, marks_stay}
 use Rattle.route_book.proofs.EndPlaceLemmas.{IsPlaceGone, place_leaves, place_steps, places_stay}
@@ -78,6 +79,9 @@ module _ {I : Type 0} (number : I → ℕ) (rooms : Rooms) (last : ℕ) (s : Sta
   abbrev f : Found
   f = found_in places stops marks
 
+  abbrev as_seen : Book I
+  as_seen = record { state = s; places = places; stops = stops; marks = marks }
+
   under : (kind : Kind) → e.kind ≡ kind → (item : Item) × ((holder s t ≡ Ok item) × (item_under f kind i g ≡ Some item))
   under kind is =
       let there = holder_found s f _ _ book b.held t positive given e found in
@@ -107,17 +111,28 @@ module _ {I : Type 0} (number : I → ℕ) (rooms : Rooms) (last : ℕ) (s : Sta
 
       pub place_tries : (s' : State) → s' ≡ after_removed s t → Tries final t k (record { state = s'; places = places'; stops = stops; marks = marks }) (Ok true)
       place_tries s' is =
-          subst (λ x. Tries final t x (record { state = s'; places = places'; stops = stops; marks = marks }) (Ok true)) view
-          (place p, (found_place.1.1, (calm, (record {
-            counter = place_steps number rooms last s places places' stops marks book b i g p found_place.1.0 ordered final top counts calm removed;
-            others = subst (λ u. OthersStay (λ (q : Place). q.ticket) u (entry_in places) (entry_in places')) ticket
-                (places_stay number rooms last s places places' stops marks book b i g p found_place.1.0 ordered final top counts calm removed);
-            stops = refl;
-            marks = refl;
-          }, is))))
+          subst (λ x. Tries final t x (record { state = s'; places = places'; stops = stops; marks = marks }) (Ok true)) view (
+            place p,
+            (
+              found_place.1.1,
+              (
+                calm,
+                (
+                  record {
+                    counter = place_steps number rooms last s places places' stops marks book b i g p found_place.1.0 ordered final top counts calm removed;
+                    others = subst (λ u. OthersStay (λ (q : Place). q.ticket) u (entry_in places) (entry_in places')) ticket
+                        (places_stay number rooms last s places places' stops marks book b i g p found_place.1.0 ordered final top counts calm removed);
+                    stops = refl;
+                    marks = refl;
+                  },
+                  is,
+                ),
+              ),
+            ),
+          )
 
-    pub place_wraps : (final : Option ℕ) → next_wraps final places.chains.counter ≡ true → Tries final t k k (Ok false)
-    place_wraps final wraps = subst (λ x. Tries final t x x (Ok false)) view (place found_place.0, (found_place.1.1, (wraps, refl)))
+    place_wraps : (final : Option ℕ) → next_wraps final places.chains.counter ≡ true → Tries final t k as_seen (Ok false)
+    place_wraps final wraps = subst (λ x. Tries final t x as_seen (Ok false)) view (place found_place.0, (found_place.1.1, (wraps, refl)))
 
   -- ---- a stop
 
@@ -143,17 +158,28 @@ module _ {I : Type 0} (number : I → ℕ) (rooms : Rooms) (last : ℕ) (s : Sta
 
       pub stop_tries : (s' : State) → s' ≡ after_removed s t → Tries final t k (record { state = s'; places = places; stops = stops'; marks = marks }) (Ok true)
       stop_tries s' is =
-          subst (λ x. Tries final t x (record { state = s'; places = places; stops = stops'; marks = marks }) (Ok true)) view
-          (stop (state_stop f v), (found_stop.1.1, (calm, (record {
-            counter = stop_steps number rooms last s places stops stops' marks book b i g v found_stop.1.0 chained final top counts calm taken;
-            others = subst (λ u. OthersStay (λ (w : StopView). w.ticket) u (values_in stops) (values_in stops')) stop_named
-                (stops_stay number rooms last s places stops stops' marks book b i g v found_stop.1.0 chained final top counts calm taken);
-            places = refl;
-            marks = refl;
-          }, is))))
+          subst (λ x. Tries final t x (record { state = s'; places = places; stops = stops'; marks = marks }) (Ok true)) view (
+            stop (state_stop f v),
+            (
+              found_stop.1.1,
+              (
+                calm,
+                (
+                  record {
+                    counter = stop_steps number rooms last s places stops stops' marks book b i g v found_stop.1.0 chained final top counts calm taken;
+                    others = subst (λ u. OthersStay (λ (w : StopView). w.ticket) u (values_in stops) (values_in stops')) stop_named
+                        (stops_stay number rooms last s places stops stops' marks book b i g v found_stop.1.0 chained final top counts calm taken);
+                    places = refl;
+                    marks = refl;
+                  },
+                  is,
+                ),
+              ),
+            ),
+          )
 
-    pub stop_wraps : (final : Option ℕ) → next_wraps final stops.counter ≡ true → Tries final t k k (Ok false)
-    stop_wraps final wraps = subst (λ x. Tries final t x x (Ok false)) view (stop (state_stop f found_stop.0), (found_stop.1.1, (wraps, refl)))
+    stop_wraps : (final : Option ℕ) → next_wraps final stops.counter ≡ true → Tries final t k as_seen (Ok false)
+    stop_wraps final wraps = subst (λ x. Tries final t x as_seen (Ok false)) view (stop (state_stop f found_stop.0), (found_stop.1.1, (wraps, refl)))
 
   -- ---- a mark
 
@@ -178,10 +204,58 @@ module _ {I : Type 0} (number : I → ℕ) (rooms : Rooms) (last : ℕ) (s : Sta
 
       pub mark_tries : (s' : State) → s' ≡ after_removed s t → Tries final t k (record { state = s'; places = places; stops = stops; marks = marks' }) (Ok true)
       mark_tries s' is =
-          subst (λ x. Tries final t x (record { state = s'; places = places; stops = stops; marks = marks' }) (Ok true)) view
-          (mark (state_mark f w), (found_mark.1.1, (refl, (record {
-            others = subst (λ u. OthersStay (λ (x : MarkView). x.ticket) u (entry_at marks) (entry_at marks')) mark_named
-                (marks_stay number rooms last s places stops marks marks' book b i g w found_mark.1.0 final removed);
-            places = refl;
-            stops = refl;
-          }, is))))
+          subst (λ x. Tries final t x (record { state = s'; places = places; stops = stops; marks = marks' }) (Ok true)) view (
+            mark (state_mark f w),
+            (
+              found_mark.1.1,
+              (
+                refl,
+                (
+                  record {
+                    others = subst (λ u. OthersStay (λ (x : MarkView). x.ticket) u (entry_at marks) (entry_at marks')) mark_named
+                        (marks_stay number rooms last s places stops marks marks' book b i g w found_mark.1.0 final removed);
+                    places = refl;
+                    stops = refl;
+                  },
+                  is,
+                ),
+              ),
+            ),
+          )
+
+  -- ---- what stays, since a counter would start again
+
+  pub stays_as_is : (final : Option ℕ) (over over' : Bool) → over ≡ next_wraps final places.chains.counter → over' ≡ next_wraps final stops.counter → true ≡ stays over over' e.kind
+      → Tries final t k as_seen (Ok false)
+  stays_as_is final over over' of_places of_stops stay = by e.kind refl stay
+    where
+      by : (kind : Kind) → e.kind ≡ kind → true ≡ stays over over' kind → Tries final t k as_seen (Ok false)
+      by OfPlace kind stay = place_wraps kind final (sym of_places ∙ sym stay)
+      by OfStop kind stay = stop_wraps kind final (sym of_stops ∙ sym stay)
+      by OfMark kind stay = absurd (true≢false stay)
+
+-- what a removal tells that finds an item
+pub told : {A X : Type 0} (value : A → X) (answer : Option A) (x : X) (Q : Type 0) → option_map value answer ≡ Some x → OnSome answer Q → Q
+told value None x Q none h = absurd (let no : ◌≡◌ {A = Option _} None (Some x) = none in cc)
+told value (Some a) x Q some h = h
+
+-- the model's words for what is left, by the kind of what had the ticket
+pub place_is : (s : State) (t : ℕ) (p : Place) → holder s t ≡ Ok (place p) → after_removed s t ≡ without_place s t
+place_is s t p is = rw is refl
+
+pub stop_is : (s : State) (t : ℕ) (u : Stop) → holder s t ≡ Ok (stop u) → after_removed s t ≡ without_stop s t
+stop_is s t u is = rw is refl
+
+pub mark_is : (s : State) (t : ℕ) (m : Mark) → holder s t ≡ Ok (mark m) → after_removed s t ≡ without_mark s t
+mark_is s t m is = rw is refl
+
+-- the link under a pointer that finds a value
+pub link_under : {J T : Type 0} (c : Content (IndexLink J T)) (i g : ℕ) (v : T) → value_if g (values_in c i) ≡ Some v → (link : IndexLink J T) × (get c i g ≡ Some link)
+link_under {J} {T} c i g v found = by (entry_at c i) refl found
+  where
+    by : (o : Option (ℕ × IndexLink J T)) → entry_at c i ≡ o → value_if g (option_map valued o) ≡ Some v → (link : IndexLink J T) × (get c i g ≡ Some link)
+    by None is none = absurd (let no : ◌≡◌ {A = Option T} None (Some v) = none in cc)
+    by (Some x) is some = elim (eqb_tells x.0 g) [
+      | inl own ↦ (x.1, ap (value_if g) is ∙ rw own.0 refl)
+      | inr other ↦ absurd (let no : ◌≡◌ {A = Option T} None (Some v) = sym (let e : value_if g (option_map valued (Some x)) ≡ None = rw other.0 refl in e) ∙ some in cc)
+    ]

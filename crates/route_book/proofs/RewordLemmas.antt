@@ -1,7 +1,7 @@
 -- Another word for a place, and what it makes of what is held.
-use Rattle.std.proofs.Common.{◌≡◌, ◌≢◌, ◌∙◌, sym, ap, subst, refl, Bool, true, false, ◌==◌, if◌then◌else◌, ℕ, suc, ◌+◌, ◌<◌, ◌≤◌, ◌⊎◌, inl, inr, List, [], ◌∷◌, ◌++◌, length, map, Option, Some, None, IsSome, IfSome, is_some, true≢false, arith}
+use Rattle.std.proofs.Common.{◌≡◌, ◌≢◌, ◌∙◌, sym, ap, subst, refl, Bool, true, false, ◌==◌, if◌then◌else◌, ℕ, suc, ◌<◌, ◌⊎◌, inl, inr, List, [], ◌∷◌, length, Option, Some, None, IsSome, arith}
 use Rattle.std.specs.List.{AllByRecursion}
-use Rattle.std.specs.Option.{option_map, option_to_list}
+use Rattle.std.specs.Option.{option_map}
 use Rattle.std.proofs.lemmas.Bool.{ne_eqb, eq-eqb}
 use Rattle.std.proofs.lemmas.Bool.Decides.{eqb_tells}
 use Rattle.triple_arena.specs.Entries.{value_if, with_entry}
@@ -11,9 +11,9 @@ use Rattle.ticket_book.specs.declared.entry.Kind.TheVariants.{Place as OfPlace, 
 use Rattle.ticket_book.specs.Tickets.{Entry, lookup}
 use Rattle.route_lines.specs.Calls.{reworded}
 use Rattle.route_lines.specs.Sound.{KeysRise}
-use Rattle.route_lines.specs.State.{State, Place, Route, place_of, stop_of, mark_of}
+use Rattle.route_lines.specs.State.{State, Place, place_of}
 use Rattle.route_book.specs.Item.{StopView, MarkView}
-use Rattle.route_book.specs.Holds.{Found, found_by, state_stop, state_mark, place_under, stop_under, mark_under, place_at, stop_at, mark_at, IsFilled, entry, IsSettled, AreUpTo, IsHeld}
+use Rattle.route_book.specs.Holds.{Found, found_by, state_stop, state_mark, place_under, stop_under, mark_under, place_at, stop_at, mark_at, IsFilled, entry, IsSettled, IsHeld}
 use Rattle.route_book.proofs.KeyLemmas.{along}
 
 some_same : {X : Type 0} {x y : X} → ◌≡◌ {A = Option X} (Some x) (Some y) → x ≡ y

@@ -1,27 +1,27 @@
 -- What `start` makes of what ties a store's parts.
-use Rattle.std.proofs.Common.{◌≡◌, ◌≢◌, ◌∙◌, sym, ap, subst, refl, Bool, true, false, ◌==◌, ◌||◌, if◌then◌else◌, ℕ, ◌+◌, ◌<◌, ◌≤◌, List, [], ◌∷◌, ◌++◌, length, Option, Some, None, IsSome, IfSome, Ok, Err, arith, length-append, find, flat_map, append_assoc, inl, inr}
+use Rattle.std.proofs.Common.{◌≡◌, ◌≢◌, ◌∙◌, sym, ap, subst, refl, Bool, true, false, ◌==◌, ◌||◌, ℕ, ◌+◌, ◌<◌, ◌≤◌, List, [], ◌∷◌, ◌++◌, length, Option, Some, None, IsSome, IfSome, Ok, Err, arith, length-append, find, append_assoc, inl, inr}
 use Rattle.std.specs.Option.{option_map, option_or}
 use Rattle.std.proofs.lemmas.Bool.{ne_eqb, eq-eqb, leb-false}
 use Rattle.std.proofs.lemmas.Bool.Decides.{eqb_tells}
 use Rattle.std.proofs.lemmas.List.Folds.{find-append}
 use Rattle.triple_arena.specs.Entries.{value_if, with_entry}
-use Rattle.triple_arena.specs.Content.{Content, entry_at, live_count, arena_capacity}
+use Rattle.triple_arena.specs.Content.{Content, entry_at}
 use Rattle.triple_arena_stack.specs.Room.{capacity}
 use Rattle.triple_arena_chain.specs.Chains.{IsAgreed}
 use Rattle.triple_arena_chain.specs.declared.link.IndexLink.{IndexLink}
 use Rattle.triple_arena_chain.specs.declared.place.Place.TheVariants.{Between}
 use Rattle.triple_arena_chain.specs.Links.{ends_in, values_in, entry_ends, valued, IsPlaced}
-use Rattle.triple_arena_ord.specs.Ordered.{Ordered, entry_in, size_in}
+use Rattle.triple_arena_ord.specs.Ordered.{Ordered, entry_in}
 use Rattle.ticket_book.specs.declared.entry.Kind.TheVariants.{Stop as OfStop}
 use Rattle.ticket_book.specs.Tickets.{Entry}
 use Rattle.route_lines.specs.Calls.{place_holder, started, after_start}
 use Rattle.route_lines.specs.Routes.{linear, next_stop}
-use Rattle.route_lines.specs.State.{State, Rooms, Place, Stop, Route, place_of, stop_list, stop_of, is_full_of_stops, last_ticket}
+use Rattle.route_lines.specs.State.{State, Rooms, Place, Stop, Route, stop_list, stop_of, is_full_of_stops}
 use Rattle.route_lines.specs.declared.refusal.Refusal.TheVariants.{Full}
 use Rattle.route_book.specs.Item.{StopView, MarkView}
 use Rattle.route_book.specs.Follows.{LeadAs}
 use Rattle.route_book.specs.Holds.{entry, state_stop, IsHeld}
-use Rattle.route_book.specs.Book.{found_in, in_order, IsBook, IsWithin, KeepsItems}
+use Rattle.route_book.specs.Book.{found_in, in_order, IsBook, KeepsItems}
 use Rattle.route_book.proofs.NeighborLemmas.{held_place, has_ticket}
 use Rattle.route_book.proofs.FollowLemmas.{lead_started}
 use Rattle.route_book.proofs.LinkLemmas.{live_ends, unknown}

@@ -1,9 +1,8 @@
 -- What one stop more makes of what is held.
-use Rattle.std.proofs.Common.{◌≡◌, ◌≢◌, ◌∙◌, sym, ap, subst, refl, Bool, true, false, not, ◌==◌, ◌||◌, nat_lt, nat_le, if◌then◌else◌, ℕ, zero, suc, ◌+◌, ◌-◌, ◌<◌, ◌≤◌, ◌⊎◌, inl, inr, List, [], ◌∷◌, ◌++◌, length, Option, Some, None, IsSome, IfSome, true≢false, Result, Ok, Err, arith, find}
+use Rattle.std.proofs.Common.{◌≡◌, ◌≢◌, ◌∙◌, sym, ap, subst, refl, Bool, true, false, ◌==◌, if◌then◌else◌, ℕ, ◌+◌, inl, inr, List, [], ◌∷◌, ◌++◌, Option, Some, None, IsSome}
 use Rattle.std.specs.Option.{option_map}
-use Rattle.std.proofs.lemmas.Bool.{ne_eqb, eq-eqb, le-ltb}
+use Rattle.std.proofs.lemmas.Bool.{ne_eqb, eq-eqb}
 use Rattle.std.proofs.lemmas.Bool.Decides.{eqb_tells}
-use Rattle.std.proofs.lemmas.List.Folds.{find-append}
 use Rattle.triple_arena.specs.Entries.{value_if, with_entry}
 use Rattle.triple_arena_chain.specs.Chains.{Ends}
 use Rattle.ticket_book.specs.declared.entry.Kind.{Kind}
@@ -11,11 +10,11 @@ use Rattle.ticket_book.specs.declared.entry.Kind.TheVariants.{Place as OfPlace, 
 use Rattle.ticket_book.specs.Tickets.{Entry, lookup}
 use Rattle.route_book.specs.Item.{StopView, MarkView}
 use Rattle.route_lines.specs.Routes.{next_stop}
-use Rattle.route_lines.specs.State.{State, Place, Stop, Route, Mark, place_of, stop_of, mark_of, stop_list}
+use Rattle.route_lines.specs.State.{State, Place, Route, place_of, stop_of, mark_of}
 use Rattle.route_book.proofs.SettledLemmas.{found_added, settled_added, up_to_added, live_settled}
 use Rattle.route_book.specs.Follows.{LeadAs}
-use Rattle.route_book.specs.Holds.{Found, found_by, state_stop, state_mark, place_under, stop_under, mark_under, place_at, stop_at, mark_at, IsFilled, entry, Rise, IsLive, IsSettled, IsHeld}
-use Rattle.route_book.proofs.HoldLemmas.{some_same, lookup_given, Rise-add, lookup_none, lookup_added, lookup_other, lookup_kept}
+use Rattle.route_book.specs.Holds.{Found, found_by, state_stop, state_mark, place_under, stop_under, mark_under, place_at, stop_at, mark_at, IsFilled, entry, IsLive, IsSettled, IsHeld}
+use Rattle.route_book.proofs.HoldLemmas.{some_same, Rise-add, lookup_none, lookup_added, lookup_other, lookup_kept}
 
 none_or_some : {X : Type 0} {x : X} → ◌≡◌ {A = Option X} None (Some x) → ⊥
 none_or_some e = absurd (cc)

@@ -1,10 +1,10 @@
 -- The stop before another, and the stops of a walk, as the interlinks of their arena have them.
-use Rattle.std.proofs.Common.{◌≡◌, ◌≢◌, ◌↔◌, ◌∙◌, sym, ap, subst, refl, Bool, true, false, ◌==◌, ℕ, ◌≤◌, List, [], ◌∷◌, ◌++◌, Option, Some, None, IsSome, cond, is_some, reverse, append_assoc, arith}
+use Rattle.std.proofs.Common.{◌≡◌, ◌≢◌, ◌↔◌, ◌∙◌, sym, ap, subst, refl, ℕ, List, [], ◌∷◌, ◌++◌, Option, Some, None, IsSome, cond, is_some, reverse, arith}
 use Rattle.std.specs.List.{AllByRecursion}
 use Rattle.std.specs.Option.{option_map, option_to_list}
 use Rattle.std.proofs.lemmas.Bool.{false≢true, ne_eqb}
 use Rattle.std.proofs.lemmas.List.{append-nil, reverse-append}
-use Rattle.triple_arena_chain.specs.Chains.{Ends, IsAgreed, next_in, prev_in, next_at, prev_at, first_or, last_or, Stands, Off, Apart, IsLinear, IsRing}
+use Rattle.triple_arena_chain.specs.Chains.{Ends, IsAgreed, next_in, prev_in, next_at, prev_at, first_or, last_or, Stands, Off, IsLinear}
 use Rattle.triple_arena_chain.specs.ListLaws.{live_next_in}
 use Rattle.triple_arena_chain.specs.Walks.{IsWalkFrom, along as walks_along, around as walks_around}
 use Rattle.route_lines.specs.Leads.{head_or, Leads}

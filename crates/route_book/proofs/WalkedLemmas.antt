@@ -1,13 +1,13 @@
 -- What a walk answers.
-use Rattle.std.proofs.Common.{◌≡◌, ◌≢◌, ◌↔◌, ◌∙◌, sym, ap, subst, refl, Bool, true, false, ℕ, List, [], ◌∷◌, ◌++◌, map, reverse, Option, Some, None, IsSome, IfSome, is_some, true≢false, Ok, ◌≤◌}
+use Rattle.std.proofs.Common.{◌≡◌, ◌≢◌, ◌↔◌, ◌∙◌, sym, ap, subst, refl, false, ℕ, List, [], ◌∷◌, ◌++◌, map, reverse, Option, Some, None, IsSome, IfSome, Ok, ◌≤◌}
 use Rattle.std.specs.List.{AllByRecursion}
 use Rattle.std.specs.Option.{option_map}
 use Rattle.triple_arena.specs.Entries.{value_if}
 use Rattle.triple_arena.specs.Content.{Content, entry_at, get}
 use Rattle.triple_arena_chain.specs.declared.link.IndexLink.{IndexLink}
-use Rattle.triple_arena_chain.specs.Chains.{Ends, IsAgreed, next_at, prev_at}
-use Rattle.triple_arena_chain.specs.IterChains.{link_and, links_along}
-use Rattle.triple_arena_chain.specs.Links.{ends_in, ends_found, link_ends, values_in, valued}
+use Rattle.triple_arena_chain.specs.Chains.{IsAgreed, next_at, prev_at}
+use Rattle.triple_arena_chain.specs.IterChains.{links_along}
+use Rattle.triple_arena_chain.specs.Links.{ends_in, link_ends, values_in}
 use Rattle.triple_arena_chain.specs.Walks.{IsWalkFrom}
 use Rattle.triple_arena_ord.specs.Ordered.{Ordered, entry_in}
 use Rattle.ticket_book.specs.Tickets.{Entry}
@@ -25,7 +25,7 @@ use Rattle.route_book.specs.Walked.{stop_seen, stop_in}
 use Rattle.route_book.proofs.ChainLemmas.{routes_are_chains}
 use Rattle.route_book.proofs.HoldLemmas.{some_same, stop_listed}
 use Rattle.route_book.proofs.LinkLemmas.{IsAt, is_at, distinct, found_ticket, held_ticket, live_ends, live_values, stop_index}
-use Rattle.route_book.proofs.RelinkLemmas.{IsNamed, NamedIn, named_in, next_known}
+use Rattle.route_book.proofs.RelinkLemmas.{IsNamed, named_in, next_known}
 use Rattle.route_book.proofs.StopWalkLemmas.{leads_back, stops_walked, ticket_by}
 
 module _ {I : Type 0} (number : I → ℕ) (rooms : Rooms) (last : ℕ) (s : State) (places : Ordered I Place) (stops : Content (IndexLink I StopView)) (marks : Content MarkView)

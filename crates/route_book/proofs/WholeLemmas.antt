@@ -1,15 +1,14 @@
 -- A whole pack, over what its steps tell.
-use Rattle.std.proofs.Common.{◌≡◌, ◌∙◌, sym, ap, subst, refl, true, ℕ, zero, suc, ◌+◌, ◌*◌, ◌<◌, ◌≤◌, List, length, map, Option, Some, None, IsSome, is_some, true≢false, arith}
+use Rattle.std.proofs.Common.{◌≡◌, ◌∙◌, sym, ap, subst, refl, ℕ, zero, suc, ◌+◌, ◌*◌, ◌<◌, ◌≤◌, List, length, map, Option, Some, None, IsSome, is_some, true≢false, arith}
 use Rattle.std.specs.Option.{option_map}
 use Rattle.std.specs.List.{range_with_len}
 use Rattle.triple_arena_ptr.specs.Generation.{second_generation}
-use Rattle.triple_arena_stack.specs.Room.{capacity}
 use Rattle.triple_arena.specs.Content.{Content, entry_at, live_count, arena_capacity}
 use Rattle.triple_arena_chain.specs.declared.link.IndexLink.{IndexLink}
 use Rattle.triple_arena_chain.specs.Chains.{On}
 use Rattle.triple_arena_chain.specs.Links.{ends_in, values_in}
-use Rattle.triple_arena_ord.specs.Ordered.{Ordered, IsOrdered, entry_in, order_in, size_in}
-use Rattle.route_lines.specs.State.{Place, State, Rooms, stop_list}
+use Rattle.triple_arena_ord.specs.Ordered.{Ordered, IsOrdered, entry_in, order_in}
+use Rattle.route_lines.specs.State.{Place, State, Rooms}
 use Rattle.route_book.specs.Item.{StopView, MarkView}
 use Rattle.ticket_book.specs.Tickets.{Entry}
 use Rattle.route_book.specs.Holds.{IsLive}
@@ -18,7 +17,7 @@ use Rattle.route_book.specs.Removals.{references_in}
 use Rattle.route_book.specs.Compressed.{IsAllCompressed}
 use Rattle.route_book.specs.Packing.{IsMirrored, IsBooked, recast_stop, recast_mark}
 use Rattle.ticket_book.specs.Mirrors.{Mirror, renewed_entry}
-use Rattle.route_book.proofs.BookPackLemmas.{places_booked, stops_booked, marks_booked, pack_kept, no_dead_stop, no_dead_mark, counter_s}
+use Rattle.route_book.proofs.BookPackLemmas.{places_booked, stops_booked, marks_booked, pack_kept, no_dead_stop, no_dead_mark}
 
 -- the live indexes are from 1 to the room
 fits : {T : Type 0} (at : ℕ → Option (ℕ × T)) (cap room : ℕ) → at 0 ≡ None → ((i : ℕ) → IsSome (at i) → i ≤ cap) → cap ≤ room → (i : ℕ) → IsSome (at i) → (0 < i) × (i ≤ room)
@@ -42,19 +41,19 @@ module _ {I : Type 0} (number : I → ℕ) (last : Option ℕ) (rooms : Rooms) (
   ready_places book' same room up =
       subst (λ l. IsBooked (λ (p : Place). p.ticket) l (entry_in places') room) (sym same)
       (places_booked number last rooms given s places places' stops stops1 stops1 marks marks1 marks1 book b all.laid stand stand' all.was_chained all.canonical all.values all.compressed
-          room (fits (entry_in places) (arena_capacity places.chains) room refl all.place_indexes up))
+      room (fits (entry_in places) (arena_capacity places.chains) room refl all.place_indexes up))
 
   pub ready_stops : (book' : List Entry) → book' ≡ book → (room : ℕ) → arena_capacity stops ≤ room → IsBooked (λ (p : StopView). p.ticket) book' (values_in stops1) room
   ready_stops book' same room up =
       subst (λ l. IsBooked (λ (p : StopView). p.ticket) l (values_in stops1) room) (sym same)
       (stops_booked number last rooms given s places places' stops stops1 stops1 marks marks1 marks1 book b all.laid stand stand' all.was_chained all.canonical all.values all.compressed
-          room (fits (values_in stops) (arena_capacity stops) room refl all.stop_indexes up))
+      room (fits (values_in stops) (arena_capacity stops) room refl all.stop_indexes up))
 
   pub ready_marks : (book' : List Entry) → book' ≡ book → (room : ℕ) → arena_capacity marks ≤ room → IsBooked (λ (p : MarkView). p.ticket) book' (entry_at marks1) room
   ready_marks book' same room up =
       subst (λ l. IsBooked (λ (p : MarkView). p.ticket) l (entry_at marks1) room) (sym same)
       (marks_booked number last rooms given s places places' stops stops1 stops1 marks marks1 marks1 book b all.laid stand stand' all.was_chained all.canonical all.values all.compressed
-          room (fits (entry_at marks) (arena_capacity marks) room refl all.mark_indexes up))
+      room (fits (entry_at marks) (arena_capacity marks) room refl all.mark_indexes up))
 
   pub places_in_order : order_in number places' ≡ range_with_len 1 (length s.places)
   places_in_order = all.laid.runs ∙ ap (range_with_len 1) (sym b.within.place_count)

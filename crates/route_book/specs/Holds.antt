@@ -1,5 +1,5 @@
 -- How the arenas and the ticket book stand for a state. What pointers find are plain functions here: no arena, slot or tree.
-use Rattle.std.specs.Prelude.{◌≡◌, ◌⊎◌, ℕ, ◌+◌, ◌<◌, ◌≤◌, List, [], ◌∷◌, Option, Some, None, Ok, IsSome, IfSome}
+use Rattle.std.specs.Prelude.{◌≡◌, ◌⊎◌, ℕ, ◌<◌, ◌≤◌, List, [], ◌∷◌, Option, Some, None, Ok, IsSome, IfSome}
 use Rattle.std.specs.Option.{option_map}
 use Rattle.triple_arena.specs.Entries.{value_if}
 use Rattle.triple_arena_chain.specs.Chains.{Ends}

@@ -7,6 +7,7 @@ pub mod Walked
 pub mod Packing
 pub mod Compressed
 pub mod Removals
+pub mod SweepSteps
 pub use Rattle.route_lines.specs.Calls
 pub use Rattle.route_lines.specs.CommandLine
 pub use Rattle.route_lines.specs.Grammar

@@ -7,11 +7,16 @@
 //! place 40 ash near 2 3                       walk 4          4 1, 5 2, end
 //! all                 2 30 elm, 3 40 ash,     mark 3 5        6
 //!                     1 50 oak, end           show 6          3 5
+//! remove 1            ok                      show 4          at gone
 //! ```
 //!
 //! [`run`] answers an input on an output, line by line, and [`program`] makes a store of the rooms
 //! that its arguments name and runs over it. [`RouteBook`] has the calls themselves. A store takes
 //! its memory when it is made, and none later.
+//!
+//! A removal leaves the references to its item as they are; they find nothing. A pack moves all items
+//! to the first indexes, and makes each reference that finds nothing `Gone`. A pointer into a lent
+//! arena that a caller kept finds another item after a pack, or none.
 #![tactic(auto)]
 
 mod answer;
@@ -25,6 +30,7 @@ mod place_arena;
 mod places;
 mod recasts;
 mod running;
+mod sweep_steps;
 
 pub use backing::{
     BookBacking, MarkSlot, OnArray, OnFixed, OnHeap, OnLimited, PlaceSlot, StopSlot,
@@ -38,4 +44,5 @@ pub use route_lines::{
     read_number,
 };
 pub use running::run;
+pub use sweep_steps::lines_are_sweep_steps;
 pub use triple_arena_ptr::{Probes, PtrCore};

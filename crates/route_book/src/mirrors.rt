@@ -66,12 +66,7 @@ fn note<
     A: ArenaTrait<P, T>,
     B: OrdSlots<P, Entry<P>>,
     S: DirectSlots<P, P>,
->(
-    arena: &A,
-    book: &TicketBook<P, B>,
-    mirror: &mut DirectArena<P, P, S>,
-    p: P,
-)
+>(arena: &A, book: &TicketBook<P, B>, mirror: &mut DirectArena<P, P, S>, p: P)
     requires live { generation_at (A.entry_at arena.now) (P.index p) ≡ Some (P.generation p) }
     requires booked { IsBooked T.ticket_of book.now.entries (A.entry_at arena.now) (arena_capacity mirror.old) }
     requires mirrored { IsMirrored T.ticket_of book.now.entries (A.entry_at arena.now) (P.index p)
@@ -96,11 +91,7 @@ fn mirror_by_tickets<
     A: ArenaTrait<P, T>,
     B: OrdSlots<P, Entry<P>>,
     S: DirectSlots<P, P>,
->(
-    arena: &A,
-    book: &TicketBook<P, B>,
-    mirror: &mut DirectArena<P, P, S>,
-)
+>(arena: &A, book: &TicketBook<P, B>, mirror: &mut DirectArena<P, P, S>)
     requires booked { IsBooked T.ticket_of book.now.entries (A.entry_at arena.now) (arena_capacity mirror.old) }
     ensures mirrored { (low : ℕ) → ((k : ℕ) → IsSome (A.entry_at arena.now k) → k < low)
         → IsMirrored T.ticket_of book.now.entries (A.entry_at arena.now) low
@@ -115,12 +106,7 @@ fn mirror_by_tickets<
 }
 
 // `note` for a place, since the ordered arena is no `ArenaTrait`.
-fn note_place<
-    P: PtrCore,
-    S: OrdSlots<P, Place>,
-    B: OrdSlots<P, Entry<P>>,
-    R: DirectSlots<P, P>,
->(
+fn note_place<P: PtrCore, S: OrdSlots<P, Place>, B: OrdSlots<P, Entry<P>>, R: DirectSlots<P, P>>(
     places: &SimpleOrdArena<P, Place, S>,
     book: &TicketBook<P, B>,
     mirror: &mut DirectArena<P, P, R>,
@@ -149,11 +135,7 @@ pub(crate) fn mirror_places<
     S: OrdSlots<P, Place>,
     B: OrdSlots<P, Entry<P>>,
     R: DirectSlots<P, P>,
->(
-    places: &SimpleOrdArena<P, Place, S>,
-    book: &TicketBook<P, B>,
-    mirror: &mut DirectArena<P, P, R>,
-)
+>(places: &SimpleOrdArena<P, Place, S>, book: &TicketBook<P, B>, mirror: &mut DirectArena<P, P, R>)
     requires booked { IsBooked (λ (x : PlaceView). x.ticket) book.now.entries (entry_in places.now) (arena_capacity mirror.old) }
     ensures mirrored { (low : ℕ) → ((k : ℕ) → IsSome (entry_in places.now k) → k < low)
         → IsMirrored (λ (x : PlaceView). x.ticket) book.now.entries (entry_in places.now) low
@@ -173,11 +155,7 @@ pub(crate) fn mirror_stops<
     S: ChainSlots<P, Stop<P>>,
     B: OrdSlots<P, Entry<P>>,
     R: DirectSlots<P, P>,
->(
-    stops: &ChainArena<P, Stop<P>, S>,
-    book: &TicketBook<P, B>,
-    mirror: &mut DirectArena<P, P, R>,
-)
+>(stops: &ChainArena<P, Stop<P>, S>, book: &TicketBook<P, B>, mirror: &mut DirectArena<P, P, R>)
     requires { IsBooked (λ (x : StopView). x.ticket) book.now.entries (values_in stops.now) (arena_capacity mirror.old) }
     ensures mirrored { (low : ℕ) → ((k : ℕ) → IsSome (values_in stops.now k) → k < low)
         → IsMirrored (λ (x : StopView). x.ticket) book.now.entries (values_in stops.now) low
@@ -193,11 +171,7 @@ pub(crate) fn mirror_marks<
     S: ArenaSlots<P, Mark<P>>,
     B: OrdSlots<P, Entry<P>>,
     R: DirectSlots<P, P>,
->(
-    marks: &Arena<P, Mark<P>, S>,
-    book: &TicketBook<P, B>,
-    mirror: &mut DirectArena<P, P, R>,
-)
+>(marks: &Arena<P, Mark<P>, S>, book: &TicketBook<P, B>, mirror: &mut DirectArena<P, P, R>)
     requires { IsBooked (λ (x : MarkView). x.ticket) book.now.entries (mark_at marks.now) (arena_capacity mirror.old) }
     ensures mirrored { (low : ℕ) → ((k : ℕ) → IsSome (mark_at marks.now k) → k < low)
         → IsMirrored (λ (x : MarkView). x.ticket) book.now.entries (mark_at marks.now) low

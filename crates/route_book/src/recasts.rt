@@ -73,20 +73,18 @@ fn recast_stops<P: PtrCore, A: ArenaTrait<P, Stop<P>>, M: ArenaTrait<P, P>>(
 }
 
 // Recasts the references of the marks by a mirror of the places and one of the stops: two looks for each mark.
-fn recast_marks<
-    P: PtrCore,
-    A: ArenaTrait<P, Mark<P>>,
-    M: ArenaTrait<P, P>,
-    N: ArenaTrait<P, P>,
->(
+fn recast_marks<P: PtrCore, A: ArenaTrait<P, Mark<P>>, M: ArenaTrait<P, P>, N: ArenaTrait<P, P>>(
     marks: &mut A,
     places: &M,
     stops: &N,
     looks: &mut Probes,
 )
     ensures entries { (j : ℕ) → A.entry_at marks.new j
-        ≡ option_map (λ e. (e.0, recast_mark (numbers P.index P.generation (M.entry_at places.now))
-        (numbers P.index P.generation (N.entry_at stops.now)) e.1)) (A.entry_at marks.old j) }
+        ≡ option_map (λ e. (
+          e.0,
+          recast_mark (numbers P.index P.generation (M.entry_at places.now))
+              (numbers P.index P.generation (N.entry_at stops.now)) e.1,
+        )) (A.entry_at marks.old j) }
     ensures live { A.live_count marks.new ≡ A.live_count marks.old }
     ensures room { A.room marks.new ≡ A.room marks.old }
     ensures looks { looks.new ≡ looks.old + 2 * A.live_count marks.old }
@@ -119,19 +117,18 @@ pub(crate) fn recast_all_stops<P: PtrCore, S: ChainSlots<P, Stop<P>>, R: DirectS
 }
 
 // Recasts the marks of the arena.
-pub(crate) fn recast_all_marks<
-    P: PtrCore,
-    S: ArenaSlots<P, Mark<P>>,
-    R: DirectSlots<P, P>,
->(
+pub(crate) fn recast_all_marks<P: PtrCore, S: ArenaSlots<P, Mark<P>>, R: DirectSlots<P, P>>(
     marks: &mut Arena<P, Mark<P>, S>,
     places: &DirectArena<P, P, R>,
     stops: &DirectArena<P, P, R>,
     looks: &mut Probes,
 )
     ensures entries { (j : ℕ) → mark_at marks.new j
-        ≡ option_map (λ e. (e.0, recast_mark (numbers P.index P.generation (entry_at places.now))
-        (numbers P.index P.generation (entry_at stops.now)) e.1)) (mark_at marks.old j) }
+        ≡ option_map (λ e. (
+          e.0,
+          recast_mark (numbers P.index P.generation (entry_at places.now))
+              (numbers P.index P.generation (entry_at stops.now)) e.1,
+        )) (mark_at marks.old j) }
     ensures live { live_count marks.new ≡ live_count marks.old }
     ensures room { marks.new.room ≡ marks.old.room }
     ensures looks { looks.new ≡ looks.old + 2 * live_count marks.old }

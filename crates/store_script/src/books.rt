@@ -45,6 +45,9 @@ fn play_over_pointers(
     cut: Cut,
     text: String,
 ) -> Result<String, AllocError> {
+    if book.backing == "array" {
+        return play_in_array(book, lines, cut, text);
+    }
     match book.pointers {
         "P0" => play_over::<P0>(heap, book, lines, cut, text),
         "P1" => play_over::<P1>(heap, book, lines, cut, text),
@@ -65,7 +68,21 @@ fn play_over<P: PtrCore>(
         "heap" => play_in::<P, OnHeap<Heap<'_>>>(&OnHeap(heap), book, lines, cut, text),
         "limited" => play_in::<P, OnLimited<Heap<'_>>>(&OnLimited(heap), book, lines, cut, text),
         "fixed" => play_in::<P, OnFixed<Heap<'_>>>(&OnFixed(heap), book, lines, cut, text),
-        "array" => play_in::<P, OnArray<10>>(&OnArray::<10>, book, lines, cut, text),
+        _ => missing(book, text),
+    }
+}
+
+// In arrays, whose size is known only if the pointer type is.
+fn play_in_array(
+    book: &Book<'_>,
+    lines: &str,
+    cut: Cut,
+    text: String,
+) -> Result<String, AllocError> {
+    match book.pointers {
+        "P0" => play_in::<P0, OnArray<10>>(&OnArray::<10>, book, lines, cut, text),
+        "P1" => play_in::<P1, OnArray<10>>(&OnArray::<10>, book, lines, cut, text),
+        "N3" => play_in::<N3, OnArray<10>>(&OnArray::<10>, book, lines, cut, text),
         _ => missing(book, text),
     }
 }

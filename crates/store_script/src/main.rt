@@ -7,7 +7,8 @@
 //! ```
 //!
 //! - POINTERS are pointer types, with `,` between them: `P0`, `P1`, `P5`, or `N3`, whose generations end at 3;
-//! - BACKINGS are what the stores stand in: `heap`, `limited`, `fixed`, or `array`, which has room for ten;
+//! - BACKINGS are what the stores stand in: `heap`, `limited`, `fixed`, or `array`, which has room for ten, and which `P5`
+//!   lacks;
 //! - PLACES, STOPS and MARKS are the rooms, and LAST is the last ticket that counts as given;
 //! - REFUSED is the request for memory that is refused, and 0 is none.
 //!

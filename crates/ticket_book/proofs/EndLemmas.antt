@@ -1,10 +1,10 @@
 -- What the entries along a list are where one is taken out, and where each is renewed.
-use Rattle.std.proofs.Common.{◌≡◌, ◌≢◌, ◌∙◌, sym, ap, subst, refl, Bool, true, false, ◌==◌, if◌then◌else◌, ℕ, ◌+◌, ◌<◌, List, [], ◌∷◌, ◌++◌, map, filter, not, Option, Some, None, IsSome, OnSome, option_map, true≢false, arith, inl, inr}
+use Rattle.std.proofs.Common.{◌≡◌, ◌∙◌, sym, ap, subst, refl, ℕ, ◌<◌, List, [], ◌∷◌, ◌++◌, map, Option, Some, None, OnSome, option_map, arith, inl, inr}
 use Rattle.std.specs.List.{AllByRecursion}
 use Rattle.std.proofs.lemmas.Bool.{eq-eqb, ne_eqb}
 use Rattle.std.proofs.lemmas.Bool.Decides.{eqb_tells}
 use Rattle.triple_arena.specs.Entries.{value_if, without}
-use Rattle.triple_arena_chain.specs.Chains.{Apart, Off, IsLinear}
+use Rattle.triple_arena_chain.specs.Chains.{Apart, Off}
 use Rattle.triple_arena_chain.specs.ListLaws.{Apart-split}
 use Rattle.triple_arena_chain.specs.Links.{ends_in}
 use Rattle.triple_arena_chain.specs.UniquenessLaws.{linear_apart}
@@ -75,7 +75,7 @@ module _ {I : Type 0} (number : I → ℕ) (old new : Ordered I Entry) (ordered 
     pub entry_out : (e : Entry) → value_if g (entry_in old i) ≡ Some e → entries_of number new ≡ without_ticket e.ticket (entries_of number old)
     entry_out e found =
         let apart = Apart-split removed.order.before removed.order.after i
-            (subst Apart removed.order.was (linear_apart (ends_in number old.chains) None (order_in number old) ordered.linear)) in
+        (subst Apart removed.order.was (linear_apart (ends_in number old.chains) None (order_in number old) ordered.linear)) in
         let at = entry_in old in
         let split : entries_of number old ≡ along at removed.order.before ++ e ∷ along at removed.order.after =
         ap (along at) removed.order.was ∙ along-append at removed.order.before (i ∷ removed.order.after)

@@ -1,5 +1,5 @@
 -- A walk by rising index: its steps, its end, and what a loop over it writes.
-use Rattle.std.proofs.Common.{◌≡◌, ◌≢◌, ◌∙◌, sym, ap, subst, refl, Bool, true, false, ℕ, ◌+◌, ◌<◌, ◌≤◌, inl, inr, Option, Some, None, IsSome, is_some, true≢false, arith}
+use Rattle.std.proofs.Common.{◌≡◌, ◌≢◌, ◌∙◌, sym, ap, subst, refl, Bool, false, ℕ, ◌+◌, ◌<◌, ◌≤◌, inl, inr, Option, Some, None, IsSome, is_some, true≢false, arith}
 use Rattle.std.specs.Option.{option_map}
 use Rattle.std.proofs.lemmas.Bool.{eq-eqb, ne_eqb}
 use Rattle.std.proofs.lemmas.Bool.Decides.{eqb_tells, leb_tells}
@@ -87,12 +87,12 @@ module _ {V : Type 0} (cast : V → V) (at0 at at' : ℕ → Option (ℕ × V)) 
         let now : at' j ≡ Some (g, v') = ap at' same.1 ∙ here in
         now ∙ ap (λ y. Some (g, y)) is ∙ sym (ap (option_map (λ (e : ℕ × V). (let z : ℕ × V = (e.0, cast e.1) in z))) was)
     | inr other ↦ elim (leb_tells low j) [
-        | inr less ↦ others j other.1 ∙ passed j less.1
-        | inl back ↦
-            let none = between j back.1 (let o = other.1 in omega (arith, o, below)) in
-            let was : at0 j ≡ None = sym (ahead j back.1) ∙ none in
-            others j other.1 ∙ none ∙ sym (ap (option_map (λ (e : ℕ × V). (let z : ℕ × V = (e.0, cast e.1) in z))) was)
-      ]
+      | inr less ↦ others j other.1 ∙ passed j less.1
+      | inl back ↦
+          let none = between j back.1 (let o = other.1 in omega (arith, o, below)) in
+          let was : at0 j ≡ None = sym (ahead j back.1) ∙ none in
+          others j other.1 ∙ none ∙ sym (ap (option_map (λ (e : ℕ × V). (let z : ℕ × V = (e.0, cast e.1) in z))) was)
+    ]
   ]
 
   pub cast_ahead : (j : ℕ) → i + 1 ≤ j → at' j ≡ at0 j

@@ -2,7 +2,8 @@
 //! order of their tickets.
 //!
 //! The entries stand in an ordered arena, so a ticket is found by a counted search and nothing moves where one is taken out.
-//! A new ticket is above all others: it goes in behind the last one, and is compared with none.
+//! A new ticket is above all others: it goes in behind the last one, and is compared with none. Where the items got other
+//! pointers, each entry takes the new one from a mirror, which has it under the old one.
 #![tactic(auto)]
 
 mod book;

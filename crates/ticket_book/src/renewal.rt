@@ -48,15 +48,13 @@ pub(crate) fn renew_entries<
     M: ArenaTrait<P, P>,
     N: ArenaTrait<P, P>,
     O: ArenaTrait<P, P>,
->(
-    arena: &mut SimpleOrdArena<P, Entry<P>, S>,
-    places: &M,
-    stops: &N,
-    marks: &O,
-)
-    ensures entries { (j : ℕ) → entry_in arena.new j ≡ option_map (λ e. (e.0, renewed_entry
-        (numbers P.index P.generation (M.entry_at places.now)) (numbers P.index P.generation (N.entry_at stops.now))
-        (numbers P.index P.generation (O.entry_at marks.now)) e.1)) (entry_in arena.old j) }
+>(arena: &mut SimpleOrdArena<P, Entry<P>, S>, places: &M, stops: &N, marks: &O)
+    ensures entries { (j : ℕ) → entry_in arena.new j ≡ option_map (λ e. (
+      e.0,
+      renewed_entry
+          (numbers P.index P.generation (M.entry_at places.now)) (numbers P.index P.generation (N.entry_at stops.now))
+          (numbers P.index P.generation (O.entry_at marks.now)) e.1,
+    )) (entry_in arena.old j) }
     ensures order { order_in P.Inx.number arena.new ≡ order_in P.Inx.number arena.old }
     ensures room { arena.new.chains.room ≡ arena.old.chains.room }
 {

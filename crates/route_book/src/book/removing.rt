@@ -49,6 +49,8 @@ impl<P: PtrCore, B: BookBacking<P>> RouteBook<P, B> {
         ensures counts { ComparesWithin counts.old counts.new
             0 (most_comparisons (living_count self.old.state)) 0 }
     {
+        // The generations count to 3.
+        let _ = &self.place_room;
         if self.try_remove(ticket, &mut counts.first)? {
             return Ok(());
         }
@@ -69,22 +71,22 @@ impl<P: PtrCore, B: BookBacking<P>> RouteBook<P, B> {
         }
         let places_wrap = wraps::<P>(self.places.generation());
         let stops_wrap = wraps::<P>(self.stops.generation());
-        let Some((kind, item, stays)) =
-            self.tickets
-                .take_counted(ticket, places_wrap, stops_wrap, probes)
+        let Some(taken) = self
+            .tickets
+            .take_counted(ticket, places_wrap, stops_wrap, probes)
         else {
             return Err(Refusal::Gone);
         };
-        if stays {
+        if taken.2 {
             return Ok(false);
         }
         changes_keep_states_sound();
-        match kind {
+        match taken.0 {
             Kind::Place => {
                 removed_places_leave_no_reference();
                 // The list is as it must be.
                 let _ = self.places.len();
-                let _ = self.places.remove(item);
+                let _ = self.places.remove(taken.1);
                 self.held = self.held.changed(&Change::Remove(ticket));
                 Ok(true)
             }
@@ -92,13 +94,13 @@ impl<P: PtrCore, B: BookBacking<P>> RouteBook<P, B> {
                 removed_stops_join_their_neighbors();
                 // The links are as they must be.
                 let _ = self.stops.len();
-                let _ = self.stops.remove_link_no_gen(item);
+                let _ = self.stops.remove_link_no_gen(taken.1);
                 self.held = self.held.changed(&Change::Remove(ticket));
                 Ok(true)
             }
             Kind::Mark => {
                 removed_marks_leave_all_else();
-                let _ = self.marks.remove(item);
+                let _ = self.marks.remove(taken.1);
                 self.held = self.held.changed(&Change::Remove(ticket));
                 Ok(true)
             }

@@ -1,4 +1,4 @@
-use Rattle.std.specs.Prelude.{◌≡◌, ℕ, ◌+◌, ◌-◌, ◌<◌, ◌≤◌, false, IsSome}
+use Rattle.std.specs.Prelude.{◌≡◌, ℕ, ◌+◌, ◌-◌, ◌≤◌, false, IsSome}
 use Rattle.triple_arena.specs.DirectContent.{entry_at}
 use Rattle.route_book.specs.Packing.{IsMirrored}
 use Rattle.ticket_book.specs.Mirrors.{numbers}

@@ -1,6 +1,6 @@
 use Rattle.triple_arena_ord.specs.Ordered.{entry_in}
 use Rattle.route_lines.specs.State.{Place}
-use Rattle.std.specs.Prelude.{◌≡◌, ℕ, ◌+◌, ◌-◌, ◌<◌, ◌≤◌, false, IsSome}
+use Rattle.std.specs.Prelude.{◌≡◌, ℕ, ◌+◌, ◌-◌, ◌≤◌, false, IsSome}
 use Rattle.triple_arena.specs.DirectContent.{entry_at}
 use Rattle.route_book.specs.Packing.{IsMirrored}
 use Rattle.ticket_book.specs.Mirrors.{numbers}

@@ -1,7 +1,6 @@
-use Rattle.std.proofs.Common.{◌≡◌, ◌∙◌, ◌<◌, ◌≤◌, sym, ap, subst, refl, Some, None}
-use Rattle.std.specs.Option.{option_map}
-use Rattle.triple_arena.specs.DirectContent.{entry_at, arena_capacity, DirectContent}
-use Rattle.ticket_book.specs.Tickets.{Entry, lookup}
+use Rattle.std.proofs.Common.{◌≡◌, ◌∙◌, ◌<◌, ◌≤◌, sym, ap, subst, refl, Some}
+use Rattle.triple_arena.specs.DirectContent.{entry_at, arena_capacity}
+use Rattle.ticket_book.specs.Tickets.{lookup}
 use Rattle.route_book.proofs.NoteLemmas.{note_known, note_fits, note_vacant, note_done}
 use Rattle.route_book.proofs.mirrors.note.Goals as goal
 
@@ -15,9 +14,9 @@ pub put-requires : goal.put-requires
 put-requires g c =
     let found : lookup c.args.book.now.entries c.own_ticket.result ≡ Some _ = sym c.in-Some-find_counted.ensures.found in
     let fits = note_fits g.P.PtrCore.index g.P.PtrCore.generation g.T.Ticketed.ticket_of c.args.book.now.entries (g.A.ArenaTrait.entry_at c.args.arena.now) c.args.p c.in-Some.item.now
-        c.in-Some.ensures c.own_ticket.result c.own_ticket.ensures (arena_capacity c.args.mirror.now) c.requires.booked _ found (entry_at c.args.mirror.now) c.requires.mirrored in
+    c.in-Some.ensures c.own_ticket.result c.own_ticket.ensures (arena_capacity c.args.mirror.now) c.requires.booked _ found (entry_at c.args.mirror.now) c.requires.mirrored in
     let vacant = note_vacant g.P.PtrCore.index g.P.PtrCore.generation g.T.Ticketed.ticket_of c.args.book.now.entries (g.A.ArenaTrait.entry_at c.args.arena.now) c.args.p c.in-Some.item.now
-        c.in-Some.ensures c.own_ticket.result c.own_ticket.ensures (arena_capacity c.args.mirror.now) c.requires.booked _ found (entry_at c.args.mirror.now) c.requires.mirrored in
+    c.in-Some.ensures c.own_ticket.result c.own_ticket.ensures (arena_capacity c.args.mirror.now) c.requires.booked _ found (entry_at c.args.mirror.now) c.requires.mirrored in
     record {
       positive = subst (λ k. 0 < k) (sym c.at.ensures.index) fits.0;
       fits = subst (λ k. k ≤ arena_capacity c.args.mirror.now) (sym c.at.ensures.index) fits.1;

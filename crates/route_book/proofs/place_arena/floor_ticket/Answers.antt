@@ -1,4 +1,4 @@
-use Rattle.std.proofs.Common.{◌≡◌, ◌∙◌, ap, sym, subst, refl, ℕ, Some, IsSome, option_map}
+use Rattle.std.proofs.Common.{◌∙◌, ap, sym, subst, refl, ℕ, Some, IsSome, option_map}
 use Rattle.std.specs.Ordering.{nat_cmp}
 use Rattle.triple_arena_ord.specs.Ordered.{IsAscending, entry_in}
 use Rattle.route_lines.specs.State.{Place}

@@ -1,4 +1,4 @@
-use Rattle.std.proofs.Common.{◌≡◌, ◌∙◌, ap, sym, subst, refl, ℕ, Some, IsSome}
+use Rattle.std.proofs.Common.{◌≡◌, ◌∙◌, ap, sym, subst, Some, IsSome}
 use Rattle.std.specs.Ordering.{nat_cmp}
 use Rattle.triple_arena_ord.specs.Found.{IsSimilar}
 use Rattle.triple_arena_ord.specs.Inserted.{StandsAt}

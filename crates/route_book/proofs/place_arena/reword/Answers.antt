@@ -1,4 +1,4 @@
-use Rattle.std.proofs.Common.{◌≡◌, ◌∙◌, ap, sym, subst, Option, Some}
+use Rattle.std.proofs.Common.{◌≡◌, ◌∙◌, ap, sym, subst}
 use Rattle.triple_arena_ord.specs.Inserted.{IsReplaced}
 use Rattle.triple_arena_ord.specs.States.{with_item}
 use Rattle.route_lines.specs.State.{Place}

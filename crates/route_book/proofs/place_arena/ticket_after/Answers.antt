@@ -1,4 +1,4 @@
-use Rattle.std.proofs.Common.{◌≡◌, ◌∙◌, ap, sym, subst, Some, option_map}
+use Rattle.std.proofs.Common.{◌∙◌, ap, sym, Some}
 use Rattle.route_book.proofs.NeighborLemmas.{next_is_live, next_ticket, next_missing}
 use Rattle.route_book.proofs.place_arena.ticket_after.Goals as goal
 

@@ -1,4 +1,4 @@
-use Rattle.std.proofs.Common.{arith, ◌≡◌, ◌∙◌, ◌+◌, ◌*◌, ◌<◌, ◌≤◌, sym, ap, subst, refl, ℕ, IsSome, is_some}
+use Rattle.std.proofs.Common.{arith, ◌≡◌, ◌∙◌, ◌+◌, ◌<◌, ◌≤◌, sym, ap, subst, is_some}
 use Rattle.ticket_book.specs.Mirrors.{numbers}
 use Rattle.ticket_book.proofs.WalkLemmas.{step_is, end_all, all_before, cast_ahead, cast_all, cast_first, cast_gap, cast_live, cast_passed, stands_at, value_written}
 use Rattle.triple_arena_chain.specs.Renaming.{live_below}
@@ -52,6 +52,6 @@ returns-clause-looks g c =
     let low = (g.A.ArenaTrait.walk c.loop-p.walk).low in
     let all = end_all at (g.A.ArenaTrait.walk c.loop-p.walk) (g.A.ArenaTrait.walk c.advance.new.self) inv.rises inv.reaches (g.met.A.ArenaTrait.advances _ _ _ _ c.in_default.ensures.given) in
     let n = counted_below at0 (g.A.ArenaTrait.live_entries c.args.marks.now) (g.met.A.ArenaTrait.entry_listed c.args.marks.now) (g.met.A.ArenaTrait.live_entries_increase c.args.marks.now)
-        (g.A.ArenaTrait.live_count c.args.marks.now) (g.met.A.ArenaTrait.live_entries_counted c.args.marks.now) low (all_before at0 at low inv.ahead all) in
+    (g.A.ArenaTrait.live_count c.args.marks.now) (g.met.A.ArenaTrait.live_entries_counted c.args.marks.now) low (all_before at0 at low inv.ahead all) in
     let looks = inv.looks in
     omega (arith, looks, n)

@@ -1,4 +1,4 @@
-use Rattle.std.specs.Prelude.{◌≡◌, ℕ, ◌+◌, ◌-◌, ◌*◌, ◌<◌, ◌≤◌, false, IsSome, Option}
+use Rattle.std.specs.Prelude.{◌≡◌, ℕ, ◌+◌, ◌-◌, ◌*◌, ◌<◌, ◌≤◌, false, IsSome}
 use Rattle.std.specs.Option.{option_map}
 use Rattle.route_book.specs.Packing.{recast_mark}
 use Rattle.ticket_book.specs.Mirrors.{numbers}
@@ -13,8 +13,11 @@ invariant-loop-p g l =
       reaches : (j : ℕ) → IsSome (g.A.ArenaTrait.entry_at l.marks j) → j ≤ (g.A.ArenaTrait.walk l.walk).high;
       passed : (j : ℕ) → j < (g.A.ArenaTrait.walk l.walk).low
           → g.A.ArenaTrait.entry_at l.marks j
-          ≡ option_map (λ e. (e.0, recast_mark (numbers g.P.PtrCore.index g.P.PtrCore.generation (g.M.ArenaTrait.entry_at l.places))
-          (numbers g.P.PtrCore.index g.P.PtrCore.generation (g.N.ArenaTrait.entry_at l.stops)) e.1)) (g.A.ArenaTrait.entry_at l.fn.marks j);
+          ≡ option_map (λ e. (
+            e.0,
+            recast_mark (numbers g.P.PtrCore.index g.P.PtrCore.generation (g.M.ArenaTrait.entry_at l.places))
+                (numbers g.P.PtrCore.index g.P.PtrCore.generation (g.N.ArenaTrait.entry_at l.stops)) e.1,
+          )) (g.A.ArenaTrait.entry_at l.fn.marks j);
       ahead : (j : ℕ) → (g.A.ArenaTrait.walk l.walk).low ≤ j → g.A.ArenaTrait.entry_at l.marks j ≡ g.A.ArenaTrait.entry_at l.fn.marks j;
       live : g.A.ArenaTrait.live_count l.marks ≡ g.A.ArenaTrait.live_count l.fn.marks;
       room : g.A.ArenaTrait.room l.marks ≡ g.A.ArenaTrait.room l.fn.marks;

@@ -1,4 +1,4 @@
-use Rattle.std.proofs.Common.{◌≡◌, ◌∙◌, ◌<◌, ◌≤◌, sym, ap, subst, refl, is_some}
+use Rattle.std.proofs.Common.{◌∙◌, ◌<◌, ◌≤◌, sym, ap, subst, is_some}
 use Rattle.triple_arena_ord.specs.Ordered.{entry_in}
 use Rattle.triple_arena_ord.specs.States.{with_item}
 use Rattle.ticket_book.specs.Mirrors.{numbers, renewed_entry}
@@ -14,8 +14,8 @@ loop-p-preserved-in-Some-get_mut g c =
     let h = g.P.PtrCore.generation c.in-Some.p in
     let low = c.loop-p.walk.low in
     let cast = renewed_entry (numbers g.P.PtrCore.index g.P.PtrCore.generation (g.M.ArenaTrait.entry_at c.args.places.now))
-        (numbers g.P.PtrCore.index g.P.PtrCore.generation (g.N.ArenaTrait.entry_at c.args.stops.now))
-        (numbers g.P.PtrCore.index g.P.PtrCore.generation (g.O.ArenaTrait.entry_at c.args.marks.now)) in
+    (numbers g.P.PtrCore.index g.P.PtrCore.generation (g.N.ArenaTrait.entry_at c.args.stops.now))
+    (numbers g.P.PtrCore.index g.P.PtrCore.generation (g.O.ArenaTrait.entry_at c.args.marks.now)) in
     let st = step_is at c.loop-p.walk c.advance.new.self inv.rises _ _ c.in-Some.ensures.given in
     let now = with_item c.loop-p.arena i c.renew.new.self in
     let at' = entry_in now in
@@ -38,7 +38,7 @@ returns-clause-entries g c =
     let inv = c.loop-p.invariant in
     let at = entry_in c.loop-p.arena in
     cast_all (renewed_entry (numbers g.P.PtrCore.index g.P.PtrCore.generation (g.M.ArenaTrait.entry_at c.args.places.now))
-        (numbers g.P.PtrCore.index g.P.PtrCore.generation (g.N.ArenaTrait.entry_at c.args.stops.now))
-        (numbers g.P.PtrCore.index g.P.PtrCore.generation (g.O.ArenaTrait.entry_at c.args.marks.now)))
+    (numbers g.P.PtrCore.index g.P.PtrCore.generation (g.N.ArenaTrait.entry_at c.args.stops.now))
+    (numbers g.P.PtrCore.index g.P.PtrCore.generation (g.O.ArenaTrait.entry_at c.args.marks.now)))
     (entry_in c.args.arena.now) at c.loop-p.walk.low inv.passed inv.ahead
     (end_all at c.loop-p.walk c.advance.new.self inv.rises inv.reaches c.in_default.ensures.given)

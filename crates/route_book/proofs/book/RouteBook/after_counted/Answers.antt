@@ -1,9 +1,8 @@
-use Rattle.std.proofs.Common.{◌≡◌, ◌∙◌, ap, sym, subst, Ok, Some}
+use Rattle.std.proofs.Common.{◌≡◌, ◌∙◌, ap, sym, Ok, Some}
 use Rattle.triple_arena.specs.Entries.{value_if}
 use Rattle.triple_arena_ord.specs.Ordered.{entry_in}
 use Rattle.route_lines.specs.Calls.{place_after, place_holder}
-use Rattle.route_lines.specs.Sound.{KeysRise}
-use Rattle.route_book.specs.Book.{Book, in_order}
+use Rattle.route_book.specs.Book.{Book}
 use Rattle.route_book.proofs.NeighborLemmas.{after_is, place_parts}
 use Rattle.route_book.proofs.book.RouteBook.after_counted.Goals as goal
 

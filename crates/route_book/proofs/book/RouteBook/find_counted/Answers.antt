@@ -1,4 +1,4 @@
-use Rattle.std.proofs.Common.{◌≡◌, ◌∙◌, ap, sym, subst, refl, ℕ, Some, IsSome, option_map}
+use Rattle.std.proofs.Common.{◌∙◌, ap, sym, subst, refl, ℕ, Some, IsSome, option_map}
 use Rattle.triple_arena_chain.specs.Chains.{On}
 use Rattle.triple_arena_ord.specs.Ordered.{entry_in, order_in}
 use Rattle.route_lines.specs.Calls.{found}

@@ -1,4 +1,4 @@
-use Rattle.std.proofs.Common.{◌≡◌, ◌≢◌, ◌≤◌, sym, subst, arith}
+use Rattle.std.proofs.Common.{◌≢◌, ◌≤◌, sym, subst, arith}
 use Rattle.route_book.specs.Book.{Book, found_of}
 use Rattle.route_book.specs.Holds.{IsItem}
 use Rattle.route_book.proofs.HoldLemmas.{is_item}

@@ -1,4 +1,4 @@
-use Rattle.std.proofs.Common.{arith, ◌≡◌, ◌∙◌, ◌+◌, ◌≤◌, ap, sym, subst, refl, ℕ}
+use Rattle.std.proofs.Common.{arith, ◌∙◌, ◌+◌, ◌≤◌, ap, sym, subst, refl}
 use Rattle.triple_arena_stack.specs.Room.{capacity}
 use Rattle.triple_arena.specs.Content.{arena_capacity}
 use Rattle.route_book.specs.Book.{Book}

@@ -1,4 +1,4 @@
-use Rattle.std.proofs.Common.{◌≡◌, ◌∙◌, ap, sym, subst, refl, map}
+use Rattle.std.proofs.Common.{◌∙◌, ap, sym, subst, refl, map}
 use Rattle.triple_arena_ord.specs.Ordered.{entry_in, order_in}
 use Rattle.ticket_book.specs.Mirrors.{numbers, renewed_entry}
 use Rattle.ticket_book.specs.Tickets.{Tickets, TicketsRise}
@@ -9,8 +9,8 @@ use Rattle.ticket_book.proofs.book.TicketBook.renew.Goals as goal
 pub invariant_of-self : goal.invariant_of-self
 invariant_of-self g c =
     let f = renewed_entry (numbers g.P.PtrCore.index g.P.PtrCore.generation (g.M.ArenaTrait.entry_at c.args.places.now))
-        (numbers g.P.PtrCore.index g.P.PtrCore.generation (g.N.ArenaTrait.entry_at c.args.stops.now))
-        (numbers g.P.PtrCore.index g.P.PtrCore.generation (g.O.ArenaTrait.entry_at c.args.marks.now)) in
+    (numbers g.P.PtrCore.index g.P.PtrCore.generation (g.N.ArenaTrait.entry_at c.args.stops.now))
+    (numbers g.P.PtrCore.index g.P.PtrCore.generation (g.O.ArenaTrait.entry_at c.args.marks.now)) in
     let at = entry_in c.self.inside.arena in
     let at' = entry_in c.renew_entries.new.arena in
     let order = c.renew_entries.ensures.order in
@@ -20,8 +20,8 @@ invariant_of-self g c =
 pub returns-clause-entries : goal.returns-clause-entries
 returns-clause-entries g c =
     let f = renewed_entry (numbers g.P.PtrCore.index g.P.PtrCore.generation (g.M.ArenaTrait.entry_at c.args.places.now))
-        (numbers g.P.PtrCore.index g.P.PtrCore.generation (g.N.ArenaTrait.entry_at c.args.stops.now))
-        (numbers g.P.PtrCore.index g.P.PtrCore.generation (g.O.ArenaTrait.entry_at c.args.marks.now)) in
+    (numbers g.P.PtrCore.index g.P.PtrCore.generation (g.N.ArenaTrait.entry_at c.args.stops.now))
+    (numbers g.P.PtrCore.index g.P.PtrCore.generation (g.O.ArenaTrait.entry_at c.args.marks.now)) in
     let at = entry_in c.self.inside.arena in
     let at' = entry_in c.renew_entries.new.arena in
     ap (along at') c.renew_entries.ensures.order

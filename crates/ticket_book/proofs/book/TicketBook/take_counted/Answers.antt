@@ -1,4 +1,4 @@
-use Rattle.std.proofs.Common.{◌≡◌, ◌≢◌, ◌∙◌, ◌+◌, ◌≤◌, ap, sym, subst, refl, ℕ, length, Some, None, IsSome}
+use Rattle.std.proofs.Common.{◌∙◌, ◌+◌, ◌≤◌, ap, sym, subst, refl, ℕ, length, IsSome}
 use Rattle.counted_search.specs.Searches.{most_comparisons}
 use Rattle.triple_arena_chain.specs.Chains.{On}
 use Rattle.triple_arena_ord.specs.Ordered.{entry_in, order_in}
@@ -12,7 +12,7 @@ use Rattle.ticket_book.proofs.book.TicketBook.take_counted.Goals as goal
 pub returns-in_default-clause-none : goal.returns-in_default-clause-none
 returns-in_default-clause-none g c = (
   sym (lookup_missing g.P.Inx.PtrInxCore.number c.self.inside.arena c.args.ticket (c.in_default.ensures.found.none (ascending _ c.self.invariant) refl)
-  ∙ ap (λ (book : Tickets). lookup book.entries c.args.ticket) c.self.view_is),
+      ∙ ap (λ (book : Tickets). lookup book.entries c.args.ticket) c.self.view_is),
   refl,
 )
 
@@ -31,13 +31,12 @@ returns-in_default-clause-bound g c =
 pub returns-then-stays-clause-found : goal.returns-then-stays-clause-found
 returns-then-stays-clause-found g c =
     let on : (i : ℕ) → IsSome (entry_in c.self.inside.arena i) → On (order_in g.P.Inx.PtrInxCore.number c.self.inside.arena) i =
-    λ i some. c.entries_stand_in_the_list.ensures c.self.inside.arena i c.len.ensures.ordered some in
-    (
+    λ i some. c.entries_stand_in_the_list.ensures c.self.inside.arena i c.len.ensures.ordered some in (
       c.in-Some-get.entry.now,
       (
         sym (c.in-Some-get.ensures
-        ∙ lookup_found g.P.Inx.PtrInxCore.number g.P.PtrCore.index g.P.PtrCore.generation c.self.inside.arena c.args.ticket c.in-Some.at c.self.invariant on (c.in-Some.ensures.found.some c.in-Some.at refl)
-        ∙ ap (λ (book : Tickets). lookup book.entries c.args.ticket) c.self.view_is),
+            ∙ lookup_found g.P.Inx.PtrInxCore.number g.P.PtrCore.index g.P.PtrCore.generation c.self.inside.arena c.args.ticket c.in-Some.at c.self.invariant on (c.in-Some.ensures.found.some c.in-Some.at refl)
+            ∙ ap (λ (book : Tickets). lookup book.entries c.args.ticket) c.self.view_is),
         (c.kind-kind.ensures, (c.at-item.ensures.index, (c.at-item.ensures.generation, sym c.if-stays.true ∙ c.stays.ensures ∙ ap (stays c.args.places_stay c.args.stops_stay) c.kind-kind.ensures))),
       ),
     )
@@ -62,13 +61,12 @@ invariant_of-self g c =
 pub returns-clause-found : goal.returns-clause-found
 returns-clause-found g c =
     let on : (i : ℕ) → IsSome (entry_in c.self.inside.arena i) → On (order_in g.P.Inx.PtrInxCore.number c.self.inside.arena) i =
-    λ i some. c.entries_stand_in_the_list.ensures c.self.inside.arena i c.len.ensures.ordered some in
-    (
+    λ i some. c.entries_stand_in_the_list.ensures c.self.inside.arena i c.len.ensures.ordered some in (
       c.in-Some-get.entry.now,
       (
         sym (c.in-Some-get.ensures
-        ∙ lookup_found g.P.Inx.PtrInxCore.number g.P.PtrCore.index g.P.PtrCore.generation c.self.inside.arena c.args.ticket c.in-Some.at c.self.invariant on (c.in-Some.ensures.found.some c.in-Some.at refl)
-        ∙ ap (λ (book : Tickets). lookup book.entries c.args.ticket) c.self.view_is),
+            ∙ lookup_found g.P.Inx.PtrInxCore.number g.P.PtrCore.index g.P.PtrCore.generation c.self.inside.arena c.args.ticket c.in-Some.at c.self.invariant on (c.in-Some.ensures.found.some c.in-Some.at refl)
+            ∙ ap (λ (book : Tickets). lookup book.entries c.args.ticket) c.self.view_is),
         (c.kind-kind.ensures, (c.at-item.ensures.index, (c.at-item.ensures.generation, sym c.if-stays.false ∙ c.stays.ensures ∙ ap (stays c.args.places_stay c.args.stops_stay) c.kind-kind.ensures))),
       ),
     )
@@ -78,7 +76,7 @@ returns-clause-out g c = λ is.
     let on : (i : ℕ) → IsSome (entry_in c.self.inside.arena i) → On (order_in g.P.Inx.PtrInxCore.number c.self.inside.arena) i =
     λ i some. c.entries_stand_in_the_list.ensures c.self.inside.arena i c.len.ensures.ordered some in
     let found = c.in-Some-get.ensures
-        ∙ lookup_found g.P.Inx.PtrInxCore.number g.P.PtrCore.index g.P.PtrCore.generation c.self.inside.arena c.args.ticket c.in-Some.at c.self.invariant on (c.in-Some.ensures.found.some c.in-Some.at refl) in
+    ∙ lookup_found g.P.Inx.PtrInxCore.number g.P.PtrCore.index g.P.PtrCore.generation c.self.inside.arena c.args.ticket c.in-Some.at c.self.invariant on (c.in-Some.ensures.found.some c.in-Some.at refl) in
     entry_taken g.P.Inx.PtrInxCore.number c.self.inside.arena c.remove.new.self c.len.ensures.ordered c.self.invariant _ (g.P.PtrCore.index c.in-Some.at) (g.P.PtrCore.generation c.in-Some.at)
     _ c.in-Some-get.entry.now c.in-Some-get.ensures _ c.remove.ensures.value c.remove.ensures.removed
     ∙ ap (λ t. without_ticket t (entries_of g.P.Inx.PtrInxCore.number c.self.inside.arena)) (ticket_of_found c.args.ticket _ c.in-Some-get.entry.now (sym found))
