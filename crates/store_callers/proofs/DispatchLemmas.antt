@@ -1,15 +1,15 @@
 -- A place, and a route that a start and an extension made.
-use Rattle.std.proofs.Common.{◌≡◌, ◌≢◌, ◌∙◌, sym, ap, subst, refl, Bool, true, false, ◌||◌, ◌==◌, ℕ, ◌+◌, ◌<◌, ◌≤◌, List, [], ◌∷◌, ◌++◌, Option, Some, None, Result, Ok, Err, cond, nat_lt, find, option_map, arith}
-use Rattle.std.specs.Option.{option_map_or, option_or, ok_or}
+use Rattle.std.proofs.Common.{◌≡◌, ◌≢◌, ◌∙◌, ap, subst, refl, Bool, true, false, ◌||◌, ◌==◌, ℕ, ◌+◌, ◌<◌, ◌≤◌, List, [], ◌∷◌, ◌++◌, Option, Some, None, Result, Ok, Err, cond, nat_lt, arith}
+use Rattle.std.specs.Option.{option_map_or}
 use Rattle.std.proofs.lemmas.Bool.{eq-eqb, eqb-true, ne_eqb, le-ltb}
-use Rattle.route_lines.specs.Calls.{put, reworded, place_holder, stop_holder, placed, after_place, started, after_start, extended, after_extend, walked}
-use Rattle.route_lines.specs.Routes.{has_ticket, linear, has_stop, route_of, next_stop, put_behind, walk_in, walk_from}
+use Rattle.route_lines.specs.Calls.{put, reworded, stop_holder, placed, after_place, started, after_start, extended, after_extend, walked}
+use Rattle.route_lines.specs.Routes.{has_ticket, linear, has_stop, route_of, put_behind, walk_in, walk_from}
 use Rattle.route_lines.specs.Sound.{count_of, IsSound}
-use Rattle.route_lines.specs.State.{State, Place, Stop, Route, Item, place, stop, mark, with_key, stop_list, place_of, stop_of, mark_of, holder, is_full_of_places}
+use Rattle.route_lines.specs.State.{State, Place, Stop, Route, stop, with_key, stop_list, place_of, stop_of, is_full_of_places}
 use Rattle.route_lines.specs.declared.placed.Placed.{Placed}
 use Rattle.route_lines.specs.declared.placed.Placed.TheVariants.{New, Old}
 use Rattle.route_lines.specs.declared.refusal.Refusal.{Refusal}
-use Rattle.route_lines.specs.declared.refusal.Refusal.TheVariants.{Unknown, Gone, Full}
+use Rattle.route_lines.specs.declared.refusal.Refusal.TheVariants.{Full}
 use Rattle.route_lines.proofs.CutLemmas.{found_passes, total-append, none-count, none_found}
 use Rattle.route_lines.proofs.EndedLemmas.{names, one_stop}
 use Rattle.route_lines.proofs.NewStopLemmas.{none_above}
@@ -94,7 +94,7 @@ module _ (n : ℕ) (o : Option ℕ) (new : Stop) where
   route_of-new [] fresh = rw (eq-eqb n n refl) (rw (eq-eqb n n refl) refl)
   route_of-new (r ∷ routes) fresh =
       let parts : count_of (has_ticket n) (stop_list (r ∷ routes)) ≡ count_of (has_ticket n) r.stops + count_of (has_ticket n) (stop_list routes) =
-          total-append (λ t. cond (has_ticket n t) 1 0) r.stops (stop_list routes) in
+      total-append (λ t. cond (has_ticket n t) 1 0) r.stops (stop_list routes) in
       let other : has_stop n r ≡ false = none-count (has_ticket n) r.stops (omega (arith, parts, fresh)) in
       rw other (rw other (route_of-new routes (omega (arith, parts, fresh))))
 
@@ -123,25 +123,26 @@ given-new n last some below = rw (ne_eqb n 0 (λ e. omega (arith, e, some)), le-
 module _ (s1 s2 s3 : State) (at n m : ℕ) (sound : IsSound s1) (later : IsSound s2) (start : started s1 at ≡ Ok n) (extend : extended s2 n at ≡ Ok m) where
   -- what the walk of the new route gives
   pub walked-new : s2 ≡ after_start s1 at → s3 ≡ after_extend s2 n at → n ≡ s1.last + 1 → m ≡ s2.last + 1
-      → stop_of (after_extend s2 n at).routes n ≡ stop_of s2.routes n
+      → ((k : ℕ) → k ≢ m → stop_of (after_extend s2 n at).routes k ≡ stop_of s2.routes k)
       → walked s3 n ≡ Ok (record { ticket = n; place = Some at } ∷ record { ticket = m; place = Some at } ∷ [])
   walked-new e2 e3 first_is second_is kept =
       let new : Stop = record { ticket = m; place = Some at } in
       let s2_is = e2 ∙ start-is s1 at n start in
       let s3_is = e3 ∙ extend-is s2 n at m extend in
       let routes : s3.routes ≡ put_behind n new (s1.routes ++ linear (record { ticket = n; place = Some at } ∷ []) ∷ []) =
-          ap (λ (s : State). s.routes) s3_is ∙ ap (λ (s : State). put_behind n new s.routes) s2_is in
+      ap (λ (s : State). s.routes) s3_is ∙ ap (λ (s : State). put_behind n new s.routes) s2_is in
       let fresh : count_of (has_ticket n) (stop_list s1.routes) ≡ 0 =
-          none_above (λ (t : Stop). t.ticket) s1.last n (stop_list s1.routes) sound.given_stops (omega (arith, first_is)) in
+      none_above (λ (t : Stop). t.ticket) s1.last n (stop_list s1.routes) sound.given_stops (omega (arith, first_is)) in
       let walk : walk_from n s3.routes ≡ record { ticket = n; place = Some at } ∷ new ∷ [] = ap (walk_from n) routes ∙ walk_from-new n (Some at) new s1.routes fresh in
       let passed = and_then-ok (stop_holder s2 n) _ m extend in
       let one = one_stop s2 n passed.0 later (stop_holder-ok s2 n passed.0 passed.1) in
       let has = names s2 n (stop passed.0) (stop_holder-ok s2 n passed.0 passed.1) in
       let no_place : place_of s3.places n ≡ None =
-          ap (λ (s : State). place_of s.places n) s3_is ∙ none_found (λ p. p.ticket == n) s2.places one.places in
+      ap (λ (s : State). place_of s.places n) s3_is ∙ none_found (λ p. p.ticket == n) s2.places one.places in
       let given : (n == 0) || nat_lt s3.last n ≡ false =
-          given-new n s3.last (omega (arith, first_is)) (omega (arith, ap (λ (s : State). s.last) s3_is, ap (λ (s : State). s.last) s2_is, second_is)) in
-      let holds : stop_holder s3 n ≡ Ok passed.0 = holder-stop s3 n passed.0 given no_place (ap (λ (s : State). stop_of s.routes n) e3 ∙ kept ∙ has.has) in
+      given-new n s3.last (omega (arith, first_is)) (omega (arith, ap (λ (s : State). s.last) s3_is, ap (λ (s : State). s.last) s2_is, second_is)) in
+      let apart : n ≢ m = λ e. omega (arith, e, second_is, ap (λ (s : State). s.last) s2_is) in
+      let holds : stop_holder s3 n ≡ Ok passed.0 = holder-stop s3 n passed.0 given no_place (ap (λ (s : State). stop_of s.routes n) e3 ∙ kept n apart ∙ has.has) in
       rw (holds, walk) refl
 
   -- neither call changes a place

@@ -1,5 +1,5 @@
 -- What references to a place find once it is removed.
-use Rattle.std.specs.Prelude.{◌≡◌, ℕ, Option, Some, None}
+use Rattle.std.specs.Prelude.{◌≡◌, ℕ, Some, None}
 use Rattle.triple_arena_chain.specs.Links.{values_in}
 use Rattle.triple_arena_ord.specs.Ordered.{entry_in}
 use Rattle.route_lines.specs.State.{State, Stop, stop_of}

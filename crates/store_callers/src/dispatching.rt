@@ -5,7 +5,9 @@ ghost use Rattle.route_lines.specs.Routes.{next_stop};
 ghost use Rattle.route_lines.specs.State.{with_key};
 ghost use Rattle.store_callers.specs.Placing.{placed_ticket};
 
-use route_book::laws::{extensions_add_one_stop, extensions_lead_through, new_tickets_come_next, starts_lead_nowhere};
+use route_book::laws::{
+    extensions_add_one_stop, extensions_lead_through, new_tickets_come_next, starts_lead_nowhere,
+};
 use route_book::{BookBacking, Placed, PtrCore, Refusal, RouteBook, Word};
 
 /// The tickets of a place, and of the two stops of a route at it.
