@@ -1,11 +1,11 @@
 //! A service that packs whenever it likes. What it answers and the state after it are those without a pack.
-ghost use Rattle.std.specs.Prelude.{◌≡◌, ℕ, List, OnErr, OnOk, filter, not};
+ghost use Rattle.std.specs.Prelude.{◌≡◌, ◌+◌, ℕ, List, OnErr, OnOk, filter, not};
 ghost use Rattle.std.specs.Io.KnownBytes.{Appends, Consumes, IsAtEnd};
 ghost use Rattle.route_lines.specs.Calls.{shown};
 ghost use Rattle.route_lines.specs.Grammar.{command_of};
 ghost use Rattle.route_lines.specs.Reply.{next, reply};
 ghost use Rattle.route_lines.specs.Text.{after_lines, answered, is_pack, lines, replies};
-ghost use Rattle.route_lines.specs.Watched.{inner_of};
+ghost use Rattle.route_lines.specs.Watched.{failed_of, inner_of};
 ghost use Rattle.route_lines.specs.Written.{AppendsBeginning};
 
 use route_book::laws::packs_change_no_reply;
@@ -37,8 +37,10 @@ pub fn answer<P: PtrCore, B: BookBacking<P>, W: Write>(
     ensures state { book.new.state ≡ next book.old.state (command_of line.now) }
     ensures ok { OnOk result (Appends (W.contents (inner_of writer.old))
         (W.contents (inner_of writer.new)) (reply book.old.state (command_of line.now))) }
+    ensures ok_failed { OnOk result (failed_of writer.new ≡ failed_of writer.old) }
     ensures err { OnErr result (AppendsBeginning (W.contents (inner_of writer.old))
         (W.contents (inner_of writer.new)) (reply book.old.state (command_of line.now))) }
+    ensures err_failed { OnErr result (failed_of writer.new ≡ failed_of writer.old + 1) }
 {
     pack_if(packs, book, counts);
     book.answer(line, writer, counts)
