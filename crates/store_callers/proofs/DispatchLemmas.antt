@@ -1,5 +1,5 @@
 -- A place, and a route that a start and an extension made.
-use Rattle.std.proofs.Common.{◌≡◌, ◌≢◌, ◌∙◌, ap, subst, refl, Bool, true, false, ◌||◌, ◌==◌, ℕ, ◌+◌, ◌<◌, ◌≤◌, List, [], ◌∷◌, ◌++◌, Option, Some, None, Result, Ok, Err, cond, nat_lt, arith}
+use Rattle.std.proofs.Common.{sym, ◌≡◌, ◌≢◌, ◌∙◌, ap, subst, refl, Bool, true, false, ◌||◌, ◌==◌, ℕ, ◌+◌, ◌<◌, ◌≤◌, List, [], ◌∷◌, ◌++◌, Option, Some, None, Result, Ok, Err, cond, nat_lt, arith}
 use Rattle.std.specs.Option.{option_map_or}
 use Rattle.std.proofs.lemmas.Bool.{eq-eqb, eqb-true, ne_eqb, le-ltb}
 use Rattle.route_lines.specs.Calls.{put, reworded, stop_holder, placed, after_place, started, after_start, extended, after_extend, walked}
@@ -46,7 +46,7 @@ answered is = Ok is
 same_answer : (old is : Placed) → answered old ≡ answered is → old ≡ is
 same_answer old is e = cc
 
-pub with_key-placed : (s : State) (key : ℕ) (word : List ℕ) (is : Placed) → placed s key word ≡ Ok is
+with_key-placed : (s : State) (key : ℕ) (word : List ℕ) (is : Placed) → placed s key word ≡ Ok is
     → with_key key (after_place s key word).places ≡ Some (record { ticket = placed_ticket is; key = key; word = word })
 with_key-placed s key word is e = from (with_key key s.places) refl e
   where
@@ -70,6 +70,14 @@ with_key-placed s key word is e = from (with_key key s.places) refl e
         rw f (with_key-reworded key word s.places p f ∙ ap (λ k. Some (record { ticket = p.ticket; key = k; word = word })) own
         ∙ ap (λ (q : Placed). Some (record { ticket = placed_ticket q; key = key; word = word })) same)
     from None f h = rw f (room (is_full_of_places s) h (with_key-put new s.places f))
+
+-- the same of a state that is the one after it, and of a ticket that is that one
+pub keyed : (s later : State) (key : ℕ) (word : List ℕ) (is : Placed) (t : ℕ) → placed s key word ≡ Ok is → later ≡ after_place s key word → t ≡ placed_ticket is
+    → with_key key later.places ≡ Some (record { ticket = t; key = key; word = word })
+keyed s later key word is t e after ticket = ap (λ (x : State). with_key key x.places) after ∙ with_key-placed s key word is e ∙ ap named (sym ticket)
+  where
+    named : ℕ → Option Place
+    named n = Some (record { ticket = n; key = key; word = word })
 
 -- a place changes no route
 pub routes-placed : (s : State) (key : ℕ) (word : List ℕ) → (after_place s key word).routes ≡ s.routes
@@ -107,17 +115,17 @@ module _ (n : ℕ) (o : Option ℕ) (new : Stop) where
 
 -- ---- the states on the way
 
-start-is : (s : State) (at n : ℕ) → started s at ≡ Ok n → after_start s at ≡ record s { last = n; routes = s.routes ++ linear (record { ticket = n; place = Some at } ∷ []) ∷ [] }
+pub start-is : (s : State) (at n : ℕ) → started s at ≡ Ok n → after_start s at ≡ record s { last = n; routes = s.routes ++ linear (record { ticket = n; place = Some at } ∷ []) ∷ [] }
 start-is s at n e = rw e refl
 
 extend-is : (s : State) (t at n : ℕ) → extended s t at ≡ Ok n → after_extend s t at ≡ record s { last = n; routes = put_behind t (record { ticket = n; place = Some at }) s.routes }
 extend-is s t at n e = rw e refl
 
 -- a stop is what a ticket names that names no place
-holder-stop : (s : State) (t : ℕ) (u : Stop) → (t == 0) || nat_lt s.last t ≡ false → place_of s.places t ≡ None → stop_of s.routes t ≡ Some u → stop_holder s t ≡ Ok u
+pub holder-stop : (s : State) (t : ℕ) (u : Stop) → (t == 0) || nat_lt s.last t ≡ false → place_of s.places t ≡ None → stop_of s.routes t ≡ Some u → stop_holder s t ≡ Ok u
 holder-stop s t u given no_place has = rw (given, no_place, has) refl
 
-given-new : (n last : ℕ) → 0 < n → n ≤ last → (n == 0) || nat_lt last n ≡ false
+pub given-new : (n last : ℕ) → 0 < n → n ≤ last → (n == 0) || nat_lt last n ≡ false
 given-new n last some below = rw (ne_eqb n 0 (λ e. omega (arith, e, some)), le-ltb last n below) refl
 
 module _ (s1 s2 s3 : State) (at n m : ℕ) (sound : IsSound s1) (later : IsSound s2) (start : started s1 at ≡ Ok n) (extend : extended s2 n at ≡ Ok m) where

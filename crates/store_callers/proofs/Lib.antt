@@ -1,2 +1,3 @@
 mod DispatchLemmas
 mod ReferenceLemmas
+mod RefusedLemmas

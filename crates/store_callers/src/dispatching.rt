@@ -1,8 +1,9 @@
 //! A dispatcher, who puts in a place and a route of two stops at it.
-ghost use Rattle.std.specs.Prelude.{◌≡◌, ◌≢◌, ℕ, ◌∷◌, [], Some, Ok, IfOk};
+ghost use Rattle.std.specs.Prelude.{◌≡◌, ◌≢◌, ◌⊎◌, ℕ, ◌∷◌, [], Some, Ok, IfErr, IfOk, true};
 ghost use Rattle.route_lines.specs.Calls.{walked};
 ghost use Rattle.route_lines.specs.Routes.{next_stop};
-ghost use Rattle.route_lines.specs.State.{with_key};
+ghost use Rattle.route_lines.specs.State.{is_full_of_places, is_full_of_stops, with_key};
+ghost use Rattle.route_lines.specs.declared.refusal.Refusal.TheVariants.{Full};
 ghost use Rattle.store_callers.specs.Placing.{placed_ticket};
 
 use route_book::laws::{
@@ -20,7 +21,7 @@ pub struct Dispatched {
 
 /// The place with the key, under this word, and a new route of two stops there.
 ///
-/// Where a call of the store is refused, what came before it stays.
+/// `Full` where the store has no room for one of the three, and for no other reason. What was put in before it stays.
 pub fn dispatch<P: PtrCore, B: BookBacking<P>>(
     book: &mut RouteBook<P, B>,
     key: u64,
@@ -33,6 +34,8 @@ pub fn dispatch<P: PtrCore, B: BookBacking<P>>(
         ∷ record { ticket = d.second; place = Some d.place } ∷ [])) }
     ensures others { IfOk result (λ d. (v : ℕ) → v ≢ d.first → v ≢ d.second
         → next_stop book.new.state.routes v ≡ next_stop book.old.state.routes v) }
+    ensures refused { IfErr result (λ e. (e ≡ Full)
+        × ((is_full_of_places book.new.state ≡ true) ⊎ (is_full_of_stops book.new.state ≡ true))) }
 {
     new_tickets_come_next();
     starts_lead_nowhere();
