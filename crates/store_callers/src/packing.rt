@@ -1,11 +1,12 @@
 //! A service that packs whenever it likes. What it answers and the state after it are those without a pack.
-ghost use Rattle.std.specs.Prelude.{◌≡◌, ◌+◌, ℕ, List, OnErr, OnOk, filter, not};
+ghost use Rattle.std.specs.Prelude.{◌≡◌, ◌+◌, ◌-◌, ◌^◌, ℕ, List, IfErr, OnErr, OnOk, filter, not};
 ghost use Rattle.std.specs.Io.KnownBytes.{Appends, Consumes, IsAtEnd};
 ghost use Rattle.route_lines.specs.Calls.{shown};
 ghost use Rattle.route_lines.specs.Grammar.{command_of};
 ghost use Rattle.route_lines.specs.Reply.{next, reply};
+ghost use Rattle.route_lines.specs.Run.{OnRead, OnTooLong, OnWrite};
 ghost use Rattle.route_lines.specs.Text.{after_lines, answered, is_pack, lines, replies};
-ghost use Rattle.route_lines.specs.Watched.{failed_of, inner_of};
+ghost use Rattle.route_lines.specs.Watched.{calls_of, failed_of, inner_of};
 ghost use Rattle.route_lines.specs.Written.{AppendsBeginning};
 
 use route_book::laws::packs_change_no_reply;
@@ -75,6 +76,10 @@ pub fn serve<P: PtrCore, B: BookBacking<P>, R: Read, W: Write>(
         × (filter (λ a. not (is_pack a.0)) (answered book.old.state (lines input))
         ≡ answered book.old.state (filter (λ line. not (is_pack line)) (lines input)))
         × (book.new.state ≡ after_lines book.old.state (filter (λ line. not (is_pack line)) (lines input)))) }
+    ensures read_failed { IfErr result (λ fault. OnRead fault (failed_of reader.new ≡ failed_of reader.old + 1)) }
+    ensures write_failed { IfErr result (λ fault. OnWrite fault (failed_of writer.new ≡ failed_of writer.old + 1)) }
+    ensures many_reads { IfErr result
+        (λ fault. OnTooLong fault (calls_of reader.new ≡ calls_of reader.old + (2 ^ 64 - 1))) }
 {
     packs_change_no_reply();
     book.pack_counted(counts);

@@ -3,6 +3,7 @@ ghost use Rattle.std.specs.Prelude.{◌≡◌, Ok, Err, IfOk, false, length};
 ghost use Rattle.std.specs.List.{range_with_len};
 ghost use Rattle.ticket_book.specs.declared.entry.Kind.TheVariants.{Place as OfPlace};
 ghost use Rattle.triple_arena_ord.specs.Ordered.{order_in};
+ghost use Rattle.route_lines.specs.Calls.{after_removed, removed};
 ghost use Rattle.route_lines.specs.State.{Place, holder, place};
 ghost use Rattle.route_lines.specs.declared.refusal.Refusal.TheVariants.{Gone};
 ghost use Rattle.route_book.specs.Removals.{removal_wraps};
@@ -18,6 +19,8 @@ pub fn close<P: PtrCore, B: BookBacking<P>>(
     ticket: u64,
     counts: &mut Counts,
 ) -> Result<(), Refusal>
+    ensures result { result ≡ removed book.old.state ticket }
+    ensures state { book.new.state ≡ after_removed book.old.state ticket }
     ensures gone { IfOk result (λ _. holder book.new.state ticket ≡ Err Gone) }
     ensures dead { (p : Place) → holder book.old.state ticket ≡ Ok (place p)
         → AreDead ticket book.old book.new }
@@ -38,6 +41,8 @@ pub fn close_and_pack<P: PtrCore, B: BookBacking<P>>(
     book: &mut RouteBook<P, B>,
     ticket: u64,
 ) -> Result<(), Refusal>
+    ensures result { result ≡ removed book.old.state ticket }
+    ensures state { book.new.state ≡ after_removed book.old.state ticket }
     ensures gone { (p : Place) → holder book.old.state ticket ≡ Ok (place p)
         → AreGone ticket book.old book.new }
     ensures order { IfOk result (λ _. order_in P.Inx.number book.new.places
