@@ -21,7 +21,7 @@ pub struct Dispatched {
 
 /// The place with the key, under this word, and a new route of two stops there.
 ///
-/// `Full` where the store has no room for one of the three, and for no other reason. What was put in before it stays.
+/// `Full` if the store has no room for one of the three, and for no other reason. What was put in before it stays.
 pub fn dispatch<P: PtrCore, B: BookBacking<P>>(
     book: &mut RouteBook<P, B>,
     key: u64,
