@@ -1,0 +1,3 @@
+mod DispatchLemmas
+mod ReferenceLemmas
+mod RefusedLemmas

@@ -1,0 +1,88 @@
+-- A start and an extension at a living place are refused where there is no room, and for no other reason.
+use Rattle.std.proofs.Common.{◌≡◌, ◌∙◌, sym, ap, subst, refl, Bool, true, false, ◌||◌, ◌==◌, ℕ, ◌+◌, ◌<◌, ◌≤◌, List, [], ◌∷◌, Some, None, IfSome, IfErr, Result, Ok, Err, cond, nat_lt, find, arith}
+use Rattle.std.specs.List.{list_any}
+use Rattle.std.specs.Option.{option_or}
+use Rattle.std.specs.Result.{IsErrAnd}
+use Rattle.std.proofs.lemmas.Bool.{eq-eqb, eqb-true}
+use Rattle.std.proofs.lemmas.List.Folds.{find-append}
+use Rattle.route_lines.specs.Calls.{place_holder, stop_holder, and_then, next_ticket, started, after_start, extended, after_extend}
+use Rattle.route_lines.specs.Routes.{has_ticket}
+use Rattle.route_lines.specs.Sound.{IsSound}
+use Rattle.route_lines.specs.State.{State, Place, Stop, with_key, place_of, stop_of, stop_list, is_full_of_stops}
+use Rattle.route_lines.specs.declared.refusal.Refusal.{Refusal}
+use Rattle.route_lines.specs.declared.refusal.Refusal.TheVariants.{Full}
+use Rattle.route_lines.proofs.CutLemmas.{found_in, found_passes, found_if_any, none_found}
+use Rattle.route_lines.proofs.NewStopLemmas.{none_above, stop_list-more}
+use Rattle.store_callers.proofs.DispatchLemmas.{start-is, given-new, holder-stop}
+
+-- ---- the place that a key has is the place that its ticket names
+
+or-true : (b : Bool) → b || true ≡ true
+or-true true = refl
+or-true false = refl
+
+has-ticket : (key : ℕ) (ps : List Place) (p : Place) → with_key key ps ≡ Some p → list_any (λ (q : Place). q.ticket == p.ticket) ps ≡ true
+has-ticket key [] p e = cc
+has-ticket key (q ∷ ps) p e = at (q.key == key) e (has-ticket key ps p)
+  where
+    at : (b : Bool) → cond b (Some q) (with_key key ps) ≡ Some p → (with_key key ps ≡ Some p → list_any (λ (r : Place). r.ticket == p.ticket) ps ≡ true)
+        → (q.ticket == p.ticket) || list_any (λ (r : Place). r.ticket == p.ticket) ps ≡ true
+    at true h k = let same : q ≡ p = cc in rw (eq-eqb q.ticket p.ticket (ap (λ (r : Place). r.ticket) same)) refl
+    at false h k = rw (k h) (or-true (q.ticket == p.ticket))
+
+holder-place : (s : State) (t : ℕ) (p : Place) → (t == 0) || nat_lt s.last t ≡ false → place_of s.places t ≡ Some p → place_holder s t ≡ Ok p
+holder-place s t p given has = rw (given, has) refl
+
+pub holds_place : (s : State) (key : ℕ) (p : Place) → IsSound s → with_key key s.places ≡ Some p → (q : Place) × (place_holder s p.ticket ≡ Ok q)
+holds_place s key p sound e =
+    let some = found_if_any (λ (q : Place). q.ticket == p.ticket) s.places (has-ticket key s.places p e) in
+    let ticket : some.0.ticket ≡ p.ticket = eqb-true some.0.ticket p.ticket (found_passes (λ (q : Place). q.ticket == p.ticket) s.places some.0 some.1) in
+    let given : (0 < some.0.ticket) × (some.0.ticket ≤ s.last) =
+    subst (λ o. IfSome o (λ (q : Place). (0 < q.ticket) × (q.ticket ≤ s.last))) some.1 (found_in (λ (q : Place). (0 < q.ticket) × (q.ticket ≤ s.last)) (λ (q : Place). q.ticket == p.ticket) s.places sound.given) in
+    (some.0, holder-place s p.ticket some.0 (given-new p.ticket s.last (omega (arith, ticket, given.0)) (omega (arith, ticket, given.1))) some.1)
+
+-- ---- a start and an extension
+
+next-refused : (s : State) (full : Bool) (e : Refusal) → next_ticket s full ≡ Err e → (full ≡ true) × (e ≡ Full)
+next-refused s true e h = (refl, cc)
+next-refused s false e h = cc
+
+pub start-refused : (s : State) (at : ℕ) (p : Place) (e : Refusal) → place_holder s at ≡ Ok p → started s at ≡ Err e
+    → (e ≡ Full) × (is_full_of_stops (after_start s at) ≡ true)
+start-refused s at p e is refused =
+    let next : next_ticket s (is_full_of_stops s) ≡ Err e = ap (λ r. and_then r (λ (q : Place). next_ticket s (is_full_of_stops s))) (sym is) ∙ refused in
+    let full = next-refused s (is_full_of_stops s) e next in
+    (full.1, rw refused full.0)
+
+pub extend-refused : (s : State) (t at : ℕ) (u : Stop) (p : Place) (e : Refusal) → stop_holder s t ≡ Ok u → place_holder s at ≡ Ok p → extended s t at ≡ Err e
+    → (e ≡ Full) × (is_full_of_stops (after_extend s t at) ≡ true)
+extend-refused s t at u p e holds is refused =
+    let place : and_then (place_holder s at) (λ (q : Place). next_ticket s (is_full_of_stops s)) ≡ Err e =
+    ap (λ r. and_then r (λ (v : Stop). and_then (place_holder s at) (λ (q : Place). next_ticket s (is_full_of_stops s)))) (sym holds) ∙ refused in
+    let next : next_ticket s (is_full_of_stops s) ≡ Err e = ap (λ r. and_then r (λ (q : Place). next_ticket s (is_full_of_stops s))) (sym is) ∙ place in
+    let full = next-refused s (is_full_of_stops s) e next in
+    (full.1, rw refused full.0)
+
+-- a stop that was just put in is there
+pub holds_start : (s later : State) (at n : ℕ) → IsSound s → started s at ≡ Ok n → later ≡ after_start s at → n ≡ s.last + 1
+    → stop_holder later n ≡ Ok (record { ticket = n; place = Some at })
+holds_start s later at n sound start is first =
+    let new : Stop = record { ticket = n; place = Some at } in
+    let made = is ∙ start-is s at n start in
+    let given : (n == 0) || nat_lt later.last n ≡ false = given-new n later.last (omega (arith, first)) (omega (arith, ap (λ (s : State). s.last) made)) in
+    let no_place : place_of later.places n ≡ None =
+    ap (λ (s : State). place_of s.places n) made ∙ none_found (λ p. p.ticket == n) s.places (none_above (λ (p : Place). p.ticket) s.last n s.places sound.given (omega (arith, first))) in
+    let own : find (has_ticket n) (new ∷ []) ≡ Some new = rw (eq-eqb n n refl) refl in
+    let none : find (has_ticket n) (stop_list s.routes) ≡ None = none_found (has_ticket n) (stop_list s.routes) (none_above (λ (u : Stop). u.ticket) s.last n (stop_list s.routes) sound.given_stops (omega (arith, first))) in
+    let has : stop_of later.routes n ≡ Some new =
+    ap (λ (s : State). stop_of s.routes n) made ∙ ap (find (has_ticket n)) (stop_list-more s.routes new) ∙ find-append (has_ticket n) (stop_list s.routes) (new ∷ []) ∙ ap (λ o. option_or o (find (has_ticket n) (new ∷ []))) none ∙ own in
+    holder-stop later n new given no_place has
+
+pub places-start : (s later : State) (at n : ℕ) → started s at ≡ Ok n → later ≡ after_start s at → later.places ≡ s.places
+places-start s later at n start is = ap (λ (x : State). x.places) (is ∙ start-is s at n start)
+
+-- ---- what is handed on
+
+pub handed_on : {T : Type 0} (r : Result T Refusal) (e : Refusal) (Q : Refusal → Type 0) → IsErrAnd r (λ x. x ≡ e) → Q e → IfErr r Q
+handed_on (Ok t) e Q is q = tt
+handed_on (Err x) e Q is q = subst Q (sym is) q
