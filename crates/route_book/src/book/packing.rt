@@ -1,5 +1,5 @@
 //! A pack: all items at the first indexes, and no dead reference.
-ghost use Rattle.std.specs.Prelude.{◌≡◌};
+ghost use Rattle.std.specs.Prelude.{◌≡◌, ℕ};
 ghost use Rattle.route_lines.specs.Searches.{ComparesWithin};
 ghost use Rattle.route_book.specs.Compressed.{IsAllCompressed};
 ghost use Rattle.route_book.specs.Removals.{IsPacked};
@@ -51,6 +51,7 @@ impl<P: PtrCore, B: BookBacking<P>> RouteBook<P, B> {
     /// find other items from then on, or none. No memory is taken, and the state stays.
     pub fn pack(&mut self)
         ensures state { self.new.state ≡ self.old.state }
+        ensures packed { (looks : ℕ) × IsPacked P.Inx.number P.Gen.last 0 looks self.old self.new }
     {
         self.pack_counted(&mut Counts::new());
     }

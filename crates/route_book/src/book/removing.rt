@@ -1,5 +1,5 @@
 //! Removals, which leave stored references as they are.
-ghost use Rattle.std.specs.Prelude.{◌≡◌, ◌+◌, ◌≤◌, Ok, Err};
+ghost use Rattle.std.specs.Prelude.{◌≡◌, ℕ, ◌+◌, ◌≤◌};
 ghost use Rattle.counted_search.specs.Searches.{most_comparisons};
 ghost use Rattle.triple_arena_ptr.specs.Generation.{next_wraps};
 ghost use Rattle.route_lines.specs.Calls.{removed, after_removed};
@@ -33,6 +33,7 @@ impl<P: PtrCore, B: BookBacking<P>> RouteBook<P, B> {
     pub fn remove(&mut self, ticket: u64) -> Result<(), Refusal>
         ensures result { result ≡ removed self.old.state ticket }
         ensures state { self.new.state ≡ after_removed self.old.state ticket }
+        ensures removes { (looks : ℕ) × Removes P.Gen.last ticket 0 looks self.old self.new (holder self.old.state ticket) }
     {
         self.remove_counted(ticket, &mut Counts::new())
     }
@@ -40,7 +41,8 @@ impl<P: PtrCore, B: BookBacking<P>> RouteBook<P, B> {
     /// The same, with the comparisons of its search counted as `first`, and the looks at stored references.
     ///
     /// A reference to the removed item stays where it is and finds nothing, so no reference is looked at. Where that cannot
-    /// be, since the arena's counter would start again, the store is packed first.
+    /// be, since the arena's counter would start again, the store is packed first, and the ticket is looked up once more. That
+    /// look-up and those of the pack are not counted.
     pub fn remove_counted(&mut self, ticket: u64, counts: &mut Counts) -> Result<(), Refusal>
         ensures result { result ≡ removed self.old.state ticket }
         ensures state { self.new.state ≡ after_removed self.old.state ticket }
