@@ -1,15 +1,7 @@
 # Runs the built program route_book to each of its exit statuses, and compares the status and what it writes on both of
 # its outputs. No clause can show this, since a contract says nothing of what `main` does with the status that it was
-# handed, nor of a real file. The program is built first if it is not yet.
-crate=$top/crates/route_book_program
-
-# Its status is looked at below; here it is enough that the program was built and ran.
-(cd -- "$crate" && rt run -- 0 0 0 </dev/null) >"$work/log" 2>&1 || true
-if ! grep -q '^rt: running ' "$work/log"; then
-    cat -- "$work/log" >&2
-    exit 1
-fi
-program=$crate/out/route_book_program
+# handed, nor of a real file.
+source "$here/built.sh"
 
 printf 'place 50 oak\nshow 1\n' >"$work/input"
 usage='usage: route_book PLACES STOPS MARKS'

@@ -85,10 +85,14 @@ class Writer:
         if verb == 'drain_chain':
             return f'{verb} {self.pointer(m)} {r.randrange(4)}'
         if verb == 'set_generation':
-            return f'{verb} {r.randrange(1, 4) if m.last is None or m.last < 9 else r.choice([1, 2, 250, 253, 254, 255])}'
+            return f'{verb} {self.generation(m)}'
         if verb in ('drain', 'reallocate_min_capacity'):
             return f'{verb} {r.randrange(9)}'
         return f'{verb} {r.randrange(1000)}' if 'gap' in verb else verb
+
+    def generation(self, m):
+        r = self.r
+        return r.randrange(1, 4) if m.last is None or m.last < 9 else r.choice([1, 2, 250, 253, 254, 255])
 
     def line(self):
         r, s = self.r, self.s
@@ -97,6 +101,8 @@ class Writer:
             return f'a {self.call(s.a)}'
         if x < 0.90:
             return f'b {self.call(s.b)}'
+        if x < 0.91:
+            return f'a<b transfer_canonical {self.generation(s.a)}'
         if x < 0.94:
             return f'a=b {r.choice(["clone", "clone_from", "clone_from_with 0", f"clone_from_with {r.randrange(1, 5)}"])}'
         if x < 0.955:

@@ -399,10 +399,14 @@ class Chains(Arena):
         self.lists = [(is_ring, [new[i] for i in own]) for is_ring, own in self.lists]
         return [f'({self.name(i, old[i][0])}, {old[i][1]}, {self.at(new[i])})' for i in k if maps] + [told]
 
+    def in_order(self):
+        """The lists in the order of their least indexes, a ring from its least one."""
+        lists = sorted(self.lists, key=lambda it: min(it[1]))
+        return [(is_ring, own[own.index(min(own)):] + own[:own.index(min(own))] if is_ring else own) for is_ring, own in lists]
+
     def canonical_layout(self):
         """The new indexes, where the rules leave one layout alone: the one that stands, or that of a single list."""
-        places = [i for is_ring, own in sorted(self.lists, key=lambda it: min(it[1]))
-                  for i in (own[own.index(min(own)):] + own[:own.index(min(own))] if is_ring else own)]
+        places = [i for _, own in self.in_order() for i in own]
         if places == list(range(1, len(places) + 1)):
             return {i: i for i in places}
         if len(self.lists) == 1 and not self.lists[0][0]:
@@ -519,6 +523,8 @@ class Section:
             return [self.v.show()]
         if whom == 'a=b':
             return self.copy(self.a, verb, w[0])
+        if whom == 'a<b':
+            return self.transfer(self.a, self.b, w[0])
         if whom == 'v=a':
             return self.clone_from_with(self.v, self.a, w[0])
         if whom == 'a=l':
@@ -581,6 +587,23 @@ class Section:
         if isinstance(target, Chains):
             target.lists = [(is_ring, list(own)) for is_ring, own in source.lists]
         return (told if maps else []) + ['Ok(())']
+
+    def transfer(self, target, source, generation):
+        """Takes all chains of the source, which steps for each link. The map tells what it gets, and adds 1."""
+        error = target.reach(len(source.entries))
+        if error:
+            return [f'Err({error})']
+        told, moved, lists = [], {}, []
+        for is_ring, own in source.in_order():
+            lists.append((is_ring, [len(moved) + n + 1 for n in range(len(own))]))
+            for i in own:
+                value, new = source.entries[i][1], len(moved) + 1
+                told.append(f'({source.at(i)}, {source.step(value)}, {target.name(new, generation)})')
+                moved[new] = (generation, value + 1)
+        source.cut()
+        target.become(moved, generation)
+        target.lists = lists
+        return told + ['Ok(())']
 
     def from_arena(self, verb):
         a, l = self.a, self.l

@@ -12,6 +12,8 @@ tell in a form that does not hang on it, and where they cannot, the model refuse
 import random
 import sys
 
+from ord_copies import Copies, Renaming
+
 LAST = {'P0': 2**64 - 1, 'P1': 255, 'P3': 2**32 - 1, 'P5': None, 'N3': 3}
 TOP = {'P0': 2**64 - 1, 'P1': 255, 'P3': 2**32 - 1, 'P5': 2**64 - 1, 'N3': 255}
 ARRAY = 8
@@ -126,15 +128,18 @@ class Arena:
         self.reserved = want
         return None
 
+    def capacity(self):
+        return min(self.reserved, self.limit)
+
     def room(self, growing):
         """What refuses a new entry, if anything does."""
-        if len(self.e) < self.reserved:
+        if len(self.e) < self.capacity():
             return None
         if not growing:
             return 'NotWithinCapacity'
-        if self.reserved == self.limit:
+        if self.capacity() == self.limit:
             return 'BeyondMaxCapacity'
-        return self.grows(min(max(4, 2 * self.reserved), self.limit))
+        return self.grows(min(max(4, 2 * self.capacity()), self.limit))
 
     def next_index(self):
         return self.free[0] if self.free else self.slots + 1
@@ -172,9 +177,14 @@ class Arena:
         else:
             told = self.step('()')
         self.e = {at + 1: (self.counter, *self.e[i][1:]) for at, i in enumerate(self.order)}
-        self.order, self.slots, self.free, self.nodes = list(range(1, n + 1)), n, [], {}
-        halving(self.order, None, 1 + next(t for t in range(n + 1) if 2**t >= n - 1), self.nodes)
+        self.rebuild(list(range(1, n + 1)))
         return [told]
+
+    def rebuild(self, order):
+        """The list has these indexes, which are all from 1 on, and the tree is written anew."""
+        n = len(order)
+        self.order, self.slots, self.free, self.nodes = order, n, [], {}
+        halving(order, None, 1 + next(t for t in range(n + 1) if 2**t >= n - 1), self.nodes)
 
     # The list and its keys.
 
@@ -438,7 +448,7 @@ class Arena:
         if verb == 'compress_canonical':
             return self.compress_canonical(x == 1)
         if verb == 'reallocate_min_capacity':
-            error = self.grows(x) if x > self.reserved else None
+            error = self.grows(x) if x > self.capacity() else None
             return [f'Err({error})' if error else 'Ok(())']
         return None
 
@@ -492,7 +502,7 @@ class Arena:
             'get_inx_unwrap': lambda: self.item(i),
             'len': lambda: str(len(order)),
             'is_empty': lambda: str(not order).lower(),
-            'capacity': lambda: str(self.reserved),
+            'capacity': lambda: str(self.capacity()),
             'max_capacity': lambda: option(self.told_limit),
             'generation': lambda: self.gen(self.counter),
             'singular_generation': lambda: option(self.gen(self.counter)),
@@ -527,6 +537,11 @@ class Section:
     def __init__(self, header, nth):
         kind, stack, *room = header.split()
         heap = Heap(nth)
+        if len(room) == 2:
+            self.copies = (Renaming if stack == 'renaming' else Copies)(lambda *it: Arena(*it, 0, heap, False), kind, stack.removeprefix('copying-'))
+            self.a, self.b = self.copies.ordered()
+            return
+        self.copies = None
         self.a = Arena(kind, stack, int(room[0]) if room else 0, heap, bool(room))
         self.b = Arena('P1', 'heap', 0, heap, bool(room))
 
@@ -534,7 +549,9 @@ class Section:
         """What the script writes for a line."""
         words = line.split(' ')
         whom, verb = words[0], words[1] if len(words) > 1 else ''
-        if whom in ('a', 'b'):
+        if self.copies:
+            told = self.copies.answer(whom, verb, [int(word) for word in words[2:]] if whom != '#' else [])
+        elif whom in ('a', 'b'):
             told = (self.a if whom == 'a' else self.b).answer(verb, [int(word) for word in words[2:]])
         elif whom in ('ab', 'ba'):
             told = [compare(*((self.a, self.b) if whom == 'ab' else (self.b, self.a)), verb)]
@@ -566,8 +583,8 @@ def answers(script):
 
 def turns(header):
     """The requests for memory that are refused in turn, where the header names them."""
-    words = header.split()[3:]
-    return range(int(words[0]), int(words[1]) + 1) if words else [None]
+    words = header.split()[2:]
+    return range(int(words[-2]), int(words[-1]) + 1) if words else [None]
 
 
 KINDS = ('normal', 'nonhereditary', 'linear', 'nonhereditary_linear')
@@ -578,6 +595,7 @@ ARENAS = {
     'lists': [('P0', 'heap'), ('P3', 'heap'), ('N3', 'heap'), ('P0', 'array'), ('P1', 'array'), ('P5', 'array')],
     'searches': [(kind, stack) for kind in LAST for stack in ('heap', 'limited', 'boxed')] + [('P0', 'array'), ('P1', 'array')],
 }
+COPIED = [(kind, f'copying-{stack}') for kind in ('P0', 'P5', 'N3') for stack in ('heap', 'limited')] + [('P1', 'copying-array')]
 COMMON = {
     'lists': ['insert', 'insert', 'insert', 'insert', 'remove', 'remove_inx', 'find_key', 'invalidate', 'advancer_ordered', 'walk_over_a_change', 'get',
               'get_inx_link_no_gen', 'show', 'first', 'last', 'set_value', 'advancer_inx', 'compare', 'repair'],
@@ -635,8 +653,12 @@ def a_line(r, script, s, most):
 
 
 def section(r, script, lines):
-    kind, stack = r.choice(ARENAS[script])
+    copies = script == 'lists' and r.random() < 0.25
+    kind, stack = r.choice(COPIED if copies else ARENAS[script])
     header = f'{kind} {stack}'
+    if copies:
+        nth = r.choice([0, 0, 1, 2, 3, 4, 5])
+        header += f' {nth} {nth}'
     if script == 'searches':
         room = {'heap': r.choice([0, 0, 3, 9]), 'limited': r.choice([0, 5]), 'boxed': r.choice([0, 4, 12]), 'array': r.choice([0, 7])}[stack]
         nth = r.choice([0, 0, 1, 2, 3, 4])
@@ -651,7 +673,11 @@ def section(r, script, lines):
     while len(asked) <= lines:
         whom = 'b' if script == 'lists' and r.random() < 0.1 else 'a'
         verb, words = a_line(r, script, play.a if whom == 'a' else play.b, most)
-        if verb == 'compare':
+        if copies and r.random() < 0.3:
+            whom, verb, words = play.copies.a_line(r)
+        elif copies:
+            whom, verb = 'c' if whom == 'b' else 'a', 'len' if verb == 'compare' else verb
+        elif verb == 'compare':
             whom, verb, words = r.choice(['ab', 'ba']), r.choice(['canonical_eq', 'canonical_partial_cmp', 'canonical_cmp']), []
         line = ' '.join([whom, verb, *map(str, words)])
         try:

@@ -3,6 +3,7 @@
 
 usage: store.py SEED LINES >stdin 2>stdout     random sections with so many lines each, and what must be written
        store.py answer <stdin >stdout          what must be written for these sections
+       store.py faults >stdin 2>stdout         an input whose reads and writes fail at each byte in turn
        store.py rooms SEED                     the arguments of the program `route_book` for random lines
        store.py lines SEED LINES >stdin 2>stdout     these lines, and what must be answered to them
 
@@ -35,7 +36,8 @@ class Page:
     """A writer, with the count of its calls and of those that failed."""
 
     def __init__(self, how, taken, room):
-        self.how, self.taken, self.room = how, taken or 2**64, room or 2**64
+        self.how, self.taken = how, taken or 2**64
+        self.room = 0 if how in ('full', 'idle') else room or 2**64
         self.text, self.calls, self.failed, self.flushed = '', 0, 0, 0
 
     def fail(self, kind):
@@ -47,7 +49,7 @@ class Page:
             self.calls += 1
             taken = min(self.taken, self.room, len(rest))
             if not taken:
-                self.fail('WriteZero' if self.how == 'stalling' else 'Interrupted')
+                self.fail('WriteZero' if self.how in ('stalling', 'idle') else 'Interrupted')
             self.text += rest[:taken]
             self.room -= taken
             rest = rest[taken:]
@@ -304,6 +306,34 @@ def random_sections(seed, count):
     return ''.join(f'# random lines of seed {seed}\n{section}' for section in sections)
 
 
+# Places, stops on a ring that is swapped and packed, and walks, and what tells how far a run came.
+ROUTES = '''place 1 a
+start 1
+extend 2 1
+extend 3 1
+walk 3
+join 4 2
+walk 3
+swap 2 3
+pack
+walk 3
+walk 2
+swap 2 2
+'''
+STATE = 'all\nshow 4\nwalk 2\nwalk 3\n'
+
+
+def fault_sections():
+    """The routes, by a reader that gives so many bytes and by a writer that takes so many, for each number of them."""
+    size = len(Store(4, 4, 2).text(ROUTES.encode()))
+    cuts = [(f'a reader gives {k} bytes and then {end}', f'run {how}', ROUTES[:k])
+            for how, end in (('broken', 'fails'), ('plain', 'ends')) for k in range(len(ROUTES) + 1)]
+    cuts += [(f'a writer takes {k} bytes and then {end}', f'run {how} 0 0 {k}' if k else f'run {at_once}', ROUTES)
+             for how, at_once, end in (('plain', 'full', 'fails'), ('stalling', 'idle', 'takes none'))
+             for k in range(size + 1)]
+    return ''.join(f'# {shown}\nP0,N3 heap,array 4 4 2 0 8\n>{words}\n{lines}>run\n{STATE}' for shown, words, lines in cuts)
+
+
 def random_lines(seed, count):
     """The rooms of the program `route_book`, and lines for it."""
     writer = Writer(random.Random(seed), LARGE, 0)
@@ -313,6 +343,10 @@ def random_lines(seed, count):
 def main(words):
     if words == ['answer']:
         print(answer(sys.stdin.buffer.read().decode()), end='')
+    elif words == ['faults']:
+        script = fault_sections()
+        print(script, end='')
+        print(answer(script), end='', file=sys.stderr)
     elif words[:1] == ['rooms'] and len(words) == 2:
         print(*random_lines(int(words[1]), 0)[0])
     elif words[:1] == ['lines'] and len(words) == 3:
@@ -324,7 +358,7 @@ def main(words):
         print(script, end='')
         print(answer(script), end='', file=sys.stderr)
     else:
-        sys.exit('usage: store.py SEED LINES | answer | rooms SEED | lines SEED LINES')
+        sys.exit('usage: store.py SEED LINES | answer | faults | rooms SEED | lines SEED LINES')
 
 
 if __name__ == '__main__':

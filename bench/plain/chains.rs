@@ -1,4 +1,4 @@
-//! usage: chains slab|list queue|turn|rotate|walk|iterate STEPS, with the operations of the Rattle program `bench`, over a
+//! usage: chains slab|list queue|turn|rotate|walk|iterate|fill|renumber|clone STEPS, with the operations of the Rattle program `bench`, over a
 //! doubly linked list in a slab by hand, or over std's `LinkedList`.
 use std::collections::LinkedList;
 use std::env;
@@ -30,6 +30,7 @@ impl Sequence {
 const NONE: usize = usize::MAX;
 
 /// A link of a slab: a free one names the next free one, and has no value.
+#[derive(Clone)]
 struct Link {
     prev: usize,
     next: usize,
@@ -37,6 +38,7 @@ struct Link {
 }
 
 /// Doubly linked lists in a vector, with indexes by hand.
+#[derive(Clone)]
 struct Slab {
     links: Vec<Link>,
     free: usize,
@@ -94,6 +96,46 @@ impl Slab {
     }
 }
 
+/// So many links of one list, whose indexes come shuffled.
+fn shuffled(len: usize) -> Slab {
+    let mut sequence = Sequence::new();
+    let mut slab = Slab::new();
+    let mut links = Vec::with_capacity(len);
+    links.push(slab.insert_after(NONE, sequence.number()));
+    for n in 1..len {
+        let number = sequence.number();
+        let before = links[(number >> 33) as usize % n];
+        links.push(slab.insert_after(before, number));
+    }
+    slab
+}
+
+impl Slab {
+    /// The values along the list of the first link, which is its start.
+    fn along(&self) -> impl Iterator<Item = u64> + '_ {
+        let mut at = 0;
+        std::iter::from_fn(move || {
+            let link = self.links.get(at)?;
+            at = link.next;
+            link.value
+        })
+    }
+
+    /// The same list, collected in order and built anew.
+    fn renumbered(&self) -> Slab {
+        let values: Vec<u64> = self.along().collect();
+        let mut slab = Slab {
+            links: Vec::with_capacity(values.len()),
+            free: NONE,
+        };
+        let mut last = NONE;
+        for value in values {
+            last = slab.insert_after(last, value);
+        }
+        slab
+    }
+}
+
 /// A list in a slab, with its first and its last link.
 fn slab(sequence: &mut Sequence) -> (Slab, usize, usize) {
     let mut slab = Slab::new();
@@ -106,6 +148,15 @@ fn slab(sequence: &mut Sequence) -> (Slab, usize, usize) {
 }
 
 fn in_slab(operation: &str, steps: usize) -> Option<u64> {
+    if let "fill" | "renumber" | "clone" = operation {
+        let slab = shuffled(steps);
+        let slab = match operation {
+            "renumber" => slab.renumbered(),
+            "clone" => slab.clone(),
+            _ => slab,
+        };
+        return Some(slab.along().fold(0, |sum: u64, value| sum.wrapping_mul(31).wrapping_add(value)));
+    }
     let mut sequence = Sequence::new();
     let (mut slab, mut first, mut last) = slab(&mut sequence);
     let mut sum = 0u64;
@@ -213,7 +264,7 @@ fn main() -> ExitCode {
             ExitCode::SUCCESS
         }
         None => {
-            eprintln!("usage: chains slab|list queue|turn|rotate|walk|iterate STEPS");
+            eprintln!("usage: chains slab|list queue|turn|rotate|walk|iterate STEPS, chains slab fill|renumber|clone STEPS");
             ExitCode::from(2)
         }
     }

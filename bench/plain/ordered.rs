@@ -1,4 +1,4 @@
-//! usage: ordered map|slab insert|find|remove|cancel|walk LEN STEPS, with the operations of the Rattle program `bench`, over
+//! usage: ordered map|slab insert|find|remove|cancel|walk|renumber|clone LEN STEPS, with the operations of the Rattle program `bench`, over
 //! std's `BTreeMap` from keys to values, or over one from keys to the indexes of a slab that holds the entries.
 use std::collections::BTreeMap;
 use std::env;
@@ -21,12 +21,14 @@ fn with(sum: u64, number: u64) -> u64 {
 const NONE: usize = usize::MAX;
 
 /// A slot of a slab, which is taken, or names the next free one.
+#[derive(Clone)]
 enum Slot {
     Taken { key: u64, value: u64 },
     Free { next: usize },
 }
 
 /// Entries that stay where they are, and the index of each by its key.
+#[derive(Clone)]
 struct Slab {
     slots: Vec<Slot>,
     free: usize,
@@ -69,6 +71,24 @@ impl Slab {
         }
     }
 
+    /// The entries in the order of their keys, in the first slots.
+    fn renumbered(&self) -> Slab {
+        let entries: Vec<(u64, u64)> = self
+            .indexes
+            .iter()
+            .filter_map(|(key, index)| Some((*key, self.value(*index)?)))
+            .collect();
+        Slab {
+            slots: entries.iter().map(|&(key, value)| Slot::Taken { key, value }).collect(),
+            free: NONE,
+            indexes: entries.iter().enumerate().map(|(index, &(key, _))| (key, index)).collect(),
+        }
+    }
+
+    fn values(&self) -> impl Iterator<Item = u64> + '_ {
+        self.indexes.values().filter_map(|index| self.value(*index))
+    }
+
     fn take(&mut self, index: usize) -> Option<(u64, u64)> {
         match self.slots.get_mut(index) {
             Some(place) => {
@@ -83,6 +103,11 @@ impl Slab {
             None => None,
         }
     }
+}
+
+/// The checksum of the values in the order of their keys.
+fn sum_of(values: impl Iterator<Item = u64>) -> u64 {
+    values.fold(0, with)
 }
 
 fn in_map(operation: &str, len: usize, steps: usize) -> Option<u64> {
@@ -131,6 +156,20 @@ fn in_map(operation: &str, len: usize, steps: usize) -> Option<u64> {
                     sum = with(sum, *value);
                 }
             }
+        }
+        // What is collected in order is built anew.
+        "renumber" => {
+            if steps > 0 {
+                map = map.into_iter().collect();
+            }
+            sum = sum_of(map.values().copied());
+        }
+        "clone" => {
+            sum = if steps > 0 {
+                sum_of(map.clone().values().copied())
+            } else {
+                sum_of(map.values().copied())
+            };
         }
         _ => return None,
     }
@@ -188,6 +227,19 @@ fn in_slab(operation: &str, len: usize, steps: usize) -> Option<u64> {
                 }
             }
         }
+        "renumber" => {
+            if steps > 0 {
+                slab = slab.renumbered();
+            }
+            sum = sum_of(slab.values());
+        }
+        "clone" => {
+            sum = if steps > 0 {
+                sum_of(slab.clone().values())
+            } else {
+                sum_of(slab.values())
+            };
+        }
         _ => return None,
     }
     Some(sum)
@@ -212,7 +264,7 @@ fn main() -> ExitCode {
             ExitCode::SUCCESS
         }
         None => {
-            eprintln!("usage: ordered map|slab insert|find|remove|cancel|walk LEN STEPS");
+            eprintln!("usage: ordered map|slab insert|find|remove|cancel|walk|renumber|clone LEN STEPS");
             ExitCode::from(2)
         }
     }

@@ -1,21 +1,37 @@
-//! What a caller learns of the calls of an arena by their contracts alone: each function has the call as its body and the
-//! facts, one a clause, that the call's record carries, in code that is generic in the arena; some at `Arena` and
-//! `DirectArena` have what its exact state carries. None has a proof of its own but `remove_each`, whose loop has an invariant.
+//! What a caller learns of the arenas by their contracts alone. The crate says no more than these contracts do: it is here
+//! so that a change that takes a fact away from callers is refused.
 //!
-//! The crate says no more than the arenas' contracts do. It is here so that a change of those contracts that takes a
-//! fact away from callers is refused.
+//! Most functions have a call as body and the facts, one a clause, that the call's record carries, in code that is generic
+//! in the arena; some at `Arena` and `DirectArena` have what its exact state carries. The others do what a crate above
+//! would: a stack of nodes that are linked by pointers, values that change by a compression or one by one, sums and
+//! searches by iterators, a mirror of an arena, an arena that is used again.
 #![tactic(auto)]
 
 mod copies;
 mod direct;
+mod each;
 mod entries;
 mod further;
 mod generic;
+mod mirrors;
 mod moves;
+mod nodes;
 mod one_crate;
 mod pointers;
 mod reading;
 mod recasts;
+mod reuse;
 mod rules;
+mod searches;
+mod sums;
+mod values;
 mod walks;
 mod writes;
+
+pub use each::raise_each;
+pub use mirrors::reflect;
+pub use nodes::{Node, Nodes};
+pub use reuse::replace;
+pub use searches::{find_equal, find_first};
+pub use sums::{direct_sum_of, sum_of, sum_of_entries};
+pub use values::{map_values, raise, sum_up};

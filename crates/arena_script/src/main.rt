@@ -25,12 +25,11 @@ mod renaming;
 mod several;
 mod stacks;
 
-use narrow_ptr::N3;
-use refusing_allocator::RefusingAllocator;
 use script::{Call, Transcript};
 use stacks::{Heap, over_stack};
 use std::alloc::Global;
 use std::io;
+use test_kit::{N3, RefusingAllocator};
 use triple_arena::{P0, P1, P2, P3, P4, P5, Q2, ReallocationError};
 
 fn main(rt: HostRuntime) -> io::Result<()> {

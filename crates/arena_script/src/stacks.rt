@@ -1,9 +1,8 @@
 //! The arenas of a section, over the stack that its header names.
 use crate::{arena, direct, renaming, several};
-use narrow_ptr::N3;
-use refusing_allocator::RefusingAllocator;
 use script::{Call, Transcript};
 use std::alloc::Global;
+use test_kit::{N3, RefusingAllocator};
 use triple_arena::{
     Arena, ArenaSlot, ArenaSlots, ArenaTrait, DirectArena, DirectSlot, DirectSlots,
     NonZeroInxArray, NonZeroInxBoxedSlice, NonZeroInxLimitedStack, NonZeroInxLimitedVec,

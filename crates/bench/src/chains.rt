@@ -2,12 +2,15 @@
 //! less time.
 use crate::sequence::{Sequence, with};
 use std::alloc::Global;
-use triple_arena::{Advancer, ArenaSlot, NonZeroInxVec, P0, PtrCore};
+use triple_arena::{Advancer, ArenaSlot, ArenaTrait, NonZeroInxVec, P0, PtrCore};
 use triple_arena_chain::{
     ChainArena, ChainArenaTrait, ChainInsertionError, ChainSlots, LinkInsertKind, LinkNoGen,
 };
 
 /// Runs so many steps of an operation, and answers a checksum.
+///
+/// `fill` puts a link a step in, each behind one that is there, and then goes along the list. `renumber` compresses these
+/// links canonically before that, and `clone` goes along a clone of them.
 pub fn run(
     operation: &str,
     alloc: Global,
@@ -26,6 +29,7 @@ fn run_over<P: PtrCore, S: ChainSlots<P, u64, Alloc = Global>>(
 ) -> Option<Result<u64, ChainInsertionError>> {
     match operation {
         "iterate" => Some(iterate::<P, S>(alloc, steps)),
+        "fill" | "renumber" | "clone" => Some(rearrange::<P, S>(operation, alloc, steps)),
         _ => run_in::<P, ChainArena<P, u64, S>>(operation, alloc, steps),
     }
 }
@@ -195,4 +199,60 @@ fn turn<P: PtrCore, A: ChainArenaTrait<P, u64, Alloc = Global> + Drop>(
             .inx();
     }
     Ok(sum)
+}
+
+// So many links of one list, whose indexes come shuffled.
+fn shuffled<P: PtrCore, S: ChainSlots<P, u64, Alloc = Global>>(
+    alloc: Global,
+    len: usize,
+) -> Result<ChainArena<P, u64, S>, ChainInsertionError> {
+    let mut sequence = Sequence::new();
+    let mut chains = ChainArena::<P, u64, S>::new(alloc);
+    let mut links = Vec::with_capacity(alloc, len).map_err(|_| ChainInsertionError::AllocError)?;
+    let p = chains.insert_reallocating(LinkInsertKind::Disconnected, sequence.number())?;
+    links.push(p).map_err(|_| ChainInsertionError::AllocError)?;
+    for n in 1..len {
+        let number = sequence.number();
+        let before = match links.get((number >> 33) as usize % n) {
+            Some(before) => *before,
+            None => break,
+        };
+        let p = chains.insert_reallocating(LinkInsertKind::NextTo(before), number)?;
+        links.push(p).map_err(|_| ChainInsertionError::AllocError)?;
+    }
+    Ok(chains)
+}
+
+// Along the list of the link with the least index, which is its start.
+fn along<P: PtrCore, S: ChainSlots<P, u64, Alloc = Global>>(chains: &ChainArena<P, u64, S>) -> u64 {
+    let mut sum = 0u64;
+    let Some(first) = chains.find_first_inx_ptr() else {
+        return sum;
+    };
+    let Some(mut links) = chains.iter_chain(first) else {
+        return sum;
+    };
+    while let Some((_, link)) = links.next() {
+        sum = with(sum, link.t);
+    }
+    sum
+}
+
+// Fills, and does no more, or renumbers or clones what is there.
+fn rearrange<P: PtrCore, S: ChainSlots<P, u64, Alloc = Global>>(
+    operation: &str,
+    alloc: Global,
+    steps: usize,
+) -> Result<u64, ChainInsertionError> {
+    let mut chains = shuffled::<P, S>(alloc, steps)?;
+    if operation == "clone" {
+        return match chains.clone(alloc) {
+            Ok(copy) => Ok(along(&copy)),
+            Err(_) => Err(ChainInsertionError::AllocError),
+        };
+    }
+    if operation == "renumber" {
+        let _ = chains.compress_canonical(false);
+    }
+    Ok(along(&chains))
 }

@@ -17,7 +17,8 @@ type Slots = NonZeroInxVec<ArenaSlot<P0, LinkNoGen<P0, SimpleOrdArenaNode<P0, It
 /// Fills an arena with so many entries under shuffled keys, runs so many steps of an operation, and answers a checksum.
 ///
 /// `insert` is the filling alone. `find` looks up keys that are there, `remove` removes them, `cancel` removes by pointers, and
-/// `walk` goes over the entries in their order again and again. `most` and `all` take no steps: the most comparisons that the
+/// `walk` goes over the entries in their order again and again. `renumber` compresses the arena canonically, and `clone`
+/// clones it, if there are steps; both then go over the entries once. `most` and `all` take no steps: the most comparisons that the
 /// search for a key takes, and those of the searches for all keys together.
 pub fn run(
     operation: &str,
@@ -45,6 +46,8 @@ fn run_over<P: PtrCore, S: OrdSlots<P, Item, Alloc = Global>>(
         "remove" => Some(Ok(remove(&mut arena, steps))),
         "cancel" => Some(Ok(cancel(&mut arena, &pointers, steps))),
         "walk" => Some(Ok(walk(&arena, steps))),
+        "renumber" => Some(Ok(renumber(&mut arena, steps))),
+        "clone" => Some(clone(&arena, alloc, steps)),
         "most" => Some(Ok(comparisons(&arena, len).0)),
         "all" => Some(Ok(comparisons(&arena, len).1)),
         _ => None,
@@ -142,6 +145,38 @@ fn walk<P: PtrCore, S: OrdSlots<P, Item, Alloc = Global>>(
         }
     }
     sum
+}
+
+fn values<P: PtrCore, S: OrdSlots<P, Item, Alloc = Global>>(arena: &Ordered<P, S>) -> u64 {
+    let mut sum = 0u64;
+    for (_, item) in arena.iter_ordered() {
+        sum = with(sum, *item.v());
+    }
+    sum
+}
+
+fn renumber<P: PtrCore, S: OrdSlots<P, Item, Alloc = Global>>(
+    arena: &mut Ordered<P, S>,
+    steps: usize,
+) -> u64 {
+    if steps > 0 {
+        let _ = arena.compress_canonical(false);
+    }
+    values(arena)
+}
+
+fn clone<P: PtrCore, S: OrdSlots<P, Item, Alloc = Global>>(
+    arena: &Ordered<P, S>,
+    alloc: Global,
+    steps: usize,
+) -> Result<u64, OrdInsertionError> {
+    if steps == 0 {
+        return Ok(values(arena));
+    }
+    match arena.clone(alloc) {
+        Ok(copy) => Ok(values(&copy)),
+        Err(_) => Err(OrdInsertionError::AllocError),
+    }
 }
 
 // The most comparisons that the search for a key takes, and those of the searches for all keys together.

@@ -11,8 +11,9 @@
 //! There are the chain arenas `a` and `b`, the arena `l` of links, which can become a chain arena, and the arena `v` of
 //! values. A line names whose call it is, the call, and its numbers. A call with a kind is written as
 //! `a insert:Bridge 7 1 2 3 2`: the value, and the pointers or, by `BridgeInx`, the indexes. By an entry the value 0 is not
-//! stored. `a=b clone_from` makes `a` a clone of `b`, `v=a clone_to_arena` copies its values to `v`, `a=l exchange_arena`
-//! takes the links of `l`; `a| set_max_capacity 3` limits a limited arena. Over the stack `renaming` the links hold
+//! stored. `a=b clone_from` makes `a` a clone of `b`, `a<b transfer_canonical 4` moves the chains of `b` to `a`, with
+//! generation 4, `v=a clone_to_arena` copies the values of `a` to `v`, `a=l exchange_arena` takes the links of `l`;
+//! `a| set_max_capacity 3` limits a limited arena. Over the stack `renaming` the links hold
 //! pointers, and `renaming.rt` says what they are. A line of no arena is written as it is, so that `#` begins a comment. A
 //! number that a line lacks is 0. A pointer is two numbers, index and generation.
 #![tactic(auto)]
@@ -27,12 +28,11 @@ mod several;
 mod stacks;
 mod values;
 
-use narrow_ptr::N3;
-use refusing_allocator::RefusingAllocator;
 use script::{Call, Transcript};
 use stacks::{Heap, over_array, over_stack};
 use std::alloc::Global;
 use std::io;
+use test_kit::{N3, RefusingAllocator};
 use triple_arena::{P0, P1, P3, P5, ReallocationError};
 
 fn main(rt: HostRuntime) -> io::Result<()> {

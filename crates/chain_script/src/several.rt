@@ -1,6 +1,6 @@
 //! Calls among several arenas over stacks of one kind: the chain arenas `a` and `b`, the arena `l` of links, which can
 //! become a chain arena, and the arena `v` of values.
-use script::{Call, ShownPtr, Transcript, index};
+use script::{Call, ShownPtr, Transcript, generation, index};
 use std::alloc::AllocError;
 use std::mem;
 use std::num::NonZeroUsize;
@@ -87,6 +87,22 @@ pub fn clone_to_arena<P: ShownPtr, S: ChainSlots<P, u64>, A: ArenaCloneFromWith<
         } else {
             Ok(link.t.wrapping_add(1))
         }
+    });
+    transcript.answer(line, &answer);
+}
+
+/// Moves the chains of the source to the target, by a map that tells what it gets, and adds 1.
+pub fn transfer<P: ShownPtr, S: ChainSlots<P, u64>>(
+    target: &mut ChainArena<P, u64, S>,
+    source: &mut ChainArena<P, u64, S>,
+    transcript: &mut Transcript,
+    call: &Call<'_>,
+) {
+    let line = call.line;
+    let to = generation(call.first);
+    let answer = target.transfer_canonical_reallocating(to, source, |from, item, to| {
+        transcript.answer(line, &(from, &item, to));
+        item.allow().wrapping_add(1)
     });
     transcript.answer(line, &answer);
 }

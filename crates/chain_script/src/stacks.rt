@@ -1,9 +1,8 @@
 //! The stacks that a section is played over, and whose call a line is.
 use crate::{chain, renaming, several};
-use narrow_ptr::N3;
-use refusing_allocator::RefusingAllocator;
 use script::{Call, Transcript};
 use std::alloc::Global;
+use test_kit::{N3, RefusingAllocator};
 use triple_arena::{
     Arena, ArenaSlot, ArenaSlots, ArenaTrait, DirectSlot, NonZeroInxArray, NonZeroInxBoxedSlice,
     NonZeroInxLimitedStack, NonZeroInxLimitedVec, NonZeroInxVec, P0, P1, P3, P5, Ptr,
@@ -158,6 +157,7 @@ fn play_line<P: Ptr, H: Copy, S: ChainSlots<P, u64, Alloc = H>, V: ArenaSlots<P,
         "l" => several::link(l, transcript, call),
         "v" => transcript.answer(call.line, v),
         "a=b" => several::copies(a, b, alloc, transcript, call),
+        "a<b" => several::transfer(a, b, transcript, call),
         "a=l" => several::becomes(a, l, alloc, transcript, call),
         "v=a" => several::clone_to_arena(v, a, transcript, call),
         _ => transcript.line(call.line),

@@ -4,19 +4,25 @@
 //! Sections are split by an empty line. The first line of one is `POINTER STACK`, and the others are calls, one a line:
 //! `WHOM CALL NUMBERS`. The arena `a` is over that pointer and stack, the arena `b` over `P1` and a vector. The items are
 //! pairs of a key and a value. Insertions of each kind, searches and the tree are in `ord_search_script`.
+//!
+//! A section may also begin with `POINTER STACK FIRST LAST`, where the stack is `copying-heap`, `copying-limited`,
+//! `copying-array` or `renaming`. It is played once for each request for memory from the first to the last, which is
+//! refused; 0 refuses none. `copies.rt` and `renaming.rt` say what its lines are.
 #![tactic(auto)]
 
 mod changes;
+mod copies;
 mod items;
 mod reads;
+mod renaming;
 mod several;
 mod walks;
 
 use items::{Item, Pairs, Slot};
-use narrow_ptr::N3;
 use script::{Call, ShownPtr, Transcript};
 use std::alloc::Global;
 use std::io;
+use test_kit::N3;
 use triple_arena::{NonZeroInxArray, NonZeroInxVec, P0, P1, P3, P5, Ptr};
 use triple_arena_ord::OrdSlots;
 
@@ -44,7 +50,7 @@ fn play(heap: Global, transcript: &mut Transcript, section: &str) {
         "P0 array" => over::<P0, P1, InArray<P0>, OnHeap<P1>>((), heap, transcript, lines),
         "P1 array" => over::<P1, P1, InArray<P1>, OnHeap<P1>>((), heap, transcript, lines),
         "P5 array" => over::<P5, P1, InArray<P5>, OnHeap<P1>>((), heap, transcript, lines),
-        _ => transcript.answer(header, &"no such arenas"),
+        _ => copies::play(heap, transcript, header, lines),
     }
 }
 

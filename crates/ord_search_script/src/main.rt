@@ -21,12 +21,11 @@ mod searches;
 mod work;
 
 use items::{Counting, Item, Key, Pairs, Slot};
-use narrow_ptr::N3;
-use refusing_allocator::RefusingAllocator;
 use script::{Call, ShownPtr, Transcript};
 use std::alloc::Global;
 use std::cell::Cell;
 use std::io;
+use test_kit::{N3, RefusingAllocator};
 use triple_arena::{
     NonZeroInxArray, NonZeroInxBoxedSlice, NonZeroInxLimitedVec, NonZeroInxVec, P0, P1, P3, P5,
     Ptr, ReallocationError,

@@ -28,12 +28,11 @@ use Rattle.ticket_book.specs.Mirrors.{Mirror, renewed_entry}
 use Rattle.route_book.proofs.MirrorLemmas.{booked, mirror_is}
 use Rattle.route_book.proofs.PackLemmas.{packed_found, packed, stop_live, mark_live, mark_stop_live}
 use Rattle.route_book.proofs.PassedLemmas.{listed_to, listed_moved}
+use Rattle.route_book.proofs.OptionLemmas.{mapped_some, some_same}
+use Rattle.route_book.proofs.LinkLemmas.{live_ends, live_values}
 
 no_some : {X : Type 0} {x : X} → ◌≡◌ {A = Option X} None (Some x) → ⊥
 no_some e = absurd (cc)
-
-some_same : {X : Type 0} {x y : X} → ◌≡◌ {A = Option X} (Some x) (Some y) → x ≡ y
-some_same e = cc
 
 -- an index along a list that is mapped
 on_mapped : (to : ℕ → ℕ) (w : List ℕ) (k : ℕ) → On (map to w) k → (i : ℕ) × (On w i × (to i ≡ k))
@@ -74,10 +73,6 @@ length_map : {X Y : Type 0} (f : X → Y) (xs : List X) → length (map f xs) �
 length_map f [] = refl
 length_map f (x ∷ xs) = ap suc (length_map f xs)
 
-mapped_some : {X Y : Type 0} (f : X → Y) (o : Option X) (y : Y) → option_map f o ≡ Some y → (x : X) × ((o ≡ Some x) × (f x ≡ y))
-mapped_some f None y is = absurd (no_some is)
-mapped_some f (Some x) y is = (x, (refl, some_same is))
-
 -- the places in order
 module _ {I : Type 0} (number : I → ℕ) (last : Option ℕ) (places places' : Ordered I Place) (laid : IsLaidInOrder number last true places places')
     (stand : (i : ℕ) → IsSome (entry_in places i) → On (order_in number places) i) (stand' : (i : ℕ) → IsSome (entry_in places' i) → On (order_in number places') i) where
@@ -106,25 +101,11 @@ module _ {I : Type 0} (number : I → ℕ) (last : Option ℕ) (places places' :
 
 -- the stops in runs
 module _ {I T : Type 0} (number : I → ℕ) where
-  ends_live : (c : Content (IndexLink I T)) (i : ℕ) → IsSome (values_in c i) → IsSome (ends_in number c i)
-  ends_live c i some = by (entry_at c i) some
-    where
-      by : (o : Option (ℕ × IndexLink I T)) → IsSome (option_map valued o) → IsSome (option_map (entry_ends number) o)
-      by None h = absurd (true≢false (sym h))
-      by (Some e) h = refl
-
-  pub values_live : (c : Content (IndexLink I T)) (i : ℕ) → IsSome (ends_in number c i) → IsSome (values_in c i)
-  values_live c i some = by (entry_at c i) some
-    where
-      by : (o : Option (ℕ × IndexLink I T)) → IsSome (option_map (entry_ends number) o) → IsSome (option_map valued o)
-      by None h = absurd (true≢false (sym h))
-      by (Some e) h = refl
-
   pub stops_moved : (last : Option ℕ) (old new : Content (IndexLink I T)) (c : IsCanonical number last true old new) → IsMoved c.to (second_generation last) (values_in old) (values_in new)
   stops_moved last old new c = record {
-    into = λ i h t is. c.values i (ends_live old i (ap is_some is)) ∙ ap (option_map (λ (e : ℕ × T). (let z : ℕ × T = (second_generation last, e.1) in z))) is;
+    into = λ i h t is. c.values i (live_ends number old i (ap is_some is)) ∙ ap (option_map (λ (e : ℕ × T). (let z : ℕ × T = (second_generation last, e.1) in z))) is;
     onto = λ k h t is.
-        let w = c.renamed.onto k (ends_live new k (ap is_some is)) in
+        let w = c.renamed.onto k (live_ends number new k (ap is_some is)) in
         let there : option_map (λ (e : ℕ × T). (let z : ℕ × T = (second_generation last, e.1) in z)) (values_in old w.0) ≡ Some (h, t) =
         sym (c.values w.0 w.1) ∙ ap (values_in new) w.2 ∙ is in
         let x = mapped_some (λ (e : ℕ × T). (let z : ℕ × T = (second_generation last, e.1) in z)) (values_in old w.0) (h, t) there in
@@ -186,14 +167,14 @@ module _ {I : Type 0} (number : I → ℕ) (last : Option ℕ) (rooms : Rooms) (
 
     -- what follows a link follows it under the new indexes
     next_kept : (i : ℕ) → IsSome (values_in stops i) → next_at (ends_in number stops') (canon.to i) ≡ option_map canon.to (next_at (ends_in number stops) i)
-    next_kept i some = ap next_in (ends (canon.to i) ∙ canon.renamed.ends i (ends_live number stops i some)) ∙ by (ends_in number stops i)
+    next_kept i some = ap next_in (ends (canon.to i) ∙ canon.renamed.ends i (live_ends number stops i some)) ∙ by (ends_in number stops i)
       where
         by : (o : Option Ends) → next_in (option_map (ends_renamed canon.to) o) ≡ option_map canon.to (next_in o)
         by None = refl
         by (Some e) = refl
 
     live_kept : (i k : ℕ) → IsSome (values_in stops i) → next_at (ends_in number stops) i ≡ Some k → IsSome (values_in stops k)
-    live_kept i k some is = values_live number stops k (live_prev_in (ends_in number stops k) i (chained.agreed.forward i k is))
+    live_kept i k some is = live_values number stops k (live_prev_in (ends_in number stops k) i (chained.agreed.forward i k is))
 
     abbrev f : Found
     f = found_in places stops marks

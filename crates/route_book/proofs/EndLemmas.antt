@@ -10,7 +10,7 @@ use Rattle.ticket_book.specs.Tickets.{Entry, lookup, without_ticket}
 use Rattle.route_lines.specs.Calls.{unless_is}
 use Rattle.route_lines.specs.State.{State, Place, Stop, Mark, place_of, stop_of, mark_of}
 use Rattle.route_book.specs.Holds.{Found, found_by, place_under, stop_under, mark_under, place_at, stop_at, mark_at, IsFilled, Rise, IsHeld}
-use Rattle.route_book.proofs.HoldLemmas.{some_same}
+use Rattle.route_book.proofs.OptionLemmas.{some_same}
 
 -- ---- the book without a ticket
 
@@ -220,24 +220,3 @@ each_mapped c a b same (Some v) = ap Some (same v)
 pub unchanged : {X : Type 0} (o : Option X) → o ≡ option_map (λ x. x) o
 unchanged None = refl
 unchanged (Some x) = refl
-
--- what is found under a ticket has it
-pub found_has : {X : Type 0} (ticket : X → ℕ) (t : ℕ) (xs : List X) (x : X) → find (λ y. ticket y == t) xs ≡ Some x → ticket x ≡ t
-found_has {X} ticket t [] x is = absurd (let no : ◌≡◌ {A = Option X} None (Some x) = is in cc)
-found_has ticket t (y ∷ xs) x is = elim (eqb_tells (ticket y) t) [
-  | inl same ↦
-      let found : find (λ z. ticket z == t) (y ∷ xs) ≡ Some y = rw same.0 refl in
-      ap ticket (some_same (sym is ∙ found)) ∙ same.1
-  | inr other ↦ let skip : find (λ z. ticket z == t) (y ∷ xs) ≡ find (λ z. ticket z == t) xs = rw other.0 refl in found_has ticket t xs x (sym skip ∙ is)
-]
-
--- what a pointer that finds an item stands at
-pub stands_under : {T : Type 0} (at : ℕ → Option (ℕ × T)) (i g : ℕ) → IsSome (value_if g (at i)) → (x : T) × ((value_if g (at i) ≡ Some x) × (at i ≡ Some (g, x)))
-stands_under {T} at i g some = by (at i) refl some
-  where
-    by : (o : Option (ℕ × T)) → at i ≡ o → IsSome (value_if g o) → (x : T) × ((value_if g (at i) ≡ Some x) × (at i ≡ Some (g, x)))
-    by None is some = absurd (true≢false (sym some))
-    by (Some x) is some = elim (eqb_tells x.0 g) [
-      | inl same ↦ (x.1, (ap (value_if g) is ∙ rw same.0 refl, is ∙ ap (λ n. Some (n, x.1)) same.1))
-      | inr other ↦ absurd (true≢false (sym (subst (λ b. IsSome (if b then Some x.1 else None)) other.0 some)))
-    ]

@@ -19,9 +19,9 @@ use Rattle.route_lines.specs.State.{State, Rooms, Place, Stop, Mark, place_of, s
 use Rattle.route_book.specs.Book.{found_in, in_order, IsBook}
 use Rattle.route_book.specs.Item.{StopView, MarkView}
 use Rattle.route_book.specs.Holds.{Found, state_stop, state_mark, mark_under, place_at, stop_at, mark_at, IsFilled, entry, Rise, IsHeld}
-use Rattle.route_book.proofs.HoldLemmas.{some_same}
-use Rattle.route_book.proofs.EndLemmas.{others_stay, was_other, still_found, IsKept, still_booked, still_filled, places_still, stops_still, marks_still, none_there, unchanged, found_has, stands_under, rise_without, length_without}
+use Rattle.route_book.proofs.EndLemmas.{others_stay, was_other, still_found, IsKept, still_booked, still_filled, places_still, stops_still, marks_still, none_there, unchanged, rise_without, length_without}
 use Rattle.route_book.proofs.OrderLemmas.{differ_of_rise}
+use Rattle.route_book.proofs.OptionLemmas.{found_has, some_same, stands_under}
 
 -- ---- what is held
 

@@ -24,10 +24,10 @@ use Rattle.route_lines.specs.State.{State, Rooms, Place, place_of, stop_of, mark
 use Rattle.route_book.specs.Book.{found_in, in_order, IsBook}
 use Rattle.route_book.specs.Item.{StopView, MarkView}
 use Rattle.route_book.specs.Holds.{Found, found_by, state_stop, state_mark, place_under, place_at, IsFilled, entry, Rise, IsSettled, stop_at, mark_at, IsHeld}
-use Rattle.route_book.proofs.HoldLemmas.{some_same}
 use Rattle.route_book.proofs.SettledLemmas.{settled_left, up_to_left}
-use Rattle.route_book.proofs.EndLemmas.{unnamed, others_stay, was_other, still_found, IsKept, still_booked, still_filled, places_still, stops_still, marks_still, none_there, each_mapped, found_has, stands_under, rise_without, length_without}
+use Rattle.route_book.proofs.EndLemmas.{unnamed, others_stay, was_other, still_found, IsKept, still_booked, still_filled, places_still, stops_still, marks_still, none_there, each_mapped, rise_without, length_without}
 use Rattle.route_book.proofs.OrderLemmas.{differ_of_rise, one_up}
+use Rattle.route_book.proofs.OptionLemmas.{found_has, some_same, stands_under}
 
 -- ---- the list of the places without one
 

@@ -23,11 +23,11 @@ use Rattle.route_book.specs.Follows.{ticket_at, LeadAs}
 use Rattle.route_book.specs.Item.{StopView, MarkView}
 use Rattle.route_book.specs.Holds.{Found, found_by, state_stop, state_mark, stop_under, place_at, stop_at, mark_at, IsFilled, entry, Rise, IsSettled, IsHeld}
 use Rattle.route_book.proofs.FollowLemmas.{next_with_prev}
-use Rattle.route_book.proofs.HoldLemmas.{some_same}
 use Rattle.route_book.proofs.LinkLemmas.{live_ends}
 use Rattle.route_book.proofs.SettledLemmas.{settled_left, up_to_left}
-use Rattle.route_book.proofs.EndLemmas.{unnamed, there, others_stay, was_other, still_found, IsKept, still_booked, still_filled, places_still, stops_still, marks_still, none_there, each_mapped, unchanged, found_has, stands_under, rise_without, length_without}
+use Rattle.route_book.proofs.EndLemmas.{unnamed, there, others_stay, was_other, still_found, IsKept, still_booked, still_filled, places_still, stops_still, marks_still, none_there, each_mapped, unchanged, rise_without, length_without}
 use Rattle.route_book.proofs.OrderLemmas.{differ_of_rise, one_up}
+use Rattle.route_book.proofs.OptionLemmas.{found_has, some_same, stands_under}
 
 -- ---- what follows once an index is taken out
 

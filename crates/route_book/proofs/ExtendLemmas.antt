@@ -25,9 +25,10 @@ use Rattle.route_book.specs.Book.{Book, found_in, found_of, in_order, IsBook, Ke
 use Rattle.route_book.proofs.FollowLemmas.{lead_extended}
 use Rattle.route_book.proofs.HoldLemmas.{below_next}
 use Rattle.route_book.proofs.LinkLemmas.{IsAt, is_at, distinct, held_ticket, live_ends, unknown}
-use Rattle.route_book.proofs.NeighborLemmas.{held_place, has_ticket}
+use Rattle.route_book.proofs.NeighborLemmas.{held_place}
 use Rattle.route_book.proofs.StartLemmas.{stops_not_full, kept_stop}
 use Rattle.route_book.proofs.StopLemmas.{stop_added}
+use Rattle.route_book.proofs.OptionLemmas.{found_has}
 
 -- ---- what it answers
 
@@ -89,7 +90,7 @@ module _ {I : Type 0} (number : I → ℕ) (rooms : Rooms) (last : ℕ) (s : Sta
     live = subst (λ r. IfSome r (λ q. IsSome (value_if q.1 (entry_in places q.0)))) (sym to) (subst IsSome (sym at_place) refl)
 
     stop_is : state_stop (found_in places stops marks) w ≡ record { ticket = s.last + 1; place = Some pt }
-    stop_is = let named = has_ticket s.places pt p (held_place s pt p place) in rw (next, to, at_place, named) refl
+    stop_is = let named = found_has (λ (x : Place). x.ticket) pt s.places p (held_place s pt p place) in rw (next, to, at_place, named) refl
 
     own_ticket : v.ticket ≡ t
     own_ticket = held_ticket s t _ held

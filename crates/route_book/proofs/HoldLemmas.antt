@@ -15,12 +15,10 @@ use Rattle.route_lines.specs.State.{State, Place, Item, place, stop, mark, livin
 use Rattle.route_lines.specs.Calls.{put}
 use Rattle.route_book.proofs.SettledLemmas.{found_added, settled_added, up_to_added}
 use Rattle.route_book.specs.Holds.{Found, found_by, state_stop, state_mark, place_under, stop_under, mark_under, item_under, place_at, stop_at, mark_at, IsFilled, IsItem, entry, Rise, IsSettled, IsHeld}
+use Rattle.route_book.proofs.OptionLemmas.{some_same}
 
 no_some : {X : Type 0} {x : X} → ◌≡◌ {A = Option X} None (Some x) → ⊥
 no_some e = absurd (cc)
-
-pub some_same : {X : Type 0} {x y : X} → ◌≡◌ {A = Option X} (Some x) (Some y) → x ≡ y
-some_same e = cc
 
 -- what is under a ticket
 module _ (s : State) (f : Found) (order : List Place) (ends : ℕ → Option Ends) (book : List Entry) (h : IsHeld s f order ends book) (t : ℕ) where

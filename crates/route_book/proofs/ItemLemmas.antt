@@ -11,9 +11,7 @@ use Rattle.route_lines.specs.declared.refusal.Refusal.TheVariants.{Kind}
 use Rattle.route_lines.specs.declared.shown.Shown.TheVariants.{Place as ShownPlace, Stop as ShownStop, Mark as ShownMark}
 use Rattle.route_book.specs.Item.{StopView, MarkView}
 use Rattle.route_book.specs.Holds.{Found, IsItem, item_under, state_stop, state_mark}
-
-some_same : {X : Type 0} {x y : X} → ◌≡◌ {A = Option X} (Some x) (Some y) → x ≡ y
-some_same e = cc
+use Rattle.route_book.proofs.OptionLemmas.{some_same}
 
 -- a refused ticket
 module _ (s : State) (t : ℕ) (e : Refusal) (refused : holder s t ≡ Err e) where

@@ -23,9 +23,7 @@ use Rattle.route_lines.specs.Calls.{put}
 use Rattle.route_lines.specs.Sound.{KeysRise}
 use Rattle.route_lines.specs.State.{Place, with_key}
 use Rattle.route_book.specs.Book.{in_order}
-
-some_same : {X : Type 0} (x y : X) → Some x ≡ Some y → x ≡ y
-some_same x y e = cc
+use Rattle.route_book.proofs.OptionLemmas.{some_same}
 
 -- ---- a list of places
 
@@ -198,7 +196,7 @@ module _ {I : Type 0} (number : I → ℕ) (o : Ordered I Place) where
           → asked_of nat_cmp (λ (q : Place). q.key) key (entry_in o (index p)) ≡ d → Asked key (index p) (generation p) d
       by None is live way = absurd (let no : ◌≡◌ {A = Option ℕ} None (Some (generation p)) = sym (rw is refl) ∙ live in cc)
       by (Some e) is live way =
-          let same : e.0 ≡ generation p = some_same e.0 (generation p) (sym (rw is refl) ∙ live) in
+          let same : e.0 ≡ generation p = some_same (sym (rw is refl) ∙ live) in
           record { item = e.1; is = is ∙ ap (λ g. Some (g, e.1)) same; way = sym (rw is refl) ∙ way }
 
   -- the list around an entry

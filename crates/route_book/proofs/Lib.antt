@@ -18,6 +18,7 @@ pub mod NeighborLemmas
 pub mod NewItemLemmas
 pub mod NewLemmas
 pub mod NoteLemmas
+pub mod OptionLemmas
 pub mod OrderLemmas
 pub mod PackLemmas
 pub mod PassedLemmas
@@ -26,6 +27,7 @@ pub mod RelinkLemmas
 pub mod RemovalLemmas
 pub mod RewordLemmas
 pub mod RoomLemmas
+pub mod RunLemmas
 pub mod SettledLemmas
 pub mod StartLemmas
 pub mod StopLemmas

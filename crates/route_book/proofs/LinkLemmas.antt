@@ -22,7 +22,8 @@ use Rattle.route_book.specs.Follows.{LeadAs, AreDistinct}
 use Rattle.route_book.specs.Item.{StopView, MarkView}
 use Rattle.route_book.specs.Holds.{Found, entry, state_stop, stop_under, stop_at, IsHeld}
 use Rattle.route_book.specs.Book.{found_in, in_order, IsBook, KeepsItems}
-use Rattle.route_book.proofs.HoldLemmas.{some_same, lookup_given}
+use Rattle.route_book.proofs.HoldLemmas.{lookup_given}
+use Rattle.route_book.proofs.OptionLemmas.{found_has, some_same}
 
 -- ---- live indexes
 
@@ -122,16 +123,8 @@ held_stop s t q held = by ((t == 0) || nat_lt s.last t) refl (place_of s.places 
         let same : ◌≡◌ {A = Result Stop Refusal} (Ok u) (Ok q) = sym there ∙ held in
         three ∙ ap Some (let is : u ≡ q = cc in is)
 
-pub found_ticket : (t : ℕ) (xs : List Stop) (q : Stop) → find (has_ticket t) xs ≡ Some q → q.ticket ≡ t
-found_ticket t [] q is = absurd (let no : ◌≡◌ {A = Option Stop} None (Some q) = is in cc)
-found_ticket t (x ∷ xs) q is = at (x.ticket == t) refl is (found_ticket t xs q)
-  where
-    at : (b : Bool) → (x.ticket == t) ≡ b → cond b (Some x) (find (has_ticket t) xs) ≡ Some q → (find (has_ticket t) xs ≡ Some q → q.ticket ≡ t) → q.ticket ≡ t
-    at true e h later = let same : x ≡ q = some_same h in ap (λ (y : Stop). y.ticket) (sym same) ∙ eqb-true x.ticket t e
-    at false e h later = later h
-
 pub held_ticket : (s : State) (t : ℕ) (q : Stop) → stop_holder s t ≡ Ok q → q.ticket ≡ t
-held_ticket s t q held = found_ticket t (stop_list s.routes) q (held_stop s t q held)
+held_ticket s t q held = found_has (λ (x : Stop). x.ticket) t (stop_list s.routes) q (held_stop s t q held)
 
 -- ---- other interlinks of the same stops
 

@@ -8,9 +8,7 @@ use Rattle.ticket_book.specs.Tickets.{Entry, lookup}
 use Rattle.route_book.specs.Holds.{found_by, entry, IsLive}
 use Rattle.route_book.specs.Packing.{IsMoved, IsMirror, IsMirrored, IsBooked}
 use Rattle.ticket_book.specs.Mirrors.{Mirror, renewed_pointer}
-
-some_same : {X : Type 0} {x y : X} → ◌≡◌ {A = Option X} (Some x) (Some y) → x ≡ y
-some_same e = cc
+use Rattle.route_book.proofs.OptionLemmas.{some_same}
 
 -- the items of one kind, moved, while the book has the old pointers
 module _ {T : Type 0} (ticket : T → ℕ) (kind : Kind) (book : List Entry) (to : ℕ → ℕ) (g : ℕ) (old new : ℕ → Option (ℕ × T))

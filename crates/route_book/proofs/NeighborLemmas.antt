@@ -30,9 +30,7 @@ use Rattle.route_lines.specs.declared.refusal.Refusal.{Refusal}
 use Rattle.route_lines.specs.declared.refusal.Refusal.TheVariants.{Unknown, Gone, Kind}
 use Rattle.route_book.specs.Book.{in_order}
 use Rattle.route_book.proofs.KeyLemmas.{Asked, along, along_some, asked, gap_greater, gap_less, live_along, split_at, split_once}
-
-some_same : {X : Type 0} {x y : X} → ◌≡◌ {A = Option X} (Some x) (Some y) → x ≡ y
-some_same e = cc
+use Rattle.route_book.proofs.OptionLemmas.{found_has, some_same}
 
 -- ---- lists
 
@@ -69,21 +67,12 @@ cut_before : (xs zs : List Place) (y : Place) (t : ℕ) → y.ticket ≡ t → A
 cut_before [] zs y t is all = rw (eq-eqb y.ticket t is) refl
 cut_before (x ∷ xs) zs y t is all = rw (ne_eqb x.ticket t all.0) (ap (λ l. x ∷ l) (cut_before xs zs y t is all.1))
 
-pub has_ticket : (ps : List Place) (t : ℕ) (p : Place) → place_of ps t ≡ Some p → p.ticket ≡ t
-has_ticket [] t p is = absurd (let no : ◌≡◌ {A = Option Place} None (Some p) = is in cc)
-has_ticket (q ∷ ps) t p is = elim (eqb_tells q.ticket t) [
-  | inl same ↦
-      let found : place_of (q ∷ ps) t ≡ Some q = rw same.0 refl in
-      let one : q ≡ p = some_same (sym found ∙ is) in ap (λ (x : Place). x.ticket) (sym one) ∙ same.1
-  | inr other ↦ let skip : place_of (q ∷ ps) t ≡ place_of ps t = rw other.0 refl in has_ticket ps t p (sym skip ∙ is)
-]
-
 -- the places around the one that has a ticket
 pub around : (ps xs zs : List Place) (y : Place) (t : ℕ) → KeysRise ps → ps ≡ xs ++ y ∷ zs → place_of ps t ≡ Some y
     → (before (λ (q : Place). q.ticket == t) ps ≡ xs) × (behind (λ (q : Place). q.ticket == t) ps ≡ zs)
 around ps xs zs y t rise is at =
     let none = not_before xs zs y t (subst KeysRise is rise) (sym (ap (λ l. place_of l t) is) ∙ at) in
-    let own = has_ticket ps t y at in
+    let own = found_has (λ (x : Place). x.ticket) t ps y at in
     (ap (before (λ (q : Place). q.ticket == t)) is ∙ cut_before xs zs y t own none, ap (behind (λ (q : Place). q.ticket == t)) is ∙ cut_behind xs zs y t own none)
 
 -- the last place whose key is not above this one

@@ -18,8 +18,9 @@ use Rattle.route_book.specs.Holds.{entry, state_mark, state_stop}
 use Rattle.route_book.specs.Book.{Book, found_in, found_of, IsBook, KeepsItems}
 use Rattle.route_book.proofs.LinkLemmas.{held_ticket}
 use Rattle.route_book.proofs.MarkLemmas.{kept_mark, mark_made, marks_not_full}
-use Rattle.route_book.proofs.NeighborLemmas.{has_ticket, held_place}
+use Rattle.route_book.proofs.NeighborLemmas.{held_place}
 use Rattle.route_book.proofs.StartLemmas.{kept_stop, start_kept, started_new, stops_not_full}
+use Rattle.route_book.proofs.OptionLemmas.{found_has}
 
 module _ {I : Type 0} (number : I → ℕ) (rooms : Rooms) (last : ℕ) (s : State) (places : Ordered I Place) (stops : Content (IndexLink I StopView)) (marks : Content MarkView)
     (book : List Entry) (b : IsBook number rooms last s places stops marks book) (k : Book I) (view : record { state = s; places = places; stops = stops; marks = marks } ≡ k)
@@ -80,7 +81,7 @@ module _ {I : Type 0} (number : I → ℕ) (rooms : Rooms) (last : ℕ) (s : Sta
       named =
           let next : w.ticket ≡ s.last + 1 = ticket ∙ ap (λ m. m + 1) (sym b.last_is) in
           let at_place = place.1 in let at_stop = stop.1 in
-          let one = has_ticket s.places pt place.0 (held_place s pt place.0 place.2) in
+          let one = found_has (λ (x : Place). x.ticket) pt s.places place.0 (held_place s pt place.0 place.2) in
           let two : stop.0.ticket ≡ st = held_ticket s st (state_stop (found_in places stops marks) stop.0) stop.2 in
           rw (next, to, of, at_place, at_stop, one, two) refl
 

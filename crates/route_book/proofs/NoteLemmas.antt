@@ -7,9 +7,7 @@ use Rattle.triple_arena.specs.Entries.{value_if, with_entry}
 use Rattle.ticket_book.specs.Tickets.{Entry, lookup}
 use Rattle.route_book.specs.Packing.{IsNoted, IsMirrored, IsBooked}
 use Rattle.ticket_book.specs.Mirrors.{Mirror, numbers}
-
-some_same : {X : Type 0} {x y : X} → ◌≡◌ {A = Option X} (Some x) (Some y) → x ≡ y
-some_same e = cc
+use Rattle.route_book.proofs.OptionLemmas.{some_same}
 
 module _ {P : Type 0} (index generation : P → ℕ) (at : ℕ → Option (ℕ × P)) where
   abbrev pair : P → ℕ × ℕ

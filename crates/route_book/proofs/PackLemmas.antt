@@ -17,9 +17,7 @@ use Rattle.route_book.specs.Packing.{IsMoved, IsMirror, recast_stop, recast_mark
 use Rattle.ticket_book.specs.Mirrors.{Mirror, renewed_pointer, renewed_under, renewed_entry}
 use Rattle.route_book.proofs.MirrorLemmas.{found_recast, live_recast, renewed_live}
 use Rattle.route_book.proofs.SettledLemmas.{live_settled}
-
-some_same : {X : Type 0} {x y : X} → ◌≡◌ {A = Option X} (Some x) (Some y) → x ≡ y
-some_same e = cc
+use Rattle.route_book.proofs.OptionLemmas.{mapped_some, some_same, stands_under}
 
 -- the book with other pointers has the same tickets
 module _ (m n o : Mirror) where
@@ -36,22 +34,6 @@ module _ (m n o : Mirror) where
   pub rise_renewed : (book : List Entry) (low last : ℕ) → Rise low book last → Rise low (map (renewed_entry m n o) book) last
   rise_renewed [] low last rise = rise
   rise_renewed (e ∷ book) low last rise = (rise.0, rise_renewed book e.ticket last rise.1)
-
--- an item that a pointer finds, with its generation
-standing : {T : Type 0} (at : ℕ → Option (ℕ × T)) (i g : ℕ) → IsSome (value_if g (at i)) → (t : T) × ((value_if g (at i) ≡ Some t) × (at i ≡ Some (g, t)))
-standing {T} at i g some = by (at i) refl some
-  where
-    by : (o : Option (ℕ × T)) → at i ≡ o → IsSome (value_if g o) → (t : T) × ((value_if g (at i) ≡ Some t) × (at i ≡ Some (g, t)))
-    by None is some = absurd (true≢false (sym some))
-    by (Some x) is some = elim (eqb_tells x.0 g) [
-      | inl same ↦ (x.1, (ap (value_if g) is ∙ rw same.0 refl, is ∙ ap (λ n. Some (n, x.1)) same.1))
-      | inr other ↦ absurd (true≢false (sym (subst (λ b. IsSome (if b then Some x.1 else None)) other.0 some)))
-    ]
-
--- what `option_map` made
-mapped : {X Y : Type 0} (f : X → Y) (o : Option X) (y : Y) → option_map f o ≡ Some y → (x : X) × ((o ≡ Some x) × (f x ≡ y))
-mapped f None y is = absurd (let no : None ≡ Some y = is in cc)
-mapped f (Some x) y is = (x, (refl, some_same is))
 
 module _ (s : State) (f : Found) (order : List Place) (ends ends' : ℕ → Option Ends) (book : List Entry) (h : IsHeld s f order ends book)
     (to_p to_s to_m : ℕ → ℕ) (gp gs gm : ℕ) (at_p : ℕ → Option (ℕ × Place)) (at_s : ℕ → Option (ℕ × StopView)) (at_m : ℕ → Option (ℕ × MarkView))
@@ -116,20 +98,20 @@ module _ (s : State) (f : Found) (order : List Place) (ends ends' : ℕ → Opti
 
   kept : (k : Kind) (i g : ℕ) → IsFilled f k i g → Kept k i g
   kept OfPlace i g filled =
-      let st = standing f.places i g filled in
+      let st = stands_under f.places i g filled in
       let name = renewed_live to_p gp f.places at_p m places mirror_p i g st.0 st.1.0 in
       let is = at_own at_p (to_p i) gp st.0 (places.into i g st.0 st.1.1) in
       let found : value_if (renewed_pointer m i g).1 (at_p (renewed_pointer m i g).0) ≡ Some st.0 = ap (λ (q : ℕ × ℕ). value_if q.1 (at_p q.0)) name ∙ is in
       record { place = found ∙ sym st.1.0; stop = refl; mark = refl; filled = ap is_some found }
   kept OfStop i g filled =
-      let st = standing f.stops i g filled in
+      let st = stands_under f.stops i g filled in
       let name = renewed_live to_s gs f.stops at_s n stops mirror_s i g st.0 st.1.0 in
       let there : new_s (to_s i) ≡ Some (gs, recast_stop m st.0) = recast_s (to_s i) ∙ ap (option_map stop_cast) (stops.into i g st.0 st.1.1) in
       let is = at_own new_s (to_s i) gs (recast_stop m st.0) there in
       let found : value_if (renewed_pointer n i g).1 (new_s (renewed_pointer n i g).0) ≡ Some (recast_stop m st.0) = ap (λ (q : ℕ × ℕ). value_if q.1 (new_s q.0)) name ∙ is in
       record { place = refl; stop = ap (option_map (state_stop now)) found ∙ ap Some (stop_same st.0) ∙ sym (ap (option_map (state_stop f)) st.1.0); mark = refl; filled = ap is_some found }
   kept OfMark i g filled =
-      let st = standing f.marks i g filled in
+      let st = stands_under f.marks i g filled in
       let name = renewed_live to_m gm f.marks at_m o marks mirror_m i g st.0 st.1.0 in
       let there : new_m (to_m i) ≡ Some (gm, recast_mark m n st.0) = recast_m (to_m i) ∙ ap (option_map mark_cast) (marks.into i g st.0 st.1.1) in
       let is = at_own new_m (to_m i) gm (recast_mark m n st.0) there in
@@ -164,7 +146,7 @@ module _ (s : State) (f : Found) (order : List Place) (ends ends' : ℕ → Opti
 
     lead_packed : LeadAs τ new_s ends' (next_stop s.routes)
     lead_packed k g v is =
-        let c = mapped stop_cast (at_s k) (g, v) (sym (recast_s k) ∙ is) in
+        let c = mapped_some stop_cast (at_s k) (g, v) (sym (recast_s k) ∙ is) in
         let w = stops.onto k c.0.0 c.0.1 c.1.0 in
         let same : v.ticket ≡ c.0.1.ticket = ap (λ (x : ℕ × StopView). x.1.ticket) (sym c.1.1) in
         let here : IsSome (f.stops w.0) = ap is_some w.1.1.0 in
@@ -180,12 +162,12 @@ module _ (s : State) (f : Found) (order : List Place) (ends ends' : ℕ → Opti
     -- no reference is dead
     pub stop_live : (k g : ℕ) (v : StopView) → new_s k ≡ Some (g, v) → IsLive at_p v.place
     stop_live k g v is =
-        let c = mapped stop_cast (at_s k) (g, v) (sym (recast_s k) ∙ is) in
+        let c = mapped_some stop_cast (at_s k) (g, v) (sym (recast_s k) ∙ is) in
         subst (λ (x : ℕ × StopView). IsLive at_p x.1.place) c.1.1 (live_recast to_p gp f.places at_p m places mirror_p c.0.1.place)
 
     pub mark_live : (k g : ℕ) (v : MarkView) → new_m k ≡ Some (g, v) → IsLive at_p v.place
     mark_live k g v is =
-        let c = mapped mark_cast (at_m k) (g, v) (sym (recast_m k) ∙ is) in
+        let c = mapped_some mark_cast (at_m k) (g, v) (sym (recast_m k) ∙ is) in
         subst (λ (x : ℕ × MarkView). IsLive at_p x.1.place) c.1.1 (live_recast to_p gp f.places at_p m places mirror_p c.0.1.place)
 
     still_live : (r : Option (ℕ × ℕ)) → IsLive at_s r → IsLive new_s r
@@ -202,7 +184,7 @@ module _ (s : State) (f : Found) (order : List Place) (ends ends' : ℕ → Opti
 
     pub mark_stop_live : (k g : ℕ) (v : MarkView) → new_m k ≡ Some (g, v) → IsLive new_s v.stop
     mark_stop_live k g v is =
-        let c = mapped mark_cast (at_m k) (g, v) (sym (recast_m k) ∙ is) in
+        let c = mapped_some mark_cast (at_m k) (g, v) (sym (recast_m k) ∙ is) in
         subst (λ (x : ℕ × MarkView). IsLive new_s x.1.stop) c.1.1 (still_live (found_by n c.0.1.stop) (live_recast to_s gs f.stops at_s n stops mirror_s c.0.1.stop))
 
     pub packed : IsHeld s now order ends' (map renew book)
@@ -216,7 +198,7 @@ module _ (s : State) (f : Found) (order : List Place) (ends ends' : ℕ → Opti
       mark_place = λ k g v is. live_settled at_p gp v.place (mark_live k g v is);
       mark_stop = λ k g v is. live_settled new_s gs v.stop (mark_stop_live k g v is);
       places_up_to = λ k g p is. (let w = (places.onto k g p is).1.1.1.1 in omega (arith, w));
-      stops_up_to = λ k g v is. (let w = mapped stop_cast (at_s k) (g, v) (sym (recast_s k) ∙ is) in let same = ap (λ (x : ℕ × StopView). x.0) w.1.1 in let u = (stops.onto k w.0.0 w.0.1 w.1.0).1.1.1.1 in omega (arith, same, u));
+      stops_up_to = λ k g v is. (let w = mapped_some stop_cast (at_s k) (g, v) (sym (recast_s k) ∙ is) in let same = ap (λ (x : ℕ × StopView). x.0) w.1.1 in let u = (stops.onto k w.0.0 w.0.1 w.1.0).1.1.1.1 in omega (arith, same, u));
       places = λ t. h.places t ∙ sym (ap (place_at now) (lookup_renewed m n o book t) ∙ (at_kept t (lookup book t) refl).place);
       stops = λ t. h.stops t ∙ sym (ap (stop_at now) (lookup_renewed m n o book t) ∙ (at_kept t (lookup book t) refl).stop);
       marks = λ t. h.marks t ∙ sym (ap (mark_at now) (lookup_renewed m n o book t) ∙ (at_kept t (lookup book t) refl).mark);
@@ -226,7 +208,7 @@ module _ (s : State) (f : Found) (order : List Place) (ends ends' : ℕ → Opti
       where
         filled : (t : ℕ) (e : Entry) → lookup (map renew book) t ≡ Some e → IsFilled now e.kind e.index e.generation
         filled t e is =
-            let w = mapped renew (lookup book t) e (sym (lookup_renewed m n o book t) ∙ is) in
+            let w = mapped_some renew (lookup book t) e (sym (lookup_renewed m n o book t) ∙ is) in
             subst (λ (x : Entry). IsFilled now x.kind x.index x.generation) w.1.1 (kept w.0.kind w.0.index w.0.generation (h.filled t w.0 w.1.0)).filled
 
         place_in : (k g : ℕ) (p : Place) → at_p k ≡ Some (g, p) → lookup (map renew book) p.ticket ≡ Some (entry p.ticket OfPlace k g)
@@ -238,7 +220,7 @@ module _ (s : State) (f : Found) (order : List Place) (ends ends' : ℕ → Opti
 
         stop_in : (k g : ℕ) (v : StopView) → new_s k ≡ Some (g, v) → lookup (map renew book) v.ticket ≡ Some (entry v.ticket OfStop k g)
         stop_in k g v is =
-            let c = mapped stop_cast (at_s k) (g, v) (sym (recast_s k) ∙ is) in
+            let c = mapped_some stop_cast (at_s k) (g, v) (sym (recast_s k) ∙ is) in
             let w = stops.onto k c.0.0 c.0.1 c.1.0 in
             let name = renewed_live to_s gs f.stops at_s n stops mirror_s w.0 w.1.0 c.0.1 (at_own f.stops w.0 w.1.0 c.0.1 w.1.1.0) in
             let known = renamed_entry c.0.1.ticket OfStop w.0 w.1.0 (to_s w.0, gs) (h.stops_in w.0 w.1.0 c.0.1 w.1.1.0) name
@@ -247,7 +229,7 @@ module _ (s : State) (f : Found) (order : List Place) (ends ends' : ℕ → Opti
 
         mark_in : (k g : ℕ) (v : MarkView) → new_m k ≡ Some (g, v) → lookup (map renew book) v.ticket ≡ Some (entry v.ticket OfMark k g)
         mark_in k g v is =
-            let c = mapped mark_cast (at_m k) (g, v) (sym (recast_m k) ∙ is) in
+            let c = mapped_some mark_cast (at_m k) (g, v) (sym (recast_m k) ∙ is) in
             let w = marks.onto k c.0.0 c.0.1 c.1.0 in
             let name = renewed_live to_m gm f.marks at_m o marks mirror_m w.0 w.1.0 c.0.1 (at_own f.marks w.0 w.1.0 c.0.1 w.1.1.0) in
             let known = renamed_entry c.0.1.ticket OfMark w.0 w.1.0 (to_m w.0, gm) (h.marks_in w.0 w.1.0 c.0.1 w.1.1.0) name

@@ -20,9 +20,10 @@ use Rattle.route_lines.specs.declared.refusal.Refusal.TheVariants.{Full}
 use Rattle.route_book.specs.Item.{StopView, MarkView}
 use Rattle.route_book.specs.Holds.{entry, IsHeld}
 use Rattle.route_book.specs.Book.{Book, found_in, in_order, IsBook, KeepsItems}
-use Rattle.route_book.proofs.HoldLemmas.{place_added, some_same}
+use Rattle.route_book.proofs.HoldLemmas.{place_added}
 use Rattle.route_book.proofs.KeyLemmas.{along}
 use Rattle.route_book.proofs.RewordLemmas.{reword_entry, KeysRise-reworded, length-reworded, along_reworded, as_reworded, place_reworded}
+use Rattle.route_book.proofs.OptionLemmas.{some_same}
 
 -- ---- lists
 

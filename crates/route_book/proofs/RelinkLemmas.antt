@@ -24,8 +24,9 @@ use Rattle.route_book.specs.Item.{StopView, MarkView}
 use Rattle.route_book.specs.Holds.{state_stop}
 use Rattle.route_book.specs.Book.{Book, found_in, found_of, in_order, IsBook, KeepsItems}
 use Rattle.route_book.proofs.FollowLemmas.{lead_joined, lead_parted, lead_exchanged}
-use Rattle.route_book.proofs.LinkLemmas.{IsAt, is_at, live_values, distinct, stop_index, found_ticket, held_ticket, relinked_kept, kept_links}
+use Rattle.route_book.proofs.LinkLemmas.{IsAt, is_at, live_values, distinct, stop_index, held_ticket, relinked_kept, kept_links}
 use Rattle.route_book.proofs.StopWalkLemmas.{leads_back}
+use Rattle.route_book.proofs.OptionLemmas.{found_has}
 
 -- ---- a ticket that leads on names a stop
 
@@ -123,7 +124,7 @@ module _ {I : Type 0} (number : I → ℕ) (rooms : Rooms) (last : ℕ) (s : Sta
           known u w leads =
               let x = next_known s.routes u w leads in
               let at = stop_index s (found_in places stops marks) (in_order number places) (ends_in number stops) book b.held u x.0 x.1 in
-              (at.0, (at.1.0, (at.1.1.0, at.1.1.1 ∙ found_ticket u (stop_list s.routes) x.0 x.1)))
+              (at.0, (at.1.0, (at.1.1.0, at.1.1.1 ∙ found_has (λ (x : Stop). x.ticket) u (stop_list s.routes) x.0 x.1)))
 
       previous_none : prev_in (ends_found number stops i g) ≡ None → previous_stop s.routes t ≡ None
       previous_none none = previous_is ∙ ap (ticket_at τ (values_in stops)) (sym prev_same ∙ none)

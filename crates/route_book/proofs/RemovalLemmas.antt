@@ -22,16 +22,11 @@ use Rattle.route_book.specs.Book.{Book, found_in, IsBook}
 use Rattle.route_book.specs.Holds.{Found, item_under, state_mark, state_stop}
 use Rattle.route_book.specs.Item.{StopView, MarkView}
 use Rattle.route_book.specs.Removals.{OthersStay, Tries}
-use Rattle.route_book.proofs.EndLemmas.{found_has}
 use Rattle.route_book.proofs.EndMarkLemmas.{IsMarkGone, mark_leaves, marks_stay}
 use Rattle.route_book.proofs.EndPlaceLemmas.{IsPlaceGone, place_leaves, place_steps, places_stay}
 use Rattle.route_book.proofs.EndStopLemmas.{IsStopGone, stop_leaves, stop_steps, stops_stay}
-use Rattle.route_book.proofs.HoldLemmas.{holder_found, some_same}
-
--- what stands under an option that is mapped
-made_of : {X Y : Type 0} (f : X → Y) (o : Option X) (y : Y) → option_map f o ≡ Some y → (x : X) × ((o ≡ Some x) × (f x ≡ y))
-made_of f None y is = absurd (let no : ◌≡◌ {A = Option _} None (Some y) = is in cc)
-made_of f (Some x) y is = (x, (refl, some_same is))
+use Rattle.route_book.proofs.HoldLemmas.{holder_found}
+use Rattle.route_book.proofs.OptionLemmas.{found_has, mapped_some, some_same}
 
 -- the item that a ticket has, has it
 module _ (s : State) (t : ℕ) where
@@ -93,7 +88,7 @@ module _ {I : Type 0} (number : I → ℕ) (rooms : Rooms) (last : ℕ) (s : Sta
     pub found_place : (p : Place) × ((value_if g (entry_in places i) ≡ Some p) × (holder s t ≡ Ok (place p)))
     found_place =
         let u = under OfPlace kind in
-        let m = made_of place (value_if g (entry_in places i)) u.0 u.1.1 in
+        let m = mapped_some place (value_if g (entry_in places i)) u.0 u.1.1 in
         (m.0, (m.1.0, u.1.0 ∙ ap Ok (sym m.1.1)))
 
     module _ (ordered : IsOrdered number places) (places' : Ordered I Place)
@@ -140,7 +135,7 @@ module _ {I : Type 0} (number : I → ℕ) (rooms : Rooms) (last : ℕ) (s : Sta
     pub found_stop : (v : StopView) × ((value_if g (values_in stops i) ≡ Some v) × (holder s t ≡ Ok (stop (state_stop f v))))
     found_stop =
         let u = under OfStop kind in
-        let m = made_of (λ v. stop (state_stop f v)) (value_if g (values_in stops i)) u.0 u.1.1 in
+        let m = mapped_some (λ v. stop (state_stop f v)) (value_if g (values_in stops i)) u.0 u.1.1 in
         (m.0, (m.1.0, u.1.0 ∙ ap Ok (sym m.1.1)))
 
     module _ (chained : IsChained number stops) (stops' : Content (IndexLink I StopView))
@@ -187,7 +182,7 @@ module _ {I : Type 0} (number : I → ℕ) (rooms : Rooms) (last : ℕ) (s : Sta
     pub found_mark : (v : MarkView) × ((value_if g (entry_at marks i) ≡ Some v) × (holder s t ≡ Ok (mark (state_mark f v))))
     found_mark =
         let u = under OfMark kind in
-        let m = made_of (λ v. mark (state_mark f v)) (value_if g (entry_at marks i)) u.0 u.1.1 in
+        let m = mapped_some (λ v. mark (state_mark f v)) (value_if g (entry_at marks i)) u.0 u.1.1 in
         (m.0, (m.1.0, u.1.0 ∙ ap Ok (sym m.1.1)))
 
     module _ (marks' : Content MarkView) (final : Option ℕ) (removed : IsGoneFrom entry_at live_count some_counter (λ (c : Content MarkView). c.room) final i marks marks') where

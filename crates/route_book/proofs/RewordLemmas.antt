@@ -15,9 +15,7 @@ use Rattle.route_lines.specs.State.{State, Place, place_of}
 use Rattle.route_book.specs.Item.{StopView, MarkView}
 use Rattle.route_book.specs.Holds.{Found, found_by, state_stop, state_mark, place_under, stop_under, mark_under, place_at, stop_at, mark_at, IsFilled, entry, IsSettled, IsHeld}
 use Rattle.route_book.proofs.KeyLemmas.{along}
-
-some_same : {X : Type 0} {x y : X} → ◌≡◌ {A = Option X} (Some x) (Some y) → x ≡ y
-some_same e = cc
+use Rattle.route_book.proofs.OptionLemmas.{some_same}
 
 -- a place with this word, where it has this key
 abbrev pub reword : ℕ → List ℕ → Place → Place

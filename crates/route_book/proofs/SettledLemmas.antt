@@ -4,9 +4,7 @@ use Rattle.std.proofs.lemmas.Bool.{ne_eqb, eq-eqb}
 use Rattle.std.proofs.lemmas.Bool.Decides.{eqb_tells}
 use Rattle.triple_arena.specs.Entries.{value_if, with_entry, without}
 use Rattle.route_book.specs.Holds.{found_by, IsLive, IsSettled, AreUpTo}
-
-some_same : {X : Type 0} {x y : X} → ◌≡◌ {A = Option X} (Some x) (Some y) → x ≡ y
-some_same e = cc
+use Rattle.route_book.proofs.OptionLemmas.{some_same}
 
 -- one entry more, with the counter as its generation
 module _ {T : Type 0} (at at' : ℕ → Option (ℕ × T)) (i c : ℕ) (t : T) (vacant : at i ≡ None) (entries : (k : ℕ) → at' k ≡ with_entry at i (c, t) k) where

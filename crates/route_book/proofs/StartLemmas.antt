@@ -22,10 +22,11 @@ use Rattle.route_book.specs.Item.{StopView, MarkView}
 use Rattle.route_book.specs.Follows.{LeadAs}
 use Rattle.route_book.specs.Holds.{entry, state_stop, IsHeld}
 use Rattle.route_book.specs.Book.{found_in, in_order, IsBook, KeepsItems}
-use Rattle.route_book.proofs.NeighborLemmas.{held_place, has_ticket}
+use Rattle.route_book.proofs.NeighborLemmas.{held_place}
 use Rattle.route_book.proofs.FollowLemmas.{lead_started}
 use Rattle.route_book.proofs.LinkLemmas.{live_ends, unknown}
 use Rattle.route_book.proofs.StopLemmas.{stop_added, no_stop_yet}
+use Rattle.route_book.proofs.OptionLemmas.{found_has}
 
 left_false : (a b : Bool) → (a || b) ≡ false → a ≡ false
 left_false true b h = h
@@ -68,7 +69,7 @@ module _ {I : Type 0} (number : I → ℕ) (rooms : Rooms) (last : ℕ) (s : Sta
   next = ticket ∙ ap (λ n. n + 1) (sym b.last_is)
 
   stop_is : state_stop (found_in places stops marks) v ≡ record { ticket = s.last + 1; place = Some t }
-  stop_is = let named = has_ticket s.places t p (held_place s t p held) in rw (next, to, found, named) refl
+  stop_is = let named = found_has (λ (x : Place). x.ticket) t s.places p (held_place s t p held) in rw (next, to, found, named) refl
 
   no_more : stop_of s.routes (s.last + 1) ≡ None
   no_more = no_stop_yet s (found_in places stops marks) (in_order number places) (ends_in number stops) (ends_in number stops') book b.held v i g (values_in stops') vacant put.values next put.generation live (s.routes ++ own ∷ []) (s.last + 1) refl

@@ -14,7 +14,8 @@ use Rattle.route_lines.specs.State.{State, Place, Route, place_of, stop_of, mark
 use Rattle.route_book.proofs.SettledLemmas.{found_added, settled_added, up_to_added, live_settled}
 use Rattle.route_book.specs.Follows.{LeadAs}
 use Rattle.route_book.specs.Holds.{Found, found_by, state_stop, state_mark, place_under, stop_under, mark_under, place_at, stop_at, mark_at, IsFilled, entry, IsLive, IsSettled, IsHeld}
-use Rattle.route_book.proofs.HoldLemmas.{some_same, Rise-add, lookup_none, lookup_added, lookup_other, lookup_kept}
+use Rattle.route_book.proofs.HoldLemmas.{Rise-add, lookup_none, lookup_added, lookup_other, lookup_kept}
+use Rattle.route_book.proofs.OptionLemmas.{some_same}
 
 none_or_some : {X : Type 0} {x : X} → ◌≡◌ {A = Option X} None (Some x) → ⊥
 none_or_some e = absurd (cc)

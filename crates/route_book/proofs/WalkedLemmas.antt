@@ -23,10 +23,11 @@ use Rattle.route_book.specs.Holds.{state_stop}
 use Rattle.route_book.specs.Book.{Book, found_in, found_of, in_order, IsBook}
 use Rattle.route_book.specs.Walked.{stop_seen, stop_in}
 use Rattle.route_book.proofs.ChainLemmas.{routes_are_chains}
-use Rattle.route_book.proofs.HoldLemmas.{some_same, stop_listed}
-use Rattle.route_book.proofs.LinkLemmas.{IsAt, is_at, distinct, found_ticket, held_ticket, live_ends, live_values, stop_index}
+use Rattle.route_book.proofs.HoldLemmas.{stop_listed}
+use Rattle.route_book.proofs.LinkLemmas.{IsAt, is_at, distinct, held_ticket, live_ends, live_values, stop_index}
 use Rattle.route_book.proofs.RelinkLemmas.{IsNamed, named_in, next_known}
 use Rattle.route_book.proofs.StopWalkLemmas.{leads_back, stops_walked, ticket_by}
+use Rattle.route_book.proofs.OptionLemmas.{found_has, some_same}
 
 module _ {I : Type 0} (number : I → ℕ) (rooms : Rooms) (last : ℕ) (s : State) (places : Ordered I Place) (stops : Content (IndexLink I StopView)) (marks : Content MarkView)
     (book : List Entry) (b : IsBook number rooms last s places stops marks book) where
@@ -90,7 +91,7 @@ module _ {I : Type 0} (number : I → ℕ) (rooms : Rooms) (last : ℕ) (s : Sta
         known u w leads =
             let y = next_known s.routes u w leads in
             let at = stop_index s (found_in places stops marks) (in_order number places) (ends_in number stops) book b.held u y.0 y.1 in
-            (at.0, (at.1.0, (at.1.1.0, at.1.1.1 ∙ found_ticket u (stop_list s.routes) y.0 y.1)))
+            (at.0, (at.1.0, (at.1.1.0, at.1.1.1 ∙ found_has (λ (x : Stop). x.ticket) u (stop_list s.routes) y.0 y.1)))
 
     known_in : (i : ℕ) (x : Stop) → at_index i ≡ Some x → stop_of s.routes x.ticket ≡ Some x
     known_in i x is =

@@ -1,9 +1,10 @@
 -- What removals and packs leave of the items that live on, and how many references they look at.
-use Rattle.std.specs.Prelude.{◌≡◌, ◌≢◌, ℕ, ◌+◌, ◌*◌, Bool, true, false, Option, Some, Result, Ok, Err, length}
+use Rattle.std.specs.Prelude.{◌≡◌, ◌≢◌, ◌↔◌, ℕ, ◌+◌, ◌*◌, ◌≤◌, Bool, true, false, Option, Some, IsSome, Result, Ok, Err, length}
 use Rattle.std.specs.List.{range_with_len}
 use Rattle.triple_arena_ptr.specs.Generation.{next_wraps, second_generation}
-use Rattle.triple_arena.specs.Content.{entry_at}
-use Rattle.triple_arena_chain.specs.Links.{values_in}
+use Rattle.triple_arena.specs.Content.{entry_at, live_count}
+use Rattle.triple_arena_chain.specs.CanonicalLayout.{IsLaidOut}
+use Rattle.triple_arena_chain.specs.Links.{ends_in, values_in}
 use Rattle.triple_arena_ord.specs.Ordered.{entry_in, order_in}
 use Rattle.ticket_book.specs.declared.entry.Kind.{Kind}
 use Rattle.ticket_book.specs.declared.entry.Kind.TheVariants.{Place as OfPlace, Stop as OfStop, Mark as OfMark}
@@ -91,13 +92,15 @@ module _ {I : Type 0} where
   Tries last t old new (Ok false) = (item : Item) × ((holder old.state t ≡ Ok item) × ((removal_wraps last old (kind_of item) ≡ true) × (new ≡ old)))
   Tries last t old new (Err refusal) = (holder old.state t ≡ Err refusal) × (new ≡ old)
 
-  -- a pack: each reference was looked at once and none is dead, the places stand at the indexes from 1 on in the order of
-  -- their keys, and both counters have started again
+  -- a pack: each reference was looked at once and none is dead, and both counters have started again. All items stand at the
+  -- indexes from 1 on: places in the order of their keys, the stops of each route one after another
   pub record IsPacked (number : I → ℕ) (last : Option ℕ) (before after : ℕ) (old new : Book I) : Type 0 where
     pub looks : after ≡ before + references_in old.state
     pub place_counter : new.places.chains.counter ≡ second_generation last
     pub stop_counter : new.stops.counter ≡ second_generation last
     pub order : order_in number new.places ≡ range_with_len 1 (length new.state.places)
+    pub stop_runs : IsLaidOut (ends_in number new.stops) (live_count new.stops)
+    pub mark_run : (i : ℕ) → IsSome (entry_at new.marks i) ↔ ((1 ≤ i) × (i ≤ live_count new.marks))
     pub stops : (i g : ℕ) (v : StopView) → values_in new.stops i ≡ Some (g, v) → IsLive (entry_in new.places) v.place
     pub marks : (i g : ℕ) (m : MarkView) → entry_at new.marks i ≡ Some (g, m) → IsLive (entry_in new.places) m.place × IsLive (values_in new.stops) m.stop
 

@@ -2,12 +2,11 @@
 ghost use Rattle.std.specs.Prelude.{◌<◌};
 
 use crate::runs::{Cut, play_runs};
-use narrow_ptr::N3;
-use refusing_allocator::RefusingAllocator;
 use route_book::{BookBacking, OnArray, OnFixed, OnHeap, OnLimited, PtrCore, RouteBook};
 use script::Call;
 use std::alloc::{AllocError, Global};
 use std::fmt::Write;
+use test_kit::{N3, RefusingAllocator};
 use triple_arena_ptr::{P0, P1, P5};
 
 // What a store on the heap takes its memory from. It can refuse one request.

@@ -22,7 +22,7 @@
 //!   comparisons it took: with keys, with first tickets and with second ones. A line of them is passed over here;
 //! - `sweeps` does as `answer`, and tells the looks at references, and the counters of places and of stops;
 //! - HOW is `plain`; or `broken` if the reader fails at its end; or `stalling` if the writer takes none once it is full,
-//!   and does not fail; or `unflushed` if a flush fails;
+//!   and does not fail; or `full` or `idle` if it takes none at all, and fails or does not; or `unflushed` if a flush fails;
 //! - READ and TAKEN are how many bytes a call reads and writes, and ROOM how many the writer takes. There 0 is all.
 //!
 //! A number that a line lacks is 0. A `#` begins a section and a `>` a run also within a line, which then has no LF.

@@ -82,8 +82,11 @@ impl Page {
         Page {
             text,
             step: limit(line.second),
-            room: limit(line.third),
-            stalls: line.verb == "stalling",
+            room: match line.verb {
+                "full" | "idle" => 0,
+                _ => limit(line.third),
+            },
+            stalls: line.verb == "stalling" || line.verb == "idle",
             flush_fails: line.verb == "unflushed",
             flushes: 0,
         }

@@ -1,5 +1,5 @@
 -- A canonical compression as a whole: the links go to the first indexes, and then each chain to successive ones.
-use Rattle.std.proofs.Common.{◌≡◌, ℕ, zero, suc, ◌+◌, ◌<◌, ◌≤◌, Bool, List, [], ◌∷◌, length, map, Option, Some, None, IsSome, is_some, option_map, true≢false, refl, sym, ap, subst, ◌∙◌, arith, inl, inr}
+use Rattle.std.proofs.Common.{◌≡◌, ℕ, zero, suc, ◌+◌, ◌<◌, ◌≤◌, Bool, length, map, Option, Some, None, IsSome, is_some, option_map, true≢false, refl, sym, ap, subst, ◌∙◌, arith}
 use Rattle.std.specs.Prelude.{slice_get}
 use Rattle.std.proofs.lemmas.Option.{slice_get-map}
 use Rattle.triple_arena.specs.Compression.{renewed, value_of}
@@ -7,8 +7,8 @@ use Rattle.triple_arena.specs.Content.{Content, entry_at, live_count}
 use Rattle.triple_arena.specs.LiveEntries.{live_entries}
 use Rattle.triple_arena_chain.specs.declared.link.IndexLink.{IndexLink}
 use Rattle.triple_arena_chain.specs.Chains.{Ends, next_in, prev_in, IsAgreed, On}
-use Rattle.triple_arena_chain.specs.ListLaws.{On-either, on_differs, live_next_in, live_prev_in, live_in}
-use Rattle.triple_arena_chain.specs.Lists.{Chain, members, all_members, AreAllChainsOf}
+use Rattle.triple_arena_chain.specs.AllChainsLaws.{all_live}
+use Rattle.triple_arena_chain.specs.ListLaws.{live_next_in, live_prev_in}
 use Rattle.triple_arena_chain.specs.Links.{valued, values_in, entry_ends, ends_in, IsChained}
 use Rattle.triple_arena_chain.specs.Listed.{listed_value, listed_values}
 use Rattle.triple_arena_chain.specs.Renaming.{live_below, new_index, ends_renamed, FollowsRenaming, IsCompacted}
@@ -29,16 +29,12 @@ live_below_full at (suc (suc n)) none live one =
     omega (arith, rest, here)
 
 module _ (e : ℕ → Option Ends) where
-  all_live : (cs : List Chain) (k : ℕ) → AreAllChainsOf e cs → On (all_members cs) k → IsSome (e k)
-  all_live [] k are on = absurd (on_differs [] k k on tt refl)
-  all_live (c ∷ cs) k are on = elim (On-either (members c) (all_members cs) k on) [ inl here ↦ live_in e c k are.0.0 here | inr there ↦ all_live cs k are.1 there ]
-
   -- in the canonical layout each live index has its own number
   laid_rank : (n i : ℕ) → e 0 ≡ None → IsLaidOut e n → IsSome (e i) → new_index e i ≡ i
   laid_rank n i none laid some =
       let at = run-within 1 n i (subst (λ l. On l i) laid.runs (laid.are.whole i some)) in
       let low = at.0 in
-      live_below_full e i none (λ j up down. all_live laid.chains j laid.are.chains (subst (λ l. On l j) (sym laid.runs) (run-on 1 n j up (omega (arith, down, at.1))))) low
+      live_below_full e i none (λ j up down. all_live e laid.chains j laid.are.chains (subst (λ l. On l j) (sym laid.runs) (run-on 1 n j up (omega (arith, down, at.1))))) low
 
   -- where no live index changes its name the interlinks stay
   renamed_same : (f : ℕ → ℕ) (e' : ℕ → Option Ends) → IsAgreed e → FollowsRenaming f e e' → ((i : ℕ) → IsSome (e i) → f i ≡ i) → (i : ℕ) → e' i ≡ e i

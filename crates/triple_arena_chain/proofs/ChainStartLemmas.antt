@@ -5,7 +5,7 @@ use Rattle.triple_arena_chain.specs.ChainLaws.{Stands-back, few, Below}
 use Rattle.triple_arena_chain.specs.UniquenessLaws.{ended, Ended, none, some_last}
 use Rattle.triple_arena_chain.specs.ListLaws.{On-first, On-back, off_or_not, on_differs, of_live, live_next_in, live_on, holds_prev, turned}
 use Rattle.triple_arena_chain.specs.ChainLaws.{last_or-append}
-use Rattle.triple_arena_chain.specs.Lists.{Cyclic}
+use Rattle.triple_arena_chain.specs.Lists.{Chain, Cyclic, members, IsChainOf}
 use Rattle.triple_arena_chain.specs.CanonicalLayout.{IsHead, IsClosed}
 
 module _ (e : ℕ → Option Ends) where
@@ -17,7 +17,7 @@ module _ (e : ℕ → Option Ends) where
     pub apart : Apart (at ∷ ys)
     pub long : length ys ≡ steps
     pub past : (low : ℕ) → IsClosed e low → low < k → low < at
-    pub own : (xs : List ℕ) → IsRing e (k ∷ xs) → On (k ∷ xs) at
+    pub same : (c : Chain) → IsChainOf e c → On (members c) k → On (members c) at
     pub starts : prev_at e k ≡ None → at ≡ k
 
   pub back_begun : (k : ℕ) → IsSome (e k) → IsBack k k 0
@@ -29,7 +29,7 @@ module _ (e : ℕ → Option Ends) where
         apart = (tt, tt);
         long = refl;
         past = λ low closed less. less;
-        own = λ xs ring. On-first k xs;
+        same = λ c is on. on;
         starts = λ no. refl;
       }
 
@@ -89,7 +89,7 @@ module _ (e : ℕ → Option Ends) where
           past = λ low closed less.
               let up = b.past low closed less in
               (λ (within : p ≤ low → at ≤ low). before p at low within up) (λ within. closed.on p at goes within);
-          own = λ xs ring. holds_prev e (Cyclic (k ∷ xs)) at p ring (b.own xs ring) comes;
+          same = λ c is on. holds_prev e c at p is (b.same c is on) comes;
           starts = λ no. absurd (let is = b.starts no in let gone : None ≡ Some p = sym no ∙ ap (prev_at e) (sym is) ∙ comes in cc);
         }
       where
@@ -99,7 +99,7 @@ module _ (e : ℕ → Option Ends) where
     -- without a previous one it is the first
     pub back_none : prev_at e at ≡ None → (IsHead e k → at ≡ k)
     back_none lone (inl start) = b.starts start
-    back_none lone (inr ring) = absurd (by (b.own ring.0 ring.1))
+    back_none lone (inr ring) = absurd (by (b.same (Cyclic (k ∷ ring.0)) ring.1 (On-first k ring.0)))
       where
         by : On (k ∷ ring.0) at → ⊥
         by on =
@@ -133,6 +133,9 @@ module _ (e : ℕ → Option Ends) where
 module _ (e : ℕ → Option Ends) (agreed : IsAgreed e) (k at steps : ℕ) (b : IsBack e k at steps) where
   pub back_live : IsSome (e at)
   back_live = live_on e (prev_at e at) (next_at e k) (at ∷ b.ys) at b.stands (On-first at b.ys)
+
+  pub back_same : (c : Chain) → IsChainOf e c → On (members c) k → On (members c) at
+  back_same = b.same
 
   pub back_past : (low : ℕ) → IsClosed e low → low < k → low < at
   back_past = b.past

@@ -102,7 +102,7 @@ laid_same e e' n same laid =
 swap_fixes : (i j low k : ℕ) → low < i → low < j → k ≤ low → swapped_index i j k ≡ k
 swap_fixes i j low k above_i above_j within = swap_other i j k (λ same. omega (arith, same, within, above_i)) (λ same. omega (arith, same, within, above_j))
 
-all_append : (cs : List Chain) (c : Chain) → all_members (cs ++ c ∷ []) ≡ all_members cs ++ members c
+pub all_append : (cs : List Chain) (c : Chain) → all_members (cs ++ c ∷ []) ≡ all_members cs ++ members c
 all_append [] c = nothing_more (members c)
   where
     nothing_more : (xs : List ℕ) → xs ++ [] ≡ xs
@@ -110,7 +110,7 @@ all_append [] c = nothing_more (members c)
     nothing_more (x ∷ xs) = ap (λ l. x ∷ l) (nothing_more xs)
 all_append (d ∷ cs) c = ap (λ l. members d ++ l) (all_append cs c) ∙ sym (append_assoc (members d) (all_members cs) (members c))
 
-are_append : (e : ℕ → Option Ends) (cs : List Chain) (c : Chain) → AreAllChainsOf e cs → IsChainOf e c → IsWritten c → AreAllChainsOf e (cs ++ c ∷ [])
+pub are_append : (e : ℕ → Option Ends) (cs : List Chain) (c : Chain) → AreAllChainsOf e cs → IsChainOf e c → IsWritten c → AreAllChainsOf e (cs ++ c ∷ [])
 are_append e [] c are chain written = ((chain, written), tt)
 are_append e (d ∷ cs) c are chain written = (are.0, are_append e cs c are.1 chain written)
 

@@ -14,6 +14,7 @@ use Rattle.triple_arena_chain.proofs.AgreedLemmas.{next_at_p}
 use Rattle.triple_arena_chain.specs.LinkLaws.{kept_on}
 use Rattle.triple_arena_chain.proofs.InsertionLemmas.{with_next_if-same, with_prev_if-same}
 use Rattle.triple_arena_chain.specs.KindLaws.{found}
+use Rattle.triple_arena_chain.proofs.RestoredLemmas.{still_next, found_by_next}
 use Rattle.triple_arena_chain.proofs.ReversalLemmas.{linked_back, unlinked_back, exchanged_back, next_exchanged}
 
 -- two that have no neighbors to each other's side
@@ -59,6 +60,17 @@ module _ {I T : Type 0} (number : I → ℕ) where
         kept = kept_on c d f one.kept two.kept;
       }
 
+  -- the first finds its next, which it just got
+  pub connect_answers : (c d : Content (IndexLink I T)) (p gp q gq : ℕ) → IsSome (at_bridge p q (ends_found number c p gp) (ends_found number c q gq))
+      → IsRelinked number (linked (ends_in number c) p q) c d → IsSome (next_in (ends_found number d p gp))
+  connect_answers c d p gp q gq met one =
+      let e = ends_in number c in
+      let gap = open_by p q (ends_found number c p gp) (ends_found number c q gq) met in
+      let next : next_at (ends_in number d) p ≡ Some q =
+      ap next_in (one.ends p) ∙ next_at_p e p q (Some q) (Some p) gap.first (found number c p gp gap.first gap.first_is) in
+      let there : IsSome (ends_found number c p gp) = rw gap.first_is refl in
+      still_next number c d p gp q there (one.values p) next
+
   pub connect_back : (c d f : Content (IndexLink I T)) (p gp q gq : ℕ) → IsSome (at_bridge p q (ends_found number c p gp) (ends_found number c q gq))
       → IsRelinked number (linked (ends_in number c) p q) c d
       → ((n : ℕ) → next_at (ends_in number d) p ≡ Some n → IsRelinked number (unlinked (ends_in number d) p n) d f)
@@ -81,6 +93,15 @@ module _ {I T : Type 0} (number : I → ℕ) where
       restored c d f (unlinked e p q) (linked (ends_in number d) p q) one two
       (λ k. both_same (unlinked e p q) (ends_in number d) p q (Some q) (Some p) one.ends k
       ∙ unlinked_back e p q next (chained.agreed.forward p q next) k)
+
+  pub exchange_answers : (c d : Content (IndexLink I T)) (p gp q gq s t : ℕ) → IsSome (next_in (ends_found number c p gp)) → IsSome (next_in (ends_found number c q gq))
+      → next_at (ends_in number c) p ≡ Some s → next_at (ends_in number c) q ≡ Some t → IsRelinked number (exchanged (ends_in number c) p q s t) c d
+      → IsSome (next_in (ends_found number d p gp)) × IsSome (next_in (ends_found number d q gq))
+  exchange_answers c d p gp q gq s t has_p has_q out_p out_q one =
+      let after = next_exchanged (ends_in number c) p q s t out_p out_q in (
+        still_next number c d p gp t (found_by_next (ends_found number c p gp) has_p) (one.values p) (ap next_in (one.ends p) ∙ after.0),
+        still_next number c d q gq s (found_by_next (ends_found number c q gq) has_q) (one.values q) (ap next_in (one.ends q) ∙ after.1),
+      )
 
   pub exchange_back : (c d f : Content (IndexLink I T)) (p q s t : ℕ) → IsChained number c → next_at (ends_in number c) p ≡ Some s
       → next_at (ends_in number c) q ≡ Some t → IsRelinked number (exchanged (ends_in number c) p q s t) c d

@@ -14,6 +14,7 @@ pub mod GrowthLemmas
 pub mod LendLemmas
 pub mod WalkLemmas
 pub mod ReversalLemmas
+pub mod RestoredLemmas
 pub mod RemovalLemmas
 pub mod LawLemmas
 pub mod IterChainLemmas
@@ -34,3 +35,8 @@ pub mod GatherLemmas
 pub mod ChainStartLemmas
 pub mod GatheredLemmas
 pub mod CanonicalLayoutLemmas
+pub mod PositionLemmas
+pub mod MovedLinkLemmas
+pub mod MovedChainLemmas
+pub mod MovingLemmas
+pub mod MovedInOrderLemmas

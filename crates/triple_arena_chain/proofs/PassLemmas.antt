@@ -22,7 +22,7 @@ module _ {I T : Type 0} where
   pub live_as : (c d : Content (IndexLink I T)) → ((j : ℕ) → values_in d j ≡ values_in c j) → (j : ℕ) → is_some (entry_at d j) ≡ is_some (entry_at c j)
   live_as c d same j = sym (some_valued (entry_at d j)) ∙ ap is_some (same j) ∙ some_valued (entry_at c j)
 
-  none_of : (o : Option (ℕ × IndexLink I T)) → (IsSome o → ⊥) → o ≡ None
+  pub none_of : (o : Option (ℕ × IndexLink I T)) → (IsSome o → ⊥) → o ≡ None
   none_of None not = refl
   none_of (Some e) not = absurd (not refl)
 

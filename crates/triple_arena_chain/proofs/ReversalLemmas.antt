@@ -34,7 +34,7 @@ both_back false true n n' m m' x was was' = sym (was' refl)
 both_back false false n n' m m' x was was' = refl
 
 -- four writes, of which the later two write what was there
-two_back_at : (is_p is_q : Bool) (n m n' m' : Option ℕ) (o : Option Ends) → (is_p ≡ true → next_in o ≡ n) → (is_q ≡ true → prev_in o ≡ m)
+pub two_back_at : (is_p is_q : Bool) (n m n' m' : Option ℕ) (o : Option Ends) → (is_p ≡ true → next_in o ≡ n) → (is_q ≡ true → prev_in o ≡ m)
     → prev_where is_q m (next_where is_p n (prev_where is_q m' (next_where is_p n' o))) ≡ o
 two_back_at is_p is_q n m n' m' None next prev = rw (next_none is_p n', prev_none is_q m', next_none is_p n, prev_none is_q m) refl
 two_back_at is_p is_q n m n' m' (Some v) next prev =

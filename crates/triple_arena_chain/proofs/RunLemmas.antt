@@ -1,7 +1,6 @@
 -- Runs of successive indexes, and chains that are runs.
 use Rattle.std.proofs.Common.{◌≡◌, ◌≢◌, ℕ, zero, suc, ◌+◌, ◌-◌, ◌<◌, ◌≤◌, List, [], ◌∷◌, ◌++◌, length, Option, Some, None, refl, sym, ap, subst, ◌∙◌, arith, inl, inr, ◌⊎◌}
 use Rattle.std.specs.List.{range_with_len}
-use Rattle.std.proofs.lemmas.List.FromFn.{length-range_with_len}
 use Rattle.std.proofs.lemmas.Bool.Decides.{eqb_tells, leb_tells}
 use Rattle.triple_arena_chain.specs.Chains.{Ends, next_in, next_at, prev_at, IsAgreed, last_or, Stands, Off, On, Apart, IsLinear, IsRing}
 use Rattle.triple_arena_chain.specs.ListLaws.{On-first, On-back, On-either, on_differs, live_next_in}

@@ -25,6 +25,15 @@ module _ (e : ℕ → Option Ends) where
             record { chain = w.chain; is_chain = w.is_chain; on = w.on; all = λ j at. On-back (members c) (all_members cs) j (w.all j at) }
       ]
 
+  -- what is in one of these is live
+  pub all_live : (cs : List Chain) (k : ℕ) → AreAllChainsOf e cs → On (all_members cs) k → IsSome (e k)
+  all_live [] k chains on = absurd (on_differs [] k k on tt refl)
+  all_live (c ∷ cs) k chains on =
+      elim (On-either (members c) (all_members cs) k on) [
+        | inl here ↦ live_in e c k chains.0.0 here
+        | inr there ↦ all_live cs k chains.1 there
+      ]
+
   -- a chain that has an index which is in none of these has none of theirs
   apart_from : (cs : List Chain) (c : Chain) (n k : ℕ) → AreAllChainsOf e cs → Off (all_members cs) n → IsChainOf e c → On (members c) n → On (members c) k
       → Off (all_members cs) k

@@ -21,6 +21,8 @@ pub mod Listed
 pub mod ListedLaws
 pub mod Renaming
 pub mod CanonicalLayout
+pub mod CanonicalTransfer
+pub mod CanonicalTransferLaws
 pub mod LinkCopies
 pub mod LinkRecasting
 pub mod SameLinksLaws

@@ -7,6 +7,7 @@ mod advancer;
 mod arena_calls;
 mod backing;
 mod canonical_layout;
+mod canonical_transfer;
 pub(crate) mod capacity_drain;
 mod chain_calls;
 mod compression;

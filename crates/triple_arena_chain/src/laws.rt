@@ -1,13 +1,14 @@
 //! What follows from the calls of a chain arena.
-ghost use Rattle.std.specs.Prelude.{◌≡◌, ℕ, Bool, List, [], ◌∷◌, ◌++◌, Option, Some, IsSome};
+ghost use Rattle.std.specs.Prelude.{◌≡◌, ◌↔◌, ℕ, Bool, List, [], ◌∷◌, ◌++◌, Option, Some, IsSome, IfSome};
 ghost use Rattle.triple_arena.specs.Content.{Content};
 ghost use Rattle.triple_arena_chain.specs.CanonicalLayout.{IsCanonical};
-ghost use Rattle.triple_arena_chain.specs.declared.kind.InsertKind.TheVariants.{Bridge};
+ghost use Rattle.triple_arena_chain.specs.CanonicalTransfer.{AreInOrder};
+ghost use Rattle.triple_arena_chain.specs.declared.kind.InsertKind.TheVariants.{Bridge, NextTo, PrevTo};
 ghost use Rattle.triple_arena_chain.specs.declared.link.IndexLink.{IndexLink};
-ghost use Rattle.triple_arena_chain.specs.Chains.{Ends, next_at, linked, unlinked, exchanged, IsLinear, IsRing, On};
+ghost use Rattle.triple_arena_chain.specs.Chains.{Ends, next_in, next_at, linked, unlinked, exchanged, IsLinear, IsRing, On, Apart};
 ghost use Rattle.triple_arena_chain.specs.Lists.{Chain, members, IsChainOf, AreChains};
 ghost use Rattle.triple_arena_chain.specs.Walks.{IsWalkFrom};
-ghost use Rattle.triple_arena_chain.specs.Links.{ends_in, place_among, IsChained, IsRelinked};
+ghost use Rattle.triple_arena_chain.specs.Links.{ends_in, ends_found, values_in, place_among, IsChained, IsPlaced, IsTakenOut, IsRelinked};
 ghost use Rattle.triple_arena_chain.specs.UniquenessLaws.{IsInOneChain};
 
 use triple_arena::PtrCore;
@@ -32,6 +33,11 @@ pub fn chains_that_share_are_one()
         → On xs k → On ys k → xs ≡ ys }
 {}
 
+/// The chains have one order by their least indexes.
+pub fn chains_have_one_order()
+    ensures { (ends : ℕ → Option Ends) (cs ds : List Chain) → AreInOrder ends cs → AreInOrder ends ds → cs ≡ ds }
+{}
+
 /// A ring may be read from any of its indexes on.
 pub fn rings_turn()
     ensures { (ends : ℕ → Option Ends) (xs : List ℕ) (y : ℕ) (ys : List ℕ) → IsRing ends (xs ++ y ∷ ys)
@@ -46,16 +52,28 @@ pub fn links_begin_one_walk<P: PtrCore, T>()
         × ((other : List ℕ) → IsWalkFrom (ends_in P.Inx.number c) i other → other ≡ walk) }
 {}
 
+/// A walk gives each link of its chain, and no other, once.
+pub fn walks_give_each_link_once()
+    ensures once { (ends : ℕ → Option Ends) (i : ℕ) (walk : List ℕ) → IsWalkFrom ends i walk → Apart walk }
+    ensures whole { (ends : ℕ → Option Ends) (i : ℕ) (walk : List ℕ) (c : Chain) → IsWalkFrom ends i walk
+        → IsChainOf ends c → On (members c) i → (k : ℕ) → On walk k ↔ On (members c) k }
+{}
+
 /// A walk of a ring from a link and one from its next are rotations of one another.
 pub fn walks_of_a_ring_are_rotations()
     ensures { (ends : ℕ → Option Ends) (i next : ℕ) (rest : List ℕ) → IsRing ends (i ∷ next ∷ rest)
         → IsWalkFrom ends i (i ∷ next ∷ rest) × IsWalkFrom ends next (next ∷ rest ++ i ∷ []) }
 {}
 
-/// A `connect` that answers `Some`, and then `break_next` of its first, restores all interlinks, and leaves all else as it
-/// was.
+/// A `connect` that answers `Some`, and then `break_next` of its first, which answers `Some` too, restores all interlinks,
+/// and leaves all else as it was.
 pub fn break_next_takes_connect_back<P: PtrCore, T>()
-    ensures { (before between after : Content (IndexLink P.Inx T)) (p q : P)
+    ensures answers { (before between : Content (IndexLink P.Inx T)) (p q : P)
+        → IsSome (place_among P.index P.generation P.Inx.number before (Bridge p q))
+        → IsRelinked P.Inx.number (linked (ends_in P.Inx.number before) (P.index p) (P.index q))
+        before between
+        → IsSome (next_in (ends_found P.Inx.number between (P.index p) (P.generation p))) }
+    ensures restored { (before between after : Content (IndexLink P.Inx T)) (p q : P)
         → IsSome (place_among P.index P.generation P.Inx.number before (Bridge p q))
         → IsRelinked P.Inx.number (linked (ends_in P.Inx.number before) (P.index p) (P.index q))
         before between
@@ -75,10 +93,19 @@ pub fn connect_takes_break_next_back<P: PtrCore, T>()
         → IsRelinked P.Inx.number (ends_in P.Inx.number before) before after }
 {}
 
-/// `exchange_next` twice with the same pointers, where the first answers `Some`, restores all interlinks, and leaves all
-/// else as it was.
+/// `exchange_next` twice with the same pointers, where the first answers `Some`, answers `Some` again, restores all
+/// interlinks, and leaves all else as it was.
 pub fn exchange_next_takes_itself_back<P: PtrCore, T>()
-    ensures { (before between after : Content (IndexLink P.Inx T)) (p q s t : ℕ)
+    ensures answers { (before between : Content (IndexLink P.Inx T)) (p q : P) (s t : ℕ)
+        → IsSome (next_in (ends_found P.Inx.number before (P.index p) (P.generation p)))
+        → IsSome (next_in (ends_found P.Inx.number before (P.index q) (P.generation q)))
+        → next_at (ends_in P.Inx.number before) (P.index p) ≡ Some s
+        → next_at (ends_in P.Inx.number before) (P.index q) ≡ Some t
+        → IsRelinked P.Inx.number
+        (exchanged (ends_in P.Inx.number before) (P.index p) (P.index q) s t) before between
+        → IsSome (next_in (ends_found P.Inx.number between (P.index p) (P.generation p)))
+        × IsSome (next_in (ends_found P.Inx.number between (P.index q) (P.generation q))) }
+    ensures restored { (before between after : Content (IndexLink P.Inx T)) (p q s t : ℕ)
         → IsChained P.Inx.number before → next_at (ends_in P.Inx.number before) p ≡ Some s
         → next_at (ends_in P.Inx.number before) q ≡ Some t
         → IsRelinked P.Inx.number (exchanged (ends_in P.Inx.number before) p q s t) before between
@@ -86,6 +113,26 @@ pub fn exchange_next_takes_itself_back<P: PtrCore, T>()
         → next_at (ends_in P.Inx.number between) q ≡ Some n
         → IsRelinked P.Inx.number (exchanged (ends_in P.Inx.number between) p q m n) between after)
         → IsRelinked P.Inx.number (ends_in P.Inx.number before) before after }
+{}
+
+/// An insertion directly after or before a link, and then the removal of what it put in, restores all interlinks and values.
+pub fn removals_take_insertions_back<P: PtrCore, T>()
+    ensures after { (before between after : Content (IndexLink P.Inx T)) (p : P) (i g : ℕ) (t : T)
+        → IsChained P.Inx.number before → IsChained P.Inx.number between
+        → IsSome (place_among P.index P.generation P.Inx.number before (NextTo p))
+        → IfSome (place_among P.index P.generation P.Inx.number before (NextTo p))
+        (λ place. IsPlaced P.Inx.number place i g t before between)
+        → IsTakenOut P.Inx.number P.Gen.last i between after
+        → (k : ℕ) → (ends_in P.Inx.number after k ≡ ends_in P.Inx.number before k)
+        × (values_in after k ≡ values_in before k) }
+    ensures before { (before between after : Content (IndexLink P.Inx T)) (p : P) (i g : ℕ) (t : T)
+        → IsChained P.Inx.number before → IsChained P.Inx.number between
+        → IsSome (place_among P.index P.generation P.Inx.number before (PrevTo p))
+        → IfSome (place_among P.index P.generation P.Inx.number before (PrevTo p))
+        (λ place. IsPlaced P.Inx.number place i g t before between)
+        → IsTakenOut P.Inx.number P.Gen.last i between after
+        → (k : ℕ) → (ends_in P.Inx.number after k ≡ ends_in P.Inx.number before k)
+        × (values_in after k ≡ values_in before k) }
 {}
 
 /// A second `compress_canonical` changes no index.

@@ -2,7 +2,6 @@
 use Rattle.std.proofs.Common.{◌≡◌, ◌≢◌, ℕ, suc, ◌+◌, ◌<◌, ◌≤◌, List, [], ◌∷◌, length, map, Option, Some, None, IsSome, is_some, option_map, true, false, refl, sym, ap, subst, ◌∙◌, inl, inr, arith}
 use Rattle.std.proofs.lemmas.Bool.{eq-eqb, ne_eqb, cases_order}
 use Rattle.std.proofs.lemmas.Bool.Decides.{eqb_tells}
-use Rattle.std.proofs.lemmas.List.{length-map}
 use Rattle.std.specs.List.Sorted.{IsStrictlyIncreasing}
 use Rattle.triple_arena_ptr.specs.Generation.{next_wraps}
 use Rattle.triple_arena_ptr.specs.InvalidationOption.{value_of, overflowed}
@@ -16,10 +15,10 @@ use Rattle.triple_arena.specs.Iterators.{pointer_of}
 use Rattle.triple_arena.specs.Walk.{Walk, IsAhead, ComesBefore, IsFirstLive, past}
 use Rattle.triple_arena_chain.specs.IndexDrains.{IsAllAhead}
 use Rattle.triple_arena_chain.specs.Links.{valued, values_in}
-use Rattle.triple_arena_chain.specs.Listed.{listed_value, listed_values}
-use Rattle.triple_arena_chain.specs.ListedLaws.{value-listed, listed_values-increase, listed_values-length}
+use Rattle.triple_arena_chain.specs.Listed.{listed_value}
 use Rattle.triple_arena_chain.specs.declared.link.IndexLink.{IndexLink}
 use Rattle.triple_arena_ord.specs.Indexed.{listed_item, indexed}
+use Rattle.triple_arena_ord.specs.IndexedLaws.{entry-indexed, indexed-increase, indexed-length}
 use Rattle.triple_arena_ord.specs.IndexDrains.{DrainKeeps, DrainKeepsAlong}
 use Rattle.triple_arena_ord.specs.Node.{itemed}
 use Rattle.triple_arena_ord.specs.Ordered.{Ordered, entry_in, size_in}
@@ -115,27 +114,12 @@ module _ {T : Type 0} where
       ]
 
 module _ {I T : Type 0} where
-  look_up-items : (nodes : List (ℕ × (ℕ × IndexNode I T))) (i : ℕ) → look_up (map listed_item nodes) i ≡ option_map itemed (look_up nodes i)
-  look_up-items [] i = refl
-  look_up-items (e ∷ nodes) i =
-      elim (eqb_tells e.0 i) [
-        | inl same ↦ rw same.0 refl
-        | inr other ↦ rw other.0 (look_up-items nodes i)
-      ]
-
-  indexes_same : (nodes : List (ℕ × (ℕ × IndexNode I T))) → map index_of (map listed_item nodes) ≡ map index_of nodes
-  indexes_same [] = refl
-  indexes_same (e ∷ nodes) = ap (λ l. e.0 ∷ l) (indexes_same nodes)
-
-  -- the entry at each index is the one that is listed under it
-  pub entry-indexed : (o : Ordered I T) (i : ℕ) → entry_in o i ≡ look_up (indexed o) i
-  entry-indexed o i = ap (option_map itemed) (value-listed o.chains i) ∙ sym (look_up-items (listed_values o.chains) i)
-
   indexed-rises : (o : Ordered I T) → Rises 0 (indexed o)
-  indexed-rises o = rises (indexed o) (subst IsStrictlyIncreasing (sym (indexes_same (listed_values o.chains))) (listed_values-increase o.chains))
+  indexed-rises o = rises (indexed o) (indexed-increase o)
 
-  pub indexed-length : (o : Ordered I T) → length (indexed o) ≡ size_in o
-  indexed-length o = length-map (listed_values o.chains) listed_item ∙ listed_values-length o.chains
+  -- the same items at the same indexes
+  pub same_items : (o p : Ordered I T) → ((i : ℕ) → entry_in p i ≡ entry_in o i) → indexed p ≡ indexed o
+  same_items o p same = by_look_up 0 (indexed p) (indexed o) (indexed-rises p) (indexed-rises o) (λ i. sym (entry-indexed p i) ∙ same i ∙ entry-indexed o i)
 
   -- the pointers are those of the links
   pub pointers_same : (links : List (ℕ × (ℕ × IndexLink I (IndexNode I T)))) → map pointer_of (map listed_item (map listed_value links)) ≡ map pointer_of links

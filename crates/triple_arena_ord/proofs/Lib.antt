@@ -31,4 +31,14 @@ pub mod OrderedWalkLemmas
 pub mod OrderedDrainLemmas
 pub mod IndexedLemmas
 pub mod RebuildLemmas
+pub mod WrittenListLemmas
+pub mod RenamedListLemmas
 pub mod CanonicalLayoutLemmas
+pub mod CloneLemmas
+pub mod KeptTreeLemmas
+pub mod ItemCopyLemmas
+pub mod MappingLemmas
+pub mod CompressedLemmas
+pub mod ListEndLemmas
+pub mod LinkMoveLemmas
+pub mod CanonicalTransferLemmas

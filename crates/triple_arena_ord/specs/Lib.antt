@@ -3,6 +3,8 @@ pub mod Kinds
 pub mod Pairs
 pub mod Ordered
 pub mod States
+pub mod ItemLaws
+pub mod Formed
 pub mod Canonical
 pub mod Inserted
 pub mod Placing
@@ -17,6 +19,12 @@ pub mod Ascending
 pub mod OrderedWalks
 pub mod OrderedDrains
 pub mod Indexed
+pub mod IndexedLaws
 pub mod IndexDrains
 pub mod Rebuilt
 pub mod CanonicalLayout
+pub mod CanonicalTransfer
+pub mod LinkMoves
+pub mod Copies
+pub mod ItemRecasting
+pub mod Compressed

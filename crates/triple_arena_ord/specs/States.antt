@@ -1,10 +1,19 @@
--- What exactly an ordered arena is after the calls that leave its list as it is, and after one that leaves no entry.
+-- What exactly an ordered arena is after the calls that leave its list as it is, and after those that leave no entry.
 use Rattle.std.specs.Prelude.{ℕ, Option, None}
-use Rattle.triple_arena.specs.Content.{cleared, invalidated, stepped, with_counter}
+use Rattle.triple_arena.specs.Content.{cleared, empty, invalidated, reallocated, stepped, with_counter}
 use Rattle.triple_arena_chain.specs.Links.{with_link}
+use Rattle.triple_arena_stack.specs.Room.{Room}
 use Rattle.triple_arena_ord.specs.Ordered.{Ordered}
 
 module _ {I T : Type 0} where
+  -- with no entry and no slot, with this counter and in this room
+  abbrev pub empty_in : ℕ → Room → Ordered I T
+  empty_in counter room = record { chains = empty counter room; root = None }
+
+  -- with at least this capacity
+  abbrev pub reallocated_in : Ordered I T → ℕ → Ordered I T
+  reallocated_in o least = record o { chains = reallocated o.chains least }
+
   -- with another item at an index, if there is one
   abbrev pub with_item : Ordered I T → ℕ → T → Ordered I T
   with_item o i t = record o { chains = with_link o.chains i (λ link. record link { t = record link.t { t = t } }) }

@@ -2,11 +2,11 @@
 
 use super::streams::{Page, Pieces};
 use super::table::{ROWS, Row};
-use refusing_allocator::RefusingAllocator;
 use route_book::{BookBacking, Counts, OnHeap, RoomError, RouteBook, Watched, run};
 use std::alloc::Allocator;
 use std::process::Abort;
 use std::test::Fail;
+use test_kit::RefusingAllocator;
 use triple_arena_ptr::{P0, P1, PtrCore};
 
 // How many bytes the reader gives a time, and the writer takes.

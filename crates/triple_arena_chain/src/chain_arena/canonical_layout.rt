@@ -5,8 +5,9 @@ ghost use Rattle.triple_arena_ptr.specs.Index.{max_index_of};
 ghost use Rattle.triple_arena_ptr.specs.InvalidationOption.{overflowed};
 ghost use Rattle.triple_arena.specs.Compression.{renewal_wraps};
 ghost use Rattle.triple_arena.specs.Content.{live_count};
-ghost use Rattle.triple_arena_chain.specs.Chains.{prev_at};
+ghost use Rattle.triple_arena_chain.specs.Chains.{prev_at, On};
 ghost use Rattle.triple_arena_chain.specs.Links.{ends_in, IsChained};
+ghost use Rattle.triple_arena_chain.specs.Lists.{Chain, members, IsChainOf};
 ghost use Rattle.triple_arena_chain.specs.CanonicalLayout.{swapped_index, IsAlike, IsMoved, IsHead, IsClosed, IsGathered, IsAllGathered, IsCanonical};
 
 use crate::chain_arena::compression::{next_there, prev_there};
@@ -37,7 +38,7 @@ fn swapped<I: PtrInxCore>(at: Option<I>, i: I, j: I) -> Option<I>
 }
 
 // Whether two indexes are one.
-fn is_one<I: PtrInxCore>(i: I, j: I) -> bool
+pub(crate) fn is_one<I: PtrInxCore>(i: I, j: I) -> bool
     ensures { IsTrue result ↔ (I.number i ≡ I.number j) }
 {
     i == j
@@ -77,7 +78,7 @@ where
 }
 
 // The index behind so many others.
-fn behind<I: PtrInxCore>(count: usize) -> I
+pub(crate) fn behind<I: PtrInxCore>(count: usize) -> I
     requires { count + 1 ≤ max_index_of I.greatest }
     ensures { I.number result ≡ count + 1 }
 {
@@ -100,6 +101,8 @@ where
     ensures past { (low : ℕ) → IsClosed (ends_in P.Inx.number arena.now) low → low < P.Inx.number k
         → low < P.Inx.number result }
     ensures own { IsHead (ends_in P.Inx.number arena.now) (P.Inx.number k) → P.Inx.number result ≡ P.Inx.number k }
+    ensures same { (c : Chain) → IsChainOf (ends_in P.Inx.number arena.now) c → On (members c) (P.Inx.number k)
+        → On (members c) (P.Inx.number result) }
 {
     let mut at = k;
     // No more links are passed than indexes fit.

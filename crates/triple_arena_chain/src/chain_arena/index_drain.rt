@@ -64,7 +64,7 @@ impl<P: PtrCore, T: Drop, S: ChainSlots<P, T>> ChainArena<P, T, S> {
     }
 
     // Removes every link, each by a step of the counter, and drops every slot.
-    fn take_all(&mut self)
+    pub(crate) fn take_all(&mut self)
         ensures value { self.new ≡ drained P.Gen.last self.old }
         ensures formed { IsChained P.Inx.number self.new }
     {

@@ -15,7 +15,7 @@ use std::num::NonZeroUsize;
 use triple_arena::{ArenaTrait, InvalidationOption, PtrCore, PtrInxCore};
 
 // The first and the last of so many indexes from 1 on.
-fn ends_of_run<I: PtrInxCore>(len: usize) -> (Option<I>, Option<I>)
+pub(crate) fn ends_of_run<I: PtrInxCore>(len: usize) -> (Option<I>, Option<I>)
     requires { len ≤ max_index_of I.greatest }
     ensures first { option_map I.number result.0 ≡ first_or (range_with_len 1 len) None }
     ensures last { option_map I.number result.1 ≡ last_or None (range_with_len 1 len) }

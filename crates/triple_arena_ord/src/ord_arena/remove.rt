@@ -19,7 +19,7 @@ use triple_arena_chain::{ChainArena, ChainArenaTrait, LinkNoGen};
 use unreached::unreached;
 
 // The neighbors of an index in the list.
-fn neighbors<P: PtrCore, T: Drop, S: OrdSlots<P, T>>(
+pub(crate) fn neighbors<P: PtrCore, T: Drop, S: OrdSlots<P, T>>(
     chains: &ChainArena<P, SimpleOrdArenaNode<P, T>, S>,
     i: P::Inx,
 ) -> (Option<P::Inx>, Option<P::Inx>)

@@ -1,12 +1,12 @@
 //! A document whose nodes name one another, tidied.
 ghost use Rattle.std.specs.Prelude.{◌≡◌, Ok};
 
+use examples::tidy;
 use std::process::Abort;
 use triple_arena::{
     Arena, ArenaInsertTrait, ArenaSlot, ArenaSlots, ArenaTrait, DirectSlot, DirectSlots,
     NonZeroInxArray, P5, PtrCore, ReallocationError,
 };
-use triple_arena_user::tidy;
 
 // A node names this one, or none.
 fn names<P: PtrCore + PartialEq, S: ArenaSlots<P, Option<P>>>(

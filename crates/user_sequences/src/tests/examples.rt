@@ -1,8 +1,6 @@
 //! The examples at work. What a test calls says nothing of what it does, so that a test pays little for each call.
 use crate::tests::calls::{remove, three};
-use arena_examples::{
-    Moved, Node, Scene, Scheduler, Task, compress_and_follow, compress_with_table,
-};
+use examples::{Moved, Node, Scene, Scheduler, Task, compress_and_follow, compress_with_table};
 use std::alloc::Global;
 use std::num::{NonZeroU64, NonZeroUsize};
 use std::process::Abort;

@@ -1,9 +1,9 @@
 //! Each call that can take memory, with each of its requests refused in turn.
-use refusing_allocator::RefusingAllocator;
 use std::alloc::Global;
 use std::num::NonZeroUsize;
 use std::process::Abort;
 use std::test::Fail;
+use test_kit::RefusingAllocator;
 use triple_arena_ptr::ReallocationError;
 use triple_arena_stack::{
     NonZeroInxBoxedSlice, NonZeroInxGenericStack, NonZeroInxGenericStackEntries,

@@ -2,9 +2,9 @@ use Rattle.std.proofs.Common.{◌≡◌, ◌∙◌, ap, sym, subst}
 use Rattle.triple_arena_ord.specs.Inserted.{IsReplaced}
 use Rattle.triple_arena_ord.specs.States.{with_item}
 use Rattle.route_lines.specs.State.{Place}
-use Rattle.route_book.proofs.HoldLemmas.{some_same}
 use Rattle.route_book.proofs.NeighborLemmas.{entry_under}
 use Rattle.route_book.proofs.place_arena.reword.Goals as goal
+use Rattle.route_book.proofs.OptionLemmas.{some_same}
 
 pub returns-clause-replaced : goal.returns-clause-replaced
 returns-clause-replaced g c p value =

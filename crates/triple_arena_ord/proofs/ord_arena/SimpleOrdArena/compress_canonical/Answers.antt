@@ -4,7 +4,8 @@ use Rattle.std.specs.Option.{option_map}
 use Rattle.triple_arena_chain.specs.Chains.{first_or, last_or}
 use Rattle.triple_arena_ord.specs.Ordered.{Ordered, order_in, size_in}
 use Rattle.triple_arena_ord.specs.CanonicalLayout.{IsLaidInOrder}
-use Rattle.triple_arena_ord.proofs.CanonicalLayoutLemmas.{Laid, laid_by, list_linear, list_long, list_run}
+use Rattle.triple_arena_ord.proofs.CanonicalLayoutLemmas.{Laid, laid_by, list_run}
+use Rattle.triple_arena_ord.proofs.RenamedListLemmas.{list_linear, list_long}
 use Rattle.triple_arena_ord.proofs.ord_arena.SimpleOrdArena.compress_canonical.Goals as goal
 
 pub rebuild-self-inside-requires : goal.rebuild-self-inside-requires
@@ -17,8 +18,8 @@ rebuild-self-inside-requires g c =
     let run = list_run number last c.args.reset o mid c.self.invariant.0 canon in
     let size : c.len.result ≡ size_in o = c.len.ensures.value ∙ canon.live in (
       map canon.to (order_in number o),
-      list_linear number last c.args.reset o mid c.self.invariant.0 canon,
-      list_long number last c.args.reset o mid c.self.invariant.0 canon,
+      list_linear number o mid canon.to c.self.invariant.0 canon.renamed canon.live,
+      list_long number o mid canon.to c.self.invariant.0 canon.renamed canon.live,
       c.ends_of_run.ensures.first ∙ ap (λ n. first_or (range_with_len 1 n) None) size ∙ ap (λ l. first_or l None) (sym run),
     )
 
@@ -36,8 +37,8 @@ done g c =
     let run = list_run number last c.args.reset o mid c.self.invariant.0 canon in
     let size : c.len.result ≡ size_in o = c.len.ensures.value ∙ canon.live in
     laid_by number last c.args.reset o mid c.self.invariant.0 canon _ c.rebuild-self-inside.ensures.keeps
-    (c.rebuild-self-inside.ensures.rebuilt (map canon.to (order_in number o)) (list_linear number last c.args.reset o mid c.self.invariant.0 canon)
-    (list_long number last c.args.reset o mid c.self.invariant.0 canon)
+    (c.rebuild-self-inside.ensures.rebuilt (map canon.to (order_in number o)) (list_linear number o mid canon.to c.self.invariant.0 canon.renamed canon.live)
+    (list_long number o mid canon.to c.self.invariant.0 canon.renamed canon.live)
     (c.ends_of_run.ensures.first ∙ ap (λ n. first_or (range_with_len 1 n) None) size ∙ ap (λ l. first_or l None) (sym run)))
 
 pub invariant_of-self : goal.invariant_of-self

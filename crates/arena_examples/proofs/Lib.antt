@@ -1,2 +1,0 @@
-mod FollowLemmas
-pub mod SceneLemmas

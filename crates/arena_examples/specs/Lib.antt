@@ -1,3 +1,0 @@
-pub mod Follow
-pub mod Scene
-pub mod Scheduler

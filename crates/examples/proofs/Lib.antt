@@ -1,0 +1,7 @@
+pub mod DocumentLemmas
+mod FollowLemmas
+pub mod MoveLemmas
+pub mod OrderBookLemmas
+pub mod PlaylistLemmas
+pub mod ReversalLemmas
+pub mod SceneLemmas

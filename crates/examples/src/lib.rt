@@ -1,0 +1,26 @@
+//! Examples of what the arenas are for, each a page to copy from.
+//!
+//! - [`Scheduler`]: tasks named by pointers, where a task that was cancelled is never found again.
+//! - [`Scene`]: nodes that name their parents by numbers, which a compression does not change.
+//! - [`compress_with_table`], [`compress_and_follow`]: pointers that follow their entries through a compression, which the
+//!   scene stands on.
+//! - [`tidy`]: a document whose nodes name one another by pointers, which is compressed and keeps its names.
+//! - [`add_after`], [`move_after`], [`reverse_pair`], [`play_from`]: playlists, which are lists in a chain arena.
+//! - [`open_book`], [`add_order`], [`cancel_order`], [`best_order`], [`next_order`]: an order book, in an ordered arena.
+#![tactic(auto)]
+
+mod document;
+mod follow;
+mod order_book;
+mod playlist;
+mod scene;
+mod scheduler;
+
+pub use document::tidy;
+pub use follow::{Moved, compress_and_follow, compress_with_table};
+pub use order_book::{
+    OrderBook, OrderSlot, add_order, best_order, cancel_order, next_order, open_book,
+};
+pub use playlist::{add_after, move_after, play_from, reverse_pair};
+pub use scene::{Node, Scene};
+pub use scheduler::{Scheduler, Task};

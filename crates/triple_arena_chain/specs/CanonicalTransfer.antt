@@ -1,0 +1,37 @@
+-- A canonical transfer: each chain at successive indexes, in the order of the least indexes that the chains had.
+use Rattle.std.specs.Prelude.{◌≡◌, ℕ, ◌<◌, List, [], ◌∷◌, Option, map, length}
+use Rattle.std.specs.List.{range_with_len}
+use Rattle.triple_arena_ptr.specs.declared.invalidation.InvalidationOption.{InvalidationOption}
+use Rattle.triple_arena.specs.Content.{Content, live_count, some_counter}
+use Rattle.triple_arena.specs.Transfer.{IsTransferred}
+use Rattle.triple_arena_chain.specs.declared.link.IndexLink.{IndexLink}
+use Rattle.triple_arena_chain.specs.Chains.{Ends, On}
+use Rattle.triple_arena_chain.specs.IterChains.{links_along}
+use Rattle.triple_arena_chain.specs.Links.{ends_in, values_in}
+use Rattle.triple_arena_chain.specs.Listed.{listed_values}
+use Rattle.triple_arena_chain.specs.Lists.{Chain, members, all_members, AreChains}
+use Rattle.triple_arena_chain.specs.Renaming.{FollowsRenaming}
+
+-- each chain has an index below all those of the chains behind it
+abbrev pub AreRising : List Chain → Type 0
+AreRising [] = Unit {0}
+AreRising (c ∷ cs) = ((least : ℕ) × On (members c) least × ((k : ℕ) → On (all_members cs) k → least < k)) × AreRising cs
+
+-- these are the chains of the interlinks, in the order of their least indexes
+pub record AreInOrder (ends : ℕ → Option Ends) (cs : List Chain) : Type 0 where
+  pub are : AreChains ends cs
+  pub rising : AreRising cs
+
+module _ {Q U P T J I F : Type 0} (old_index old_generation : Q → ℕ) (index generation : P → ℕ) (old_number : J → ℕ) (number : I → ℕ)
+    (step : F → Q → InvalidationOption U → P → T → F → Type 0) where
+  -- a map was called once at each link, chain after chain, and what it gave stands at the indexes from 1 on, in chains as before
+  pub record IsMovedInOrder (f : F) (last : Option ℕ) (old : Content (IndexLink J U)) (new : Content (IndexLink I T)) : Type 0 where
+    pub chains : List Chain
+    pub in_order : AreInOrder (ends_in old_number old) chains
+    pub moved : IsTransferred old_index old_generation index generation step f last (some_counter old)
+        (links_along (values_in old) (all_members chains)) (listed_values new)
+    pub to : ℕ → ℕ
+    pub runs : map to (all_members chains) ≡ range_with_len 1 (live_count old)
+    pub renamed : FollowsRenaming to (ends_in old_number old) (ends_in number new)
+    pub slots : length new.slots ≡ live_count old
+    pub free : new.free ≡ []

@@ -1,0 +1,175 @@
+//! An ordered arena as a clone of another one, and an arena or a chain arena as a copy of an ordered one.
+ghost use Rattle.std.specs.Prelude.{◌≡◌, ℕ, ◌<◌, ◌≤◌, ◌↔◌, ◌⊎◌, IsTrue, IsOk, IfOk, OnOk, IsErrOf};
+ghost use Rattle.triple_arena_ptr.specs.Generation.{second_generation};
+ghost use Rattle.triple_arena_stack.specs.Room.{capacity as capacity_of, IsBeyond};
+ghost use Rattle.triple_arena.specs.ArenaRoom.{room_of};
+ghost use Rattle.triple_arena.specs.Content.{entry_at, live_count, some_counter, empty, cleared, reallocated};
+ghost use Rattle.triple_arena.specs.Copy.{MayRefuse, NeverRefuses, IsMappedCopy, IsRefusedCopy, IsCopy, IsUnmadeCopy};
+ghost use Rattle.triple_arena.specs.LiveEntries.{live_entries};
+ghost use Rattle.triple_arena_chain.specs.Chains.{IsLinear};
+ghost use Rattle.triple_arena_chain.specs.Links.{ends_in, values_in, IsChained};
+ghost use Rattle.triple_arena_chain.specs.Listed.{listed_values};
+ghost use Rattle.triple_arena_chain.specs.Values.{room_in as chain_room};
+ghost use Rattle.triple_arena_ord.specs.Copies.{last_inx, emptied_to, IsClone, IsChainCopy};
+ghost use Rattle.triple_arena_ord.specs.Indexed.{indexed};
+ghost use Rattle.triple_arena_ord.specs.Ordered.{IsOrdered, order_in, entry_in, size_in, counter_in, room_in};
+
+use crate::ord_arena::link_copies::copy_items;
+use crate::{OrdSlots, SimpleOrdArena, SimpleOrdArenaNode};
+use triple_arena::{AllocError, ArenaCloneFromWith, ArenaTrait, PtrCore, ReallocationError};
+use triple_arena_chain::{ChainArena, ChainSlots, LinkNoGen};
+
+impl<P: PtrCore, T: Drop, S: OrdSlots<P, T>> SimpleOrdArena<P, T, S> {
+    /// Makes `target` a copy of this arena: with its pointers, each value what `map` makes of the link there, whose value is
+    /// the node of the tree, and with its counter where `target` has one. `map` is called once for each entry, in the order of
+    /// the indexes. What `target` held is dropped, and its smallest free index is the next one to be taken.
+    ///
+    /// No memory is taken where the last live index is within the capacity of `target`, which then stays. Else `target`
+    /// first grows to exactly that index. It answers `BeyondMaxCapacity` where that is past the greatest capacity, and
+    /// `AllocError` where the memory was refused; `target` is then as it was, and `map` was not called.
+    ///
+    /// It also answers `AllocError` where `map` refused, and calls it no more. `target` then has room for the copy, no
+    /// entry, and the counter that `clear` leaves.
+    pub fn clone_to_arena<U, A, F>(&self, target: &mut A, map: F) -> Result<(), ReallocationError>
+    where
+        U: Drop,
+        A: ArenaCloneFromWith<P, U>,
+        F: FnMut(P, &LinkNoGen<P, SimpleOrdArenaNode<P, T>>) -> Result<U, AllocError>,
+        requires { F.IsAlwaysCallable map }
+        ensures mapped { OnOk result (IsMappedCopy P.index P.generation F.step map
+            (live_entries self.now.chains) (A.live_entries target.new)) }
+        ensures copied { OnOk result (IsCopy A.entry_at A.live_count A.counter A.room
+            (entry_at self.now.chains) (size_in self.now) (last_inx self.now)
+            (counter_in self.now) target.old target.new) }
+        ensures exact { OnOk result (target.new
+            ≡ A.copied target.old (counter_in self.now) (A.live_entries target.new)) }
+        ensures succeeds { last_inx self.now ≤ capacity_of (A.room target.old)
+            → NeverRefuses F.step → IsOk result }
+        ensures beyond { IsErrOf result ReallocationError.BeyondMaxCapacity
+            ↔ IsBeyond (A.room target.old).limit (last_inx self.now) }
+        ensures kept { IsErrOf result ReallocationError.BeyondMaxCapacity → target.new ≡ target.old }
+        ensures unmade { IsErrOf result ReallocationError.AllocError
+            → IsUnmadeCopy A.entry_at A.live_count A.counter A.room A.takes_memory
+            P.Gen.last (last_inx self.now) (λ s. A.cleared (A.reallocated s (last_inx self.now)))
+            (IsRefusedCopy P.index P.generation F.step map (live_entries self.now.chains))
+            target.old target.new }
+        ensures formed { A.is_formed target.new }
+    {
+        self.chains.clone_to_arena(target, map)
+    }
+}
+
+impl<P: PtrCore, T: Drop, S: OrdSlots<P, T>> SimpleOrdArena<P, T, S> {
+    /// Makes `target` a copy of this arena: with its pointers, its counter and its list as one chain, each value what `map` makes
+    /// of the item there. `map` is called once for each entry, in the order of the indexes. What `target` held is dropped,
+    /// and its smallest free index is the next one to be taken. It answers what `clone_to_arena` does.
+    pub fn clone_to_chain_arena<U, R, F>(
+        &self,
+        target: &mut ChainArena<P, U, R>,
+        map: F,
+    ) -> Result<(), ReallocationError>
+    where
+        U: Drop,
+        R: ChainSlots<P, U>,
+        F: FnMut(P, &T) -> Result<U, AllocError>,
+        requires { F.IsAlwaysCallable map }
+        ensures mapped { OnOk result (IsMappedCopy P.index P.generation F.step map
+            (indexed self.now) (listed_values target.new)) }
+        ensures copied { OnOk result (IsChainCopy P.Inx.number self.now.chains target.old target.new) }
+        ensures list { OnOk result (IsLinear (ends_in P.Inx.number target.new)
+            (order_in P.Inx.number self.now)) }
+        ensures succeeds { last_inx self.now ≤ capacity_of (chain_room target.old)
+            → NeverRefuses F.step → IsOk result }
+        ensures beyond { IsErrOf result ReallocationError.BeyondMaxCapacity
+            ↔ IsBeyond (chain_room target.old).limit (last_inx self.now) }
+        ensures kept { IsErrOf result ReallocationError.BeyondMaxCapacity → target.new ≡ target.old }
+        ensures unmade { IsErrOf result ReallocationError.AllocError
+            → IsUnmadeCopy values_in live_count some_counter chain_room R.takes_memory
+            P.Gen.last (last_inx self.now)
+            (λ c. cleared P.Gen.last (reallocated c (last_inx self.now)))
+            (IsRefusedCopy P.index P.generation F.step map (indexed self.now))
+            target.old target.new }
+        ensures formed { IsChained P.Inx.number target.new }
+    {
+        copy_items::<P, T, U, ChainArena<P, SimpleOrdArenaNode<P, T>, S>, ChainArena<P, U, R>, F>(
+            target,
+            &self.chains,
+            map,
+        )
+    }
+}
+
+impl<P: PtrCore, T: Clone, S: OrdSlots<P, T>> SimpleOrdArena<P, T, S> {
+    /// A new arena with the same pointers, clones of the items, the same list, tree and counter, where the smallest free index
+    /// is the next one to be taken. It has room for the last live index. A clone of an item must equal it.
+    ///
+    /// It answers `BeyondMaxCapacity` where no new arena of this type has so much room, and `AllocError` where the memory or
+    /// the clone of an item was refused.
+    pub fn clone(&self, alloc: S::Alloc) -> Result<Self, ReallocationError>
+        requires { (x y : T) → T.is_clone x y → y ≡ x }
+        ensures cloned { IfOk result (λ o. IsClone P.Inx.number (empty (second_generation P.Gen.last)
+            (room_of P.Inx.greatest (S.room_at (last_inx self.now)))) self.now o) }
+        ensures succeeds { last_inx self.now ≤ capacity_of (room_of P.Inx.greatest (S.room_at 0))
+            → ((x : T) → T.is_infallible x) → IsOk result }
+        ensures beyond { IsErrOf result ReallocationError.BeyondMaxCapacity
+            ↔ IsBeyond (room_of P.Inx.greatest (S.room_at (last_inx self.now))).limit
+            (last_inx self.now) }
+        ensures unmade { IsErrOf result ReallocationError.AllocError
+            → (IsTrue S.takes_memory
+            × (capacity_of (room_of P.Inx.greatest (S.room_at 0)) < last_inx self.now))
+            ⊎ MayRefuse T.is_infallible (indexed self.now) }
+        ensures ordered { IfOk result (λ o. IsOrdered P.Inx.number o) }
+    {
+        match self.chains.clone(alloc) {
+            Ok(chains) => Ok(SimpleOrdArena {
+                chains,
+                root: self.root,
+                first: self.first,
+                last: self.last,
+            }),
+            Err(error) => Err(error),
+        }
+    }
+
+    /// Makes this arena a clone of `source`: with its pointers, list, tree and counter, and with clones of the items. A clone of
+    /// an item must equal it. What the arena held is dropped, and the smallest free index is the next one to be taken.
+    ///
+    /// No memory is taken where the last live index of `source` is within the capacity, which then stays. Else the arena
+    /// first grows to exactly that index.
+    ///
+    /// It answers `BeyondMaxCapacity` where the last live index of `source` is past the greatest capacity, and `AllocError`
+    /// where the memory was refused; the arena is then as it was. It also answers `AllocError` where the clone of an item
+    /// was refused; the arena is then grown to that index and cleared.
+    pub fn clone_from(&mut self, source: &Self) -> Result<(), ReallocationError>
+        requires { (x y : T) → T.is_clone x y → y ≡ x }
+        ensures cloned { OnOk result (IsClone P.Inx.number self.old.chains source.now self.new) }
+        ensures succeeds { last_inx source.now ≤ capacity_of (room_in self.old)
+            → ((x : T) → T.is_infallible x) → IsOk result }
+        ensures beyond { IsErrOf result ReallocationError.BeyondMaxCapacity
+            ↔ IsBeyond (room_in self.old).limit (last_inx source.now) }
+        ensures kept { IsErrOf result ReallocationError.BeyondMaxCapacity → self.new ≡ self.old }
+        ensures unmade { IsErrOf result ReallocationError.AllocError
+            → IsUnmadeCopy entry_in size_in counter_in room_in S.takes_memory P.Gen.last
+            (last_inx source.now) (emptied_to P.Gen.last (last_inx source.now))
+            (MayRefuse T.is_infallible (indexed source.now)) self.old self.new }
+        ensures ordered { IsOrdered P.Inx.number self.new }
+    {
+        match self.chains.clone_from(&source.chains) {
+            Ok(()) => {
+                self.root = source.root;
+                self.first = source.first;
+                self.last = source.last;
+                Ok(())
+            }
+            Err(error) => {
+                // Where a clone was refused no link is left.
+                if self.chains.is_empty() {
+                    self.root = None;
+                    self.first = None;
+                    self.last = None;
+                }
+                Err(error)
+            }
+        }
+    }
+}

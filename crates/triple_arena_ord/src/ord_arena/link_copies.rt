@@ -1,0 +1,135 @@
+//! Copies to a chain arena, where the map sees the items alone.
+ghost use Rattle.std.specs.Prelude.{◌≡◌, ◌<◌, ◌≤◌, ◌↔◌, ◌⊎◌, ℕ, List, IsTrue, IsOk, OnOk, IsErrOf};
+ghost use Rattle.std.specs.Borrow.{Bor};
+ghost use Rattle.std.specs.Option.{option_map};
+ghost use Rattle.triple_arena_ptr.specs.Generation.{next_generation};
+ghost use Rattle.triple_arena_stack.specs.Room.{capacity as capacity_of, IsBeyond};
+ghost use Rattle.triple_arena.specs.ArenaRoom.{room_with};
+ghost use Rattle.triple_arena.specs.Changes.{IsNew};
+ghost use Rattle.triple_arena.specs.Content.{live_count, some_counter, cleared, reallocated};
+ghost use Rattle.triple_arena.specs.Copy.{last_listed, NeverRefuses, IsMappedCopy, IsRefusedCopy};
+ghost use Rattle.triple_arena.specs.LiveEntries.{live_entries};
+ghost use Rattle.triple_arena_chain.specs.declared.link.IndexLink.{IndexLink};
+ghost use Rattle.triple_arena_chain.specs.Links.{values_in, IsChained};
+ghost use Rattle.triple_arena_chain.specs.Listed.{listed_values};
+ghost use Rattle.triple_arena_chain.specs.Values.{room_in};
+ghost use Rattle.triple_arena_ord.specs.Copies.{listed_items, IsChainCopy};
+
+use crate::SimpleOrdArenaNode;
+use triple_arena::{AllocError, PtrCore, ReallocationError};
+use triple_arena_chain::{ChainArena, ChainSlots, LinkNoGen};
+
+// What becomes a copy of a source of the type `A`. It stands between the chain arena's call and `copy_items`, so that the
+// closure there is in a function that knows nothing of pointers and arenas: the check of its call grows with what is known.
+pub(crate) trait CopiesLinks<P: PtrCore, V: Drop, U: Drop, A> {
+    ghost links: { A → List (ℕ × (ℕ × IndexLink P.Inx V)) };
+
+    ghost values: { Self → List (ℕ × (ℕ × U)) };
+
+    // What a copy is beside its values.
+    ghost is_copied: { A → Self → Self → Type 0 };
+
+    ghost fits: { A → Self → Type 0 };
+
+    ghost is_beyond: { A → Self → Type 0 };
+
+    // What is left where the memory, or the map, refused.
+    ghost is_left: { A → Self → Self → Type 0 };
+
+    ghost is_emptied: { A → Self → Self → Type 0 };
+
+    ghost is_formed: { Self → Type 0 };
+
+    fn copy_from<G>(&mut self, source: &A, map: G) -> Result<(), ReallocationError>
+    where
+        G: FnMut(P, &LinkNoGen<P, V>) -> Result<U, AllocError>,
+        requires { G.IsAlwaysCallable map }
+        ensures mapped { OnOk result (IsMappedCopy P.index P.generation G.step map
+            (links source.now) (values self.new)) }
+        ensures copied { OnOk result (is_copied source.now self.old self.new) }
+        ensures succeeds { fits source.now self.old → NeverRefuses G.step → IsOk result }
+        ensures beyond { IsErrOf result ReallocationError.BeyondMaxCapacity
+            ↔ is_beyond source.now self.old }
+        ensures kept { IsErrOf result ReallocationError.BeyondMaxCapacity → self.new ≡ self.old }
+        ensures unmade { IsErrOf result ReallocationError.AllocError
+            → is_left source.now self.old self.new
+            ⊎ (IsRefusedCopy P.index P.generation G.step map (links source.now)
+            × is_emptied source.now self.old self.new) }
+        ensures formed { is_formed self.new };
+}
+
+impl<P, V, U, R, S> CopiesLinks<P, V, U, ChainArena<P, V, R>> for ChainArena<P, U, S>
+where
+    P: PtrCore,
+    V: Drop,
+    U: Drop,
+    R: ChainSlots<P, V>,
+    S: ChainSlots<P, U>,
+{
+    ghost links = { live_entries };
+
+    ghost values = { listed_values };
+
+    ghost is_copied = { λ a old new. IsChainCopy P.Inx.number a old new };
+
+    ghost fits = { λ a b. last_listed (live_entries a) ≤ capacity_of (room_in b) };
+
+    ghost is_beyond = { λ a b. IsBeyond (room_in b).limit (last_listed (live_entries a)) };
+
+    ghost is_left = { λ a old new. IsTrue S.takes_memory
+        × (capacity_of (room_in old) < last_listed (live_entries a)) × (new ≡ old) };
+
+    ghost is_emptied = { λ a old new. IsNew values_in live_count some_counter room_in
+        (option_map (next_generation P.Gen.last) (some_counter old))
+        (room_with (last_listed (live_entries a)) (room_in old)) new
+        × (new ≡ cleared P.Gen.last (reallocated old (last_listed (live_entries a)))) };
+
+    ghost is_formed = { λ b. IsChained P.Inx.number b };
+
+    fn copy_from<G>(
+        &mut self,
+        source: &ChainArena<P, V, R>,
+        map: G,
+    ) -> Result<(), ReallocationError>
+    where
+        G: FnMut(P, &LinkNoGen<P, V>) -> Result<U, AllocError>,
+    {
+        self.clone_from_with(source, map)
+    }
+}
+
+// Makes `target` a copy of `source`, with what `map` makes of the item of each node as the value.
+pub(crate) fn copy_items<P, T, U, A, B, F>(
+    target: &mut B,
+    source: &A,
+    mut map: F,
+) -> Result<(), ReallocationError>
+where
+    P: PtrCore,
+    T: Drop,
+    U: Drop,
+    B: CopiesLinks<P, SimpleOrdArenaNode<P, T>, U, A>,
+    F: FnMut(P, &T) -> Result<U, AllocError>,
+    requires { F.IsAlwaysCallable map }
+    ensures mapped { OnOk result (IsMappedCopy P.index P.generation F.step map
+        (listed_items (B.links source.now)) (B.values target.new)) }
+    ensures copied { OnOk result (B.is_copied source.now target.old target.new) }
+    ensures succeeds { B.fits source.now target.old → NeverRefuses F.step → IsOk result }
+    ensures beyond { IsErrOf result ReallocationError.BeyondMaxCapacity
+        ↔ B.is_beyond source.now target.old }
+    ensures kept { IsErrOf result ReallocationError.BeyondMaxCapacity → target.new ≡ target.old }
+    ensures unmade { IsErrOf result ReallocationError.AllocError
+        → B.is_left source.now target.old target.new
+        ⊎ (IsRefusedCopy P.index P.generation F.step map (listed_items (B.links source.now))
+        × B.is_emptied source.now target.old target.new) }
+    ensures formed { B.is_formed target.new }
+{
+    target.copy_from(
+        source,
+        move |p, link| -> Result<U, AllocError>
+            requires { F.IsAlwaysCallable map }
+            ensures step { (item : Bor T) × (item.now ≡ link.now.t.t) × F.step map.entry p item result map.exit }
+            ensures again { F.IsAlwaysCallable map.exit }
+        { map(p, &link.t.t) },
+    )
+}
