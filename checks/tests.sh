@@ -1,12 +1,18 @@
 # Runs tests that the gate does not prove: the modules of the folder $check, beside those of the crate of tests that they
-# belong to. A test is proved as code, and each of these would cost the gate minutes, so they run with no proof. It takes
-# about two minutes. They end in .txt, since the gate lets no .rt file stand outside a crate.
+# belong to, or in a crate of their own. A test is proved as code, and each of these would cost the gate minutes, so they run
+# with no proof. It takes about two minutes. They end in .txt, since the gate lets no .rt file stand outside a crate.
+tar -C "$top" --exclude=out -cf - crates crates.txt HANDLES | tar -C "$work" -xf -
 case $check in
     layer-tests) crate=layer_tests ;;
     store-tests) crate=route_book_sequences ;;
-    user-tests) crate=user_sequences ;;
+    user-tests)
+        crate=user_tests
+        mkdir -p "$work/crates/$crate/src/tests"
+        printf '#![tactic(auto)]\n\n#[cfg(test)]\nmod tests;\n' >"$work/crates/$crate/src/lib.rt"
+        : >"$work/crates/$crate/src/tests.rt"
+        echo "$crate: examples arena_callers triple_arena_chain triple_arena triple_arena_ptr" >>"$work/crates.txt"
+        ;;
 esac
-tar -C "$top" --exclude=out -cf - crates crates.txt HANDLES | tar -C "$work" -xf -
 tests=$work/crates/$crate/src/tests
 for text in "$here/$check"/*.rt.txt; do
     name=$(basename -- "$text" .rt.txt)

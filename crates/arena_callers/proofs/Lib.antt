@@ -1,2 +1,3 @@
+mod AheadLemmas
 pub mod MirrorLemmas
 pub mod ReuseLemmas

@@ -33,5 +33,5 @@ pub use mirrors::reflect;
 pub use nodes::{Node, Nodes};
 pub use reuse::replace;
 pub use searches::{find_equal, find_first};
-pub use sums::{direct_sum_of, sum_of, sum_of_entries};
+pub use sums::{direct_sum_of, sum_of, sum_of_entries, told_by_iter};
 pub use values::{map_values, raise, sum_up};

@@ -12,9 +12,9 @@ ghost use Rattle.triple_arena.specs.Drains.{drained};
 ghost use Rattle.triple_arena.specs.Transfer.{IsTransferred};
 
 use triple_arena::{
-    Arena, ArenaSlot, ArenaSlots, ArenaTransferSource, ArenaTransferTrait, DirectArena, DirectSlot,
-    DirectSlots, InvalidationOption, MaxCapacityReductionError, NonZeroInxLimitedStack, PtrCore,
-    ReallocationError, SetMaxCapacity,
+    Arena, ArenaSlot, ArenaSlots, ArenaTrait, ArenaTransferSource, ArenaTransferTrait, DirectArena,
+    DirectSlot, DirectSlots, InvalidationOption, MaxCapacityReductionError, NonZeroInxLimitedStack,
+    PtrCore, ReallocationError, SetMaxCapacity,
 };
 
 /// A drain that is dropped at once.

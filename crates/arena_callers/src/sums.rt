@@ -1,7 +1,8 @@
-//! Sums over the values of an arena, by its iterators.
-ghost use Rattle.std.specs.Prelude.{◌≡◌, ◌%◌, ◌^◌, map as list_map};
+//! Sums over the values of an arena, by its iterators, and how many entries they tell of.
+ghost use Rattle.std.specs.Prelude.{◌≡◌, ◌%◌, ◌^◌, Some, map as list_map};
 ghost use Rattle.std.specs.List.{sum};
 ghost use Rattle.triple_arena.specs.Compression.{value_of};
+ghost use Rattle.triple_arena.specs.Content.{live_count};
 ghost use Rattle.triple_arena.specs.DirectContent.{live_entries as direct_entries};
 ghost use Rattle.triple_arena.specs.LiveEntries.{live_entries};
 
@@ -38,4 +39,15 @@ pub fn sum_of_entries<P: PtrCore, S: ArenaSlots<P, u64>>(arena: &Arena<P, u64, S
         total = total.wrapping_add(*value);
     }
     total
+}
+
+/// How many entries there are, as an iterator tells, and its hint.
+pub fn told_by_iter<P: PtrCore, S: ArenaSlots<P, u64>>(
+    arena: &Arena<P, u64, S>,
+) -> (usize, (usize, Option<usize>))
+    ensures len { result.0 ≡ live_count arena.now }
+    ensures hint { result.1 ≡ (live_count arena.now, Some (live_count arena.now)) }
+{
+    let entries = arena.iter();
+    (entries.len(), entries.size_hint())
 }

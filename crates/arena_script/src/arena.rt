@@ -4,7 +4,9 @@ ghost use Rattle.std.specs.Prelude.{IfOk};
 use crate::any_arena;
 use script::{Call, ShownPtr, Transcript, generation};
 use std::fmt::Debug;
-use triple_arena::{Arena, ArenaInsertEntries, ArenaInsertEntryTrait, ArenaSlots, Ptr, PtrCore};
+use triple_arena::{
+    Arena, ArenaInsertEntries, ArenaInsertEntryTrait, ArenaSlots, ArenaTrait, Ptr, PtrCore,
+};
 
 /// Makes the call that a line names.
 pub fn call<P: Ptr, S: ArenaSlots<P, u64>>(

@@ -3,7 +3,8 @@ use crate::any_arena;
 use script::{Call, ShownPtr, Transcript};
 use std::fmt::Debug;
 use triple_arena::{
-    ArenaDirectInsertEntryTrait, ArenaDirectInsertTrait, DirectArena, DirectSlots, Ptr, PtrCore,
+    ArenaDirectInsertEntryTrait, ArenaDirectInsertTrait, ArenaTrait, DirectArena, DirectSlots, Ptr,
+    PtrCore,
 };
 
 /// Makes the call that a line names.

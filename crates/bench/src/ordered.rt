@@ -2,7 +2,7 @@
 //! is proved in far less time.
 use crate::sequence::with;
 use std::alloc::Global;
-use triple_arena::{ArenaSlot, InvalidationResult, NonZeroInxVec, P0, PtrCore};
+use triple_arena::{ArenaSlot, ArenaTrait, InvalidationResult, NonZeroInxVec, P0, PtrCore};
 use triple_arena_chain::LinkNoGen;
 use triple_arena_ord::{
     OrdInsertionError, OrdPair, OrdSlots, Probes, SimpleOrdArena, SimpleOrdArenaNode,

@@ -7,7 +7,7 @@ ghost use Rattle.triple_arena.specs.Compression.{value_of};
 ghost use Rattle.triple_arena_ord.specs.Ordered.{IsAscending, ordered_entries, size_in};
 
 use std::alloc::{AllocError, Allocator, Global};
-use triple_arena::{P0, PtrCore};
+use triple_arena::{ArenaTrait, P0, PtrCore};
 use triple_arena_ord::laws::the_list_has_as_many_entries_as_are_live;
 use triple_arena_ord::{HeapOrdArena, OrdSlots, SimpleOrdArena, SimpleOrdItem};
 

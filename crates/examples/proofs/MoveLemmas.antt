@@ -68,7 +68,8 @@ module _ {P I T : Type 0} (index generation : P → ℕ) (number : I → ℕ) (l
       found = subst IsSome (sym (finds number between (index q) (generation q) has)) (live_with number between (index q) (generation q) has)
 
   module _ (new : Content (IndexLink I T)) (t : T) (chained : IsChained number between) (there : IsSome (place_among index generation number between (NextTo q))) where
-    settled : (n : P) → IfSome (place_among index generation number between (NextTo q)) (λ place. IsPlaced number place (index n) (generation n) t between new) → Settled index generation number last old new p q t n
+    settled : (n : P) → IfSome (place_among index generation number between (NextTo q)) (λ place. IsPlaced number place (index n) (generation n) t between new)
+        → Settled index generation number last old new p q t n
     settled n placed =
         record {
           lists = moved (ends_in number old) (ends_in number between) (ends_in number new) (index p) (index q) (index n) taken.lists chained.agreed

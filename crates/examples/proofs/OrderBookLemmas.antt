@@ -251,7 +251,8 @@ module _ {I V : Type 0} where
               ap Some (subst (λ k. nat_cmp t.k k ≡ Equal) (sym same) (sym (nat_cmp_is t.k t.k Equal refl))))
 
 -- what an order that is put in at a price comes to
-pub record Answered {P I V : Type 0} (index generation : P → ℕ) (number : I → ℕ) (old new : Ordered I (OrdPair ℕ V)) (price : ℕ) (order : V) (answer : Result (P × Option V) OrdInsertionError) : Type 0 where
+pub record Answered {P I V : Type 0} (index generation : P → ℕ) (number : I → ℕ) (old new : Ordered I (OrdPair ℕ V)) (price : ℕ) (order : V) (answer : Result (P × Option V) OrdInsertionError)
+    : Type 0 where
   pub added : IfOk answer (λ r. (k : ℕ) → orders_in new k ≡ with_entry (orders_in old) (index r.0) (generation r.0, (price, order)) k)
   pub replaced : (p : P) (was : V) → answer ≡ Ok (p, Some was) → orders_in old (index p) ≡ Some (generation p, (price, was))
   pub fresh : (p : P) → answer ≡ Ok (p, None) → IsNewOrder old price (index p) (generation p)

@@ -5,6 +5,10 @@ use Rattle.std.specs.Ordering.{nat_cmp}
 use Rattle.triple_arena_ord.specs.declared.pair.OrdPair.{OrdPair}
 use Rattle.triple_arena_ord.specs.Ordered.{Ordered, IsAscending, entry_in}
 
+-- the price and the order of an entry
+abbrev pub listed_order : {V : Type 0} → ℕ × (ℕ × OrdPair ℕ V) → ℕ × V
+listed_order listed = (listed.1.1.k, listed.1.1.v)
+
 module _ {I V : Type 0} where
   -- the generation, and the price with the order, at each index
   abbrev pub orders_in : Ordered I (OrdPair ℕ V) → ℕ → Option (ℕ × (ℕ × V))

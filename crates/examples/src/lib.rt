@@ -5,22 +5,28 @@
 //! - [`compress_with_table`], [`compress_and_follow`]: pointers that follow their entries through a compression, which the
 //!   scene stands on.
 //! - [`tidy`]: a document whose nodes name one another by pointers, which is compressed and keeps its names.
+//! - [`number_paragraphs`]: a document whose sections are lists of paragraphs, which get successive numbers.
 //! - [`add_after`], [`move_after`], [`reverse_pair`], [`play_from`]: playlists, which are lists in a chain arena.
 //! - [`open_book`], [`add_order`], [`cancel_order`], [`best_order`], [`next_order`]: an order book, in an ordered arena.
+//! - [`move_orders`]: the orders of one book moved into another, as one over narrower pointers.
 #![tactic(auto)]
 
 mod document;
 mod follow;
 mod order_book;
+mod order_moves;
 mod playlist;
 mod scene;
 mod scheduler;
+mod sections;
 
 pub use document::tidy;
 pub use follow::{Moved, compress_and_follow, compress_with_table};
 pub use order_book::{
     OrderBook, OrderSlot, add_order, best_order, cancel_order, next_order, open_book,
 };
+pub use order_moves::move_orders;
 pub use playlist::{add_after, move_after, play_from, reverse_pair};
 pub use scene::{Node, Scene};
 pub use scheduler::{Scheduler, Task};
+pub use sections::number_paragraphs;

@@ -1,13 +1,15 @@
 //! Order books: orders by their prices in an ordered arena, one at a price at most, of which all is said by pointers and prices.
-ghost use Rattle.std.specs.Prelude.{◌≡◌, ◌≤◌, ◌↔◌, ℕ, None, Some, Ok, IsSome, IfOk, IfSome, IfNone, IfErr, OnErr, OnSome, IsErrOf};
+ghost use Rattle.std.specs.Prelude.{◌≡◌, ◌≤◌, ◌↔◌, ℕ, None, Some, Ok, IsTrue, IsOk, IsSome, IfOk, IfSome, IfNone, IfErr, OnErr, OnSome, IsErrOf};
+ghost use Rattle.triple_arena_stack.specs.Room.{capacity as capacity_of, IsBeyond};
 ghost use Rattle.triple_arena.specs.ArenaRoom.{room_of};
 ghost use Rattle.triple_arena.specs.Content.{live_count, arena_capacity};
 ghost use Rattle.triple_arena.specs.Entries.{with_entry, without, value_if, generation_at};
 ghost use Rattle.triple_arena_ptr.specs.Generation.{next_generation};
-ghost use Rattle.triple_arena_ord.specs.Growth.{IsRoomRefusal};
 ghost use Rattle.examples.specs.OrderBooks.{orders_in, price_in, IsFreePrice, IsNewOrder, IsBook, IsNextPrice, IsLastPrice, as_order};
 
-use triple_arena::{Advancer, ArenaSlot, NonZeroInxGenericStack, PtrCore, ReallocationError};
+use triple_arena::{
+    Advancer, ArenaSlot, ArenaTrait, NonZeroInxGenericStack, PtrCore, ReallocationError,
+};
 use triple_arena_chain::LinkNoGen;
 use triple_arena_ord::laws::{
     entries_stand_in_the_list, keys_ascend_along_the_list, removals_keep_keys_ascending,
@@ -41,8 +43,10 @@ pub fn open_book<P: PtrCore, V: Drop, S: NonZeroInxGenericStack<Item = OrderSlot
 ) -> Result<OrderBook<P, V, S>, ReallocationError>
     ensures vacant { IfOk result (λ book. (i : ℕ) → orders_in book i ≡ None) }
     ensures fits { IfOk result (λ book. orders ≤ arena_capacity book.chains) }
-    ensures refusal { IsRoomRefusal S.takes_memory orders (room_of P.Inx.greatest (S.room_at 0))
-        (room_of P.Inx.greatest (S.room_at orders)).limit result }
+    ensures succeeds { orders ≤ capacity_of (room_of P.Inx.greatest (S.room_at 0)) → IsOk result }
+    ensures beyond { IsErrOf result ReallocationError.BeyondMaxCapacity
+        ↔ IsBeyond (room_of P.Inx.greatest (S.room_at orders)).limit orders }
+    ensures memory { IsErrOf result ReallocationError.AllocError → IsTrue S.takes_memory }
     ensures book { IfOk result (λ book. IsBook P.Inx.number book) }
 {
     SimpleOrdArena::with_min_capacity(alloc, orders)

@@ -8,7 +8,7 @@ ghost use Rattle.triple_arena.specs.Entries.{value_if};
 ghost use Rattle.triple_arena_ord.specs.Ordered.{IsOrdered, entry_in};
 ghost use Rattle.triple_arena_ord.specs.Removal.{IsEntryRemoved};
 
-use triple_arena::{InvalidationResult, PtrCore};
+use triple_arena::{ArenaTrait, InvalidationResult, PtrCore};
 use triple_arena_ord::{OrdSlots, SimpleOrdArena};
 
 /// Removes the item that `p` points to, and steps the counter.

@@ -2,6 +2,7 @@
 use crate::items::{Item, Pairs};
 use crate::walks::{walk_and_remove, walk_over_a_change};
 use script::{Call, ShownPtr, Transcript, generation};
+use triple_arena::ArenaTrait;
 use triple_arena_ord::{OrdPair, OrdSlots};
 
 /// Makes such a call, and says whether there is one of that name.

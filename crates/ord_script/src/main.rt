@@ -23,7 +23,7 @@ use script::{Call, ShownPtr, Transcript};
 use std::alloc::Global;
 use std::io;
 use test_kit::N3;
-use triple_arena::{NonZeroInxArray, NonZeroInxVec, P0, P1, P3, P5, Ptr};
+use triple_arena::{ArenaTrait, NonZeroInxArray, NonZeroInxVec, P0, P1, P3, P5, Ptr};
 use triple_arena_ord::OrdSlots;
 
 type InArray<P> = NonZeroInxArray<Slot<P>, 8>;

@@ -1,6 +1,7 @@
 //! The calls that read an arena.
 use crate::items::{Item, Pairs};
 use script::{Call, ShownPtr, Transcript};
+use triple_arena::ArenaTrait;
 use triple_arena_ord::OrdSlots;
 
 /// Makes a call that asks for a number or an end, and says whether there is one of that name.

@@ -1,7 +1,7 @@
 //! Walks by indexes and along the list, by advancers and by iterators.
 use crate::items::{Item, Pairs};
 use script::{Call, ShownPtr, Transcript};
-use triple_arena::Advancer;
+use triple_arena::{Advancer, ArenaTrait};
 use triple_arena_ord::OrdSlots;
 use triple_arena_ord::ord_iterators::OrderedPtrAdvancer;
 

@@ -1,6 +1,7 @@
 //! The calls that take entries out, give them other pointers, or lay them out anew.
 use crate::items::{Counting, Item, Pairs};
 use script::{Call, ShownPtr, Transcript};
+use triple_arena::ArenaTrait;
 use triple_arena_ord::OrdSlots;
 
 /// Makes such a call, and says whether there is one of that name.

@@ -5,7 +5,7 @@ use crate::knots::Knots;
 use crate::searches::{Place, place_of, search};
 use crate::work::{Limit, Since, Work};
 use script::{Call, ShownPtr, Transcript, index, pointer};
-use triple_arena::PtrCore;
+use triple_arena::{ArenaTrait, PtrCore};
 use triple_arena_ord::OrdSlots;
 
 // The keys of a script go up to this prime: the products of all lesser numbers with one of them, modulo the prime, are all

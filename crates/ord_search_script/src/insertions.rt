@@ -5,6 +5,7 @@ use crate::work::{Limit, Since};
 use script::{Call, ShownPtr, Transcript};
 use std::cmp::Ordering;
 use std::fmt::Debug;
+use triple_arena::ArenaTrait;
 use triple_arena_ord::OrdSlots;
 
 /// Makes such a call, and says whether there is one of that name.

@@ -1,7 +1,7 @@
 //! Entries with their neighbors in the list and in the tree, as the checks of a script see them.
 use crate::items::{Counting, Item, Pairs};
 use script::ShownPtr;
-use triple_arena::{PtrCore, PtrInxCore};
+use triple_arena::{ArenaTrait, PtrCore, PtrInxCore};
 use triple_arena_ord::OrdSlots;
 
 /// An entry: its key, its neighbors in the list, its parent, its left and its right child, and its rank.

@@ -27,8 +27,8 @@ use std::cell::Cell;
 use std::io;
 use test_kit::{N3, RefusingAllocator};
 use triple_arena::{
-    NonZeroInxArray, NonZeroInxBoxedSlice, NonZeroInxLimitedVec, NonZeroInxVec, P0, P1, P3, P5,
-    Ptr, ReallocationError,
+    ArenaTrait, NonZeroInxArray, NonZeroInxBoxedSlice, NonZeroInxLimitedVec, NonZeroInxVec, P0, P1,
+    P3, P5, Ptr, ReallocationError,
 };
 use triple_arena_ord::{OrdSlots, SimpleOrdArena};
 

@@ -2,6 +2,7 @@
 use crate::check::check;
 use crate::items::{Counting, Item, Pairs};
 use script::{Call, ShownPtr, Transcript};
+use triple_arena::ArenaTrait;
 use triple_arena_ord::OrdSlots;
 
 /// Makes such a call, and says whether there is one of that name.

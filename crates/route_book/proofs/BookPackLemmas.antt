@@ -87,7 +87,8 @@ module _ {I : Type 0} (number : I → ℕ) (last : Option ℕ) (places places' :
         (w.0, (x.0.0, (x.1.0 ∙ ap (λ v. Some (x.0.0, v)) (ap (λ (z : ℕ × Place). z.1) x.1.1), (w.1.1, sym (ap (λ (z : ℕ × Place). z.0) x.1.1)))));
   }
 
-  along_same : entries_along (entry_in places') (order_in number places') ≡ map (shift laid.to (second_generation last) (entry_in places) (entry_in places')) (entries_along (entry_in places) (order_in number places))
+  along_same : entries_along (entry_in places') (order_in number places') ≡ map (shift laid.to (second_generation last) (entry_in places) (entry_in places'))
+      (entries_along (entry_in places) (order_in number places))
   along_same =
       ap (entries_along (entry_in places')) laid.order
       ∙ along_moved laid.to (second_generation last) (entry_in places) (entry_in places') (order_in number places) laid.entries
@@ -95,7 +96,8 @@ module _ {I : Type 0} (number : I → ℕ) (last : Option ℕ) (places places' :
   pub order_same : in_order number places' ≡ in_order number places
   order_same = ap (map (λ x. x.1.1)) along_same ∙ by (entries_along (entry_in places) (order_in number places))
     where
-      by : (l : List (ℕ × (ℕ × Place))) → map (λ (x : ℕ × (ℕ × Place)). x.1.1) (map (shift laid.to (second_generation last) (entry_in places) (entry_in places')) l) ≡ map (λ (x : ℕ × (ℕ × Place)). x.1.1) l
+      by : (l : List (ℕ × (ℕ × Place))) → map (λ (x : ℕ × (ℕ × Place)). x.1.1) (map (shift laid.to (second_generation last) (entry_in places) (entry_in places')) l) ≡ map
+          (λ (x : ℕ × (ℕ × Place)). x.1.1) l
       by [] = refl
       by (x ∷ l) = ap (λ t. x.1.1 ∷ t) (by l)
 
@@ -219,7 +221,8 @@ module _ {I : Type 0} (number : I → ℕ) (last : Option ℕ) (rooms : Rooms) (
       };
       last_is = b.last_is;
       marks_differ = b.marks_differ;
-      entries = (let n = b.entries in let l = length_map (renewed_entry m n' o) book in let p = laid.size in let q = stops_live ∙ canon.live in let r = marks_live ∙ compressed.live in omega (arith, n, l, p, q, r));
+      entries = (let n = b.entries in let l = length_map (renewed_entry m n' o) book in let p = laid.size in let q = stops_live ∙ canon.live in let r = marks_live ∙ compressed.live in
+          omega (arith, n, l, p, q, r));
     }
       where
         n' : Mirror

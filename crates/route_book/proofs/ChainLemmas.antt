@@ -44,7 +44,8 @@ last_some : (x : ℕ) (xs : List ℕ) → (l : ℕ) × (last_or None (x ∷ xs) 
 last_some x [] = (x, refl)
 last_some x (y ∷ xs) = last_some y xs
 
-module _ (at : ℕ → Option Stop) (ends : ℕ → Option Ends) (next previous : ℕ → Option ℕ) (Known : Stop → Type 0) (agreed : IsAgreed ends) (live : (i : ℕ) → IsSome (ends i) → IsSome (at i)) (alive : (i : ℕ) → IsSome (at i) → IsSome (ends i))
+module _ (at : ℕ → Option Stop) (ends : ℕ → Option Ends) (next previous : ℕ → Option ℕ) (Known : Stop → Type 0) (agreed : IsAgreed ends) (live : (i : ℕ) → IsSome (ends i) → IsSome (at i))
+    (alive : (i : ℕ) → IsSome (at i) → IsSome (ends i))
     (lead : (i : ℕ) (t : Stop) → at i ≡ Some t → next t.ticket ≡ ticket_by at (next_at ends i)) (back : (i : ℕ) (t : Stop) → at i ≡ Some t → previous t.ticket ≡ ticket_by at (prev_at ends i))
     (distinct : (i j : ℕ) (t u : Stop) → at i ≡ Some t → at j ≡ Some u → t.ticket ≡ u.ticket → i ≡ j) (index : (t : Stop) → Known t → (i : ℕ) × (at i ≡ Some t)) where
   -- live indexes with one ticket are one
@@ -97,7 +98,10 @@ module _ (at : ℕ → Option Stop) (ends : ℕ → Option Ends) (next previous 
       → ((i : ℕ) → first_or (chain_of ts h) None ≡ Some i → prev_at ends i ≡ before) → Stands ends before (chain_of ts h) after
   unfolding chain_of
   stand before after [] h there leads first = tt
-  stand before after (t ∷ ts) h there leads first = (ends_are (ends i) refl (alive i (subst IsSome (sym here) refl)), stand (Some i) after ts h.1 there leads.1 (λ j is. agreed.forward i j (next_is ∙ first_some (chain_of ts h.1) after j is)))
+  stand before after (t ∷ ts) h there leads first = (
+    ends_are (ends i) refl (alive i (subst IsSome (sym here) refl)),
+    stand (Some i) after ts h.1 there leads.1 (λ j is. agreed.forward i j (next_is ∙ first_some (chain_of ts h.1) after j is)),
+  )
     where
       i : ℕ
       i = (index t h.0).0
@@ -165,7 +169,8 @@ module _ (at : ℕ → Option Stop) (ends : ℕ → Option Ends) (next previous 
           let leads_on : next_at ends last.0 ≡ Some x = last_leads ends (prev_at ends x) (first_or chain None) chain stood last.0 ending ∙ first in
           subst (λ b. Stands ends b chain (first_or chain None)) (agreed.forward last.0 x leads_on ∙ sym ending) stood
 
-  pub routes_are_chains : (rs : List Route) → AllByRecursion (λ r. Leads next (closes_at r) r.stops) rs → AllByRecursion (λ r. r.is_ring ≡ false → IfSome (first_item r.stops) (λ t. previous t.ticket ≡ None)) rs
+  pub routes_are_chains : (rs : List Route) → AllByRecursion (λ r. Leads next (closes_at r) r.stops) rs
+      → AllByRecursion (λ r. r.is_ring ≡ false → IfSome (first_item r.stops) (λ t. previous t.ticket ≡ None)) rs
       → AllByRecursion Known (stop_list rs) → ((k : ℕ) → count_of (has_ticket k) (stop_list rs) ≤ 1) → AllByRecursion (IsRoute at ends) rs
   routes_are_chains [] leads first known once = tt
   routes_are_chains (r ∷ rs) leads first known once = (

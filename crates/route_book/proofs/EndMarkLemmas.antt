@@ -66,7 +66,12 @@ module _ (s s' : State) (f : Found) (order : List Place) (ends : ℕ → Option 
           found_has (λ (x : Mark). x.ticket) u s.marks (state_mark f st.0)
           (h.marks u ∙ ap (mark_at f) is ∙ ap (λ k. mark_under f k e.index e.generation) kind ∙ ap (option_map (state_mark f)) st.1.0) in
           let still = still_found τ f.marks at i g v stood entries own_mark e.index e.generation st.0 st.1.0 (λ same. other (sym named ∙ same)) in
-          record { place = refl; stop = refl; mark = ap (option_map (state_mark f)) still ∙ unchanged (option_map (state_mark f) (value_if e.generation (f.marks e.index))); filled = subst IsSome (sym still) filled }
+          record {
+            place = refl;
+            stop = refl;
+            mark = ap (option_map (state_mark f)) still ∙ unchanged (option_map (state_mark f) (value_if e.generation (f.marks e.index)));
+            filled = subst IsSome (sym still) filled;
+          }
 
   pub mark_ended : s'.last ≡ s.last → s'.places ≡ s.places → s'.routes ≡ s.routes
       → ((u : ℕ) → mark_of s'.marks u ≡ (if u == t then None else mark_of s.marks u))

@@ -114,8 +114,18 @@ module _ (s s' : State) (f : Found) (order order' : List Place) (ends : ℕ → 
           let named : st.0.ticket ≡ u = found_has τ u s.places st.0 (h.places u ∙ ap (place_at f) is ∙ ap (λ k. place_under f k e.index e.generation) kind ∙ st.1.0) in
           let still = still_found τ f.places at i g p stood entries own_place e.index e.generation st.0 st.1.0 (λ same. other (sym named ∙ same)) in
           record { place = still; stop = refl; mark = refl; filled = subst IsSome (sym still) filled }
-      by OfStop kind filled = record { place = refl; stop = each_mapped (clear_stop t) (state_stop now) (state_stop f) stop_now (value_if e.generation (f.stops e.index)); mark = refl; filled = filled }
-      by OfMark kind filled = record { place = refl; stop = refl; mark = each_mapped (clear_mark t) (state_mark now) (state_mark f) mark_now (value_if e.generation (f.marks e.index)); filled = filled }
+      by OfStop kind filled = record {
+        place = refl;
+        stop = each_mapped (clear_stop t) (state_stop now) (state_stop f) stop_now (value_if e.generation (f.stops e.index));
+        mark = refl;
+        filled = filled;
+      }
+      by OfMark kind filled = record {
+        place = refl;
+        stop = refl;
+        mark = each_mapped (clear_mark t) (state_mark now) (state_mark f) mark_now (value_if e.generation (f.marks e.index));
+        filled = filled;
+      }
 
   pub place_ended : s'.last ≡ s.last → order' ≡ s'.places
       → ((u : ℕ) → place_of s'.places u ≡ (if u == t then None else place_of s.places u))

@@ -146,7 +146,12 @@ module _ (s s' : State) (f : Found) (order : List Place) (ends ends' : ℕ → O
           found_has (λ (x : Stop). x.ticket) u (stop_list s.routes) (state_stop f st.0)
           (h.stops u ∙ ap (stop_at f) is ∙ ap (λ k. stop_under f k e.index e.generation) kind ∙ ap (option_map (state_stop f)) st.1.0) in
           let still = still_found τ f.stops at i g v stood entries own_stop e.index e.generation st.0 st.1.0 (λ same. other (sym named ∙ same)) in
-          record { place = refl; stop = ap (option_map (state_stop f)) still ∙ unchanged (option_map (state_stop f) (value_if e.generation (f.stops e.index))); mark = refl; filled = subst IsSome (sym still) filled }
+          record {
+            place = refl;
+            stop = ap (option_map (state_stop f)) still ∙ unchanged (option_map (state_stop f) (value_if e.generation (f.stops e.index)));
+            mark = refl;
+            filled = subst IsSome (sym still) filled;
+          }
       by OfMark kind filled =
           record { place = refl; stop = refl; mark = each_mapped (clear_mark_stop t) (state_mark now) (state_mark f) mark_now (value_if e.generation (f.marks e.index)); filled = filled }
 
@@ -171,7 +176,8 @@ module _ (s s' : State) (f : Found) (order : List Place) (ends ends' : ℕ → O
         by apart None to = refl
         by apart (Some n) to = elim (eqb_tells n i) [
           | inl same ↦
-              let name : ticket_at τ f.stops (Some n) ≡ Some t = ap (λ k. option_map (λ (x : ℕ × StopView). x.1.ticket) (f.stops k)) same.1 ∙ ap (option_map (λ (x : ℕ × StopView). x.1.ticket)) stood in
+              let name : ticket_at τ f.stops (Some n) ≡ Some t = ap (λ k. option_map (λ (x : ℕ × StopView). x.1.ticket) (f.stops k)) same.1
+              ∙ ap (option_map (λ (x : ℕ × StopView). x.1.ticket)) stood in
               let old : past t (ticket_at τ f.stops (next_at ends i)) (Some t) ≡ ticket_at τ f.stops (next_at ends i) = rw (eq-eqb t t refl) refl in
               let new : ticket_at τ at (over i (next_at ends i) (Some n)) ≡ ticket_at τ at (next_at ends i) = rw same.0 refl in
               ap (past t (ticket_at τ f.stops (next_at ends i))) name ∙ old

@@ -49,7 +49,8 @@ module _ (s : State) (t at : ℕ) where
 -- ---- where there is room
 
 -- a stop directly behind one that a pointer finds
-behind_is : {I T : Type 0} (number : I → ℕ) (c : Content (IndexLink I T)) (i g : ℕ) (v : T) → IsAt number c i g v → after_link i (ends_found number c i g) ≡ Some (Between (Some i) (next_at (ends_in number c) i))
+behind_is : {I T : Type 0} (number : I → ℕ) (c : Content (IndexLink I T)) (i g : ℕ) (v : T) → IsAt number c i g v
+    → after_link i (ends_found number c i g) ≡ Some (Between (Some i) (next_at (ends_in number c) i))
 behind_is number c i g v at = by (ends_in number c i) refl at.live
   where
     by : (o : Option Ends) → ends_in number c i ≡ o → IsSome o → after_link i (ends_found number c i g) ≡ Some (Between (Some i) (next_at (ends_in number c) i))
@@ -72,8 +73,10 @@ module _ {I : Type 0} (number : I → ℕ) (rooms : Rooms) (last : ℕ) (s : Sta
     (let n = b.within.stop_count in let r = ap (λ (r : Rooms). r.stops) b.within.rooms_are in let less = stops_not_full s free in let room = b.within.stop_room in omega (arith, less, n, r, room)),
   )
 
-  module _ (agreed : IsAgreed (ends_in number stops)) (pi pg : ℕ) (at_place : value_if pg (entry_in places pi) ≡ Some p) (w : StopView) (n h : ℕ) (ticket : w.ticket ≡ last + 1) (to : w.place ≡ Some (pi, pg))
-      (stops' : Content (IndexLink I StopView)) (placed : IfSome (after_link i (ends_found number stops i g)) (λ place. IsPlaced number place n h w stops stops')) (same_room : stops'.room ≡ stops.room) where
+  module _ (agreed : IsAgreed (ends_in number stops)) (pi pg : ℕ) (at_place : value_if pg (entry_in places pi) ≡ Some p) (w : StopView) (n h : ℕ) (ticket : w.ticket ≡ last + 1)
+      (to : w.place ≡ Some (pi, pg))
+      (stops' : Content (IndexLink I StopView)) (placed : IfSome (after_link i (ends_found number stops i g)) (λ place. IsPlaced number place n h w stops stops'))
+      (same_room : stops'.room ≡ stops.room) where
     put : IsPlaced number (Between (Some i) (next_at (ends_in number stops) i)) n h w stops stops'
     put = subst (λ o. IfSome o (λ (place : LinkPlace ℕ). IsPlaced number place n h w stops stops')) (behind_is number stops i g v own_at) placed
 
@@ -109,7 +112,8 @@ module _ {I : Type 0} (number : I → ℕ) (rooms : Rooms) (last : ℕ) (s : Sta
         → IsBook number rooms (last + 1) (after_extend s t pt) places stops' marks (book ++ entry w.ticket OfStop n h ∷ [])
     extend_kept leads through leads_others own others count =
         subst (λ z. IsBook number rooms (last + 1) z places stops' marks (book ++ entry w.ticket OfStop n h ∷ [])) (sym whole) (record {
-          held = subst (λ (c : ℕ). IsHeld now (record { places = entry_in places; stops = values_in stops'; marks = entry_at marks; place_counter = places.chains.counter; stop_counter = c }) (in_order number places) (ends_in number stops') (book ++ entry w.ticket OfStop n h ∷ []))
+          held = subst (λ (c : ℕ). IsHeld now (record { places = entry_in places; stops = values_in stops'; marks = entry_at marks; place_counter = places.chains.counter; stop_counter = c })
+              (in_order number places) (ends_in number stops') (book ++ entry w.ticket OfStop n h ∷ []))
               (sym put.counter) held_now;
           keys_rise = b.keys_rise;
           within = record {
@@ -143,9 +147,11 @@ module _ {I : Type 0} (number : I → ℕ) (rooms : Rooms) (last : ℕ) (s : Sta
             (ap (next_stop later) own_ticket ∙ leads answer ∙ ap Some (sym next)) (ap (next_stop later) next ∙ through answer ∙ ap (next_stop s.routes) (sym own_ticket))
             (λ k apart off. leads_others k answer (λ is. apart (is ∙ sym own_ticket)) (λ is. off (is ∙ sym next))) put.ends
 
-        held_now : IsHeld now (record { places = entry_in places; stops = values_in stops'; marks = entry_at marks; place_counter = places.chains.counter; stop_counter = stops.counter }) (in_order number places) (ends_in number stops') (book ++ entry w.ticket OfStop n h ∷ [])
+        held_now : IsHeld now (record { places = entry_in places; stops = values_in stops'; marks = entry_at marks; place_counter = places.chains.counter; stop_counter = stops.counter })
+            (in_order number places) (ends_in number stops') (book ++ entry w.ticket OfStop n h ∷ [])
         held_now =
-            stop_added s (found_in places stops marks) (in_order number places) (ends_in number stops) (ends_in number stops') book b.held w n h (values_in stops') vacant put.values next put.generation live later
+            stop_added s (found_in places stops marks) (in_order number places) (ends_in number stops) (ends_in number stops') book b.held w n h (values_in stops') vacant put.values next
+            put.generation live later
             (λ k other. others k answer other) (λ k is. ap (stop_of later) is ∙ own answer ∙ ap Some (sym stop_is)) lead
 
     -- each item keeps its pointer
@@ -176,7 +182,8 @@ module _ {I : Type 0} (number : I → ℕ) (rooms : Rooms) (last : ℕ) (s : Sta
   extend_has_room = extend_fits number rooms last s places stops marks book b t i g stop.0 stop.1 stop.2 pt place.0 place.2 room
 
   module _ (chained : IsChained number k.stops) (w : StopView) (n h : ℕ) (ticket : w.ticket ≡ last + 1) (to : w.place ≡ Some (pi, pg))
-      (stops' : Content (IndexLink I StopView)) (placed : IfSome (after_link i (ends_found number stops i g)) (λ place. IsPlaced number place n h w stops stops')) (same_room : stops'.room ≡ stops.room) where
+      (stops' : Content (IndexLink I StopView)) (placed : IfSome (after_link i (ends_found number stops i g)) (λ place. IsPlaced number place n h w stops stops'))
+      (same_room : stops'.room ≡ stops.room) where
     abbrev agreed : IsAgreed (ends_in number stops)
     agreed = (subst (λ (x : Book I). IsChained number x.stops) (sym view) chained).agreed
 

@@ -78,7 +78,8 @@ module _ {T : Type 0} (ticket : T → ℕ) (stops : ℕ → Option (ℕ × T)) (
   one_item i g h v w e f = let both : Some (ticket v) ≡ Some (ticket w) = ap (option_map (λ x. ticket x.1)) (sym e ∙ f) in cc
 
   -- `cut`
-  pub lead_parted : AreDistinct ticket stops → (p q g : ℕ) (v : T) → stops p ≡ Some (g, v) → after (ticket v) ≡ None → ((t : ℕ) → t ≢ ticket v → after t ≡ next t) → ((i : ℕ) → later i ≡ unlinked ends p q i)
+  pub lead_parted : AreDistinct ticket stops → (p q g : ℕ) (v : T) → stops p ≡ Some (g, v) → after (ticket v) ≡ None → ((t : ℕ) → t ≢ ticket v → after t ≡ next t)
+      → ((i : ℕ) → later i ≡ unlinked ends p q i)
       → LeadAs ticket stops later after
   lead_parted distinct p q g v there own others is i h w here = at (i == p) refl ∙ sym (ap (ticket_at ticket stops) (ap next_in (is i) ∙ next_unlinked ends p q i))
     where

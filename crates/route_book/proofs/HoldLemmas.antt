@@ -181,7 +181,8 @@ find_new p (q ∷ ps) none = by (λ is. find_new p ps is) (nat_lt p.key q.key)
 
 -- a place more, at an index where there was none
 module _ (s : State) (f : Found) (order order' : List Place) (ends : ℕ → Option Ends) (book : List Entry) (h : IsHeld s f order ends book)
-    (p : Place) (i g : ℕ) (at : ℕ → Option (ℕ × Place)) (vacant : f.places i ≡ None) (entries : (k : ℕ) → at k ≡ with_entry f.places i (g, p) k) (next : p.ticket ≡ s.last + 1) (counted : g ≡ f.place_counter)
+    (p : Place) (i g : ℕ) (at : ℕ → Option (ℕ × Place)) (vacant : f.places i ≡ None) (entries : (k : ℕ) → at k ≡ with_entry f.places i (g, p) k) (next : p.ticket ≡ s.last + 1)
+    (counted : g ≡ f.place_counter)
     (placed : order' ≡ put p order) where
   abbrev now : Found
   now = record f { places = at }

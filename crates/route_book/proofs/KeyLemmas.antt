@@ -151,11 +151,13 @@ along_with at at' i x vacant entries (j ∷ w) all = by (at j) refl all.0 (along
         along_some at' j w e there ∙ ap (λ l. e.1 ∷ l) rest ∙ sym (along_some at j w e is)
 
 -- the keys at the indexes where a search would go to the right, and to the left
-keys_below : (at : ℕ → Option (ℕ × Place)) (key : ℕ) (w : List ℕ) → AllIn (λ j. asked_of nat_cmp (λ (p : Place). p.key) key (at j) ≡ Greater) w → AllByRecursion (λ (q : Place). q.key < key) (along at w)
+keys_below : (at : ℕ → Option (ℕ × Place)) (key : ℕ) (w : List ℕ) → AllIn (λ j. asked_of nat_cmp (λ (p : Place). p.key) key (at j) ≡ Greater) w
+    → AllByRecursion (λ (q : Place). q.key < key) (along at w)
 keys_below at key [] all = tt
 keys_below at key (j ∷ w) all = by (at j) refl all.0 (keys_below at key w all.1)
   where
-    by : (o : Option (ℕ × Place)) → at j ≡ o → asked_of nat_cmp (λ (p : Place). p.key) key (at j) ≡ Greater → AllByRecursion (λ (q : Place). q.key < key) (along at w) → AllByRecursion (λ (q : Place). q.key < key) (along at (j ∷ w))
+    by : (o : Option (ℕ × Place)) → at j ≡ o → asked_of nat_cmp (λ (p : Place). p.key) key (at j) ≡ Greater → AllByRecursion (λ (q : Place). q.key < key) (along at w)
+        → AllByRecursion (λ (q : Place). q.key < key) (along at (j ∷ w))
     by None is way rest = subst (AllByRecursion (λ (q : Place). q.key < key)) (sym (along_none at j w is)) rest
     by (Some e) is way rest =
         let there : nat_cmp key e.1.key ≡ Greater = sym (rw is refl) ∙ way in
@@ -165,7 +167,8 @@ keys_above : (at : ℕ → Option (ℕ × Place)) (key : ℕ) (w : List ℕ) →
 keys_above at key [] all = tt
 keys_above at key (j ∷ w) all = by (at j) refl all.0 (keys_above at key w all.1)
   where
-    by : (o : Option (ℕ × Place)) → at j ≡ o → asked_of nat_cmp (λ (p : Place). p.key) key (at j) ≡ Less → AllByRecursion (λ (q : Place). key < q.key) (along at w) → AllByRecursion (λ (q : Place). key < q.key) (along at (j ∷ w))
+    by : (o : Option (ℕ × Place)) → at j ≡ o → asked_of nat_cmp (λ (p : Place). p.key) key (at j) ≡ Less → AllByRecursion (λ (q : Place). key < q.key) (along at w)
+        → AllByRecursion (λ (q : Place). key < q.key) (along at (j ∷ w))
     by None is way rest = subst (AllByRecursion (λ (q : Place). key < q.key)) (sym (along_none at j w is)) rest
     by (Some e) is way rest =
         let there : nat_cmp key e.1.key ≡ Less = sym (rw is refl) ∙ way in
@@ -189,7 +192,8 @@ module _ {I : Type 0} (number : I → ℕ) (o : Ordered I Place) where
     pub is : entry_in o i ≡ Some (g, item)
     pub way : nat_cmp key item.key ≡ d
 
-  pub asked : {P : Type 0} (index generation : P → ℕ) (key : ℕ) (p : P) (d : Ordering) → Answers index generation (asked_at nat_cmp (λ (q : Place). q.key) key o) o p d → Asked key (index p) (generation p) d
+  pub asked : {P : Type 0} (index generation : P → ℕ) (key : ℕ) (p : P) (d : Ordering) → Answers index generation (asked_at nat_cmp (λ (q : Place). q.key) key o) o p d
+      → Asked key (index p) (generation p) d
   asked index generation key p d answers = by (entry_in o (index p)) refl answers.live answers.way
     where
       by : (x : Option (ℕ × Place)) → entry_in o (index p) ≡ x → option_map (λ (e : ℕ × Place). e.0) (entry_in o (index p)) ≡ Some (generation p)
@@ -289,7 +293,8 @@ module _ {I : Type 0} (number : I → ℕ) (o : Ordered I Place) where
       let there : value_if (generation p) (entry_in o (index p)) ≡ Some a.item = ap (value_if (generation p)) a.is ∙ rw (eq-eqb (generation p) (generation p) refl) refl in
       subst IsSome (sym there) refl
 
-  pub answers_entry : {P : Type 0} (index generation : P → ℕ) (key : ℕ) (p : P) (d : Ordering) → Answers index generation (asked_at nat_cmp (λ (q : Place). q.key) key o) o p d → IsSome (entry_in o (index p))
+  pub answers_entry : {P : Type 0} (index generation : P → ℕ) (key : ℕ) (p : P) (d : Ordering) → Answers index generation (asked_at nat_cmp (λ (q : Place). q.key) key o) o p d
+      → IsSome (entry_in o (index p))
   answers_entry index generation key p d answers = let a = asked number o index generation key p d answers in let is = a.is in rw is refl
 
   -- a search that ended at no equal key
@@ -300,7 +305,8 @@ module _ {I : Type 0} (number : I → ℕ) (o : Ordered I Place) where
       gap_missing number o index generation key parted a.0 a.1 is_parted rise (λ same. other a.0 (ap (λ d. Some (a.0, d)) same)) similar
 
 -- a place more, where a search for its key ended
-module _ {I : Type 0} (number : I → ℕ) (old new : Ordered I Place) (i g : ℕ) (p : Place) (ordered : IsOrdered number old) (rise : KeysRise (in_order number old)) (added : IsAdded number i g p old new) where
+module _ {I : Type 0} (number : I → ℕ) (old new : Ordered I Place) (i g : ℕ) (p : Place) (ordered : IsOrdered number old) (rise : KeysRise (in_order number old))
+    (added : IsAdded number i g p old new) where
   here : entry_in new i ≡ Some (g, p)
   here = added.entries i ∙ rw (eq-eqb i i refl) refl
 
@@ -322,7 +328,8 @@ module _ {I : Type 0} (number : I → ℕ) (old new : Ordered I Place) (i g : �
       let all = subst (AllIn (λ j. IsSome (entry_in old j))) was live in
       ap (along (entry_in new)) is ∙ along-append (entry_in new) front (i ∷ back)
       ∙ ap (λ l. l ++ along (entry_in new) (i ∷ back)) (along_with (entry_in old) (entry_in new) i (g, p) added.vacant added.entries front (live_front front back all))
-      ∙ ap (λ l. along (entry_in old) front ++ l) (along_some (entry_in new) i back (g, p) here ∙ ap (λ l. p ∷ l) (along_with (entry_in old) (entry_in new) i (g, p) added.vacant added.entries back (live_back front back all)))
+      ∙ ap (λ l. along (entry_in old) front ++ l) (along_some (entry_in new) i back (g, p) here
+      ∙ ap (λ l. p ∷ l) (along_with (entry_in old) (entry_in new) i (g, p) added.vacant added.entries back (live_back front back all)))
 
   pub put_first : StandsAt None (order_in number old) (order_in number new) i → in_order number new ≡ put p (in_order number old)
   put_first stands = split_new [] [] stands.0 stands.1 ∙ sym (ap (λ w. put p (along (entry_in old) w)) stands.0)
@@ -372,6 +379,7 @@ module _ {I : Type 0} (number : I → ℕ) (old new : Ordered I Place) (i g : �
               let was : order_in number old ≡ (beside.before ++ index q ∷ []) ++ beside.after = beside.was ∙ sym (append_assoc beside.before (index q ∷ []) beside.after) in
               let is : order_in number new ≡ (beside.before ++ index q ∷ []) ++ i ∷ beside.after = beside.is ∙ sym (append_assoc beside.before (index q ∷ []) (i ∷ beside.after)) in
               split_new (beside.before ++ index q ∷ []) beside.after was is
-              ∙ ap (λ l. l ++ p ∷ at beside.after) (along-append (entry_in old) beside.before (index q ∷ []) ∙ ap (λ l. at beside.before ++ l) (along_some (entry_in old) (index q) [] (generation q, a.item) a.is))
+              ∙ ap (λ l. l ++ p ∷ at beside.after) (along-append (entry_in old) beside.before (index q ∷ [])
+              ∙ ap (λ l. at beside.before ++ l) (along_some (entry_in old) (index q) [] (generation q, a.item) a.is))
               ∙ ap (λ l. (l ++ a.item ∷ []) ++ p ∷ at beside.after) (sym same.0) ∙ ap (λ l. (at around.before ++ a.item ∷ []) ++ p ∷ l) (sym same.1)
               ∙ sym (ap (put p) gap.is ∙ put_gap (at around.before ++ a.item ∷ []) (at around.after) p gap.below gap.above)

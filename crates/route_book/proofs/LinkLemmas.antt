@@ -63,7 +63,8 @@ module _ {I T : Type 0} (number : I → ℕ) (c : Content (IndexLink I T)) where
               ends = ap (option_map (link_ends number)) there ∙ sym (ap (option_map (entry_ends number)) some);
               live = subst IsSome (sym (ap (option_map (entry_ends number)) some)) refl;
             }
-        | inr other ↦ absurd (let none : value_if g (values_in c i) ≡ None = ap (λ o. value_if g (option_map valued o)) some ∙ rw other.0 refl in let no : ◌≡◌ {A = Option T} None (Some v) = sym none ∙ found in cc)
+        | inr other ↦ absurd (let none : value_if g (values_in c i) ≡ None = ap (λ o. value_if g (option_map valued o)) some ∙ rw other.0 refl in
+            let no : ◌≡◌ {A = Option T} None (Some v) = sym none ∙ found in cc)
       ]
 
 -- ---- tickets
@@ -138,8 +139,11 @@ module _ {I : Type 0} (number : I → ℕ) (rooms : Rooms) (last : ℕ) (s : Sta
       → LeadAs (λ (x : StopView). x.ticket) (values_in stops) (ends_in number stops') (next_stop routes)
       → IsBook number rooms last (record s { routes = routes }) places stops' marks book
   relinked_kept stay count lead = record {
-    held = subst (λ (c : ℕ). IsHeld now (record { places = entry_in places; stops = values_in stops'; marks = entry_at marks; place_counter = places.chains.counter; stop_counter = c }) (in_order number places) (ends_in number stops') book) (sym kept.counter)
-        (subst (λ (at : ℕ → Option (ℕ × StopView)). IsHeld now (record { places = entry_in places; stops = at; marks = entry_at marks; place_counter = places.chains.counter; stop_counter = stops.counter }) (in_order number places) (ends_in number stops') book)
+    held = subst (λ (c : ℕ). IsHeld now (record { places = entry_in places; stops = values_in stops'; marks = entry_at marks; place_counter = places.chains.counter; stop_counter = c })
+        (in_order number places) (ends_in number stops') book) (sym kept.counter)
+        (subst (λ (at : ℕ → Option (ℕ × StopView)). IsHeld now
+        (record { places = entry_in places; stops = at; marks = entry_at marks; place_counter = places.chains.counter; stop_counter = stops.counter }) (in_order number places)
+        (ends_in number stops') book)
         (sym (equal_if_alike (values_in stops') (values_in stops) same)) held);
     keys_rise = b.keys_rise;
     within = record {

@@ -18,7 +18,8 @@ module _ {X : Type 0} (line : X → List ℕ) where
   none_yet held all left text same empty = ([], ap lines_of (sym same) ∙ ap (λ t. t ++ lines_of left) (sym empty), Appends-nil held)
 
   -- the line of one more item is gathered
-  pub line_more : (all left rest : List X) (x : X) (sent text gone kept new : List ℕ) → lines_of all ≡ (sent ++ text) ++ lines_of left → left ≡ x ∷ rest → text ≡ gone ++ kept → new ≡ kept ++ ended (line x) → lines_of all ≡ ((sent ++ gone) ++ new) ++ lines_of rest
+  pub line_more : (all left rest : List X) (x : X) (sent text gone kept new : List ℕ) → lines_of all ≡ (sent ++ text) ++ lines_of left → left ≡ x ∷ rest → text ≡ gone ++ kept
+      → new ≡ kept ++ ended (line x) → lines_of all ≡ ((sent ++ gone) ++ new) ++ lines_of rest
   line_more all left rest x sent text gone kept new before first split more =
       before
       ∙ ap (λ t. (sent ++ t) ++ lines_of left) split
@@ -28,13 +29,15 @@ module _ {X : Type 0} (line : X → List ℕ) where
       ∙ ap (λ t. t ++ lines_of rest) (append_assoc (sent ++ gone) kept (ended (line x)) ∙ ap (λ t. (sent ++ gone) ++ t) (sym more))
 
   -- a failed write of what was gathered breaks off within the text
-  pub broken_off : (a b c : Option (List ℕ)) (all left : List X) (sent text : List ℕ) → lines_of all ≡ (sent ++ text) ++ lines_of left → Appends a b sent → AppendsBeginning b c text → AppendsBeginning a c (list_text all)
+  pub broken_off : (a b c : Option (List ℕ)) (all left : List X) (sent text : List ℕ) → lines_of all ≡ (sent ++ text) ++ lines_of left → Appends a b sent → AppendsBeginning b c text
+      → AppendsBeginning a c (list_text all)
   broken_off a b c all left sent text before written begins =
       begun a b c sent text (lines_of left ++ ended (codes "end")) (list_text all)
       (ap (λ t. t ++ ended (codes "end")) before ∙ append_assoc (sent ++ text) (lines_of left) (ended (codes "end"))) written begins
 
   -- the last piece: what is still to be sent and the line that ends the list
-  last_piece : (all left : List X) (sent text gone kept new : List ℕ) → lines_of all ≡ (sent ++ text) ++ lines_of left → left ≡ [] → text ≡ gone ++ kept → new ≡ kept ++ ended (codes "end") → list_text all ≡ (sent ++ gone) ++ new
+  last_piece : (all left : List X) (sent text gone kept new : List ℕ) → lines_of all ≡ (sent ++ text) ++ lines_of left → left ≡ [] → text ≡ gone ++ kept → new ≡ kept ++ ended (codes "end")
+      → list_text all ≡ (sent ++ gone) ++ new
   last_piece all left sent text gone kept new before none split line =
       ap (λ t. t ++ ended (codes "end"))
       (before ∙ ap (λ xs. (sent ++ text) ++ lines_of xs) none ∙ append-nil (sent ++ text) ∙ ap (λ t. sent ++ t) split ∙ sym (append_assoc sent gone kept))
@@ -42,13 +45,15 @@ module _ {X : Type 0} (line : X → List ℕ) where
       ∙ ap (λ t. (sent ++ gone) ++ t) (sym line)
 
   -- with the last piece the whole text is written
-  pub written_last : (a b c d : Option (List ℕ)) (all left : List X) (sent text gone kept new : List ℕ) → lines_of all ≡ (sent ++ text) ++ lines_of left → left ≡ [] → text ≡ gone ++ kept → new ≡ kept ++ ended (codes "end") → Appends a b sent → Appends b c gone → Appends c d new → Appends a d (list_text all)
+  pub written_last : (a b c d : Option (List ℕ)) (all left : List X) (sent text gone kept new : List ℕ) → lines_of all ≡ (sent ++ text) ++ lines_of left → left ≡ [] → text ≡ gone ++ kept
+      → new ≡ kept ++ ended (codes "end") → Appends a b sent → Appends b c gone → Appends c d new → Appends a d (list_text all)
   written_last a b c d all left sent text gone kept new before none split line written moved last =
       subst (Appends a d) (sym (last_piece all left sent text gone kept new before none split line))
       (Appends-trans a c d (sent ++ gone) new (Appends-trans a b c sent gone written moved) last)
 
   -- a failed write of it breaks off too
-  pub broken_off_last : (a b c d : Option (List ℕ)) (all left : List X) (sent text gone kept new : List ℕ) → lines_of all ≡ (sent ++ text) ++ lines_of left → left ≡ [] → text ≡ gone ++ kept → new ≡ kept ++ ended (codes "end") → Appends a b sent → Appends b c gone → AppendsBeginning c d new → AppendsBeginning a d (list_text all)
+  pub broken_off_last : (a b c d : Option (List ℕ)) (all left : List X) (sent text gone kept new : List ℕ) → lines_of all ≡ (sent ++ text) ++ lines_of left → left ≡ [] → text ≡ gone ++ kept
+      → new ≡ kept ++ ended (codes "end") → Appends a b sent → Appends b c gone → AppendsBeginning c d new → AppendsBeginning a d (list_text all)
   broken_off_last a b c d all left sent text gone kept new before none split line written moved begins =
       begun a c d (sent ++ gone) new [] (list_text all) (last_piece all left sent text gone kept new before none split line ∙ sym (append-nil ((sent ++ gone) ++ new)))
       (Appends-trans a b c sent gone written moved) begins

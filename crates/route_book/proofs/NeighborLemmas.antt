@@ -142,7 +142,8 @@ module _ {I : Type 0} (number : I → ℕ) (o : Ordered I Place) (ordered : IsOr
     where
       by : (c : Option (ℕ × IndexLink I (IndexNode I Place))) → entry_at o.chains i ≡ c
           → (option_map number link.1.prev ≡ last_or None on.front) × (option_map number link.1.next ≡ first_or on.back None)
-      by None none = absurd (let no : ◌≡◌ {A = Option (ℕ × IndexLink I Place)} (Some (generation link.0, read_link link.1)) None = sym (ap (option_map (λ e. (generation e.0, read_link e.1))) is) ∙ read ∙ ap (option_map bare) none in cc)
+      by None none = absurd (let no : ◌≡◌ {A = Option (ℕ × IndexLink I Place)} (Some (generation link.0, read_link link.1)) None = sym (ap (option_map (λ e. (generation e.0, read_link e.1))) is)
+          ∙ read ∙ ap (option_map bare) none in cc)
       by (Some c) some =
           let both : (generation link.0, read_link link.1) ≡ bare c = some_same (sym (ap (option_map (λ e. (generation e.0, read_link e.1))) is) ∙ read ∙ ap (option_map bare) some) in
           let there : Some (option_map number c.1.prev, option_map number c.1.next) ≡ Some (last_or None on.front, first_or on.back None) = sym (rw some refl) ∙ here in
@@ -154,7 +155,8 @@ module _ {I : Type 0} (number : I → ℕ) (o : Ordered I Place) (ordered : IsOr
   all_live : AllIn (λ j. IsSome (entry_in o j)) (on.front ++ i ∷ on.back)
   all_live = subst (AllIn (λ j. IsSome (entry_in o j))) on.is (live_along number o None (order_in number o) ordered.linear)
 
-  last_live : (xs : List ℕ) (b : Option ℕ) (after : List ℕ) (j : ℕ) → AllIn (λ j. IsSome (entry_in o j)) (xs ++ i ∷ after) → (b ≡ Some j → IsSome (entry_in o j)) → last_or b xs ≡ Some j → IsSome (entry_in o j)
+  last_live : (xs : List ℕ) (b : Option ℕ) (after : List ℕ) (j : ℕ) → AllIn (λ j. IsSome (entry_in o j)) (xs ++ i ∷ after) → (b ≡ Some j → IsSome (entry_in o j)) → last_or b xs ≡ Some j
+      → IsSome (entry_in o j)
   last_live [] b after j all before is = before is
   last_live (x ∷ xs) b after j all before is = last_live xs (Some x) after j all.1 (λ same. subst (λ k. IsSome (entry_in o k)) (some_same same) all.0) is
 
@@ -244,7 +246,8 @@ module _ {P I G : Type 0} (index generation : P → ℕ) (number : I → ℕ) (n
       ]
 
   links : (option_map number link.1.prev ≡ last_or None stood.on.front) × (option_map number link.1.next ≡ first_or stood.on.back None)
-  links = links_are number o ordered rise (index at) (generation at) stood.item stood.is stood.on numbered link (Some link) refl (subst (λ k. option_map (λ e. (numbered e.0, read_link e.1)) (Some link) ≡ option_map bare (entry_at o.chains k)) same read)
+  links = links_are number o ordered rise (index at) (generation at) stood.item stood.is stood.on numbered link (Some link) refl
+      (subst (λ k. option_map (λ e. (numbered e.0, read_link e.1)) (Some link) ≡ option_map bare (entry_at o.chains k)) same read)
 
   own_parts : (front back : List Place) (p : Place) → value_if (generation at) (entry_in o (index at)) ≡ Some p → in_order number o ≡ front ++ p ∷ back → in_order number o ≡ front ++ stood.item ∷ back
   own_parts front back p value is =
@@ -258,27 +261,35 @@ module _ {P I G : Type 0} (index generation : P → ℕ) (number : I → ℕ) (n
   next_is_live j is = next_live number o ordered rise (index at) (generation at) stood.item stood.is stood.on (number j) (sym links.1 ∙ ap (option_map number) is)
 
   pub next_ticket : (j : I) (q : Place) → link.1.next ≡ Some j → option_map (λ (e : ℕ × Place). e.1) (entry_in o (number j)) ≡ Some q
-      → (front back : List Place) (p : Place) → value_if (generation at) (entry_in o (index at)) ≡ Some p → in_order number o ≡ front ++ p ∷ back → Some q.ticket ≡ option_map (λ (x : Place). x.ticket) (first_item back)
+      → (front back : List Place) (p : Place) → value_if (generation at) (entry_in o (index at)) ≡ Some p → in_order number o ≡ front ++ p ∷ back
+      → Some q.ticket ≡ option_map (λ (x : Place). x.ticket) (first_item back)
   next_ticket j q is there front back p value whole =
       let e = entry_of (entry_in o (number j)) q there in
-      sym (ap (option_map (λ (x : Place). x.ticket)) (next_some number o ordered rise (index at) (generation at) stood.item stood.is stood.on front back (number j) e.0 q (own_parts front back p value whole) (sym links.1 ∙ ap (option_map number) is) e.1))
+      sym (ap (option_map (λ (x : Place). x.ticket)) (next_some number o ordered rise (index at) (generation at) stood.item stood.is stood.on front back (number j) e.0 q
+      (own_parts front back p value whole) (sym links.1 ∙ ap (option_map number) is) e.1))
 
-  pub next_missing : link.1.next ≡ None → (front back : List Place) (p : Place) → value_if (generation at) (entry_in o (index at)) ≡ Some p → in_order number o ≡ front ++ p ∷ back → None ≡ option_map (λ (x : Place). x.ticket) (first_item back)
+  pub next_missing : link.1.next ≡ None → (front back : List Place) (p : Place) → value_if (generation at) (entry_in o (index at)) ≡ Some p → in_order number o ≡ front ++ p ∷ back
+      → None ≡ option_map (λ (x : Place). x.ticket) (first_item back)
   next_missing is front back p value whole =
-      sym (ap (option_map (λ (x : Place). x.ticket)) (next_none number o ordered rise (index at) (generation at) stood.item stood.is stood.on front back (own_parts front back p value whole) (sym links.1 ∙ ap (option_map number) is)))
+      sym (ap (option_map (λ (x : Place). x.ticket)) (next_none number o ordered rise (index at) (generation at) stood.item stood.is stood.on front back (own_parts front back p value whole)
+      (sym links.1 ∙ ap (option_map number) is)))
 
   pub previous_is_live : (j : I) → link.1.prev ≡ Some j → IsSome (entry_in o (number j))
   previous_is_live j is = previous_live number o ordered rise (index at) (generation at) stood.item stood.is stood.on (number j) (sym links.0 ∙ ap (option_map number) is)
 
   pub previous_ticket : (j : I) (q : Place) → link.1.prev ≡ Some j → option_map (λ (e : ℕ × Place). e.1) (entry_in o (number j)) ≡ Some q
-      → (front back : List Place) (p : Place) → value_if (generation at) (entry_in o (index at)) ≡ Some p → in_order number o ≡ front ++ p ∷ back → Some q.ticket ≡ option_map (λ (x : Place). x.ticket) (last_item front)
+      → (front back : List Place) (p : Place) → value_if (generation at) (entry_in o (index at)) ≡ Some p → in_order number o ≡ front ++ p ∷ back
+      → Some q.ticket ≡ option_map (λ (x : Place). x.ticket) (last_item front)
   previous_ticket j q is there front back p value whole =
       let e = entry_of (entry_in o (number j)) q there in
-      sym (ap (option_map (λ (x : Place). x.ticket)) (previous_some number o ordered rise (index at) (generation at) stood.item stood.is stood.on front back (number j) e.0 q (own_parts front back p value whole) (sym links.0 ∙ ap (option_map number) is) e.1))
+      sym (ap (option_map (λ (x : Place). x.ticket)) (previous_some number o ordered rise (index at) (generation at) stood.item stood.is stood.on front back (number j) e.0 q
+      (own_parts front back p value whole) (sym links.0 ∙ ap (option_map number) is) e.1))
 
-  pub previous_missing : link.1.prev ≡ None → (front back : List Place) (p : Place) → value_if (generation at) (entry_in o (index at)) ≡ Some p → in_order number o ≡ front ++ p ∷ back → None ≡ option_map (λ (x : Place). x.ticket) (last_item front)
+  pub previous_missing : link.1.prev ≡ None → (front back : List Place) (p : Place) → value_if (generation at) (entry_in o (index at)) ≡ Some p → in_order number o ≡ front ++ p ∷ back
+      → None ≡ option_map (λ (x : Place). x.ticket) (last_item front)
   previous_missing is front back p value whole =
-      sym (ap (option_map (λ (x : Place). x.ticket)) (previous_none number o ordered rise (index at) (generation at) stood.item stood.is stood.on front back (own_parts front back p value whole) (sym links.0 ∙ ap (option_map number) is)))
+      sym (ap (option_map (λ (x : Place). x.ticket)) (previous_none number o ordered rise (index at) (generation at) stood.item stood.is stood.on front back (own_parts front back p value whole)
+      (sym links.0 ∙ ap (option_map number) is)))
 
 -- a place that is found stands between two parts of the list
 pub place_parts : {I : Type 0} (number : I → ℕ) (o : Ordered I Place) (i g : ℕ) (p : Place) → value_if g (entry_in o i) ≡ Some p → (IsSome (entry_in o i) → On (order_in number o) i)
@@ -337,14 +348,16 @@ module _ {P I : Type 0} (index generation : P → ℕ) (number : I → ℕ) (o :
         item = a.item;
         value = value_here;
         is = gap.is;
-        floor = floor_at key (in_order number o) (along (entry_in o) places.before) (a.item ∷ along (entry_in o) places.after) gap.is (weaker key (along (entry_in o) places.before) gap.below) gap.above;
+        floor = floor_at key (in_order number o) (along (entry_in o) places.before) (a.item ∷ along (entry_in o) places.after) gap.is (weaker key (along (entry_in o) places.before) gap.below)
+            gap.above;
       }
 
   pub floor_greater : d ≡ Greater → (q : Place) → option_map (λ (e : ℕ × Place). e.1) (entry_in o (index p)) ≡ Some q → floor_in ≡ Some q
   floor_greater greater q there =
       let gap = gap_greater number o key (index p) (generation p) a.item places.before places.after rise a.is (a.way ∙ greater) places.is (places.greater greater) in
       let same : a.item ≡ q = some_same (sym (ap (option_map (λ (e : ℕ × Place). e.1)) a.is) ∙ there) in
-      floor_at key (in_order number o) (along (entry_in o) places.before ++ a.item ∷ []) (along (entry_in o) places.after) gap.is (weaker key (along (entry_in o) places.before ++ a.item ∷ []) gap.below) gap.above
+      floor_at key (in_order number o) (along (entry_in o) places.before ++ a.item ∷ []) (along (entry_in o) places.after) gap.is
+      (weaker key (along (entry_in o) places.before ++ a.item ∷ []) gap.below) gap.above
       ∙ last_behind (along (entry_in o) places.before) a.item ∙ ap Some same
 
   pub floor_equal : d ≡ Equal → (q : Place) → option_map (λ (e : ℕ × Place). e.1) (entry_in o (index p)) ≡ Some q → floor_in ≡ Some q

@@ -54,7 +54,8 @@ module _ {I : Type 0} (number : I → ℕ) (rooms : Rooms) (last : ℕ) (s : Sta
       start_leaves z book' is more nowhere others =
           subst (λ l. IsBook number rooms (last + 1) z places stops' marks l) (ap (λ m. book ++ entry m OfStop n h ∷ []) ticket ∙ sym more)
           (subst (λ x. IsBook number rooms (last + 1) x places stops' marks (book ++ entry w.ticket OfStop n h ∷ [])) (sym is)
-          (start_kept number rooms last s places stops stops' marks book b pt place.0 place.2 room pi pg place.1 w n h ticket to put same_room agreed (nowhere (s.last + 1) answer) (λ x. others (s.last + 1) x answer)))
+          (start_kept number rooms last s places stops stops' marks book b pt place.0 place.2 room pi pg place.1 w n h ticket to put same_room agreed (nowhere (s.last + 1) answer)
+          (λ x. others (s.last + 1) x answer)))
 
       pub start_keeps : (s' : State) → KeepsItems k (record { state = s'; places = places; stops = stops'; marks = marks })
       start_keeps s' =
@@ -63,7 +64,8 @@ module _ {I : Type 0} (number : I → ℕ) (rooms : Rooms) (last : ℕ) (s : Sta
 
   -- ---- mark
 
-  module _ (st si sg : ℕ) (by : (v : StopView) × (value_if sg (values_in k.stops si) ≡ Some v) × (stop_holder k.state st ≡ Ok (state_stop (found_of k) v))) (free : false ≡ is_full_of_marks k.state) where
+  module _ (st si sg : ℕ) (by : (v : StopView) × (value_if sg (values_in k.stops si) ≡ Some v) × (stop_holder k.state st ≡ Ok (state_stop (found_of k) v)))
+      (free : false ≡ is_full_of_marks k.state) where
     abbrev stop : (v : StopView) × (value_if sg (values_in stops si) ≡ Some v) × (stop_holder s st ≡ Ok (state_stop (found_in places stops marks) v))
     stop = subst (λ (x : Book I). (v : StopView) × (value_if sg (values_in x.stops si) ≡ Some v) × (stop_holder x.state st ≡ Ok (state_stop (found_of x) v))) (sym view) by
 
@@ -85,7 +87,8 @@ module _ {I : Type 0} (number : I → ℕ) (rooms : Rooms) (last : ℕ) (s : Sta
           let two : stop.0.ticket ≡ st = held_ticket s st (state_stop (found_in places stops marks) stop.0) stop.2 in
           rw (next, to, of, at_place, at_stop, one, two) refl
 
-      pub mark_leaves : (z : State) (book' : List Entry) → z ≡ after_mark s pt st → book' ≡ book ++ entry (last + 1) OfMark n h ∷ [] → live_count marks' ≡ live_count marks + 1 → marks'.room ≡ marks.room
+      pub mark_leaves : (z : State) (book' : List Entry) → z ≡ after_mark s pt st → book' ≡ book ++ entry (last + 1) OfMark n h ∷ [] → live_count marks' ≡ live_count marks + 1
+          → marks'.room ≡ marks.room
           → IsBook number rooms (last + 1) z places stops marks' book'
       mark_leaves z book' is more live same_room =
           subst (λ l. IsBook number rooms (last + 1) z places stops marks' l) (ap (λ m. book ++ entry m OfMark n h ∷ []) ticket ∙ sym more)

@@ -133,105 +133,107 @@ module _ (s : State) (f : Found) (order : List Place) (ends ends' : ℕ → Opti
   renamed_entry t k i g q is name = lookup_renewed m n o book t ∙ ap (option_map renew) is ∙ ap (λ (z : ℕ × ℕ). Some (entry t k z.0 z.1)) name
 
   -- which stop leads to which
-  module _ (next : (i : ℕ) → IsSome (f.stops i) → next_at ends' (to_s i) ≡ option_map to_s (next_at ends i)) (live : (i k : ℕ) → IsSome (f.stops i) → next_at ends i ≡ Some k → IsSome (f.stops k)) where
-    -- a stop that moved has its ticket
-    ticket_moved : (k : ℕ) → IsSome (f.stops k) → ticket_at τ new_s (Some (to_s k)) ≡ ticket_at τ f.stops (Some k)
-    ticket_moved k some = by (f.stops k) refl some
-      where
-        by : (o : Option (ℕ × StopView)) → f.stops k ≡ o → IsSome o → ticket_at τ new_s (Some (to_s k)) ≡ ticket_at τ f.stops (Some k)
-        by None is some = absurd (true≢false (sym some))
-        by (Some e) is some =
-            ap (option_map (λ (x : ℕ × StopView). x.1.ticket)) (recast_s (to_s k) ∙ ap (option_map stop_cast) (stops.into k e.0 e.1 is))
-            ∙ sym (ap (option_map (λ (x : ℕ × StopView). x.1.ticket)) is)
+  module _ (next : (i : ℕ) → IsSome (f.stops i) → next_at ends' (to_s i) ≡ option_map to_s (next_at ends i)) (live : (i k : ℕ) → IsSome (f.stops i) → next_at ends i ≡ Some k → IsSome (f.stops k))
+    where
+      -- a stop that moved has its ticket
+      ticket_moved : (k : ℕ) → IsSome (f.stops k) → ticket_at τ new_s (Some (to_s k)) ≡ ticket_at τ f.stops (Some k)
+      ticket_moved k some = by (f.stops k) refl some
+        where
+          by : (o : Option (ℕ × StopView)) → f.stops k ≡ o → IsSome o → ticket_at τ new_s (Some (to_s k)) ≡ ticket_at τ f.stops (Some k)
+          by None is some = absurd (true≢false (sym some))
+          by (Some e) is some =
+              ap (option_map (λ (x : ℕ × StopView). x.1.ticket)) (recast_s (to_s k) ∙ ap (option_map stop_cast) (stops.into k e.0 e.1 is))
+              ∙ sym (ap (option_map (λ (x : ℕ × StopView). x.1.ticket)) is)
 
-    lead_packed : LeadAs τ new_s ends' (next_stop s.routes)
-    lead_packed k g v is =
-        let c = mapped_some stop_cast (at_s k) (g, v) (sym (recast_s k) ∙ is) in
-        let w = stops.onto k c.0.0 c.0.1 c.1.0 in
-        let same : v.ticket ≡ c.0.1.ticket = ap (λ (x : ℕ × StopView). x.1.ticket) (sym c.1.1) in
-        let here : IsSome (f.stops w.0) = ap is_some w.1.1.0 in
-        ap (next_stop s.routes) same ∙ h.routes w.0 w.1.0 c.0.1 w.1.1.0
-        ∙ by w.0 here (next_at ends w.0) refl
-        ∙ ap (ticket_at τ new_s) (sym (next w.0 here))
-        ∙ ap (λ j. ticket_at τ new_s (next_at ends' j)) w.1.1.1.0
-      where
-        by : (i : ℕ) → IsSome (f.stops i) → (o : Option ℕ) → next_at ends i ≡ o → ticket_at τ f.stops (next_at ends i) ≡ ticket_at τ new_s (option_map to_s (next_at ends i))
-        by i here None is = rw is refl
-        by i here (Some j) is = rw is (sym (ticket_moved j (live i j here is)))
+      lead_packed : LeadAs τ new_s ends' (next_stop s.routes)
+      lead_packed k g v is =
+          let c = mapped_some stop_cast (at_s k) (g, v) (sym (recast_s k) ∙ is) in
+          let w = stops.onto k c.0.0 c.0.1 c.1.0 in
+          let same : v.ticket ≡ c.0.1.ticket = ap (λ (x : ℕ × StopView). x.1.ticket) (sym c.1.1) in
+          let here : IsSome (f.stops w.0) = ap is_some w.1.1.0 in
+          ap (next_stop s.routes) same ∙ h.routes w.0 w.1.0 c.0.1 w.1.1.0
+          ∙ by w.0 here (next_at ends w.0) refl
+          ∙ ap (ticket_at τ new_s) (sym (next w.0 here))
+          ∙ ap (λ j. ticket_at τ new_s (next_at ends' j)) w.1.1.1.0
+        where
+          by : (i : ℕ) → IsSome (f.stops i) → (o : Option ℕ) → next_at ends i ≡ o → ticket_at τ f.stops (next_at ends i) ≡ ticket_at τ new_s (option_map to_s (next_at ends i))
+          by i here None is = rw is refl
+          by i here (Some j) is = rw is (sym (ticket_moved j (live i j here is)))
 
-    -- no reference is dead
-    pub stop_live : (k g : ℕ) (v : StopView) → new_s k ≡ Some (g, v) → IsLive at_p v.place
-    stop_live k g v is =
-        let c = mapped_some stop_cast (at_s k) (g, v) (sym (recast_s k) ∙ is) in
-        subst (λ (x : ℕ × StopView). IsLive at_p x.1.place) c.1.1 (live_recast to_p gp f.places at_p m places mirror_p c.0.1.place)
+      -- no reference is dead
+      pub stop_live : (k g : ℕ) (v : StopView) → new_s k ≡ Some (g, v) → IsLive at_p v.place
+      stop_live k g v is =
+          let c = mapped_some stop_cast (at_s k) (g, v) (sym (recast_s k) ∙ is) in
+          subst (λ (x : ℕ × StopView). IsLive at_p x.1.place) c.1.1 (live_recast to_p gp f.places at_p m places mirror_p c.0.1.place)
 
-    pub mark_live : (k g : ℕ) (v : MarkView) → new_m k ≡ Some (g, v) → IsLive at_p v.place
-    mark_live k g v is =
-        let c = mapped_some mark_cast (at_m k) (g, v) (sym (recast_m k) ∙ is) in
-        subst (λ (x : ℕ × MarkView). IsLive at_p x.1.place) c.1.1 (live_recast to_p gp f.places at_p m places mirror_p c.0.1.place)
+      pub mark_live : (k g : ℕ) (v : MarkView) → new_m k ≡ Some (g, v) → IsLive at_p v.place
+      mark_live k g v is =
+          let c = mapped_some mark_cast (at_m k) (g, v) (sym (recast_m k) ∙ is) in
+          subst (λ (x : ℕ × MarkView). IsLive at_p x.1.place) c.1.1 (live_recast to_p gp f.places at_p m places mirror_p c.0.1.place)
 
-    still_live : (r : Option (ℕ × ℕ)) → IsLive at_s r → IsLive new_s r
-    still_live None live = live
-    still_live (Some q) live = subst (λ x. IsSome (value_if q.1 x)) (sym (recast_s q.0)) (by (at_s q.0) live)
-      where
-        by : (x : Option (ℕ × StopView)) → IsSome (value_if q.1 x) → IsSome (value_if q.1 (option_map stop_cast x))
-        by None some = some
-        by (Some x) some = at_test (x.0 == q.1) some
-          where
-            at_test : (b : Bool) → IsSome (if b then Some x.1 else None) → IsSome (if b then Some (recast_stop m x.1) else None)
-            at_test true some = refl
-            at_test false some = some
+      still_live : (r : Option (ℕ × ℕ)) → IsLive at_s r → IsLive new_s r
+      still_live None live = live
+      still_live (Some q) live = subst (λ x. IsSome (value_if q.1 x)) (sym (recast_s q.0)) (by (at_s q.0) live)
+        where
+          by : (x : Option (ℕ × StopView)) → IsSome (value_if q.1 x) → IsSome (value_if q.1 (option_map stop_cast x))
+          by None some = some
+          by (Some x) some = at_test (x.0 == q.1) some
+            where
+              at_test : (b : Bool) → IsSome (if b then Some x.1 else None) → IsSome (if b then Some (recast_stop m x.1) else None)
+              at_test true some = refl
+              at_test false some = some
 
-    pub mark_stop_live : (k g : ℕ) (v : MarkView) → new_m k ≡ Some (g, v) → IsLive new_s v.stop
-    mark_stop_live k g v is =
-        let c = mapped_some mark_cast (at_m k) (g, v) (sym (recast_m k) ∙ is) in
-        subst (λ (x : ℕ × MarkView). IsLive new_s x.1.stop) c.1.1 (still_live (found_by n c.0.1.stop) (live_recast to_s gs f.stops at_s n stops mirror_s c.0.1.stop))
+      pub mark_stop_live : (k g : ℕ) (v : MarkView) → new_m k ≡ Some (g, v) → IsLive new_s v.stop
+      mark_stop_live k g v is =
+          let c = mapped_some mark_cast (at_m k) (g, v) (sym (recast_m k) ∙ is) in
+          subst (λ (x : ℕ × MarkView). IsLive new_s x.1.stop) c.1.1 (still_live (found_by n c.0.1.stop) (live_recast to_s gs f.stops at_s n stops mirror_s c.0.1.stop))
 
-    pub packed : IsHeld s now order ends' (map renew book)
-    packed = record {
-      rise = rise_renewed m n o book 0 s.last h.rise;
-      filled = filled;
-      places_in = place_in;
-      stops_in = stop_in;
-      marks_in = mark_in;
-      stop_place = λ k g v is. live_settled at_p gp v.place (stop_live k g v is);
-      mark_place = λ k g v is. live_settled at_p gp v.place (mark_live k g v is);
-      mark_stop = λ k g v is. live_settled new_s gs v.stop (mark_stop_live k g v is);
-      places_up_to = λ k g p is. (let w = (places.onto k g p is).1.1.1.1 in omega (arith, w));
-      stops_up_to = λ k g v is. (let w = mapped_some stop_cast (at_s k) (g, v) (sym (recast_s k) ∙ is) in let same = ap (λ (x : ℕ × StopView). x.0) w.1.1 in let u = (stops.onto k w.0.0 w.0.1 w.1.0).1.1.1.1 in omega (arith, same, u));
-      places = λ t. h.places t ∙ sym (ap (place_at now) (lookup_renewed m n o book t) ∙ (at_kept t (lookup book t) refl).place);
-      stops = λ t. h.stops t ∙ sym (ap (stop_at now) (lookup_renewed m n o book t) ∙ (at_kept t (lookup book t) refl).stop);
-      marks = λ t. h.marks t ∙ sym (ap (mark_at now) (lookup_renewed m n o book t) ∙ (at_kept t (lookup book t) refl).mark);
-      in_order = h.in_order;
-      routes = lead_packed;
-    }
-      where
-        filled : (t : ℕ) (e : Entry) → lookup (map renew book) t ≡ Some e → IsFilled now e.kind e.index e.generation
-        filled t e is =
-            let w = mapped_some renew (lookup book t) e (sym (lookup_renewed m n o book t) ∙ is) in
-            subst (λ (x : Entry). IsFilled now x.kind x.index x.generation) w.1.1 (kept w.0.kind w.0.index w.0.generation (h.filled t w.0 w.1.0)).filled
+      pub packed : IsHeld s now order ends' (map renew book)
+      packed = record {
+        rise = rise_renewed m n o book 0 s.last h.rise;
+        filled = filled;
+        places_in = place_in;
+        stops_in = stop_in;
+        marks_in = mark_in;
+        stop_place = λ k g v is. live_settled at_p gp v.place (stop_live k g v is);
+        mark_place = λ k g v is. live_settled at_p gp v.place (mark_live k g v is);
+        mark_stop = λ k g v is. live_settled new_s gs v.stop (mark_stop_live k g v is);
+        places_up_to = λ k g p is. (let w = (places.onto k g p is).1.1.1.1 in omega (arith, w));
+        stops_up_to = λ k g v is. (let w = mapped_some stop_cast (at_s k) (g, v) (sym (recast_s k) ∙ is) in let same = ap (λ (x : ℕ × StopView). x.0) w.1.1 in
+            let u = (stops.onto k w.0.0 w.0.1 w.1.0).1.1.1.1 in omega (arith, same, u));
+        places = λ t. h.places t ∙ sym (ap (place_at now) (lookup_renewed m n o book t) ∙ (at_kept t (lookup book t) refl).place);
+        stops = λ t. h.stops t ∙ sym (ap (stop_at now) (lookup_renewed m n o book t) ∙ (at_kept t (lookup book t) refl).stop);
+        marks = λ t. h.marks t ∙ sym (ap (mark_at now) (lookup_renewed m n o book t) ∙ (at_kept t (lookup book t) refl).mark);
+        in_order = h.in_order;
+        routes = lead_packed;
+      }
+        where
+          filled : (t : ℕ) (e : Entry) → lookup (map renew book) t ≡ Some e → IsFilled now e.kind e.index e.generation
+          filled t e is =
+              let w = mapped_some renew (lookup book t) e (sym (lookup_renewed m n o book t) ∙ is) in
+              subst (λ (x : Entry). IsFilled now x.kind x.index x.generation) w.1.1 (kept w.0.kind w.0.index w.0.generation (h.filled t w.0 w.1.0)).filled
 
-        place_in : (k g : ℕ) (p : Place) → at_p k ≡ Some (g, p) → lookup (map renew book) p.ticket ≡ Some (entry p.ticket OfPlace k g)
-        place_in k g p is =
-            let w = places.onto k g p is in
-            let name = renewed_live to_p gp f.places at_p m places mirror_p w.0 w.1.0 p (at_own f.places w.0 w.1.0 p w.1.1.0) in
-            renamed_entry p.ticket OfPlace w.0 w.1.0 (to_p w.0, gp) (h.places_in w.0 w.1.0 p w.1.1.0) name
-            ∙ ap (λ z. Some (entry p.ticket OfPlace z gp)) w.1.1.1.0 ∙ ap (λ z. Some (entry p.ticket OfPlace k z)) (sym w.1.1.1.1)
+          place_in : (k g : ℕ) (p : Place) → at_p k ≡ Some (g, p) → lookup (map renew book) p.ticket ≡ Some (entry p.ticket OfPlace k g)
+          place_in k g p is =
+              let w = places.onto k g p is in
+              let name = renewed_live to_p gp f.places at_p m places mirror_p w.0 w.1.0 p (at_own f.places w.0 w.1.0 p w.1.1.0) in
+              renamed_entry p.ticket OfPlace w.0 w.1.0 (to_p w.0, gp) (h.places_in w.0 w.1.0 p w.1.1.0) name
+              ∙ ap (λ z. Some (entry p.ticket OfPlace z gp)) w.1.1.1.0 ∙ ap (λ z. Some (entry p.ticket OfPlace k z)) (sym w.1.1.1.1)
 
-        stop_in : (k g : ℕ) (v : StopView) → new_s k ≡ Some (g, v) → lookup (map renew book) v.ticket ≡ Some (entry v.ticket OfStop k g)
-        stop_in k g v is =
-            let c = mapped_some stop_cast (at_s k) (g, v) (sym (recast_s k) ∙ is) in
-            let w = stops.onto k c.0.0 c.0.1 c.1.0 in
-            let name = renewed_live to_s gs f.stops at_s n stops mirror_s w.0 w.1.0 c.0.1 (at_own f.stops w.0 w.1.0 c.0.1 w.1.1.0) in
-            let known = renamed_entry c.0.1.ticket OfStop w.0 w.1.0 (to_s w.0, gs) (h.stops_in w.0 w.1.0 c.0.1 w.1.1.0) name
-            ∙ ap (λ z. Some (entry c.0.1.ticket OfStop z gs)) w.1.1.1.0 ∙ ap (λ z. Some (entry c.0.1.ticket OfStop k z)) (sym w.1.1.1.1) in
-            subst (λ (x : ℕ × StopView). lookup (map renew book) x.1.ticket ≡ Some (entry x.1.ticket OfStop k x.0)) c.1.1 known
+          stop_in : (k g : ℕ) (v : StopView) → new_s k ≡ Some (g, v) → lookup (map renew book) v.ticket ≡ Some (entry v.ticket OfStop k g)
+          stop_in k g v is =
+              let c = mapped_some stop_cast (at_s k) (g, v) (sym (recast_s k) ∙ is) in
+              let w = stops.onto k c.0.0 c.0.1 c.1.0 in
+              let name = renewed_live to_s gs f.stops at_s n stops mirror_s w.0 w.1.0 c.0.1 (at_own f.stops w.0 w.1.0 c.0.1 w.1.1.0) in
+              let known = renamed_entry c.0.1.ticket OfStop w.0 w.1.0 (to_s w.0, gs) (h.stops_in w.0 w.1.0 c.0.1 w.1.1.0) name
+              ∙ ap (λ z. Some (entry c.0.1.ticket OfStop z gs)) w.1.1.1.0 ∙ ap (λ z. Some (entry c.0.1.ticket OfStop k z)) (sym w.1.1.1.1) in
+              subst (λ (x : ℕ × StopView). lookup (map renew book) x.1.ticket ≡ Some (entry x.1.ticket OfStop k x.0)) c.1.1 known
 
-        mark_in : (k g : ℕ) (v : MarkView) → new_m k ≡ Some (g, v) → lookup (map renew book) v.ticket ≡ Some (entry v.ticket OfMark k g)
-        mark_in k g v is =
-            let c = mapped_some mark_cast (at_m k) (g, v) (sym (recast_m k) ∙ is) in
-            let w = marks.onto k c.0.0 c.0.1 c.1.0 in
-            let name = renewed_live to_m gm f.marks at_m o marks mirror_m w.0 w.1.0 c.0.1 (at_own f.marks w.0 w.1.0 c.0.1 w.1.1.0) in
-            let known = renamed_entry c.0.1.ticket OfMark w.0 w.1.0 (to_m w.0, gm) (h.marks_in w.0 w.1.0 c.0.1 w.1.1.0) name
-            ∙ ap (λ z. Some (entry c.0.1.ticket OfMark z gm)) w.1.1.1.0 ∙ ap (λ z. Some (entry c.0.1.ticket OfMark k z)) (sym w.1.1.1.1) in
-            subst (λ (x : ℕ × MarkView). lookup (map renew book) x.1.ticket ≡ Some (entry x.1.ticket OfMark k x.0)) c.1.1 known
+          mark_in : (k g : ℕ) (v : MarkView) → new_m k ≡ Some (g, v) → lookup (map renew book) v.ticket ≡ Some (entry v.ticket OfMark k g)
+          mark_in k g v is =
+              let c = mapped_some mark_cast (at_m k) (g, v) (sym (recast_m k) ∙ is) in
+              let w = marks.onto k c.0.0 c.0.1 c.1.0 in
+              let name = renewed_live to_m gm f.marks at_m o marks mirror_m w.0 w.1.0 c.0.1 (at_own f.marks w.0 w.1.0 c.0.1 w.1.1.0) in
+              let known = renamed_entry c.0.1.ticket OfMark w.0 w.1.0 (to_m w.0, gm) (h.marks_in w.0 w.1.0 c.0.1 w.1.1.0) name
+              ∙ ap (λ z. Some (entry c.0.1.ticket OfMark z gm)) w.1.1.1.0 ∙ ap (λ z. Some (entry c.0.1.ticket OfMark k z)) (sym w.1.1.1.1) in
+              subst (λ (x : ℕ × MarkView). lookup (map renew book) x.1.ticket ≡ Some (entry x.1.ticket OfMark k x.0)) c.1.1 known

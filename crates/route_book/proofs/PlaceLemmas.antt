@@ -139,15 +139,18 @@ module _ {I : Type 0} (number : I → ℕ) (rooms : Rooms) (last : ℕ) (s : Sta
     reword_kept =
         let same = with_key_has key p s.places found in
         let at : (k : ℕ) → entry_in places' k ≡ option_map (reword_entry p.key word) (entry_in places k) =
-        as_reworded s (found_in places stops marks) (in_order number places) (in_order number places') (ends_in number stops) book b.held b.keys_rise p i g word (entry_in places') replaced.was replaced.entries in
+        as_reworded s (found_in places stops marks) (in_order number places) (in_order number places') (ends_in number stops) book b.held b.keys_rise p i g word (entry_in places') replaced.was
+        replaced.entries in
         let order : in_order number places' ≡ reworded p.key word (in_order number places) =
         ap (along (entry_in places')) replaced.order ∙ along_reworded p.key word (entry_in places) (entry_in places') at (order_in number places) in
         let after : record s { places = reworded p.key word s.places } ≡ after_place s key word =
         ap (λ k. record s { places = reworded k word s.places }) same ∙ sym (placed_old s key word p found).1 in
         subst (λ z. IsBook number rooms last z places' stops marks book) after (record {
-          held = subst (λ c. IsHeld (record s { places = reworded p.key word s.places }) (record { places = entry_in places'; stops = values_in stops; marks = entry_at marks; place_counter = c; stop_counter = stops.counter })
+          held = subst (λ c. IsHeld (record s { places = reworded p.key word s.places }) (record
+              { places = entry_in places'; stops = values_in stops; marks = entry_at marks; place_counter = c; stop_counter = stops.counter })
               (in_order number places') (ends_in number stops) book) (sym replaced.kept.counter)
-              (place_reworded s (found_in places stops marks) (in_order number places) (in_order number places') (ends_in number stops) book b.held b.keys_rise p i g word (entry_in places') replaced.was replaced.entries order);
+              (place_reworded s (found_in places stops marks) (in_order number places) (in_order number places') (ends_in number stops) book b.held b.keys_rise p i g word (entry_in places')
+              replaced.was replaced.entries order);
           keys_rise = KeysRise-reworded p.key word s.places b.keys_rise;
           within = record {
             rooms_are = b.within.rooms_are;

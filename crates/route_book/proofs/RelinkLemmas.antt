@@ -34,7 +34,8 @@ any_found : (t : ℕ) (xs : List Stop) → list_any (has_ticket t) xs ≡ true �
 any_found t [] any = absurd (true≢false (sym any))
 any_found t (x ∷ xs) any = at (x.ticket == t) any (any_found t xs)
   where
-    at : (b : Bool) → (b || list_any (has_ticket t) xs) ≡ true → (list_any (has_ticket t) xs ≡ true → (y : Stop) × (find (has_ticket t) xs ≡ Some y)) → (y : Stop) × (cond b (Some x) (find (has_ticket t) xs) ≡ Some y)
+    at : (b : Bool) → (b || list_any (has_ticket t) xs) ≡ true → (list_any (has_ticket t) xs ≡ true → (y : Stop) × (find (has_ticket t) xs ≡ Some y))
+        → (y : Stop) × (cond b (Some x) (find (has_ticket t) xs) ≡ Some y)
     at true e later = (x, refl)
     at false e later = later e
 
@@ -262,7 +263,8 @@ module _ {I : Type 0} (number : I → ℕ) (rooms : Rooms) (last : ℕ) (s : Sta
           by (Some e) None some = absurd (true≢false (sym some))
           by (Some e) (Some f) some = of e.1 f.0 e.0 f.1 some
 
-      not_bridged : (IsSome (at_bridge i j (ends_found number stops i g) (ends_found number stops j h)) → ⊥) → next_in (ends_found number stops i g) ≡ None → prev_in (ends_found number stops j h) ≡ None → ⊥
+      not_bridged : (IsSome (at_bridge i j (ends_found number stops i g) (ends_found number stops j h)) → ⊥) → next_in (ends_found number stops i g) ≡ None
+          → prev_in (ends_found number stops j h) ≡ None → ⊥
       not_bridged none = by (ends_found number stops i g) refl (ends_found number stops j h) refl none
         where
           is_there : {X : Type 0} (o : Option X) → IsSome o → o ≡ None → ⊥
@@ -336,7 +338,8 @@ module _ {I : Type 0} (number : I → ℕ) (rooms : Rooms) (last : ℕ) (s : Sta
     -- each item keeps its pointer
     pub relinked_keeps : (s' : State) (stops' : Content (IndexLink I StopView)) (wanted : ℕ → Option Ends) → IsRelinked number wanted stops stops'
         → KeepsItems k (record { state = s'; places = places; stops = stops'; marks = marks })
-    relinked_keeps s' stops' wanted re = subst (λ x. KeepsItems x (record { state = s'; places = places; stops = stops'; marks = marks })) view (kept_links s s' places stops stops' marks re.values re.kept)
+    relinked_keeps s' stops' wanted re = subst (λ x. KeepsItems x (record { state = s'; places = places; stops = stops'; marks = marks })) view
+        (kept_links s s' places stops stops' marks re.values re.kept)
 
     pub refused_keeps : (stops' : Content (IndexLink I StopView)) → stops' ≡ stops → KeepsItems k (record { state = s; places = places; stops = stops'; marks = marks })
     refused_keeps stops' same =

@@ -44,7 +44,8 @@ module _ (s : State) (t : ℕ) where
   place_ticket : (p : Place) → holder s t ≡ Ok (place p) → p.ticket ≡ t
   place_ticket p is = by (place_of s.places t) refl (stop_of s.routes t) (mark_of s.marks t) (living_in (place p) is)
     where
-      by : (o : Option Place) → place_of s.places t ≡ o → (m : Option Stop) (n : Option Mark) → option_or (option_map place o) (option_or (option_map stop m) (option_map mark n)) ≡ Some (place p) → p.ticket ≡ t
+      by : (o : Option Place) → place_of s.places t ≡ o → (m : Option Stop) (n : Option Mark) → option_or (option_map place o) (option_or (option_map stop m) (option_map mark n)) ≡ Some (place p)
+          → p.ticket ≡ t
       by (Some q) there m n has = found_has (λ (x : Place). x.ticket) t s.places p (there ∙ ap Some (let same : ◌≡◌ {A = Option Item} (Some (place q)) (Some (place p)) = has in cc))
       by None there None None has = absurd (let no : ◌≡◌ {A = Option Item} None (Some (place p)) = has in cc)
       by None there None (Some n) has = absurd (let no : ◌≡◌ {A = Option Item} (Some (mark n)) (Some (place p)) = has in cc)
@@ -53,7 +54,8 @@ module _ (s : State) (t : ℕ) where
   stop_ticket : (u : Stop) → holder s t ≡ Ok (stop u) → u.ticket ≡ t
   stop_ticket u is = by (place_of s.places t) (stop_of s.routes t) refl (mark_of s.marks t) (living_in (stop u) is)
     where
-      by : (o : Option Place) (m : Option Stop) → stop_of s.routes t ≡ m → (n : Option Mark) → option_or (option_map place o) (option_or (option_map stop m) (option_map mark n)) ≡ Some (stop u) → u.ticket ≡ t
+      by : (o : Option Place) (m : Option Stop) → stop_of s.routes t ≡ m → (n : Option Mark) → option_or (option_map place o) (option_or (option_map stop m) (option_map mark n)) ≡ Some (stop u)
+          → u.ticket ≡ t
       by (Some q) m there n has = absurd (let no : ◌≡◌ {A = Option Item} (Some (place q)) (Some (stop u)) = has in cc)
       by None (Some m) there n has = found_has (λ (x : Stop). x.ticket) t (stop_list s.routes) u (there ∙ ap Some (let same : ◌≡◌ {A = Option Item} (Some (stop m)) (Some (stop u)) = has in cc))
       by None None there None has = absurd (let no : ◌≡◌ {A = Option Item} None (Some (stop u)) = has in cc)
@@ -62,7 +64,8 @@ module _ (s : State) (t : ℕ) where
   mark_ticket : (m : Mark) → holder s t ≡ Ok (mark m) → m.ticket ≡ t
   mark_ticket m is = by (place_of s.places t) (stop_of s.routes t) (mark_of s.marks t) refl (living_in (mark m) is)
     where
-      by : (o : Option Place) (u : Option Stop) (n : Option Mark) → mark_of s.marks t ≡ n → option_or (option_map place o) (option_or (option_map stop u) (option_map mark n)) ≡ Some (mark m) → m.ticket ≡ t
+      by : (o : Option Place) (u : Option Stop) (n : Option Mark) → mark_of s.marks t ≡ n → option_or (option_map place o) (option_or (option_map stop u) (option_map mark n)) ≡ Some (mark m)
+          → m.ticket ≡ t
       by (Some q) u n there has = absurd (let no : ◌≡◌ {A = Option Item} (Some (place q)) (Some (mark m)) = has in cc)
       by None (Some u) n there has = absurd (let no : ◌≡◌ {A = Option Item} (Some (stop u)) (Some (mark m)) = has in cc)
       by None None None there has = absurd (let no : ◌≡◌ {A = Option Item} None (Some (mark m)) = has in cc)

@@ -72,7 +72,8 @@ module _ {I : Type 0} (number : I → ℕ) (rooms : Rooms) (last : ℕ) (s : Sta
   stop_is = let named = found_has (λ (x : Place). x.ticket) t s.places p (held_place s t p held) in rw (next, to, found, named) refl
 
   no_more : stop_of s.routes (s.last + 1) ≡ None
-  no_more = no_stop_yet s (found_in places stops marks) (in_order number places) (ends_in number stops) (ends_in number stops') book b.held v i g (values_in stops') vacant put.values next put.generation live (s.routes ++ own ∷ []) (s.last + 1) refl
+  no_more = no_stop_yet s (found_in places stops marks) (in_order number places) (ends_in number stops) (ends_in number stops') book b.held v i g (values_in stops') vacant put.values next
+      put.generation live (s.routes ++ own ∷ []) (s.last + 1) refl
     where
       vacant : values_in stops i ≡ None
       vacant = ap (option_map valued) put.vacant
@@ -83,7 +84,8 @@ module _ {I : Type 0} (number : I → ℕ) (rooms : Rooms) (last : ℕ) (s : Sta
   pub start_kept : IsBook number rooms (last + 1) (after_start s t) places stops' marks (book ++ entry v.ticket OfStop i g ∷ [])
   start_kept = subst (λ z. IsBook number rooms (last + 1) z places stops' marks (book ++ entry v.ticket OfStop i g ∷ [])) (sym (started_new s t p held free).1) (record {
     held = subst (λ c. IsHeld now (record { places = entry_in places; stops = values_in stops'; marks = entry_at marks; place_counter = places.chains.counter; stop_counter = c })
-        (in_order number places) (ends_in number stops') (book ++ entry v.ticket OfStop i g ∷ [])) (sym put.counter) (stop_added s (found_in places stops marks) (in_order number places) (ends_in number stops) (ends_in number stops') book b.held v i g (values_in stops') vacant put.values
+        (in_order number places) (ends_in number stops') (book ++ entry v.ticket OfStop i g ∷ [])) (sym put.counter)
+        (stop_added s (found_in places stops marks) (in_order number places) (ends_in number stops) (ends_in number stops') book b.held v i g (values_in stops') vacant put.values
         next put.generation live (s.routes ++ own ∷ []) others first
         lead);
     keys_rise = b.keys_rise;

@@ -61,7 +61,11 @@ module _ (s : State) (f : Found) (order : List Place) (ends ends' : ℕ → Opti
       by : (b : Bool) → option_map (state_mark now) (if b then Some x.1 else None) ≡ option_map (state_mark f) (if b then Some x.1 else None)
       by false = refl
       by true =
-          ap (λ (r : Option StopView). Some (record { ticket = x.1.ticket; place = option_map (λ (q : Place). q.ticket) (found_by f.places x.1.place); stop = option_map (λ (q : StopView). q.ticket) r }))
+          ap (λ (r : Option StopView). Some (record {
+            ticket = x.1.ticket;
+            place = option_map (λ (q : Place). q.ticket) (found_by f.places x.1.place);
+            stop = option_map (λ (q : StopView). q.ticket) r;
+          }))
           (found_kept x.1.stop (h.mark_stop j x.0 x.1 is))
 
   record Kept (k : Kind) (j h' : ℕ) : Type 0 where

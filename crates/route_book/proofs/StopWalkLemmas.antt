@@ -108,7 +108,8 @@ module _ (at : ℕ → Option Stop) (ends : ℕ → Option Ends) (next previous 
   all_known [] = tt
   all_known (x ∷ xs) = one (at x) refl (all_known xs)
     where
-      one : (o : Option Stop) → at x ≡ o → AllByRecursion (λ t. stop_of routes t.ticket ≡ Some t) (along at xs) → AllByRecursion (λ t. stop_of routes t.ticket ≡ Some t) (option_to_list o ++ along at xs)
+      one : (o : Option Stop) → at x ≡ o → AllByRecursion (λ t. stop_of routes t.ticket ≡ Some t) (along at xs)
+          → AllByRecursion (λ t. stop_of routes t.ticket ≡ Some t) (option_to_list o ++ along at xs)
       one None e h = h
       one (Some t) e h = (known x t e, h)
 
@@ -135,7 +136,8 @@ module _ (at : ℕ → Option Stop) (ends : ℕ → Option Ends) (next previous 
 
   module _ (ways : (front behind : List Stop) (t : Stop) → AllByRecursion (λ x. stop_of routes x.ticket ≡ Some x) (front ++ t ∷ behind) → Leads next None (front ++ t ∷ behind)
       → ((u : ℕ) (x : Stop) (rest : List Stop) → front ++ t ∷ behind ≡ x ∷ rest → next u ≢ Some x.ticket) → walk_from t.ticket routes ≡ (t ∷ behind) ++ reverse front)
-      (rounds : (t : Stop) (behind : List Stop) → AllByRecursion (λ x. stop_of routes x.ticket ≡ Some x) (t ∷ behind) → Leads next (Some t.ticket) (t ∷ behind) → count_of (has_ticket t.ticket) behind ≡ 0
+      (rounds : (t : Stop) (behind : List Stop) → AllByRecursion (λ x. stop_of routes x.ticket ≡ Some x) (t ∷ behind) → Leads next (Some t.ticket) (t ∷ behind)
+      → count_of (has_ticket t.ticket) behind ≡ 0
       → walk_from t.ticket routes ≡ t ∷ behind) where
     -- the stops along a walk of the interlinks are those of the walk
     pub stops_walked : (i : ℕ) (t : Stop) (walk : List ℕ) → at i ≡ Some t → IsWalkFrom ends i walk → walk_from t.ticket routes ≡ along at walk
@@ -145,7 +147,8 @@ module _ (at : ℕ → Option Stop) (ends : ℕ → Option Ends) (next previous 
         ways (along at before) (along at after) t (subst (AllByRecursion (λ x. stop_of routes x.ticket ≡ Some x)) whole (all_known (before ++ i ∷ after)))
         (subst (Leads next None) whole (stands_lead None None (before ++ i ∷ after) linear))
         (λ u x rest e. none_before (before ++ i ∷ after) linear u x rest (whole ∙ e))
-        ∙ sym (ap (along at) is ∙ ap (λ o. option_to_list o ++ along at (after ++ reverse before)) here ∙ ap (λ ys. t ∷ ys) (along-append at after (reverse before) ∙ ap (λ ys. along at after ++ ys) (along-reverse at before)))
+        ∙ sym (ap (along at) is ∙ ap (λ o. option_to_list o ++ along at (after ++ reverse before)) here
+        ∙ ap (λ ys. t ∷ ys) (along-append at after (reverse before) ∙ ap (λ ys. along at after ++ ys) (along-reverse at before)))
     stops_walked i t walk here (walks_around after ring is) =
         let whole : along at (i ∷ after) ≡ t ∷ along at after = ap (λ o. option_to_list o ++ along at after) here in
         let closes : ticket_by at (Some i) ≡ Some t.ticket = ap (option_map (λ (u : Stop). u.ticket)) here in

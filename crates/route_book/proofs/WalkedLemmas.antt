@@ -62,7 +62,8 @@ module _ {I : Type 0} (number : I → ℕ) (rooms : Rooms) (last : ℕ) (s : Sta
   same_ticket None = refl
   same_ticket (Some j) = by (values_in stops j)
     where
-      by : (o : Option (ℕ × StopView)) → option_map (λ (e : ℕ × StopView). e.1.ticket) o ≡ option_map (λ (t : Stop). t.ticket) (option_map (λ (e : ℕ × StopView). state_stop (found_in places stops marks) e.1) o)
+      by : (o : Option (ℕ × StopView)) → option_map (λ (e : ℕ × StopView). e.1.ticket) o ≡ option_map (λ (t : Stop). t.ticket)
+          (option_map (λ (e : ℕ × StopView). state_stop (found_in places stops marks) e.1) o)
       by None = refl
       by (Some e) = refl
 
@@ -109,9 +110,11 @@ module _ {I : Type 0} (number : I → ℕ) (rooms : Rooms) (last : ℕ) (s : Sta
     -- the routes of the state are chains of the interlinks
     pub routes_chained : AllByRecursion (λ r. Leads (next_stop s.routes) (closes_at r) r.stops) s.routes
         → AllByRecursion (λ r. r.is_ring ≡ false → IfSome (first_item r.stops) (λ t. previous_stop s.routes t.ticket ≡ None)) s.routes
-        → AllByRecursion (λ t. stop_of s.routes t.ticket ≡ Some t) (stop_list s.routes) → ((n : ℕ) → count_of (has_ticket n) (stop_list s.routes) ≤ 1) → AreRoutes at_index (ends_in number stops) s.routes
+        → AllByRecursion (λ t. stop_of s.routes t.ticket ≡ Some t) (stop_list s.routes) → ((n : ℕ) → count_of (has_ticket n) (stop_list s.routes) ≤ 1)
+        → AreRoutes at_index (ends_in number stops) s.routes
     routes_chained leads first known once =
-        routes_are_chains at_index (ends_in number stops) (next_stop s.routes) (previous_stop s.routes) (λ t. stop_of s.routes t.ticket ≡ Some t) agreed live_in alive_in lead back apart_in index s.routes leads first known once
+        routes_are_chains at_index (ends_in number stops) (next_stop s.routes) (previous_stop s.routes) (λ t. stop_of s.routes t.ticket ≡ Some t) agreed live_in alive_in lead back apart_in index
+        s.routes leads first known once
       where
         alive_in : (i : ℕ) → IsSome (at_index i) → IsSome (ends_in number stops i)
         alive_in i some = live_ends number stops i (by (values_in stops i) some)
@@ -129,7 +132,8 @@ module _ {I : Type 0} (number : I → ℕ) (rooms : Rooms) (last : ℕ) (s : Sta
 
     module _ (ways : (front behind : List Stop) (t : Stop) → AllByRecursion (λ x. stop_of s.routes x.ticket ≡ Some x) (front ++ t ∷ behind) → Leads (next_stop s.routes) None (front ++ t ∷ behind)
         → ((u : ℕ) (x : Stop) (rest : List Stop) → front ++ t ∷ behind ≡ x ∷ rest → next_stop s.routes u ≢ Some x.ticket) → walk_from t.ticket s.routes ≡ (t ∷ behind) ++ reverse front)
-        (rounds : (t : Stop) (behind : List Stop) → AllByRecursion (λ x. stop_of s.routes x.ticket ≡ Some x) (t ∷ behind) → Leads (next_stop s.routes) (Some t.ticket) (t ∷ behind) → count_of (has_ticket t.ticket) behind ≡ 0
+        (rounds : (t : Stop) (behind : List Stop) → AllByRecursion (λ x. stop_of s.routes x.ticket ≡ Some x) (t ∷ behind) → Leads (next_stop s.routes) (Some t.ticket) (t ∷ behind)
+        → count_of (has_ticket t.ticket) behind ≡ 0
         → walk_from t.ticket s.routes ≡ t ∷ behind)
         (k : Book I) (view : record { state = s; places = places; stops = stops; marks = marks } ≡ k) (t i g : ℕ)
         (from : (v : StopView) × (value_if g (values_in k.stops i) ≡ Some v) × (stop_holder k.state t ≡ Ok (state_stop (found_of k) v))) where
@@ -168,4 +172,5 @@ module _ {I : Type 0} (number : I → ℕ) (rooms : Rooms) (last : ℕ) (s : Sta
           whole : walk_from t s.routes ≡ along at_index walk.0
           whole =
               ap (λ n. walk_from n s.routes) (sym ticket)
-              ∙ stops_walked at_index (ends_in number stops) (next_stop s.routes) (previous_stop s.routes) s.routes live_in lead back (λ x y. (both x y).0) known_in apart_in ways rounds i first walk.0 here walk.1
+              ∙ stops_walked at_index (ends_in number stops) (next_stop s.routes) (previous_stop s.routes) s.routes live_in lead back (λ x y. (both x y).0) known_in apart_in ways rounds i first
+              walk.0 here walk.1

@@ -53,7 +53,8 @@ module _ {I : Type 0} where
     pub stop_room : rooms.stops ≤ arena_capacity stops
     pub mark_room : rooms.marks ≤ arena_capacity marks
 
-  pub record IsBook (number : I → ℕ) (rooms : Rooms) (last : ℕ) (s : State) (places : Ordered I Place) (stops : Content (IndexLink I StopView)) (marks : Content MarkView) (book : List Entry) : Type 0 where
+  pub record IsBook (number : I → ℕ) (rooms : Rooms) (last : ℕ) (s : State) (places : Ordered I Place) (stops : Content (IndexLink I StopView)) (marks : Content MarkView) (book : List Entry)
+      : Type 0 where
     pub held : IsHeld s (found_in places stops marks) (in_order number places) (ends_in number stops) book
     pub keys_rise : KeysRise s.places
     pub within : IsWithin rooms s places stops marks

@@ -30,6 +30,14 @@ pub(crate) trait Ticketed {
         ensures { result ≡ ticket_of self.now };
 }
 
+impl Ticketed for Place {
+    ghost ticket_of = { λ p. p.ticket };
+
+    fn own_ticket(&self) -> u64 {
+        self.ticket()
+    }
+}
+
 impl<P: PtrCore> Ticketed for Stop<P> {
     ghost ticket_of = { λ t. t.ticket };
 
@@ -105,30 +113,6 @@ fn mirror_by_tickets<
     }
 }
 
-// `note` for a place, since the ordered arena is no `ArenaTrait`.
-fn note_place<P: PtrCore, S: OrdSlots<P, Place>, B: OrdSlots<P, Entry<P>>, R: DirectSlots<P, P>>(
-    places: &SimpleOrdArena<P, Place, S>,
-    book: &TicketBook<P, B>,
-    mirror: &mut DirectArena<P, P, R>,
-    p: P,
-)
-    requires live { generation_at (entry_in places.now) (P.index p) ≡ Some (P.generation p) }
-    requires booked { IsBooked (λ (x : PlaceView). x.ticket) book.now.entries (entry_in places.now) (arena_capacity mirror.old) }
-    requires mirrored { IsMirrored (λ (x : PlaceView). x.ticket) book.now.entries (entry_in places.now) (P.index p)
-        (numbers P.index P.generation (entry_at mirror.old)) }
-    ensures mirrored { IsMirrored (λ (x : PlaceView). x.ticket) book.now.entries (entry_in places.now) (P.index p + 1)
-        (numbers P.index P.generation (entry_at mirror.new)) }
-    ensures room { mirror.new.room ≡ mirror.old.room }
-{
-    let Some(item) = places.get(p) else {
-        unreached!()
-    };
-    let Some(entry) = book.find_counted(item.ticket(), &mut Probes::new()) else {
-        unreached!()
-    };
-    put(mirror, entry.at(), p);
-}
-
 // Notes the pointers to all places.
 pub(crate) fn mirror_places<
     P: PtrCore,
@@ -136,17 +120,13 @@ pub(crate) fn mirror_places<
     B: OrdSlots<P, Entry<P>>,
     R: DirectSlots<P, P>,
 >(places: &SimpleOrdArena<P, Place, S>, book: &TicketBook<P, B>, mirror: &mut DirectArena<P, P, R>)
-    requires booked { IsBooked (λ (x : PlaceView). x.ticket) book.now.entries (entry_in places.now) (arena_capacity mirror.old) }
+    requires { IsBooked (λ (x : PlaceView). x.ticket) book.now.entries (entry_in places.now) (arena_capacity mirror.old) }
     ensures mirrored { (low : ℕ) → ((k : ℕ) → IsSome (entry_in places.now k) → k < low)
         → IsMirrored (λ (x : PlaceView). x.ticket) book.now.entries (entry_in places.now) low
         (numbers P.index P.generation (entry_at mirror.new)) }
     ensures room { mirror.new.room ≡ mirror.old.room }
 {
-    let _ = mirror.clear();
-    let mut walk = places.advancer();
-    while let Some(p) = walk.advance(places) {
-        note_place(places, book, mirror, p);
-    }
+    mirror_by_tickets(places, book, mirror);
 }
 
 // Notes the pointers to all stops.

@@ -19,6 +19,7 @@ use crate::items::Place;
 use route_lines::Word;
 use std::cmp::Ordering;
 use ticket_book::put;
+use triple_arena::ArenaTrait;
 use triple_arena_ord::laws::{entries_stand_in_the_list, writes_keep_the_list};
 use triple_arena_ord::{InsertKind, OrdSlots, SimpleOrdArena};
 use triple_arena_ptr::{Probes, PtrCore};

@@ -17,7 +17,8 @@ module _ (routes : List Route) (written : AreWritten routes) where
   lead_along = Links-next_stop routes written.once
 
   -- none comes before the first stop of a route that is no ring
-  first_along : (r : Route) (xs : List Stop) → r.stops ≡ xs → AllByRecursion (λ t. route_of routes t.ticket ≡ Some r) xs → r.is_ring ≡ false → IfSome (first_item xs) (λ t. previous_stop routes t.ticket ≡ None)
+  first_along : (r : Route) (xs : List Stop) → r.stops ≡ xs → AllByRecursion (λ t. route_of routes t.ticket ≡ Some r) xs → r.is_ring ≡ false
+      → IfSome (first_item xs) (λ t. previous_stop routes t.ticket ≡ None)
   first_along r [] is own linear = tt
   first_along r (t ∷ xs) is own linear =
       let none : before (has_ticket t.ticket) (t ∷ xs) ≡ [] = rw (eq-eqb t.ticket t.ticket refl) refl in

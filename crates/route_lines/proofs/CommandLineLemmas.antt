@@ -10,7 +10,8 @@ use Rattle.route_lines.specs.declared.fault.RunFault.{RunFault}
 use Rattle.route_lines.specs.declared.fault.RunFault.TheVariants.{Read, Write, TooLong}
 use Rattle.std.specs.declared.io.Error.{Error}
 
-pub answers-whole_lines : (rooms : Rooms) (book later : State) (before left held written : Option (List ℕ)) (counts counted : Counts) (input : List ℕ) → book ≡ empty rooms 0 → Consumes before left input → Carries book (map whole (whole_lines input)) later held written counts counted → AnswersWholeLines rooms before left held written
+pub answers-whole_lines : (rooms : Rooms) (book later : State) (before left held written : Option (List ℕ)) (counts counted : Counts) (input : List ℕ) → book ≡ empty rooms 0
+    → Consumes before left input → Carries book (map whole (whole_lines input)) later held written counts counted → AnswersWholeLines rooms before left held written
 answers-whole_lines rooms book later before left held written counts counted input new read carries = record {
   input = input;
   read = read;
@@ -18,7 +19,9 @@ answers-whole_lines rooms book later before left held written counts counted inp
 }
 
 -- where a write failed, a line was being answered; or all were, and the flush failed
-pub begins-to_answer : (rooms : Rooms) (book later : State) (before left held written : Option (List ℕ)) (counts counted : Counts) (input : List ℕ) → book ≡ empty rooms 0 → Consumes before left input → StopsWithin input left book later held written counts counted ⊎ (IsAtEnd left × Carries book (lines input) later held written counts counted) → BeginsToAnswer rooms before left held written
+pub begins-to_answer : (rooms : Rooms) (book later : State) (before left held written : Option (List ℕ)) (counts counted : Counts) (input : List ℕ) → book ≡ empty rooms 0
+    → Consumes before left input → StopsWithin input left book later held written counts counted ⊎ (IsAtEnd left × Carries book (lines input) later held written counts counted)
+    → BeginsToAnswer rooms before left held written
 begins-to_answer rooms book later before left held written counts counted input new read how = record {
   input = input;
   read = read;
@@ -28,7 +31,8 @@ begins-to_answer rooms book later before left held written counts counted input 
   stops = from_empty how;
 }
   where
-    from_empty : StopsWithin input left book later held written counts counted ⊎ (IsAtEnd left × Carries book (lines input) later held written counts counted) → StopsWithin input left (empty rooms 0) later held written counts counted ⊎ (IsAtEnd left × Appends held written (text (empty rooms 0) input))
+    from_empty : StopsWithin input left book later held written counts counted ⊎ (IsAtEnd left × Carries book (lines input) later held written counts counted)
+        → StopsWithin input left (empty rooms 0) later held written counts counted ⊎ (IsAtEnd left × Appends held written (text (empty rooms 0) input))
     from_empty (inl stops) = inl (subst (λ s. StopsWithin input left s later held written counts counted) new stops)
     from_empty (inr all) = inr (all.0, subst (λ s. Appends held written (text s input)) new all.1.replied)
 

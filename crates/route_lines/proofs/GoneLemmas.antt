@@ -145,7 +145,8 @@ gone-IsEnded s t ended =
 
 pub gone_after_lines : (s : State) (t : ℕ) (lines : List Line) → IsSound s → holder s t ≡ Err Gone → holder (after_lines s lines) t ≡ Err Gone
 gone_after_lines s t lines sound gone =
-    gone-IsEnded (after_lines s lines) t (kept_by_lines (λ x. IsSound x × IsEnded x t) (λ x change is on kept. (IsSound-changed x change is kept.0, later x change on kept.0 kept.1)) s lines (sound, IsEnded-gone s t gone)).1
+    gone-IsEnded (after_lines s lines) t (kept_by_lines (λ x. IsSound x × IsEnded x t) (λ x change is on kept. (IsSound-changed x change is kept.0, later x change on kept.0 kept.1)) s lines
+    (sound, IsEnded-gone s t gone)).1
   where
     later : (x : State) (change : Change) → GoesOn change → IsSound x → IsEnded x t → IsEnded (changed x change) t
     later x change on whole ended =

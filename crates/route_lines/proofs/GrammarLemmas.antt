@@ -65,7 +65,8 @@ word_of-found bytes word e = at (choice _ _ _ _ e)
 
 -- a choice by the verb: the line is spelled either way
 
-by_verb : (verb name line : List ℕ) (named other : Option Command) (command : Command) → (verb ≡ name → named ≡ Some command → Spells line command) → (other ≡ Some command → Spells line command) → cond (bytes_eq verb name) named other ≡ Some command → Spells line command
+by_verb : (verb name line : List ℕ) (named other : Option Command) (command : Command) → (verb ≡ name → named ≡ Some command → Spells line command) → (other ≡ Some command → Spells line command)
+    → cond (bytes_eq verb name) named other ≡ Some command → Spells line command
 by_verb verb name line named other command here there e = at (choice (bytes_eq verb name) named other command e)
   where
     at : ((bytes_eq verb name ≡ true) × (named ≡ Some command)) ⊎ ((bytes_eq verb name ≡ false) × (other ≡ Some command)) → Spells line command
@@ -73,7 +74,8 @@ by_verb verb name line named other command here there e = at (choice (bytes_eq v
     at (inr h) = there h.1
 
 -- a choice among rows, each of which is spelled by its verb
-Spells-from_row : (verb rest : List ℕ) (rows : List (List ℕ × Command)) (command : Command) → AllByRecursion (λ row. Spells (row.0 ++ rest) row.1) rows → command_by rows verb ≡ Some command → Spells (verb ++ rest) command
+Spells-from_row : (verb rest : List ℕ) (rows : List (List ℕ × Command)) (command : Command) → AllByRecursion (λ row. Spells (row.0 ++ rest) row.1) rows → command_by rows verb ≡ Some command
+    → Spells (verb ++ rest) command
 Spells-from_row verb rest [] command spelled e = cc
 Spells-from_row verb rest (row ∷ rows) command spelled e =
     by_verb verb row.0 (verb ++ rest) (Some row.1) (command_by rows verb) command
@@ -88,7 +90,8 @@ Spells-from_one_field verb command e = subst (λ line. Spells line command) (app
 
 Spells-from_number : (verb : List ℕ) (n : ℕ) (command : Command) → IsNumber n → command_of_number verb n ≡ Some command → Spells (verb ++ 32 ∷ decimal n) command
 Spells-from_number verb n command small =
-    Spells-from_row verb (32 ∷ decimal n) (number_verbs n) command ((small, refl), ((small, refl), ((small, refl), ((small, refl), ((small, refl), ((small, refl), ((small, refl), ((small, refl), ((small, refl), tt)))))))))
+    Spells-from_row verb (32 ∷ decimal n) (number_verbs n) command
+    ((small, refl), ((small, refl), ((small, refl), ((small, refl), ((small, refl), ((small, refl), ((small, refl), ((small, refl), ((small, refl), tt)))))))))
 
 Spells-from_two_fields : (verb field : List ℕ) (command : Command) → command_of_two_fields verb field ≡ Some command → Spells (verb ++ 32 ∷ field) command
 Spells-from_two_fields verb field command e =
@@ -108,8 +111,12 @@ Spells-from_three_fields verb first second command =
     let number = number_of-found first key.0 key.1 in
     let word = mapped (λ w. Place key.0 w None) (word_of second) command key.2 in
     let text = word_of-found second word.0 word.1 in
-    subst (Spells line) (sym word.2)
-    (number.0, text.0, ap (λ v. v ++ 32 ∷ (first ++ 32 ∷ second)) same ∙ ap (λ f. codes "place" ++ 32 ∷ (f ++ 32 ∷ second)) number.1 ∙ ap (λ w. codes "place" ++ 32 ∷ (decimal key.0 ++ 32 ∷ w)) text.1)) (λ found.
+    subst (Spells line) (sym word.2) (
+      number.0,
+      text.0,
+      ap (λ v. v ++ 32 ∷ (first ++ 32 ∷ second)) same ∙ ap (λ f. codes "place" ++ 32 ∷ (f ++ 32 ∷ second)) number.1
+          ∙ ap (λ w. codes "place" ++ 32 ∷ (decimal key.0 ++ 32 ∷ w)) text.1,
+    )) (λ found.
     let front = followed _ (number_of first) command found in
     let back = followed _ (number_of second) command front.2 in
     let number = number_of-found first front.0 front.1 in
@@ -117,7 +124,8 @@ Spells-from_three_fields verb first second command =
     subst (λ f. Spells (verb ++ 32 ∷ f) command) (ap (λ f. f ++ 32 ∷ decimal back.0) (sym number.1) ∙ ap (λ f. first ++ 32 ∷ f) (sym other.1))
     (Spells-from_numbers verb front.0 back.0 command number.0 other.0 back.2))
 
-Spells-from_five_fields : (verb first second third fourth : List ℕ) (command : Command) → command_of_five_fields verb first second third fourth ≡ Some command → Spells (verb ++ 32 ∷ (first ++ 32 ∷ (second ++ 32 ∷ (third ++ 32 ∷ fourth)))) command
+Spells-from_five_fields : (verb first second third fourth : List ℕ) (command : Command) → command_of_five_fields verb first second third fourth ≡ Some command
+    → Spells (verb ++ 32 ∷ (first ++ 32 ∷ (second ++ 32 ∷ (third ++ 32 ∷ fourth)))) command
 Spells-from_five_fields verb first second third fourth command e = at (choice (bytes_eq verb (codes "place") && bytes_eq third (codes "near")) _ None command e)
   where
     line : List ℕ
@@ -126,7 +134,8 @@ Spells-from_five_fields verb first second third fourth command e = at (choice (b
     found : Option Command
     found = option_and_then (λ key. option_and_then (λ word. option_map (λ near. Place key word (Some near)) (number_of fourth)) (word_of second)) (number_of first)
 
-    at : ((bytes_eq verb (codes "place") && bytes_eq third (codes "near") ≡ true) × (found ≡ Some command)) ⊎ ((bytes_eq verb (codes "place") && bytes_eq third (codes "near") ≡ false) × (None ≡ Some command)) → Spells line command
+    at : ((bytes_eq verb (codes "place") && bytes_eq third (codes "near") ≡ true) × (found ≡ Some command)) ⊎
+        ((bytes_eq verb (codes "place") && bytes_eq third (codes "near") ≡ false) × (None ≡ Some command)) → Spells line command
     at (inr h) = nothing line command h.1
     at (inl h) =
         let words = both (bytes_eq verb (codes "place")) (bytes_eq third (codes "near")) h.0 in
@@ -183,21 +192,24 @@ fields_of-verb_number : (line verb : List ℕ) (n : ℕ) → list_all is_word_by
 fields_of-verb_number line verb n words small text =
     ap fields_of text ∙ fields_of-cons verb (decimal n) words ∙ ap (λ fs. verb ∷ fs) (number_alone n small)
 
-fields_of-verb_numbers : (line verb : List ℕ) (m n : ℕ) → list_all is_word_byte verb ≡ true → IsNumber m → IsNumber n → line ≡ verb ++ 32 ∷ (decimal m ++ 32 ∷ decimal n) → fields_of line ≡ verb ∷ decimal m ∷ decimal n ∷ []
+fields_of-verb_numbers : (line verb : List ℕ) (m n : ℕ) → list_all is_word_byte verb ≡ true → IsNumber m → IsNumber n → line ≡ verb ++ 32 ∷ (decimal m ++ 32 ∷ decimal n)
+    → fields_of line ≡ verb ∷ decimal m ∷ decimal n ∷ []
 fields_of-verb_numbers line verb m n words small little text =
     ap fields_of text
     ∙ fields_of-cons verb (decimal m ++ 32 ∷ decimal n) words
     ∙ ap (λ fs. verb ∷ fs) (fields_of-cons (decimal m) (decimal n) (word_bytes-decimal m small) ∙ ap (λ fs. decimal m ∷ fs) (number_alone n little))
 
 -- a verb with a number, or with two
-by_number : (line verb : List ℕ) (n : ℕ) (command : Command) → list_all is_word_byte verb ≡ true → SpellsNumber line (verb ++ 32 ∷ []) n → verb ++ 32 ∷ decimal n ≡ (verb ++ 32 ∷ []) ++ decimal n → command_of_number verb n ≡ Some command → command_of line ≡ Some command
+by_number : (line verb : List ℕ) (n : ℕ) (command : Command) → list_all is_word_byte verb ≡ true → SpellsNumber line (verb ++ 32 ∷ []) n → verb ++ 32 ∷ decimal n ≡ (verb ++ 32 ∷ []) ++ decimal n
+    → command_of_number verb n ≡ Some command → command_of line ≡ Some command
 unfolding command_of
 by_number line verb n command words spells front found =
     ap command_of_fields (fields_of-verb_number line verb n words spells.0 (spells.1 ∙ sym front))
     ∙ ap (option_and_then (command_of_number verb)) (number_of-some (decimal n) n spells.0 refl)
     ∙ found
 
-by_numbers : (line verb : List ℕ) (m n : ℕ) (command : Command) → list_all is_word_byte verb ≡ true → bytes_eq verb (codes "place") ≡ false → SpellsNumbers line (verb ++ 32 ∷ []) m n → verb ++ 32 ∷ (decimal m ++ 32 ∷ decimal n) ≡ (verb ++ 32 ∷ []) ++ decimal m ++ 32 ∷ decimal n → command_of_numbers verb m n ≡ Some command → command_of line ≡ Some command
+by_numbers : (line verb : List ℕ) (m n : ℕ) (command : Command) → list_all is_word_byte verb ≡ true → bytes_eq verb (codes "place") ≡ false → SpellsNumbers line (verb ++ 32 ∷ []) m n
+    → verb ++ 32 ∷ (decimal m ++ 32 ∷ decimal n) ≡ (verb ++ 32 ∷ []) ++ decimal m ++ 32 ∷ decimal n → command_of_numbers verb m n ≡ Some command → command_of line ≡ Some command
 unfolding command_of
 by_numbers line verb m n command words other spells front found =
     ap command_of_fields (fields_of-verb_numbers line verb m n words spells.0 spells.1 (spells.2 ∙ sym front))

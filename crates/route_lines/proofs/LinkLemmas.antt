@@ -105,7 +105,8 @@ found_counts s (q ∷ routes) r e = at (has_stop s q) refl e (found_counts s rou
     parts : count_of (has_ticket s) (stop_list (q ∷ routes)) ≡ count_of (has_ticket s) q.stops + count_of (has_ticket s) (stop_list routes)
     parts = total-append (λ t. cond (has_ticket s t) 1 0) q.stops (stop_list routes)
 
-    at : (b : Bool) → has_stop s q ≡ b → cond b (Some q) (route_of routes s) ≡ Some r → (route_of routes s ≡ Some r → 1 ≤ count_of (has_ticket s) (stop_list routes)) → 1 ≤ count_of (has_ticket s) (stop_list (q ∷ routes))
+    at : (b : Bool) → has_stop s q ≡ b → cond b (Some q) (route_of routes s) ≡ Some r → (route_of routes s ≡ Some r → 1 ≤ count_of (has_ticket s) (stop_list routes))
+        → 1 ≤ count_of (has_ticket s) (stop_list (q ∷ routes))
     at true is f h = omega (arith, parts, count-any (has_ticket s) q.stops is)
     at false is f h = omega (arith, parts, h f)
 
@@ -124,7 +125,8 @@ found_if_counted s (q ∷ routes) some = at (has_stop s q) refl (found_if_counte
 pub own_route : (routes : List Route) → ((s : ℕ) → count_of (has_ticket s) (stop_list routes) ≤ 1) → AllByRecursion (λ r. AllByRecursion (λ t. route_of routes t.ticket ≡ Some r) r.stops) routes
 own_route [] once = tt
 own_route (q ∷ routes) once = (
-  all_weaker (λ t. 1 ≤ count_of (has_ticket t.ticket) q.stops) (λ t. route_of (q ∷ routes) t.ticket ≡ Some q) q.stops (λ t some. rw (any-count (has_ticket t.ticket) q.stops some) refl) (all_counted q.stops),
+  all_weaker (λ t. 1 ≤ count_of (has_ticket t.ticket) q.stops) (λ t. route_of (q ∷ routes) t.ticket ≡ Some q) q.stops (λ t some. rw (any-count (has_ticket t.ticket) q.stops some) refl)
+      (all_counted q.stops),
   all_weaker (λ r. AllByRecursion (λ t. route_of routes t.ticket ≡ Some r) r.stops) (λ r. AllByRecursion (λ t. route_of (q ∷ routes) t.ticket ≡ Some r) r.stops) routes
       (λ r own. all_weaker (λ t. route_of routes t.ticket ≡ Some r) (λ t. route_of (q ∷ routes) t.ticket ≡ Some r) r.stops (λ t e. other t r e) own)
       (own_route routes (λ s. omega (arith, once s, parts s))),
@@ -167,7 +169,8 @@ pub counts_within : (routes : List Route) → AllByRecursion (λ r. (s : ℕ) �
 counts_within [] = tt
 counts_within (q ∷ routes) = (
   λ s. omega (arith, parts s),
-  all_weaker (λ r. (s : ℕ) → count_of (has_ticket s) r.stops ≤ count_of (has_ticket s) (stop_list routes)) (λ r. (s : ℕ) → count_of (has_ticket s) r.stops ≤ count_of (has_ticket s) (stop_list (q ∷ routes))) routes
+  all_weaker (λ r. (s : ℕ) → count_of (has_ticket s) r.stops ≤ count_of (has_ticket s) (stop_list routes))
+      (λ r. (s : ℕ) → count_of (has_ticket s) r.stops ≤ count_of (has_ticket s) (stop_list (q ∷ routes))) routes
       (λ r less s. omega (arith, less s, parts s)) (counts_within routes),
 )
   where
@@ -181,14 +184,16 @@ all_both P Q (x ∷ xs) h k = ((h.0, k.0), all_both P Q xs h.1 k.1)
 pub Links-next_stop : (routes : List Route) → ((s : ℕ) → count_of (has_ticket s) (stop_list routes) ≤ 1) → Links (next_stop routes) routes
 Links-next_stop routes once =
     all_weaker _ (λ r. Leads (next_stop routes) (closing_of r) r.stops) routes (λ r h. along r h.0 h.1)
-    (all_both (λ r. AllByRecursion (λ t. route_of routes t.ticket ≡ Some r) r.stops) (λ r. (s : ℕ) → count_of (has_ticket s) r.stops ≤ count_of (has_ticket s) (stop_list routes)) routes (own_route routes once) (counts_within routes))
+    (all_both (λ r. AllByRecursion (λ t. route_of routes t.ticket ≡ Some r) r.stops) (λ r. (s : ℕ) → count_of (has_ticket s) r.stops ≤ count_of (has_ticket s) (stop_list routes)) routes
+    (own_route routes once) (counts_within routes))
   where
     closing : (b : Bool) (xs : List Stop) → ticket_of (cond b (first_item xs) None) ≡ cond b (head_or None xs) None
     closing true [] = refl
     closing true (x ∷ xs) = refl
     closing false xs = refl
 
-    along : (r : Route) → AllByRecursion (λ t. route_of routes t.ticket ≡ Some r) r.stops → ((s : ℕ) → count_of (has_ticket s) r.stops ≤ count_of (has_ticket s) (stop_list routes)) → Leads (next_stop routes) (closing_of r) r.stops
+    along : (r : Route) → AllByRecursion (λ t. route_of routes t.ticket ≡ Some r) r.stops → ((s : ℕ) → count_of (has_ticket s) r.stops ≤ count_of (has_ticket s) (stop_list routes))
+        → Leads (next_stop routes) (closing_of r) r.stops
     along r own less =
         let end : Option Stop = cond r.is_ring (first_item r.stops) None in
         subst (λ c. Leads (next_stop routes) c r.stops) (closing r.is_ring r.stops)
@@ -197,7 +202,8 @@ Links-next_stop routes once =
         (Leads-next_along r.stops end (λ s. omega (arith, less s, once s))))
 
 -- what leads along all routes is `next_stop`
-pub next_stop-is : (next : ℕ → Option ℕ) (routes : List Route) (s : ℕ) → ((t : ℕ) → count_of (has_ticket t) (stop_list routes) ≤ 1) → Links next routes → 1 ≤ count_of (has_ticket s) (stop_list routes) → next_stop routes s ≡ next s
+pub next_stop-is : (next : ℕ → Option ℕ) (routes : List Route) (s : ℕ) → ((t : ℕ) → count_of (has_ticket t) (stop_list routes) ≤ 1) → Links next routes
+    → 1 ≤ count_of (has_ticket s) (stop_list routes) → next_stop routes s ≡ next s
 next_stop-is next routes s once links some =
     all_at (λ t. next_stop routes t ≡ next t) s (stop_list routes) (Links-agree (next_stop routes) next routes (Links-next_stop routes once) links) some
 
@@ -218,11 +224,13 @@ pub Links-apart : (s : ℕ) (to : Option ℕ) (next : ℕ → Option ℕ) (route
 Links-apart s to next routes none links = Links-ext next (relinked s to next) routes (apart_relinked s to next (stop_list routes) none) links
 
 -- a list whose last stop is `s` closes where `s` leads
-pub Leads-end : (s : ℕ) (to : Option ℕ) (next : ℕ → Option ℕ) (closing : Option ℕ) (xs : List Stop) → Leads next closing xs → 1 ≤ count_of (has_ticket s) xs → next s ≡ None → Leads (relinked s to next) to xs
+pub Leads-end : (s : ℕ) (to : Option ℕ) (next : ℕ → Option ℕ) (closing : Option ℕ) (xs : List Stop) → Leads next closing xs → 1 ≤ count_of (has_ticket s) xs → next s ≡ None
+    → Leads (relinked s to next) to xs
 Leads-end s to next closing [] h some none = tt
 Leads-end s to next closing (x ∷ xs) h some none = at (x.ticket == s) refl (Leads-end s to next closing xs h.1)
   where
-    at : (b : Bool) → (x.ticket == s) ≡ b → (1 ≤ count_of (has_ticket s) xs → next s ≡ None → Leads (relinked s to next) to xs) → (cond b to (next x.ticket) ≡ head_or to xs) × Leads (relinked s to next) to xs
+    at : (b : Bool) → (x.ticket == s) ≡ b → (1 ≤ count_of (has_ticket s) xs → next s ≡ None → Leads (relinked s to next) to xs) → (cond b to (next x.ticket) ≡ head_or to xs)
+        × Leads (relinked s to next) to xs
     at true e behind = last xs (sym h.0 ∙ ap next (eqb-true x.ticket s e) ∙ none)
       where
         last : (ys : List Stop) → head_or closing ys ≡ None → (to ≡ head_or to ys) × Leads (relinked s to next) to ys
@@ -237,7 +245,8 @@ Leads-end s to next closing (x ∷ xs) h some none = at (x.ticket == s) refl (Le
         heads (y ∷ ys) k = refl
 
 -- the stops up to `s` close where `s` leads
-pub Leads-up_to : (s : ℕ) (to : Option ℕ) (next : ℕ → Option ℕ) (closing : Option ℕ) (xs : List Stop) → Leads next closing (up_to (has_ticket s) xs) → 1 ≤ count_of (has_ticket s) xs → Leads (relinked s to next) to (up_to (has_ticket s) xs)
+pub Leads-up_to : (s : ℕ) (to : Option ℕ) (next : ℕ → Option ℕ) (closing : Option ℕ) (xs : List Stop) → Leads next closing (up_to (has_ticket s) xs) → 1 ≤ count_of (has_ticket s) xs
+    → Leads (relinked s to next) to (up_to (has_ticket s) xs)
 Leads-up_to s to next closing [] h some = tt
 Leads-up_to s to next closing (x ∷ xs) h some = at (x.ticket == s) refl h (Leads-up_to s to next closing xs)
   where

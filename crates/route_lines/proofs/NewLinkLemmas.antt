@@ -133,7 +133,8 @@ kept_behind v s new (r ∷ routes) some = at (has_stop s r) (kept_behind v s new
     halves = sym (total-append (λ t. cond (has_ticket v t) 1 0) front back) ∙ ap (count_of (has_ticket v)) (up_to_behind (has_ticket s) r.stops)
 
     -- it is on this route, or on those behind it
-    among : (stops : List Stop) → count_of (has_ticket v) r.stops ≤ count_of (has_ticket v) stops → (1 ≤ count_of (has_ticket v) (stop_list routes) → 1 ≤ count_of (has_ticket v) (stop_list (put_behind s new routes)))
+    among : (stops : List Stop) → count_of (has_ticket v) r.stops ≤ count_of (has_ticket v) stops
+        → (1 ≤ count_of (has_ticket v) (stop_list routes) → 1 ≤ count_of (has_ticket v) (stop_list (put_behind s new routes)))
         → (0 < count_of (has_ticket v) (stop_list routes)) ⊎ (count_of (has_ticket v) (stop_list routes) ≤ 0) → 1 ≤ count_of (has_ticket v) (stops ++ stop_list (put_behind s new routes))
     among stops more later (inl there) = omega (arith, total-append (λ t. cond (has_ticket v t) 1 0) stops (stop_list (put_behind s new routes)), later (omega (arith, there)))
     among stops more later (inr none) = omega (arith, total-append (λ t. cond (has_ticket v t) 1 0) stops (stop_list (put_behind s new routes)), some, parts, none, more)
@@ -163,8 +164,10 @@ new_behind s new (r ∷ routes) some = at (has_stop s r) refl (new_behind s new 
         omega (arith, total-append (λ t. cond (has_ticket new.ticket t) 1 0) r.stops (stop_list (put_behind s new routes)), later (omega (arith, some, here, count-none (has_ticket s) r.stops e)))
 
 -- where all stops lead as `next` says, which is where they led before, but for one that was not there
-leads_but_for : (n : ℕ) (next : ℕ → Option ℕ) (routes others : List Route) → AreWritten others → Links next others → ((v : ℕ) → v ≢ n → count_of (has_ticket v) (stop_list routes) ≡ 0 → count_of (has_ticket v) (stop_list others) ≡ 0)
-    → ((v : ℕ) → 1 ≤ count_of (has_ticket v) (stop_list routes) → 1 ≤ count_of (has_ticket v) (stop_list others)) → (v : ℕ) → v ≢ n → next v ≡ next_stop routes v → next_stop others v ≡ next_stop routes v
+leads_but_for : (n : ℕ) (next : ℕ → Option ℕ) (routes others : List Route) → AreWritten others → Links next others
+    → ((v : ℕ) → v ≢ n → count_of (has_ticket v) (stop_list routes) ≡ 0 → count_of (has_ticket v) (stop_list others) ≡ 0)
+    → ((v : ℕ) → 1 ≤ count_of (has_ticket v) (stop_list routes) → 1 ≤ count_of (has_ticket v) (stop_list others)) → (v : ℕ) → v ≢ n → next v ≡ next_stop routes v
+    → next_stop others v ≡ next_stop routes v
 leads_but_for n next routes others written links none some v apart same = at (cases_lt 0 (count_of (has_ticket v) (stop_list routes)))
   where
     at : (0 < count_of (has_ticket v) (stop_list routes)) ⊎ (count_of (has_ticket v) (stop_list routes) ≤ 0) → next_stop others v ≡ next_stop routes v
@@ -179,11 +182,14 @@ ticket_given s at n e = let ok = and_then-ok (place_holder s at) (λ p. next_tic
     by true f = cc
     by false f = cc
 
-pub next-started : (s : State) (at n : ℕ) → IsSound s → started s at ≡ Ok n → (next_stop (after_start s at).routes n ≡ None) × ((v : ℕ) → v ≢ n → next_stop (after_start s at).routes v ≡ next_stop s.routes v)
+pub next-started : (s : State) (at n : ℕ) → IsSound s → started s at ≡ Ok n → (next_stop (after_start s at).routes n ≡ None)
+    × ((v : ℕ) → v ≢ n → next_stop (after_start s at).routes v ≡ next_stop s.routes v)
 next-started s at n sound e = (
-  ap (λ rs. next_stop rs n) new ∙ next_stop-is changed routes n written.once links (omega (arith, counts n, ap {B = ℕ} (λ b. cond b 1 0) (eq-eqb n n refl))) ∙ ap (λ b. cond b None (next_stop s.routes n)) (eq-eqb n n refl),
+  ap (λ rs. next_stop rs n) new ∙ next_stop-is changed routes n written.once links (omega (arith, counts n, ap {B = ℕ} (λ b. cond b 1 0) (eq-eqb n n refl)))
+      ∙ ap (λ b. cond b None (next_stop s.routes n)) (eq-eqb n n refl),
   λ v apart. ap (λ rs. next_stop rs v) new
-      ∙ leads_but_for n changed s.routes routes written links (λ k other none. omega (arith, counts k, none, ap {B = ℕ} (λ b. cond b 1 0) (ne_eqb n k (λ h. other (sym h))))) (λ k some. omega (arith, counts k, some)) v apart
+      ∙ leads_but_for n changed s.routes routes written links (λ k other none. omega (arith, counts k, none, ap {B = ℕ} (λ b. cond b 1 0) (ne_eqb n k (λ h. other (sym h)))))
+      (λ k some. omega (arith, counts k, some)) v apart
       (ap (λ b. cond b None (next_stop s.routes v)) (ne_eqb v n apart)),
 )
   where
@@ -230,7 +236,13 @@ next-extended s t at n sound e = record {
       ∙ ap (λ b. cond b (next_stop s.routes t) (relinked t (Some n) (next_stop s.routes) n)) (eq-eqb n n refl);
   rest = λ v not_t not_n.
       ap (λ rs. next_stop rs v) new
-      ∙ leads_but_for n changed s.routes routes written links (λ k other none. omega (arith, none, total-put_behind (λ x. cond (has_ticket k x) 1 0) t stop s.routes (sound.routes.once t), ap {B = ℕ} (λ b. cond b 1 0) (ne_eqb n k (λ h. other (sym h))))) (λ k here. kept_behind k t stop s.routes here) v not_n
+      ∙ leads_but_for n changed s.routes routes written links
+      (λ k other none. omega (
+        arith,
+        none,
+        total-put_behind (λ x. cond (has_ticket k x) 1 0) t stop s.routes (sound.routes.once t),
+        ap {B = ℕ} (λ b. cond b 1 0) (ne_eqb n k (λ h. other (sym h))),
+      )) (λ k here. kept_behind k t stop s.routes here) v not_n
       (ap (λ b. cond b (next_stop s.routes t) (relinked t (Some n) (next_stop s.routes) v)) (ne_eqb v n not_n) ∙ ap (λ b. cond b (Some n) (next_stop s.routes v)) (ne_eqb v t not_t));
 }
   where

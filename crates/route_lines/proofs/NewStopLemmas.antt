@@ -17,7 +17,8 @@ none_above ticket last n (x ∷ xs) given above =
     omega (arith, none_above ticket last n xs given.1 above, ap {B = ℕ} (λ b. cond b 1 0) (ne_eqb (ticket x) n (λ e. omega (arith, e, given.0.1, above))))
 
 -- the first tickets of routes are below a number that is above all tickets
-firsts_below : (last n : ℕ) (routes : List Route) → AllByRecursion IsWritten routes → AllByRecursion (λ t. (0 < t.ticket) × (t.ticket ≤ last)) (stop_list routes) → last < n → AllByRecursion (λ r. first_ticket r < n) routes
+firsts_below : (last n : ℕ) (routes : List Route) → AllByRecursion IsWritten routes → AllByRecursion (λ t. (0 < t.ticket) × (t.ticket ≤ last)) (stop_list routes) → last < n
+    → AllByRecursion (λ r. first_ticket r < n) routes
 firsts_below last n [] each given above = tt
 firsts_below last n (r ∷ routes) each given above = (
   first r.stops each.0.some (all_front (λ t. (0 < t.ticket) × (t.ticket ≤ last)) r.stops (stop_list routes) given),
@@ -38,7 +39,8 @@ RoutesRise-more new [] below h = (tt, tt)
 RoutesRise-more new (r ∷ routes) below h =
     (all_append (λ q. first_ticket r < first_ticket q) routes (new ∷ []) h.0 (below.0, tt), RoutesRise-more new routes below.1 h.1)
 
-pub AreWritten-more : (last : ℕ) (routes : List Route) (new : Stop) → AllByRecursion (λ t. (0 < t.ticket) × (t.ticket ≤ last)) (stop_list routes) → last < new.ticket → AreWritten routes → AreWritten (routes ++ linear (new ∷ []) ∷ [])
+pub AreWritten-more : (last : ℕ) (routes : List Route) (new : Stop) → AllByRecursion (λ t. (0 < t.ticket) × (t.ticket ≤ last)) (stop_list routes) → last < new.ticket → AreWritten routes
+    → AreWritten (routes ++ linear (new ∷ []) ∷ [])
 AreWritten-more last routes new given above written = record {
   once = λ t. at t (new.ticket == t) refl;
   each = all_append IsWritten routes (linear (new ∷ []) ∷ []) written.each (IsWritten-linear (new ∷ []) (omega arith), tt);
@@ -70,7 +72,8 @@ put_behind-none s new (r ∷ routes) none = at (has_stop s r) refl (put_behind-n
     at true e h = absurd (omega (arith, parts, none, count-any (has_ticket s) r.stops e))
     at false e h = ap (λ rs. r ∷ rs) h
 
-pub total-put_behind : (weight : Stop → ℕ) (s : ℕ) (new : Stop) (routes : List Route) → count_of (has_ticket s) (stop_list routes) ≤ 1 → total weight (stop_list (put_behind s new routes)) ≤ weight new + total weight (stop_list routes)
+pub total-put_behind : (weight : Stop → ℕ) (s : ℕ) (new : Stop) (routes : List Route) → count_of (has_ticket s) (stop_list routes) ≤ 1
+    → total weight (stop_list (put_behind s new routes)) ≤ weight new + total weight (stop_list routes)
 total-put_behind weight s new [] once = omega arith
 total-put_behind weight s new (r ∷ routes) once = at (has_stop s r) refl (total-put_behind weight s new routes)
   where
@@ -87,7 +90,14 @@ total-put_behind weight s new (r ∷ routes) once = at (has_stop s r) refl (tota
         → total weight (stop_list (cond b (record r { stops = front ++ new ∷ back }) r ∷ put_behind s new routes)) ≤ weight new + total weight (stop_list (r ∷ routes))
     at true e h =
         let none : count_of (has_ticket s) (stop_list routes) ≡ 0 = omega (arith, parts, once, count-any (has_ticket s) r.stops e) in
-        rw (put_behind-none s new routes none) (omega (arith, total-append weight (front ++ new ∷ back) (stop_list routes), total-append weight r.stops (stop_list routes), total-append weight front (new ∷ back), total-append weight front back, ap (total weight) (up_to_behind (has_ticket s) r.stops)))
+        rw (put_behind-none s new routes none) (omega (
+          arith,
+          total-append weight (front ++ new ∷ back) (stop_list routes),
+          total-append weight r.stops (stop_list routes),
+          total-append weight front (new ∷ back),
+          total-append weight front back,
+          ap (total weight) (up_to_behind (has_ticket s) r.stops),
+        ))
     at false e h =
         omega (arith, h (omega (arith, parts, once)), total-append weight r.stops (stop_list (put_behind s new routes)), total-append weight r.stops (stop_list routes))
 
@@ -151,7 +161,8 @@ IsWritten-longer s new r is above = at (has_stop s r) (first-longer s new r)
     smallest : r.is_ring ≡ true → AllByRecursion (λ t. first_ticket r ≤ t.ticket) (front ++ new ∷ back)
     smallest e =
         let halves = subst (AllByRecursion (λ t. first_ticket r ≤ t.ticket)) (sym (up_to_behind (has_ticket s) r.stops)) (is.from_smallest e) in
-        all_append (λ t. first_ticket r ≤ t.ticket) front (new ∷ back) (all_front (λ t. first_ticket r ≤ t.ticket) front back halves) (above, all_back (λ t. first_ticket r ≤ t.ticket) front back halves)
+        all_append (λ t. first_ticket r ≤ t.ticket) front (new ∷ back) (all_front (λ t. first_ticket r ≤ t.ticket) front back halves)
+        (above, all_back (λ t. first_ticket r ≤ t.ticket) front back halves)
 
     at : (b : Bool) → first_ticket (cond b (record r { stops = front ++ new ∷ back }) r) ≡ first_ticket r → IsWritten (cond b (record r { stops = front ++ new ∷ back }) r)
     at true first = record {
@@ -160,7 +171,8 @@ IsWritten-longer s new r is above = at (has_stop s r) (first-longer s new r)
     }
     at false first = is
 
-pub AreWritten-put_behind : (last s : ℕ) (new : Stop) (routes : List Route) → AllByRecursion (λ t. (0 < t.ticket) × (t.ticket ≤ last)) (stop_list routes) → last < new.ticket → AreWritten routes → AreWritten (put_behind s new routes)
+pub AreWritten-put_behind : (last s : ℕ) (new : Stop) (routes : List Route) → AllByRecursion (λ t. (0 < t.ticket) × (t.ticket ≤ last)) (stop_list routes) → last < new.ticket → AreWritten routes
+    → AreWritten (put_behind s new routes)
 AreWritten-put_behind last s new routes given above written = record {
   once = λ t. at t (new.ticket == t) refl;
   each = each routes written.each (firsts_below last new.ticket routes written.each given above);

@@ -22,7 +22,8 @@ off_leads_nowhere s routes none = by (route_of routes s) refl
     by (Some r) e = absurd (omega (arith, none, found_counts s routes r e))
 
 -- where the stops are the same and all lead as `next` says, so does every ticket of theirs, and any other leads nowhere
-pub leads_everywhere : (next : ℕ → Option ℕ) (routes others : List Route) → AreWritten others → Links next others → ((s : ℕ) → count_of (has_ticket s) (stop_list others) ≡ count_of (has_ticket s) (stop_list routes))
+pub leads_everywhere : (next : ℕ → Option ℕ) (routes others : List Route) → AreWritten others → Links next others
+    → ((s : ℕ) → count_of (has_ticket s) (stop_list others) ≡ count_of (has_ticket s) (stop_list routes))
     → (s : ℕ) → (1 ≤ count_of (has_ticket s) (stop_list routes) → next s ≡ next_stop routes s) → next_stop others s ≡ next_stop routes s
 leads_everywhere next routes others written links same s here = at (cases_lt 0 (count_of (has_ticket s) (stop_list routes)))
   where
@@ -34,7 +35,8 @@ leads_everywhere next routes others written links same s here = at (cases_lt 0 (
 
 -- ---- a join
 
-pub next-joined : (s : State) (t u : ℕ) → IsSound s → joined s t u ≡ Ok tt → (next_stop (after_join s t u).routes t ≡ Some u) × ((v : ℕ) → v ≢ t → next_stop (after_join s t u).routes v ≡ next_stop s.routes v)
+pub next-joined : (s : State) (t u : ℕ) → IsSound s → joined s t u ≡ Ok tt → (next_stop (after_join s t u).routes t ≡ Some u)
+    × ((v : ℕ) → v ≢ t → next_stop (after_join s t u).routes v ≡ next_stop s.routes v)
 unfolding with_routes
 next-joined s t u sound e =
     let ok = joined-ok s t u e in
@@ -43,7 +45,8 @@ next-joined s t u sound e =
     let written = sound.routes in
     let whole = AreWritten-linked t u s.routes written in
     let links = Links-linked (next_stop s.routes) t u s.routes written (Links-next_stop s.routes written.once) ok.2 t_in u_in (none_leads u s.routes written ok.3 u_in) in
-    let kept : (v : ℕ) → count_of (has_ticket v) (stop_list (linked t u s.routes)) ≡ count_of (has_ticket v) (stop_list s.routes) = λ v. total-linked (λ x. cond (has_ticket v x) 1 0) t u s.routes written in
+    let kept : (v : ℕ) → count_of (has_ticket v) (stop_list (linked t u s.routes)) ≡ count_of (has_ticket v) (stop_list s.routes) = λ v. total-linked (λ x. cond (has_ticket v x) 1 0) t u s.routes
+    written in
     let new : (after_join s t u).routes ≡ linked t u s.routes = ap (λ r. r.routes) (after_join-ok s t u e) in (
       ap (λ rs. next_stop rs t) new ∙ next_stop-is (relinked t (Some u) (next_stop s.routes)) (linked t u s.routes) t whole.once links (omega (arith, t_in, kept t)) ∙ here t u,
       λ v apart. ap (λ rs. next_stop rs v) new ∙ leads_everywhere (relinked t (Some u) (next_stop s.routes)) s.routes (linked t u s.routes) whole links kept v (λ some. there t v apart),
@@ -66,7 +69,8 @@ next-cut s t sound e =
     let written = sound.routes in
     let whole = AreWritten-unlinked t s.routes written in
     let links = Links-unlinked (next_stop s.routes) t s.routes written (Links-next_stop s.routes written.once) t_in in
-    let kept : (v : ℕ) → count_of (has_ticket v) (stop_list (unlinked t s.routes)) ≡ count_of (has_ticket v) (stop_list s.routes) = λ v. total-unlinked (λ x. cond (has_ticket v x) 1 0) t s.routes written in
+    let kept : (v : ℕ) → count_of (has_ticket v) (stop_list (unlinked t s.routes)) ≡ count_of (has_ticket v) (stop_list s.routes) = λ v. total-unlinked (λ x. cond (has_ticket v x) 1 0) t s.routes
+    written in
     let new : (after_cut s t).routes ≡ unlinked t s.routes = ap (λ r. r.routes) (after_cut-ok s t e) in (
       ap (λ rs. next_stop rs t) new ∙ next_stop-is (relinked t None (next_stop s.routes)) (unlinked t s.routes) t whole.once links (omega (arith, t_in, kept t)) ∙ here,
       λ v apart. ap (λ rs. next_stop rs v) new ∙ leads_everywhere (relinked t None (next_stop s.routes)) s.routes (unlinked t s.routes) whole links kept v (λ some. there v apart),
@@ -86,7 +90,8 @@ pub record ExchangesNext (t u : ℕ) (routes others : List Route) : Type 0 where
   pub second : next_stop others u ≡ next_stop routes t
   pub rest : (v : ℕ) → v ≢ t → v ≢ u → next_stop others v ≡ next_stop routes v
 
-next-exchanged : (t u x y : ℕ) (routes : List Route) → AreWritten routes → next_stop routes t ≡ Some x → next_stop routes u ≡ Some y → 1 ≤ count_of (has_ticket t) (stop_list routes) → 1 ≤ count_of (has_ticket u) (stop_list routes) → ExchangesNext t u routes (exchanged t u routes)
+next-exchanged : (t u x y : ℕ) (routes : List Route) → AreWritten routes → next_stop routes t ≡ Some x → next_stop routes u ≡ Some y → 1 ≤ count_of (has_ticket t) (stop_list routes)
+    → 1 ≤ count_of (has_ticket u) (stop_list routes) → ExchangesNext t u routes (exchanged t u routes)
 next-exchanged t u x y routes written e f some other = at (t == u) refl
   where
     at : (b : Bool) → (t == u) ≡ b → ExchangesNext t u routes (exchanged t u routes)
@@ -101,7 +106,8 @@ next-exchanged t u x y routes written e f some other = at (t == u) refl
         let apart : t ≢ u = eqb-false t u is in
         let whole = exchange_written t x u y routes written in
         let links = Links-exchange (next_stop routes) t x u y routes written (Links-next_stop routes written.once) apart e f some other in
-        let kept : (v : ℕ) → count_of (has_ticket v) (stop_list (exchange_of t x u y routes)) ≡ count_of (has_ticket v) (stop_list routes) = λ v. exchange_total (λ z. cond (has_ticket v z) 1 0) t x u y routes written in
+        let kept : (v : ℕ) → count_of (has_ticket v) (stop_list (exchange_of t x u y routes)) ≡ count_of (has_ticket v) (stop_list routes) = λ v. exchange_total (λ z. cond (has_ticket v z) 1 0) t
+        x u y routes written in
         subst (ExchangesNext t u routes) (sym (exchanged-apart t x u y routes apart e f)) (record {
           first = next_stop-is (traded t x u y (next_stop routes)) (exchange_of t x u y routes) t whole.once links (omega (arith, some, kept t)) ∙ own_t apart ∙ sym f;
           second = next_stop-is (traded t x u y (next_stop routes)) (exchange_of t x u y routes) u whole.once links (omega (arith, other, kept u)) ∙ own_u ∙ sym e;

@@ -73,7 +73,8 @@ opened all at n s h =
     subst (λ l. SoFar all l n) (drop-cons all at 0 h ∙ ap (λ k. get_or all at 0 ∷ drop k all) e) s
 
 -- one digit more
-pub one_more : (all : List ℕ) (at n m : ℕ) → SoFar all (drop at all) n → at < length all → digit_value (get_or all at 0) < 10 → m ≡ n * 10 + digit_value (get_or all at 0) → SoFar all (drop (at + 1) all) m
+pub one_more : (all : List ℕ) (at n m : ℕ) → SoFar all (drop at all) n → at < length all → digit_value (get_or all at 0) < 10 → m ≡ n * 10 + digit_value (get_or all at 0)
+    → SoFar all (drop (at + 1) all) m
 one_more all at n m s h digit e =
     let o = opened all at n s h in
     record {
@@ -83,7 +84,8 @@ one_more all at n m s h digit e =
     }
 
 -- a byte that is no digit, or makes the number too large, leaves none to read
-pub stopped : (all : List ℕ) (at n : ℕ) → SoFar all (drop at all) n → at < length all → ¬ ((digit_value (get_or all at 0) < 10) × (n * 10 + digit_value (get_or all at 0) < 2 ^ 64)) → number_of all ≡ None
+pub stopped : (all : List ℕ) (at n : ℕ) → SoFar all (drop at all) n → at < length all → ¬ ((digit_value (get_or all at 0) < 10) × (n * 10 + digit_value (get_or all at 0) < 2 ^ 64))
+    → number_of all ≡ None
 stopped all at n s h stop = number_of-none all λ m small text.
     let o = opened all at n s h in
     let parts = decimal_is_IsNumeral m small in

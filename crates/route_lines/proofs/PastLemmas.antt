@@ -102,7 +102,8 @@ module _ (next : ℕ → Option ℕ) (s : ℕ) where
       at true e later =
           by xs (omega (arith, once, ap {B = ℕ} (λ c. cond c 1 0) e)) (sym (ap next (eqb-true x.ticket s e)) ∙ h.0) later
         where
-          by : (ys : List Stop) → count_of (has_ticket s) ys ≡ 0 → next s ≡ head_or (Some x.ticket) ys → Leads led_past (next s) (rest_of s ys) → Leads led_past (head_or None (rest_of s ys)) (rest_of s ys)
+          by : (ys : List Stop) → count_of (has_ticket s) ys ≡ 0 → next s ≡ head_or (Some x.ticket) ys → Leads led_past (next s) (rest_of s ys)
+              → Leads led_past (head_or None (rest_of s ys)) (rest_of s ys)
           by [] none leads k = tt
           by (y ∷ ys) none leads k = go (y.ticket == s) refl k
             where
@@ -230,4 +231,5 @@ module _ (s : ℕ) (routes : List Route) (written : AreWritten routes) where
       among =
           all_weaker _ (λ t. find (has_ticket t.ticket) xs ≡ Some t) ys
           (λ t h. find-filter (λ (u : Stop). u.ticket) s t.ticket (stop_list routes) ∙ ap (λ b. cond b None (stop_of routes t.ticket)) h.1 ∙ h.0)
-          (all_both (λ t. stop_of routes t.ticket ≡ Some t) (λ t. has_ticket s t ≡ false) ys (all_taken_out (λ t. stop_of routes t.ticket ≡ Some t) s routes (own_stop (stop_list routes) written.once)) (lacking ys gone))
+          (all_both (λ t. stop_of routes t.ticket ≡ Some t) (λ t. has_ticket s t ≡ false) ys
+          (all_taken_out (λ t. stop_of routes t.ticket ≡ Some t) s routes (own_stop (stop_list routes) written.once)) (lacking ys gone))

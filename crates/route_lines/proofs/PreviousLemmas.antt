@@ -47,7 +47,8 @@ cut_at s (x ∷ xs) some = at (x.ticket == s) refl (cut_at s xs)
         let more = h (omega (arith, some, ap {B = ℕ} (λ b. cond b 1 0) e)) in
         record { stop = more.stop; ticket = more.ticket; is = there (x.ticket == s) more.stop e more.is }
       where
-        there : (d : Bool) (y : Stop) → d ≡ false → xs ≡ before (has_ticket s) xs ++ y ∷ behind (has_ticket s) xs → x ∷ xs ≡ cond d [] (x ∷ before (has_ticket s) xs) ++ y ∷ cond d xs (behind (has_ticket s) xs)
+        there : (d : Bool) (y : Stop) → d ≡ false → xs ≡ before (has_ticket s) xs ++ y ∷ behind (has_ticket s) xs
+            → x ∷ xs ≡ cond d [] (x ∷ before (has_ticket s) xs) ++ y ∷ cond d xs (behind (has_ticket s) xs)
         there true y f g = cc
         there false y f g = ap (λ ys. x ∷ ys) g
 
@@ -81,7 +82,8 @@ next_along b xs s = ticket_of (option_or (first_item (behind (has_ticket s) xs))
 abbrev previous_along : Bool → List Stop → ℕ → Option ℕ
 previous_along b xs s = ticket_of (option_or (last_item (before (has_ticket s) xs)) (cond b (last_item xs) None))
 
-follows : (b : Bool) (xs : List Stop) (t u : ℕ) → ((s : ℕ) → count_of (has_ticket s) xs ≤ 1) → 1 ≤ count_of (has_ticket t) xs → next_along b xs t ≡ Some u → (1 ≤ count_of (has_ticket u) xs) × (previous_along b xs u ≡ Some t)
+follows : (b : Bool) (xs : List Stop) (t u : ℕ) → ((s : ℕ) → count_of (has_ticket s) xs ≤ 1) → 1 ≤ count_of (has_ticket t) xs → next_along b xs t ≡ Some u → (1 ≤ count_of (has_ticket u) xs)
+    × (previous_along b xs u ≡ Some t)
 follows b xs t u once some next = by (behind (has_ticket t) xs) refl b next
   where
     cut : IsCutAt t xs
@@ -93,7 +95,8 @@ follows b xs t u once some next = by (behind (has_ticket t) xs) refl b next
     p : List Stop
     p = before (has_ticket t) xs
 
-    by : (q : List Stop) → behind (has_ticket t) xs ≡ q → (d : Bool) → ticket_of (option_or (first_item q) (cond d (first_item xs) None)) ≡ Some u → (1 ≤ count_of (has_ticket u) xs) × (previous_along d xs u ≡ Some t)
+    by : (q : List Stop) → behind (has_ticket t) xs ≡ q → (d : Bool) → ticket_of (option_or (first_item q) (cond d (first_item xs) None)) ≡ Some u → (1 ≤ count_of (has_ticket u) xs)
+        × (previous_along d xs u ≡ Some t)
     by [] e false f = cc
     by [] e true f =
         let is : xs ≡ p ++ x ∷ [] = cut.is ∙ ap (λ q. p ++ x ∷ q) e in
@@ -117,7 +120,8 @@ follows b xs t u once some next = by (behind (has_ticket t) xs) refl b next
         let last : last_item (before (has_ticket u) xs) ≡ Some x = ap last_item front ∙ last-more p x in
         (omega (arith, counted, here), rw last (ap (λ n. Some n) cut.ticket))
 
-precedes : (b : Bool) (xs : List Stop) (t u : ℕ) → ((s : ℕ) → count_of (has_ticket s) xs ≤ 1) → 1 ≤ count_of (has_ticket u) xs → previous_along b xs u ≡ Some t → (1 ≤ count_of (has_ticket t) xs) × (next_along b xs t ≡ Some u)
+precedes : (b : Bool) (xs : List Stop) (t u : ℕ) → ((s : ℕ) → count_of (has_ticket s) xs ≤ 1) → 1 ≤ count_of (has_ticket u) xs → previous_along b xs u ≡ Some t → (1 ≤ count_of (has_ticket t) xs)
+    × (next_along b xs t ≡ Some u)
 precedes b xs t u once some previous = by (last_split p) b previous
   where
     cut : IsCutAt u xs
@@ -138,7 +142,8 @@ precedes b xs t u once some previous = by (last_split p) b previous
         let given : ticket_of (option_or (Some h.last) (cond d (last_item xs) None)) ≡ Some t = sym (ap (λ o. ticket_of (option_or o (cond d (last_item xs) None))) last) ∙ f in
         let ticket : h.last.ticket ≡ t = cc in
         let is : xs ≡ h.front ++ h.last ∷ (y ∷ q) = cut.is ∙ ap (λ ys. ys ++ y ∷ q) h.is ∙ append_assoc h.front (h.last ∷ []) (y ∷ q) in
-        let counted : count_of (has_ticket t) xs ≡ count_of (has_ticket t) h.front + count_of (has_ticket t) (h.last ∷ (y ∷ q)) = ap (count_of (has_ticket t)) is ∙ parts t h.front (h.last ∷ (y ∷ q)) in
+        let counted : count_of (has_ticket t) xs ≡ count_of (has_ticket t) h.front + count_of (has_ticket t) (h.last ∷ (y ∷ q)) = ap (count_of (has_ticket t)) is
+        ∙ parts t h.front (h.last ∷ (y ∷ q)) in
         let here = counted_here t h.last (y ∷ q) ticket in
         let none : count_of (has_ticket t) h.front ≡ 0 = omega (arith, counted, here, once t) in
         let back : behind (has_ticket t) xs ≡ y ∷ q = ap (behind (has_ticket t)) is ∙ behind-at t h.front (y ∷ q) h.last none ticket in
@@ -169,13 +174,15 @@ precedes b xs t u once some previous = by (last_split p) b previous
 
 once_in : (s : ℕ) (routes : List Route) (r : Route) → AreWritten routes → route_of routes s ≡ Some r → (t : ℕ) → count_of (has_ticket t) r.stops ≤ 1
 once_in s routes r written e t =
-    let less = subst (λ o. IfSome o (λ q. (v : ℕ) → count_of (has_ticket v) q.stops ≤ count_of (has_ticket v) (stop_list routes))) e (found_in (λ q. (v : ℕ) → count_of (has_ticket v) q.stops ≤ count_of (has_ticket v) (stop_list routes)) (has_stop s) routes (counts_within routes)) in
+    let less = subst (λ o. IfSome o (λ q. (v : ℕ) → count_of (has_ticket v) q.stops ≤ count_of (has_ticket v) (stop_list routes))) e
+    (found_in (λ q. (v : ℕ) → count_of (has_ticket v) q.stops ≤ count_of (has_ticket v) (stop_list routes)) (has_stop s) routes (counts_within routes)) in
     omega (arith, less t, written.once t)
 
 -- a stop of a route that is found has that route
 same_route : (s u : ℕ) (routes : List Route) (r : Route) → AreWritten routes → route_of routes s ≡ Some r → 1 ≤ count_of (has_ticket u) r.stops → route_of routes u ≡ Some r
 same_route s u routes r written e some =
-    let own = subst (λ o. IfSome o (λ q. AllByRecursion (λ t. route_of routes t.ticket ≡ Some q) q.stops)) e (found_in (λ q. AllByRecursion (λ t. route_of routes t.ticket ≡ Some q) q.stops) (has_stop s) routes (own_route routes written.once)) in
+    let own = subst (λ o. IfSome o (λ q. AllByRecursion (λ t. route_of routes t.ticket ≡ Some q) q.stops)) e
+    (found_in (λ q. AllByRecursion (λ t. route_of routes t.ticket ≡ Some q) q.stops) (has_stop s) routes (own_route routes written.once)) in
     all_at (λ n. route_of routes n ≡ Some r) u r.stops own some
 
 pub previous-from_next : (t u : ℕ) (routes : List Route) → AreWritten routes → next_stop routes t ≡ Some u → previous_stop routes u ≡ Some t

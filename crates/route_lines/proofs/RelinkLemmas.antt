@@ -25,7 +25,8 @@ one_if : Bool → ℕ
 one_if b = cond b 1 0
 
 -- along a list each stop but the first has one that leads to it, and what the list closes at has another
-leads_counted : (next : ℕ → Option ℕ) (closing : Option ℕ) (s : ℕ) (x : Stop) (xs : List Stop) → Leads next closing (x ∷ xs) → count_of (leads_to next s) (x ∷ xs) ≡ count_of (has_ticket s) xs + cond (is_ticket closing s) 1 0
+leads_counted : (next : ℕ → Option ℕ) (closing : Option ℕ) (s : ℕ) (x : Stop) (xs : List Stop) → Leads next closing (x ∷ xs)
+    → count_of (leads_to next s) (x ∷ xs) ≡ count_of (has_ticket s) xs + cond (is_ticket closing s) 1 0
 leads_counted next closing s x [] h = omega (arith, ap {B = ℕ} (λ o. cond (is_ticket o s) 1 0) h.0)
 leads_counted next closing s x (y ∷ ys) h = omega (arith, ap {B = ℕ} (λ o. cond (is_ticket o s) 1 0) h.0, leads_counted next closing s y ys h.1)
 
@@ -36,7 +37,8 @@ starts_at s r = cond r.is_ring false (is_ticket (head_or None r.stops) s)
 leads_in_route : (next : ℕ → Option ℕ) (s : ℕ) (r : Route) → Leads next (closing_of r) r.stops → count_of (leads_to next s) r.stops + cond (starts_at s r) 1 0 ≡ count_of (has_ticket s) r.stops
 leads_in_route next s r h = at r.is_ring r.stops h
   where
-    at : (b : Bool) (xs : List Stop) → Leads next (cond b (head_or None xs) None) xs → count_of (leads_to next s) xs + cond (cond b false (is_ticket (head_or None xs) s)) 1 0 ≡ count_of (has_ticket s) xs
+    at : (b : Bool) (xs : List Stop) → Leads next (cond b (head_or None xs) None) xs → count_of (leads_to next s) xs + cond (cond b false (is_ticket (head_or None xs) s)) 1 0 ≡ count_of
+        (has_ticket s) xs
     at true [] k = refl
     at false [] k = refl
     at true (x ∷ xs) k = omega (arith, leads_counted next (Some x.ticket) s x xs k)
@@ -45,10 +47,17 @@ leads_in_route next s r h = at r.is_ring r.stops h
 pub leads_at_most : (next : ℕ → Option ℕ) (s : ℕ) (routes : List Route) → Links next routes → count_of (leads_to next s) (stop_list routes) ≤ count_of (has_ticket s) (stop_list routes)
 leads_at_most next s [] links = omega arith
 leads_at_most next s (r ∷ routes) links =
-    omega (arith, leads_in_route next s r links.0, leads_at_most next s routes links.1, total-append (λ t. cond (leads_to next s t) 1 0) r.stops (stop_list routes), total-append (λ t. cond (has_ticket s t) 1 0) r.stops (stop_list routes))
+    omega (
+      arith,
+      leads_in_route next s r links.0,
+      leads_at_most next s routes links.1,
+      total-append (λ t. cond (leads_to next s t) 1 0) r.stops (stop_list routes),
+      total-append (λ t. cond (has_ticket s t) 1 0) r.stops (stop_list routes),
+    )
 
 -- none leads to the start of a linear route
-pub none_leads_to_start : (next : ℕ → Option ℕ) (s : ℕ) (routes : List Route) (r : Route) → Links next routes → route_of routes s ≡ Some r → starts_at s r ≡ true → count_of (leads_to next s) (stop_list routes) + 1 ≤ count_of (has_ticket s) (stop_list routes)
+pub none_leads_to_start : (next : ℕ → Option ℕ) (s : ℕ) (routes : List Route) (r : Route) → Links next routes → route_of routes s ≡ Some r → starts_at s r ≡ true
+    → count_of (leads_to next s) (stop_list routes) + 1 ≤ count_of (has_ticket s) (stop_list routes)
 none_leads_to_start next s [] r links e start = cc
 none_leads_to_start next s (q ∷ routes) r links e start = at (has_stop s q) e (none_leads_to_start next s routes r links.1)
   where
@@ -63,12 +72,20 @@ none_leads_to_start next s (q ∷ routes) r links e start = at (has_stop s q) e 
     at true f h =
         let same : q ≡ r = cc in
         let begins : starts_at s q ≡ true = ap (starts_at s) same ∙ start in
-        omega (arith, own, ap {B = ℕ} (λ b. cond b 1 0) begins, leads_at_most next s routes links.1, total-append (λ t. cond (leads_to next s t) 1 0) q.stops (stop_list routes), total-append (λ t. cond (has_ticket s t) 1 0) q.stops (stop_list routes))
+        omega (
+          arith,
+          own,
+          ap {B = ℕ} (λ b. cond b 1 0) begins,
+          leads_at_most next s routes links.1,
+          total-append (λ t. cond (leads_to next s t) 1 0) q.stops (stop_list routes),
+          total-append (λ t. cond (has_ticket s t) 1 0) q.stops (stop_list routes),
+        )
     at false f h =
         omega (arith, own, h f start, total-append (λ t. cond (leads_to next s t) 1 0) q.stops (stop_list routes), total-append (λ t. cond (has_ticket s t) 1 0) q.stops (stop_list routes))
 
 -- where none leads to a stop, its route is linear and starts with it
-pub starts_if_none_leads : (next : ℕ → Option ℕ) (s : ℕ) (r : Route) → Leads next (closing_of r) r.stops → count_of (leads_to next s) r.stops ≡ 0 → 1 ≤ count_of (has_ticket s) r.stops → starts_at s r ≡ true
+pub starts_if_none_leads : (next : ℕ → Option ℕ) (s : ℕ) (r : Route) → Leads next (closing_of r) r.stops → count_of (leads_to next s) r.stops ≡ 0 → 1 ≤ count_of (has_ticket s) r.stops
+    → starts_at s r ≡ true
 starts_if_none_leads next s r h none some = at (starts_at s r) refl
   where
     at : (b : Bool) → starts_at s r ≡ b → starts_at s r ≡ true
@@ -87,7 +104,8 @@ starts_parts s r e = at r.is_ring refl e
         by (Some t) g = ap (λ k. Some k) (eqb-true t s g)
 
 -- a part of the routes has no more that leads to it
-less_within : (weight : Stop → ℕ) (s : ℕ) (routes : List Route) (r : Route) → count_of (has_ticket s) (stop_list routes) ≤ 1 → route_of routes s ≡ Some r → total weight r.stops ≤ total weight (stop_list routes)
+less_within : (weight : Stop → ℕ) (s : ℕ) (routes : List Route) (r : Route) → count_of (has_ticket s) (stop_list routes) ≤ 1 → route_of routes s ≡ Some r
+    → total weight r.stops ≤ total weight (stop_list routes)
 less_within weight s routes r once e = omega (arith, total-without weight s routes once, ap (total weight) (with_found s routes r e))
 
 -- ---- joins
@@ -97,7 +115,8 @@ pub Leads-from_smallest : (next : ℕ → Option ℕ) (xs : List Stop) → Leads
 Leads-from_smallest next [] h = tt
 Leads-from_smallest next (x ∷ xs) h = Leads-round next (smallest x.ticket xs) (x ∷ xs) h
 
-pub Links-linked : (next : ℕ → Option ℕ) (s u : ℕ) (routes : List Route) → AreWritten routes → Links next routes → next s ≡ None → 1 ≤ count_of (has_ticket s) (stop_list routes) → 1 ≤ count_of (has_ticket u) (stop_list routes)
+pub Links-linked : (next : ℕ → Option ℕ) (s u : ℕ) (routes : List Route) → AreWritten routes → Links next routes → next s ≡ None → 1 ≤ count_of (has_ticket s) (stop_list routes)
+    → 1 ≤ count_of (has_ticket u) (stop_list routes)
     → count_of (leads_to next u) (stop_list routes) ≡ 0 → Links (relinked s (Some u) next) (linked s u routes)
 Links-linked next s u routes written links end some other none = by (found_if_counted s routes some)
   where
@@ -153,13 +172,24 @@ Links-linked next s u routes written links end some other none = by (found_if_co
             joined g =
                 let back : List Stop = stops_with u others in
                 let is_back : g.0.stops ≡ back = with_found u others g.0 g.1 in
-                let there : Leads next (closing_of g.0) g.0.stops = subst (λ o. IfSome o (λ r. Leads next (closing_of r) r.stops)) g.1 (found_in (λ r. Leads next (closing_of r) r.stops) (has_stop u) others (Links-without next s routes links)) in
-                let few : count_of (leads_to next u) g.0.stops ≡ 0 = omega (arith, none, total-without (λ t. cond (leads_to next u t) 1 0) s routes (written.once s), less_within (λ t. cond (leads_to next u t) 1 0) u others g.0 once g.1) in
+                let there : Leads next (closing_of g.0) g.0.stops = subst (λ o. IfSome o (λ r. Leads next (closing_of r) r.stops)) g.1
+                (found_in (λ r. Leads next (closing_of r) r.stops) (has_stop u) others (Links-without next s routes links)) in
+                let few : count_of (leads_to next u) g.0.stops ≡ 0 = omega (
+                  arith,
+                  none,
+                  total-without (λ t. cond (leads_to next u t) 1 0) s routes (written.once s),
+                  less_within (λ t. cond (leads_to next u t) 1 0) u others g.0 once g.1,
+                ) in
                 let start = starts_parts u g.0 (starts_if_none_leads next u g.0 there few (count-any (has_ticket u) g.0.stops (found_passes (has_stop u) others g.0 g.1))) in
                 let head : head_or None back ≡ Some u = ap (head_or None) (sym is_back) ∙ start.1 in
                 let open_end : closing_of g.0 ≡ None = ap (λ b. cond b (head_or None g.0.stops) None) start.0 in
                 let back_leads : Leads next None back = subst (Leads next None) is_back (subst (λ c. Leads next c g.0.stops) open_end there) in
-                let back_lacks : count_of (has_ticket s) back ≡ 0 = omega (arith, others_lack, less_within (λ t. cond (has_ticket s t) 1 0) u others g.0 once g.1, ap (count_of (has_ticket s)) is_back) in
+                let back_lacks : count_of (has_ticket s) back ≡ 0 = omega (
+                  arith,
+                  others_lack,
+                  less_within (λ t. cond (has_ticket s t) 1 0) u others g.0 once g.1,
+                  ap (count_of (has_ticket s)) is_back,
+                ) in
                 let moved : Leads changed None back = Leads-ext next changed None back (apart_relinked s (Some u) next back back_lacks) back_leads in
                 Links-put changed (linear (front ++ back)) (without u others)
                 (Leads-append changed None front back (subst (λ c. Leads changed c front) (sym head) front_leads) moved)
@@ -167,7 +197,8 @@ Links-linked next s u routes written links end some other none = by (found_if_co
 
 -- ---- cuts
 
-pub Links-unlinked : (next : ℕ → Option ℕ) (s : ℕ) (routes : List Route) → AreWritten routes → Links next routes → 1 ≤ count_of (has_ticket s) (stop_list routes) → Links (relinked s None next) (unlinked s routes)
+pub Links-unlinked : (next : ℕ → Option ℕ) (s : ℕ) (routes : List Route) → AreWritten routes → Links next routes → 1 ≤ count_of (has_ticket s) (stop_list routes)
+    → Links (relinked s None next) (unlinked s routes)
 Links-unlinked next s routes written links some = by (found_if_counted s routes some)
   where
     others : List Route
@@ -204,7 +235,8 @@ Links-unlinked next s routes written links some = by (found_if_counted s routes 
         front_has [] k = k
         front_has (y ∷ ys) k = go (y.ticket == s) refl (front_has ys)
           where
-            go : (b : Bool) → (y.ticket == s) ≡ b → (1 ≤ count_of (has_ticket s) ys → 1 ≤ count_of (has_ticket s) (up_to (has_ticket s) ys)) → 1 ≤ count_of (has_ticket s) (cond b (y ∷ []) (y ∷ up_to (has_ticket s) ys))
+            go : (b : Bool) → (y.ticket == s) ≡ b → (1 ≤ count_of (has_ticket s) ys → 1 ≤ count_of (has_ticket s) (up_to (has_ticket s) ys))
+                → 1 ≤ count_of (has_ticket s) (cond b (y ∷ []) (y ∷ up_to (has_ticket s) ys))
             go true e h = omega (arith, ap {B = ℕ} (λ c. cond c 1 0) e)
             go false e h = omega (arith, k, h (omega (arith, k, ap {B = ℕ} (λ c. cond c 1 0) e)))
 

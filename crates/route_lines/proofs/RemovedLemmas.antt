@@ -79,7 +79,8 @@ pub total-map : {X : Type 0} (weight : X → ℕ) (f : X → X) (xs : List X) �
 total-map weight f [] = refl
 total-map weight f (x ∷ xs) = omega (arith, total-map weight f xs)
 
-pub find-map : {X : Type 0} (ticket : X → ℕ) (f : X → X) (k : ℕ) (xs : List X) → ((x : X) → ticket (f x) ≡ ticket x) → find (λ x. ticket x == k) (map f xs) ≡ option_map f (find (λ x. ticket x == k) xs)
+pub find-map : {X : Type 0} (ticket : X → ℕ) (f : X → X) (k : ℕ) (xs : List X) → ((x : X) → ticket (f x) ≡ ticket x)
+    → find (λ x. ticket x == k) (map f xs) ≡ option_map f (find (λ x. ticket x == k) xs)
 find-map ticket f k [] same = refl
 find-map ticket f k (x ∷ xs) same = rw (same x) (at (ticket x == k) (find-map ticket f k xs same))
   where
@@ -111,7 +112,8 @@ stop_list-cleared t [] = refl
 stop_list-cleared t (r ∷ routes) =
     ap (λ xs. map (clear_stop t) r.stops ++ xs) (stop_list-cleared t routes) ∙ sym (map-append (clear_stop t) r.stops (stop_list routes))
 
-pub all_cleared : (P Q : Stop → Type 0) (t : ℕ) (routes : List Route) → ((x : Stop) → P x → Q (clear_stop t x)) → AllByRecursion P (stop_list routes) → AllByRecursion Q (stop_list (map (clear_route t) routes))
+pub all_cleared : (P Q : Stop → Type 0) (t : ℕ) (routes : List Route) → ((x : Stop) → P x → Q (clear_stop t x)) → AllByRecursion P (stop_list routes)
+    → AllByRecursion Q (stop_list (map (clear_route t) routes))
 all_cleared P Q t routes change h =
     subst (AllByRecursion Q) (sym (stop_list-cleared t routes)) (all_map P Q (clear_stop t) (stop_list routes) change h)
 
@@ -138,7 +140,8 @@ IsWritten-cleared t r is = record {
 RoutesRise-cleared : (t : ℕ) (routes : List Route) → RoutesRise routes → RoutesRise (map (clear_route t) routes)
 RoutesRise-cleared t [] h = tt
 RoutesRise-cleared t (r ∷ routes) h = (
-  all_map (λ q. first_ticket r < first_ticket q) (λ q. first_ticket (clear_route t r) < first_ticket q) (clear_route t) routes (λ q less. omega (arith, less, first-cleared t r, first-cleared t q)) h.0,
+  all_map (λ q. first_ticket r < first_ticket q) (λ q. first_ticket (clear_route t r) < first_ticket q) (clear_route t) routes
+      (λ q less. omega (arith, less, first-cleared t r, first-cleared t q)) h.0,
   RoutesRise-cleared t routes h.1,
 )
 

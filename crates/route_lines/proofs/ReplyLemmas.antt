@@ -230,7 +230,8 @@ record StopParts (t : Stop) : Type 0 where
   ticket : IsNumber t.ticket
   place : IfSome t.place IsNumber
 
-stops_parts : (last : ℕ) (stops : List Stop) → IsNumber last → AllByRecursion (λ t. (0 < t.ticket) × (t.ticket ≤ last)) stops → AllByRecursion (λ t. IfSome t.place IsNumber) stops → AllByRecursion StopParts stops
+stops_parts : (last : ℕ) (stops : List Stop) → IsNumber last → AllByRecursion (λ t. (0 < t.ticket) × (t.ticket ≤ last)) stops → AllByRecursion (λ t. IfSome t.place IsNumber) stops
+    → AllByRecursion StopParts stops
 stops_parts last [] small given places = tt
 stops_parts last (t ∷ stops) small given places =
     (record { ticket = omega (arith, small, given.0.1); place = places.0 }, stops_parts last stops small given.1 places.1)

@@ -82,7 +82,8 @@ firsts_apart ticket (r ∷ routes) each none =
       firsts_apart ticket routes each.1 (omega (arith, parts, none)),
     )
 
-pub AreWritten-put : (new : Route) (routes : List Route) → (0 < length new.stops → IsWritten new) → AreWritten routes → ((t : ℕ) → count_of (has_ticket t) new.stops + count_of (has_ticket t) (stop_list routes) ≤ 1) → AreWritten (put_route new routes)
+pub AreWritten-put : (new : Route) (routes : List Route) → (0 < length new.stops → IsWritten new) → AreWritten routes
+    → ((t : ℕ) → count_of (has_ticket t) new.stops + count_of (has_ticket t) (stop_list routes) ≤ 1) → AreWritten (put_route new routes)
 AreWritten-put new routes is written apart = at (length new.stops == 0) refl
   where
     at : (b : Bool) → (length new.stops == 0) ≡ b → AreWritten (cond b routes (insert_route new routes))
@@ -106,7 +107,8 @@ without-none s (r ∷ routes) none =
     rw other (ap (λ rs. r ∷ rs) (without-none s routes (omega (arith, parts, none))))
 
 -- the stops of one route and of the others are all stops
-pub total-without : (weight : Stop → ℕ) (s : ℕ) (routes : List Route) → count_of (has_ticket s) (stop_list routes) ≤ 1 → total weight (stop_list (without s routes)) + total weight (stops_with s routes) ≡ total weight (stop_list routes)
+pub total-without : (weight : Stop → ℕ) (s : ℕ) (routes : List Route) → count_of (has_ticket s) (stop_list routes) ≤ 1
+    → total weight (stop_list (without s routes)) + total weight (stops_with s routes) ≡ total weight (stop_list routes)
 total-without weight s [] once = refl
 total-without weight s (r ∷ routes) once = at (has_stop s r) refl (total-without weight s routes)
   where
@@ -115,7 +117,8 @@ total-without weight s (r ∷ routes) once = at (has_stop s r) refl (total-witho
 
     at : (b : Bool) → has_stop s r ≡ b
         → (count_of (has_ticket s) (stop_list routes) ≤ 1 → total weight (stop_list (without s routes)) + total weight (stops_with s routes) ≡ total weight (stop_list routes))
-        → total weight (stop_list (cond (not b) (r ∷ without s routes) (without s routes))) + total weight (option_map_or (λ q. q.stops) (cond b (Some r) (route_of routes s)) []) ≡ total weight (stop_list (r ∷ routes))
+        → total weight (stop_list (cond (not b) (r ∷ without s routes) (without s routes))) + total weight (option_map_or (λ q. q.stops) (cond b (Some r) (route_of routes s)) []) ≡ total weight
+        (stop_list (r ∷ routes))
     at true e h =
         let none : count_of (has_ticket s) (stop_list routes) ≡ 0 = omega (arith, parts, once, count-any (has_ticket s) r.stops e) in
         rw (without-none s routes none) (omega (arith, total-append weight r.stops (stop_list routes)))
@@ -127,7 +130,8 @@ total-without-le : (weight : Stop → ℕ) (s : ℕ) (routes : List Route) → t
 total-without-le weight s [] = omega arith
 total-without-le weight s (r ∷ routes) = at (has_stop s r) (total-without-le weight s routes)
   where
-    at : (b : Bool) → total weight (stop_list (without s routes)) ≤ total weight (stop_list routes) → total weight (stop_list (cond (not b) (r ∷ without s routes) (without s routes))) ≤ total weight (stop_list (r ∷ routes))
+    at : (b : Bool) → total weight (stop_list (without s routes)) ≤ total weight (stop_list routes) → total weight (stop_list (cond (not b) (r ∷ without s routes) (without s routes))) ≤ total
+        weight (stop_list (r ∷ routes))
     at true h = omega (arith, h, total-append weight r.stops (stop_list routes))
     at false h = omega (arith, h, total-append weight r.stops (stop_list (without s routes)), total-append weight r.stops (stop_list routes))
 
@@ -166,7 +170,12 @@ AreWritten-without s routes written = record {
 
 pub total-round : (weight : Stop → ℕ) (s : ℕ) (stops : List Stop) → total weight (round s stops) ≡ total weight stops
 total-round weight s stops =
-    omega (arith, total-append weight (onward (has_ticket s) stops) (before (has_ticket s) stops), total-append weight (before (has_ticket s) stops) (onward (has_ticket s) stops), ap (total weight) (before_onward (has_ticket s) stops))
+    omega (
+      arith,
+      total-append weight (onward (has_ticket s) stops) (before (has_ticket s) stops),
+      total-append weight (before (has_ticket s) stops) (onward (has_ticket s) stops),
+      ap (total weight) (before_onward (has_ticket s) stops),
+    )
 
 pub total-ring : (weight : Stop → ℕ) (stops : List Stop) → total weight (from_smallest stops) ≡ total weight stops
 total-ring weight [] = refl
@@ -175,7 +184,8 @@ total-ring weight (t ∷ stops) = total-round weight (smallest t.ticket stops) (
 pub all_round : (P : Stop → Type 0) (s : ℕ) (stops : List Stop) → AllByRecursion P stops → AllByRecursion P (round s stops)
 all_round P s stops h =
     let parts = subst (AllByRecursion P) (sym (before_onward (has_ticket s) stops)) h in
-    all_append P (onward (has_ticket s) stops) (before (has_ticket s) stops) (all_back P (before (has_ticket s) stops) (onward (has_ticket s) stops) parts) (all_front P (before (has_ticket s) stops) (onward (has_ticket s) stops) parts)
+    all_append P (onward (has_ticket s) stops) (before (has_ticket s) stops) (all_back P (before (has_ticket s) stops) (onward (has_ticket s) stops) parts)
+    (all_front P (before (has_ticket s) stops) (onward (has_ticket s) stops) parts)
 
 pub all_ring : (P : Stop → Type 0) (stops : List Stop) → AllByRecursion P stops → AllByRecursion P (from_smallest stops)
 all_ring P [] h = tt
@@ -278,7 +288,13 @@ AreWritten-linked s u routes written = at (list_any (has_ticket u) (stops_with s
     at true = AreWritten-put (ring front) others (IsWritten-ring front) whole (λ t.
         omega (arith, total-ring (λ x. cond (has_ticket t x) 1 0) front, total-without (λ x. cond (has_ticket t x) 1 0) s routes (written.once s), written.once t))
     at false = AreWritten-put (linear (front ++ back)) (without u others) (IsWritten-linear (front ++ back)) (AreWritten-without u others whole) (λ t.
-        omega (arith, total-append (λ x. cond (has_ticket t x) 1 0) front back, total-without (λ x. cond (has_ticket t x) 1 0) s routes (written.once s), total-without (λ x. cond (has_ticket t x) 1 0) u others (whole.once u), written.once t))
+        omega (
+          arith,
+          total-append (λ x. cond (has_ticket t x) 1 0) front back,
+          total-without (λ x. cond (has_ticket t x) 1 0) s routes (written.once s),
+          total-without (λ x. cond (has_ticket t x) 1 0) u others (whole.once u),
+          written.once t,
+        ))
 
 pub total-linked : (weight : Stop → ℕ) (s u : ℕ) (routes : List Route) → AreWritten routes → total weight (stop_list (linked s u routes)) ≡ total weight (stop_list routes)
 total-linked weight s u routes written = at (list_any (has_ticket u) (stops_with s routes))
@@ -295,7 +311,13 @@ total-linked weight s u routes written = at (list_any (has_ticket u) (stops_with
     at : (b : Bool) → total weight (stop_list (cond b (put_route (ring front) others) (put_route (linear (front ++ stops_with u others)) (without u others)))) ≡ total weight (stop_list routes)
     at true = omega (arith, total-put weight (ring front) others, total-ring weight front, total-without weight s routes (written.once s))
     at false =
-        omega (arith, total-put weight (linear (front ++ stops_with u others)) (without u others), total-append weight front (stops_with u others), total-without weight s routes (written.once s), total-without weight u others (whole.once u))
+        omega (
+          arith,
+          total-put weight (linear (front ++ stops_with u others)) (without u others),
+          total-append weight front (stops_with u others),
+          total-without weight s routes (written.once s),
+          total-without weight u others (whole.once u),
+        )
 
 pub all_linked : (P : Stop → Type 0) (s u : ℕ) (routes : List Route) → AllByRecursion P (stop_list routes) → AllByRecursion P (stop_list (linked s u routes))
 all_linked P s u routes h = at (list_any (has_ticket u) (stops_with s routes))
@@ -311,7 +333,8 @@ all_linked P s u routes h = at (list_any (has_ticket u) (stops_with s routes))
 
     at : (b : Bool) → AllByRecursion P (stop_list (cond b (put_route (ring front) others) (put_route (linear (front ++ stops_with u others)) (without u others))))
     at true = all_stops_put P (ring front) others (all_ring P front (all_stops_with P s routes h)) rest
-    at false = all_stops_put P (linear (front ++ stops_with u others)) (without u others) (all_append P front (stops_with u others) (all_stops_with P s routes h) (all_stops_with P u others rest)) (all_stops_without P u others rest)
+    at false = all_stops_put P (linear (front ++ stops_with u others)) (without u others) (all_append P front (stops_with u others) (all_stops_with P s routes h) (all_stops_with P u others rest))
+        (all_stops_without P u others rest)
 
 -- ---- cuts
 
@@ -340,7 +363,14 @@ AreWritten-unlinked s routes written = by (route_of routes s) refl
 
         halves : (t : ℕ) → count_of (has_ticket t) front + count_of (has_ticket t) back + count_of (has_ticket t) (stop_list others) ≤ 1
         halves t =
-            omega (arith, total-append (λ x. cond (has_ticket t x) 1 0) front back, ap (count_of (has_ticket t)) (up_to_behind (has_ticket s) r.stops), ap (count_of (has_ticket t)) (with_found s routes r e), total-without (λ x. cond (has_ticket t x) 1 0) s routes (written.once s), written.once t)
+            omega (
+              arith,
+              total-append (λ x. cond (has_ticket t x) 1 0) front back,
+              ap (count_of (has_ticket t)) (up_to_behind (has_ticket s) r.stops),
+              ap (count_of (has_ticket t)) (with_found s routes r e),
+              total-without (λ x. cond (has_ticket t x) 1 0) s routes (written.once s),
+              written.once t,
+            )
 
         at : (b : Bool) → AreWritten (cond b (put_route (linear (back ++ front)) others) (put_route (linear front) (put_route (linear back) others)))
         at true = AreWritten-put (linear (back ++ front)) others (IsWritten-linear (back ++ front)) whole (λ t.
@@ -366,7 +396,13 @@ total-unlinked weight s routes written = by (route_of routes s) refl
 
         halves : total weight front + total weight back + total weight (stop_list others) ≡ total weight (stop_list routes)
         halves =
-            omega (arith, total-append weight front back, ap (total weight) (up_to_behind (has_ticket s) r.stops), ap (total weight) (with_found s routes r e), total-without weight s routes (written.once s))
+            omega (
+              arith,
+              total-append weight front back,
+              ap (total weight) (up_to_behind (has_ticket s) r.stops),
+              ap (total weight) (with_found s routes r e),
+              total-without weight s routes (written.once s),
+            )
 
         at : (b : Bool) → total weight (stop_list (cond b (put_route (linear (back ++ front)) others) (put_route (linear front) (put_route (linear back) others)))) ≡ total weight (stop_list routes)
         at true = omega (arith, halves, total-put weight (linear (back ++ front)) others, total-append weight back front)
@@ -407,7 +443,8 @@ all_unlinked P s routes h = by (route_of routes s) refl
 -- ---- exchanges
 
 -- what joins and cuts keep, an exchange keeps
-pub exchanged_keeps {ℓ} : (P : List Route → Type ℓ) (s u : ℕ) (routes : List Route) → ((t : ℕ) (rs : List Route) → P rs → P (unlinked t rs)) → ((t v : ℕ) (rs : List Route) → P rs → P (linked t v rs)) → P routes → P (exchanged s u routes)
+pub exchanged_keeps {ℓ} : (P : List Route → Type ℓ) (s u : ℕ) (routes : List Route) → ((t : ℕ) (rs : List Route) → P rs → P (unlinked t rs))
+    → ((t v : ℕ) (rs : List Route) → P rs → P (linked t v rs)) → P routes → P (exchanged s u routes)
 exchanged_keeps P s u routes cut join h = by (next_stop routes s) (next_stop routes u) refl refl
   where
     by : (n m : Option ℕ) → next_stop routes s ≡ n → next_stop routes u ≡ m → P (exchanged s u routes)
@@ -431,4 +468,5 @@ all_walk P s routes h = by (route_of routes s) (all_stops_with P s routes h)
         at : (b : Bool) → AllByRecursion P (cond b (round s r.stops) (onward (has_ticket s) r.stops ++ reverse (before (has_ticket s) r.stops)))
         at true = all_round P s r.stops each
         at false =
-            all_append P (onward (has_ticket s) r.stops) (reverse (before (has_ticket s) r.stops)) (all_onward P (has_ticket s) r.stops each) (all_reverse P (before (has_ticket s) r.stops) (all_before P (has_ticket s) r.stops each))
+            all_append P (onward (has_ticket s) r.stops) (reverse (before (has_ticket s) r.stops)) (all_onward P (has_ticket s) r.stops each)
+            (all_reverse P (before (has_ticket s) r.stops) (all_before P (has_ticket s) r.stops each))

@@ -27,13 +27,15 @@ replies-append s (x ∷ xs) ys =
     ap (λ text. reply s (command_in x) ++ text) (replies-append (next s (command_in x)) xs ys)
     ∙ sym (append_assoc (reply s (command_in x)) (replies (next s (command_in x)) xs) (replies (after_lines (next s (command_in x)) xs) ys))
 
-pub most_comparisons_over-append : (most : State → Option Command → ℕ) (s : State) (xs ys : List Line) → most_comparisons_over most s (xs ++ ys) ≡ most_comparisons_over most s xs + most_comparisons_over most (after_lines s xs) ys
+pub most_comparisons_over-append : (most : State → Option Command → ℕ) (s : State) (xs ys : List Line)
+    → most_comparisons_over most s (xs ++ ys) ≡ most_comparisons_over most s xs + most_comparisons_over most (after_lines s xs) ys
 most_comparisons_over-append most s [] ys = omega arith
 most_comparisons_over-append most s (x ∷ xs) ys =
     let h = most_comparisons_over-append most (next s (command_in x)) xs ys in
     omega (arith, h)
 
-pub ComparesWithin-trans : (a b c : Counts) (k f s k' f' s' k'' f'' s'' : ℕ) → ComparesWithin a b k f s → ComparesWithin b c k' f' s' → k'' ≡ k + k' → f'' ≡ f + f' → s'' ≡ s + s' → ComparesWithin a c k'' f'' s''
+pub ComparesWithin-trans : (a b c : Counts) (k f s k' f' s' k'' f'' s'' : ℕ) → ComparesWithin a b k f s → ComparesWithin b c k' f' s' → k'' ≡ k + k' → f'' ≡ f + f' → s'' ≡ s + s'
+    → ComparesWithin a c k'' f'' s''
 ComparesWithin-trans a b c k f s k' f' s' k'' f'' s'' h h' ek ef es = record {
   key_rises = omega (arith, h.key_rises, h'.key_rises);
   first_rises = omega (arith, h.first_rises, h'.first_rises);
@@ -78,25 +80,29 @@ Carries-nil s held counts = record {
   };
 }
 
-pub Carries-trans : (s t u : State) (xs ys : List Line) (a b c : Option (List ℕ)) (before between later : Counts) → Carries s xs t a b before between → Carries t ys u b c between later → Carries s (xs ++ ys) u a c before later
+pub Carries-trans : (s t u : State) (xs ys : List Line) (a b c : Option (List ℕ)) (before between later : Counts) → Carries s xs t a b before between → Carries t ys u b c between later
+    → Carries s (xs ++ ys) u a c before later
 Carries-trans s t u xs ys a b c before between later first second =
     let there = first.state in
     let moved = subst (λ v. Carries v ys u b c between later) there second in
     record {
       state = moved.state ∙ sym (after_lines-append s xs ys);
       replied = subst (Appends a c) (sym (replies-append s xs ys)) (Appends-trans a b c _ _ first.replied moved.replied);
-      counts = ComparesWithin-trans before between later _ _ _ _ _ _ _ _ _ first.counts moved.counts (most_comparisons_over-append most_keys s xs ys) (most_comparisons_over-append most_tickets s xs ys) (most_comparisons_over-append most_tickets s xs ys);
+      counts = ComparesWithin-trans before between later _ _ _ _ _ _ _ _ _ first.counts moved.counts (most_comparisons_over-append most_keys s xs ys)
+          (most_comparisons_over-append most_tickets s xs ys) (most_comparisons_over-append most_tickets s xs ys);
     }
 
 -- one line
-pub Carries-one : (s t : State) (line : Line) (a b : Option (List ℕ)) (before later : Counts) → t ≡ next s (command_in line) → Appends a b (reply s (command_in line)) → CountsFor s (command_in line) before later → Carries s (line ∷ []) t a b before later
+pub Carries-one : (s t : State) (line : Line) (a b : Option (List ℕ)) (before later : Counts) → t ≡ next s (command_in line) → Appends a b (reply s (command_in line))
+    → CountsFor s (command_in line) before later → Carries s (line ∷ []) t a b before later
 Carries-one s t line a b before later state replied counts = record {
   state = state;
   replied = subst (Appends a b) (sym (append-nil (reply s (command_in line)))) replied;
   counts = ComparesWithin-more before later _ _ _ _ _ _ counts (omega arith) (omega arith) (omega arith);
 }
 
-pub BreaksOff-one : (s t : State) (line : Line) (a b : Option (List ℕ)) (before later : Counts) → t ≡ next s (command_in line) → AppendsBeginning a b (reply s (command_in line)) → CountsFor s (command_in line) before later → BreaksOff s [] line t a b before later
+pub BreaksOff-one : (s t : State) (line : Line) (a b : Option (List ℕ)) (before later : Counts) → t ≡ next s (command_in line) → AppendsBeginning a b (reply s (command_in line))
+    → CountsFor s (command_in line) before later → BreaksOff s [] line t a b before later
 BreaksOff-one s t line a b before later state begins counts = record {
   part = begins.part;
   missing = begins.missing;
@@ -107,7 +113,8 @@ BreaksOff-one s t line a b before later state begins counts = record {
   counts = ComparesWithin-more before later _ _ _ _ _ _ counts (omega arith) (omega arith) (omega arith);
 }
 
-pub BreaksOff-after : (s t u : State) (xs ys : List Line) (line : Line) (a b c : Option (List ℕ)) (before between later : Counts) → Carries s xs t a b before between → BreaksOff t ys line u b c between later → BreaksOff s (xs ++ ys) line u a c before later
+pub BreaksOff-after : (s t u : State) (xs ys : List Line) (line : Line) (a b c : Option (List ℕ)) (before between later : Counts) → Carries s xs t a b before between
+    → BreaksOff t ys line u b c between later → BreaksOff s (xs ++ ys) line u a c before later
 BreaksOff-after s t u xs ys line a b c before between later first second =
     let moved = subst (λ v. BreaksOff v ys line u b c between later) first.state second in
     let more : xs ++ (ys ++ line ∷ []) ≡ (xs ++ ys) ++ line ∷ [] = sym (append_assoc xs ys (line ∷ [])) in
@@ -121,7 +128,8 @@ BreaksOff-after s t u xs ys line a b c before between later first second =
       replied = subst (Appends a c) (sym (append_assoc (replies s xs) (replies m ys) moved.part) ∙ ap (λ text. text ++ moved.part) (sym (replies-append s xs ys)))
           (Appends-trans a b c _ _ first.replied moved.replied);
       counts = subst (λ ls. ComparesWithin before later (most_comparisons_over most_keys s ls) (most_comparisons_over most_tickets s ls) (most_comparisons_over most_tickets s ls)) more
-          (ComparesWithin-trans before between later _ _ _ _ _ _ _ _ _ first.counts moved.counts (most_comparisons_over-append most_keys s xs (ys ++ line ∷ [])) (most_comparisons_over-append most_tickets s xs (ys ++ line ∷ [])) (most_comparisons_over-append most_tickets s xs (ys ++ line ∷ [])));
+          (ComparesWithin-trans before between later _ _ _ _ _ _ _ _ _ first.counts moved.counts (most_comparisons_over-append most_keys s xs (ys ++ line ∷ []))
+          (most_comparisons_over-append most_tickets s xs (ys ++ line ∷ [])) (most_comparisons_over-append most_tickets s xs (ys ++ line ∷ [])));
     }
 
 -- ---- an input cut into lines

@@ -26,11 +26,13 @@ stop_eq x y ticket place =
 abbrev Away : Option ℕ → List Stop → Type 0
 Away closing stops = AllByRecursion (λ t. Some t.ticket ≢ closing) stops
 
-same_heads : (closing : Option ℕ) (next : ℕ → Option ℕ) (x y : Stop) (xs ys : List Stop) → Leads next closing (x ∷ xs) → Leads next closing (y ∷ ys) → x.ticket ≡ y.ticket → head_or closing xs ≡ head_or closing ys
+same_heads : (closing : Option ℕ) (next : ℕ → Option ℕ) (x y : Stop) (xs ys : List Stop) → Leads next closing (x ∷ xs) → Leads next closing (y ∷ ys) → x.ticket ≡ y.ticket
+    → head_or closing xs ≡ head_or closing ys
 same_heads closing next x y xs ys h k e = sym h.0 ∙ ap next e ∙ k.0
 
 -- lists that begin alike, and come to their closing at their end alone
-same_walk : (next place : ℕ → Option ℕ) (closing : Option ℕ) (xs ys : List Stop) → Leads next closing xs → Leads next closing ys → Away closing xs → Away closing ys → Fits place xs → Fits place ys → head_or closing xs ≡ head_or closing ys → xs ≡ ys
+same_walk : (next place : ℕ → Option ℕ) (closing : Option ℕ) (xs ys : List Stop) → Leads next closing xs → Leads next closing ys → Away closing xs → Away closing ys → Fits place xs
+    → Fits place ys → head_or closing xs ≡ head_or closing ys → xs ≡ ys
 same_walk next place closing [] [] h k a b f g e = refl
 same_walk next place closing [] (y ∷ ys) h k a b f g e = absurd (b.0 (sym e))
 same_walk next place closing (x ∷ xs) [] h k a b f g e = absurd (a.0 e)
@@ -140,7 +142,13 @@ once_back xs ys once s = omega (arith, once s, total-append (λ t. cond (has_tic
 
 once_round : (s : ℕ) (xs : List Stop) → ((t : ℕ) → count_of (has_ticket t) xs ≤ 1) → (t : ℕ) → count_of (has_ticket t) (round s xs) ≤ 1
 once_round s xs once t =
-    omega (arith, once t, total-append (λ u. cond (has_ticket t u) 1 0) (onward (has_ticket s) xs) (before (has_ticket s) xs), total-append (λ u. cond (has_ticket t u) 1 0) (before (has_ticket s) xs) (onward (has_ticket s) xs), ap (count_of (has_ticket t)) (before_onward (has_ticket s) xs))
+    omega (
+      arith,
+      once t,
+      total-append (λ u. cond (has_ticket t u) 1 0) (onward (has_ticket s) xs) (before (has_ticket s) xs),
+      total-append (λ u. cond (has_ticket t u) 1 0) (before (has_ticket s) xs) (onward (has_ticket s) xs),
+      ap (count_of (has_ticket t)) (before_onward (has_ticket s) xs),
+    )
 
 begins_round : (s : ℕ) (xs : List Stop) → 1 ≤ count_of (has_ticket s) xs → Begins s (round s xs)
 begins_round s xs some =
@@ -187,7 +195,8 @@ alike next place r q known other has = at r.is_ring q.is_ring refl refl
     own_ring e = subst (λ c. Leads next c r.stops) (closes true r e ∙ head_begins s r.stops begin) known.leads
 
     onward_once : (t : ℕ) → count_of (has_ticket t) (onward (has_ticket s) q.stops) ≤ 1
-    onward_once = once_back (before (has_ticket s) q.stops) (onward (has_ticket s) q.stops) (λ t. subst (λ zs. count_of (has_ticket t) zs ≤ 1) (sym (before_onward (has_ticket s) q.stops)) (other.once t))
+    onward_once = once_back (before (has_ticket s) q.stops) (onward (has_ticket s) q.stops)
+        (λ t. subst (λ zs. count_of (has_ticket t) zs ≤ 1) (sym (before_onward (has_ticket s) q.stops)) (other.once t))
 
     onward_fits : Fits place (onward (has_ticket s) q.stops)
     onward_fits =
@@ -207,7 +216,13 @@ alike next place r q known other has = at r.is_ring q.is_ring refl refl
           where
             round_has : (t : ℕ) (xs : List Stop) → 1 ≤ count_of (has_ticket t) xs → 1 ≤ count_of (has_ticket t) (round s xs)
             round_has t xs some =
-                omega (arith, some, total-append (λ u. cond (has_ticket t u) 1 0) (onward (has_ticket s) xs) (before (has_ticket s) xs), total-append (λ u. cond (has_ticket t u) 1 0) (before (has_ticket s) xs) (onward (has_ticket s) xs), ap (count_of (has_ticket t)) (before_onward (has_ticket s) xs))
+                omega (
+                  arith,
+                  some,
+                  total-append (λ u. cond (has_ticket t u) 1 0) (onward (has_ticket s) xs) (before (has_ticket s) xs),
+                  total-append (λ u. cond (has_ticket t u) 1 0) (before (has_ticket s) xs) (onward (has_ticket s) xs),
+                  ap (count_of (has_ticket t)) (before_onward (has_ticket s) xs),
+                )
 
         begins_q : Begins s q.stops
         begins_q = subst (λ n. Begins n q.stops) first (begins_first q other.written)
@@ -221,7 +236,8 @@ alike next place r q known other has = at r.is_ring q.is_ring refl refl
     at : (b d : Bool) → r.is_ring ≡ b → q.is_ring ≡ d → Alike r q
     at false false e f = record {
       kind = e ∙ sym f;
-      line = λ g. same_lists next place s None r.stops (onward (has_ticket s) q.stops) begin (begins_onward s q.stops has) (own_line e) (onward_leads f) known.fits onward_fits known.once onward_once (inl refl);
+      line = λ g. same_lists next place s None r.stops (onward (has_ticket s) q.stops) begin (begins_onward s q.stops has) (own_line e) (onward_leads f) known.fits onward_fits known.once
+          onward_once (inl refl);
       circle = λ g. absurd (false≢true (sym e ∙ g));
     }
     at false true e f = absurd (never_alike next s r.stops (round s q.stops) begin (begins_round s q.stops has) (own_line e) (round_leads f) known.once)
@@ -229,7 +245,8 @@ alike next place r q known other has = at r.is_ring q.is_ring refl refl
     at true true e f = record {
       kind = e ∙ sym f;
       line = λ g. absurd (false≢true (sym g ∙ e));
-      circle = λ g. from_start f e (same_lists next place s (Some s) r.stops (round s q.stops) begin (begins_round s q.stops has) (own_ring e) (round_leads f) known.fits (all_round (λ t. t.place ≡ place t.ticket) s q.stops other.fits) known.once (once_round s q.stops other.once) (inr refl));
+      circle = λ g. from_start f e (same_lists next place s (Some s) r.stops (round s q.stops) begin (begins_round s q.stops has) (own_ring e) (round_leads f) known.fits
+          (all_round (λ t. t.place ≡ place t.ticket) s q.stops other.fits) known.once (once_round s q.stops other.once) (inr refl));
     }
 
 -- ---- all routes
@@ -239,7 +256,8 @@ route_eq r q kind stops =
     let first : r ≡ record { is_ring = q.is_ring; stops = r.stops } = ap (λ b. record { is_ring = b; stops = r.stops }) kind in
     first ∙ ap (λ xs. record { is_ring = q.is_ring; stops = xs }) stops
 
-known_each : (next place : ℕ → Option ℕ) (routes : List Route) → Links next routes → Fits place (stop_list routes) → AllByRecursion IsWritten routes → AllByRecursion (λ r. (s : ℕ) → count_of (has_ticket s) r.stops ≤ 1) routes → AllByRecursion (IsKnown next place) routes
+known_each : (next place : ℕ → Option ℕ) (routes : List Route) → Links next routes → Fits place (stop_list routes) → AllByRecursion IsWritten routes
+    → AllByRecursion (λ r. (s : ℕ) → count_of (has_ticket s) r.stops ≤ 1) routes → AllByRecursion (IsKnown next place) routes
 known_each next place [] links fits written once = tt
 known_each next place (r ∷ routes) links fits written once = (
   record { leads = links.0; fits = all_front (λ t. t.place ≡ place t.ticket) r.stops (stop_list routes) fits; once = once.0; written = written.0 },
@@ -255,7 +273,8 @@ record AreKnown (next place : ℕ → Option ℕ) (routes : List Route) : Type 0
 known_in : (next place : ℕ → Option ℕ) (routes : List Route) → AreKnown next place routes → AllByRecursion (IsKnown next place) routes
 known_in next place routes k =
     known_each next place routes k.links k.fits k.written.each
-    (all_weaker (λ r. (s : ℕ) → count_of (has_ticket s) r.stops ≤ count_of (has_ticket s) (stop_list routes)) (λ r. (s : ℕ) → count_of (has_ticket s) r.stops ≤ 1) routes (λ r less s. omega (arith, less s, k.written.once s)) (counts_within routes))
+    (all_weaker (λ r. (s : ℕ) → count_of (has_ticket s) r.stops ≤ count_of (has_ticket s) (stop_list routes)) (λ r. (s : ℕ) → count_of (has_ticket s) r.stops ≤ 1) routes
+    (λ r less s. omega (arith, less s, k.written.once s)) (counts_within routes))
 
 -- what holds of each route holds of one that is found
 of_found : (P : Route → Type 0) (s : ℕ) (routes : List Route) (r : Route) → AllByRecursion P routes → route_of routes s ≡ Some r → P r
@@ -280,12 +299,14 @@ same_stops s u xs ys e f = by (before (has_ticket s) ys) refl
         absurd (omega (arith, ap length whole, length-append (before (has_ticket s) ys) xs, ap length back, length-append (before (has_ticket u) xs) ys, ap length g))
 
 -- each route of one list is found in the other
-member : (next place : ℕ → Option ℕ) (routes others : List Route) → AreKnown next place routes → AreKnown next place others → ((s : ℕ) → count_of (has_ticket s) (stop_list routes) ≡ count_of (has_ticket s) (stop_list others)) → AllByRecursion (λ r. route_of others (first_ticket r) ≡ Some r) routes
+member : (next place : ℕ → Option ℕ) (routes others : List Route) → AreKnown next place routes → AreKnown next place others
+    → ((s : ℕ) → count_of (has_ticket s) (stop_list routes) ≡ count_of (has_ticket s) (stop_list others)) → AllByRecursion (λ r. route_of others (first_ticket r) ≡ Some r) routes
 member next place routes others k o same =
     all_weaker _ (λ r. route_of others (first_ticket r) ≡ Some r) routes (λ r h. one r h.0 h.1.0 h.1.1)
     (all_both _ _ routes (known_in next place routes k) (all_both _ _ routes (own_route routes k.written.once) (counts_within routes)))
   where
-    one : (r : Route) → IsKnown next place r → AllByRecursion (λ t. route_of routes t.ticket ≡ Some r) r.stops → ((s : ℕ) → count_of (has_ticket s) r.stops ≤ count_of (has_ticket s) (stop_list routes)) → route_of others (first_ticket r) ≡ Some r
+    one : (r : Route) → IsKnown next place r → AllByRecursion (λ t. route_of routes t.ticket ≡ Some r) r.stops
+        → ((s : ℕ) → count_of (has_ticket s) r.stops ≤ count_of (has_ticket s) (stop_list routes)) → route_of others (first_ticket r) ≡ Some r
     one r known own less = by (found_if_counted s others (omega (arith, first, less s, same s)))
       where
         s : ℕ
@@ -314,7 +335,8 @@ member next place routes others k o same =
 
             at : (b : Bool) → r.is_ring ≡ b → route_of others s ≡ Some r
             at true e = finish (pair.circle e)
-            at false e = back (found_if_counted u routes (omega (arith, start, same u, of_found (λ x. (t : ℕ) → count_of (has_ticket t) x.stops ≤ count_of (has_ticket t) (stop_list others)) s others q (counts_within others) f.1 u)))
+            at false e = back (found_if_counted u routes
+                (omega (arith, start, same u, of_found (λ x. (t : ℕ) → count_of (has_ticket t) x.stops ≤ count_of (has_ticket t) (stop_list others)) s others q (counts_within others) f.1 u)))
               where
                 u : ℕ
                 u = first_ticket q
@@ -329,22 +351,34 @@ member next place routes others k o same =
                     let again : Alike q p = alike next place q p other third (has_found u routes p g.1) in
                     let line : q.stops ≡ onward (has_ticket u) p.stops = again.line (sym pair.kind ∙ e) in
                     let in_p : 1 ≤ count_of (has_ticket s) p.stops =
-                    omega (arith, has, ap (count_of (has_ticket s)) line, total-append (λ t. cond (has_ticket s t) 1 0) (before (has_ticket u) p.stops) (onward (has_ticket u) p.stops), ap (count_of (has_ticket s)) (before_onward (has_ticket u) p.stops)) in
-                    let to_p : route_of routes s ≡ Some p = all_at (λ t. route_of routes t ≡ Some p) s p.stops (of_found (λ x. AllByRecursion (λ t. route_of routes t.ticket ≡ Some x) x.stops) u routes p (own_route routes k.written.once) g.1) in_p in
+                    omega (
+                      arith,
+                      has,
+                      ap (count_of (has_ticket s)) line,
+                      total-append (λ t. cond (has_ticket s t) 1 0) (before (has_ticket u) p.stops) (onward (has_ticket u) p.stops),
+                      ap (count_of (has_ticket s)) (before_onward (has_ticket u) p.stops),
+                    ) in
+                    let to_p : route_of routes s ≡ Some p = all_at (λ t. route_of routes t ≡ Some p) s p.stops
+                    (of_found (λ x. AllByRecursion (λ t. route_of routes t.ticket ≡ Some x) x.stops) u routes p (own_route routes k.written.once) g.1) in_p in
                     let to_r : route_of routes s ≡ Some r = all_at (λ t. route_of routes t ≡ Some r) s r.stops own first in
                     let is : p ≡ r = cc in
                     finish (same_stops s u r.stops q.stops (pair.line e) (line ∙ ap (λ x. onward (has_ticket u) x.stops) is))
 
 -- lists in the order of their first tickets, each of whose routes is found in the other
-sorted_same : (routes others : List Route) → RoutesRise routes → RoutesRise others → AllByRecursion (λ r. route_of others (first_ticket r) ≡ Some r) routes → AllByRecursion (λ q. route_of routes (first_ticket q) ≡ Some q) others → routes ≡ others
+sorted_same : (routes others : List Route) → RoutesRise routes → RoutesRise others → AllByRecursion (λ r. route_of others (first_ticket r) ≡ Some r) routes
+    → AllByRecursion (λ q. route_of routes (first_ticket q) ≡ Some q) others → routes ≡ others
 sorted_same [] [] h k a b = refl
 sorted_same [] (q ∷ others) h k a b = cc
 sorted_same (r ∷ routes) [] h k a b = cc
 sorted_same (r ∷ routes) (q ∷ others) h k a b =
     let same = first (has_stop (first_ticket r) q) (has_stop (first_ticket q) r) a.0 b.0 in
     let tails : routes ≡ others = sorted_same routes others h.1 k.1
-    (all_weaker _ (λ x. route_of others (first_ticket x) ≡ Some x) routes (λ x g. tail q others x (λ e. let bad : first_ticket q ≡ first_ticket x = ap first_ticket e in omega (arith, bad, ap first_ticket same, g.0)) g.1) (all_both (λ x. first_ticket r < first_ticket x) _ routes h.0 a.1))
-    (all_weaker _ (λ x. route_of routes (first_ticket x) ≡ Some x) others (λ x g. tail r routes x (λ e. let bad : first_ticket r ≡ first_ticket x = ap first_ticket e in omega (arith, bad, ap first_ticket same, g.0)) g.1) (all_both (λ x. first_ticket q < first_ticket x) _ others k.0 b.1)) in
+    (all_weaker _ (λ x. route_of others (first_ticket x) ≡ Some x) routes (λ x g. tail q others x
+    (λ e. let bad : first_ticket q ≡ first_ticket x = ap first_ticket e in omega (arith, bad, ap first_ticket same, g.0)) g.1)
+    (all_both (λ x. first_ticket r < first_ticket x) _ routes h.0 a.1))
+    (all_weaker _ (λ x. route_of routes (first_ticket x) ≡ Some x) others (λ x g. tail r routes x
+    (λ e. let bad : first_ticket r ≡ first_ticket x = ap first_ticket e in omega (arith, bad, ap first_ticket same, g.0)) g.1)
+    (all_both (λ x. first_ticket q < first_ticket x) _ others k.0 b.1)) in
     ap (λ x. x ∷ routes) same ∙ ap (λ xs. q ∷ xs) tails
   where
     behind : (x : Route) (xs : List Route) (y : Route) → AllByRecursion (λ z. first_ticket x < first_ticket z) xs → route_of xs (first_ticket y) ≡ Some y → first_ticket x < first_ticket y
@@ -362,7 +396,8 @@ sorted_same (r ∷ routes) (q ∷ others) h k a b =
         go true g = let is : x ≡ y = cc in absurd (apart is)
         go false g = g
 
-pub same_routes : (next place : ℕ → Option ℕ) (routes others : List Route) → AreWritten routes → AreWritten others → Links next routes → Links next others → Fits place (stop_list routes) → Fits place (stop_list others)
+pub same_routes : (next place : ℕ → Option ℕ) (routes others : List Route) → AreWritten routes → AreWritten others → Links next routes → Links next others → Fits place (stop_list routes)
+    → Fits place (stop_list others)
     → ((s : ℕ) → count_of (has_ticket s) (stop_list routes) ≡ count_of (has_ticket s) (stop_list others)) → routes ≡ others
 same_routes next place routes others written other links leads fits fit same =
     let one : AreKnown next place routes = record { written = written; links = links; fits = fits } in

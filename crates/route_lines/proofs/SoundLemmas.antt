@@ -133,7 +133,8 @@ pub and_then-ok : {X Y : Type 0} (r : Result X Refusal) (test : X → Result Y R
 and_then-ok (Ok x) test y e = (x, refl, e)
 and_then-ok (Err refusal) test y e = cc
 
-pub keeps_unless_refused : {X : Type 0} (Keeps : State → Type 0) (s : State) (r : Result X Refusal) (after : X → State) → Keeps s → ((x : X) → r ≡ Ok x → Keeps (after x)) → Keeps (unless_refused s r after)
+pub keeps_unless_refused : {X : Type 0} (Keeps : State → Type 0) (s : State) (r : Result X Refusal) (after : X → State) → Keeps s → ((x : X) → r ≡ Ok x → Keeps (after x))
+    → Keeps (unless_refused s r after)
 keeps_unless_refused Keeps s (Ok x) after old new = new x refl
 keeps_unless_refused Keeps s (Err refusal) after old new = old
 
@@ -176,7 +177,12 @@ once_more s sound t = at (s.last + 1 == t) refl
     at : (b : Bool) → (s.last + 1 == t) ≡ b → cond b 1 0 + holders s t ≤ 1
     at true e =
         let above : s.last < t = omega (arith, eqb-true (s.last + 1) t e) in
-        omega (arith, none_above (λ (p : Place). p.ticket) s.last t s.places sound.given above, none_above (λ (u : Stop). u.ticket) s.last t (stop_list s.routes) sound.given_stops above, none_above (λ (m : Mark). m.ticket) s.last t s.marks sound.given_marks above)
+        omega (
+          arith,
+          none_above (λ (p : Place). p.ticket) s.last t s.places sound.given above,
+          none_above (λ (u : Stop). u.ticket) s.last t (stop_list s.routes) sound.given_stops above,
+          none_above (λ (m : Mark). m.ticket) s.last t s.marks sound.given_marks above,
+        )
     at false e = omega (arith, sound.once t)
 
 -- ---- each call keeps a state sound
@@ -227,7 +233,8 @@ pub record IsMore (s : State) (new : Stop) (routes : List Route) : Type 1 where
   pub total : (weight : Stop → ℕ) → total weight (stop_list routes) ≤ weight new + total weight (stop_list s.routes)
   pub all : (P : Stop → Type 0) → P new → AllByRecursion P (stop_list s.routes) → AllByRecursion P (stop_list routes)
 
-IsSound-more_stops : (s : State) (new : Stop) (routes : List Route) → new.ticket ≡ s.last + 1 → is_full_of_stops s ≡ false → IsMore s new routes → IsSound s → IsSound (record s { last = s.last + 1; routes = routes })
+IsSound-more_stops : (s : State) (new : Stop) (routes : List Route) → new.ticket ≡ s.last + 1 → is_full_of_stops s ≡ false → IsMore s new routes → IsSound s
+    → IsSound (record s { last = s.last + 1; routes = routes })
 IsSound-more_stops s new routes is room more sound =
     let less = leb-false s.rooms.stops (length (stop_list s.routes)) (left_false _ _ room) in
     record {
@@ -347,7 +354,8 @@ IsSound-after_mark s at t sound = keeps_unless_refused IsSound s (marked s at t)
         record {
           given = given_more (λ (p : Place). p.ticket) s.last s.places sound.given;
           given_stops = given_more (λ (u : Stop). u.ticket) s.last (stop_list s.routes) sound.given_stops;
-          given_marks = all_append (λ m. (0 < m.ticket) × (m.ticket ≤ s.last + 1)) s.marks (new ∷ []) (given_more (λ (m : Mark). m.ticket) s.last s.marks sound.given_marks) ((omega (arith, is), omega (arith, is)), tt);
+          given_marks = all_append (λ m. (0 < m.ticket) × (m.ticket ≤ s.last + 1)) s.marks (new ∷ []) (given_more (λ (m : Mark). m.ticket) s.last s.marks sound.given_marks)
+              ((omega (arith, is), omega (arith, is)), tt);
           once = λ u. omega (arith, once_more s sound u, total-append (λ (m : Mark). cond (m.ticket == u) 1 0) s.marks (new ∷ []), ap {B = ℕ} (λ k. cond (k == u) 1 0) is);
           keys = sound.keys;
           words = sound.words;
@@ -489,7 +497,8 @@ place_number s t p numbered e = omega (arith, numbered.last, holder-given s t (p
 stop_number : (s : State) (t : ℕ) (u : Stop) → IsNumbered s → stop_holder s t ≡ Ok u → IsNumber t
 stop_number s t u numbered e = omega (arith, numbered.last, holder-given s t (stop u) (stop_holder-ok s t u e))
 
-IsNumbered-more_stops : (s : State) (last : ℕ) (routes : List Route) → IsNumber last → IsNumbered s → AllByRecursion (λ t. IfSome t.place IsNumber) (stop_list routes) → IsNumbered (record s { last = last; routes = routes })
+IsNumbered-more_stops : (s : State) (last : ℕ) (routes : List Route) → IsNumber last → IsNumbered s → AllByRecursion (λ t. IfSome t.place IsNumber) (stop_list routes)
+    → IsNumbered (record s { last = last; routes = routes })
 IsNumbered-more_stops s last routes small numbered stops = record { last = small; keys = numbered.keys; stops = stops; marks = numbered.marks }
 
 IsNumbered-after_start : (s : State) (at : ℕ) → IsNumbered s → IsNumbered (after_start s at)
@@ -498,7 +507,8 @@ IsNumbered-after_start s at numbered = keeps_unless_refused IsNumbered s (starte
     let ticket = next_ticket-ok s (is_full_of_stops s) t passed.2 in
     let new : Stop = record { ticket = t; place = Some at } in
     IsNumbered-more_stops s t (s.routes ++ linear (new ∷ []) ∷ []) (subst IsNumber (sym ticket.1) (ticket_left s.last _ ticket.0 numbered.last)) numbered
-    (subst (AllByRecursion (λ u. IfSome u.place IsNumber)) (sym (stop_list-more s.routes new)) (all_append (λ u. IfSome u.place IsNumber) (stop_list s.routes) (new ∷ []) numbered.stops (place_number s at passed.0 numbered passed.1, tt))))
+    (subst (AllByRecursion (λ u. IfSome u.place IsNumber)) (sym (stop_list-more s.routes new))
+    (all_append (λ u. IfSome u.place IsNumber) (stop_list s.routes) (new ∷ []) numbered.stops (place_number s at passed.0 numbered passed.1, tt))))
 
 IsNumbered-after_extend : (s : State) (t at : ℕ) → IsNumbered s → IsNumbered (after_extend s t at)
 IsNumbered-after_extend s t at numbered = keeps_unless_refused IsNumbered s (extended s t at) _ numbered (λ n e.
@@ -511,16 +521,19 @@ IsNumbered-after_extend s t at numbered = keeps_unless_refused IsNumbered s (ext
 
 IsNumbered-after_join : (s : State) (t u : ℕ) → IsNumbered s → IsNumbered (after_join s t u)
 IsNumbered-after_join s t u numbered =
-    keeps_unless_refused IsNumbered s (joined s t u) _ numbered (λ ok e. IsNumbered-more_stops s s.last (linked t u s.routes) numbered.last numbered (all_linked (λ x. IfSome x.place IsNumber) t u s.routes numbered.stops))
+    keeps_unless_refused IsNumbered s (joined s t u) _ numbered (λ ok e. IsNumbered-more_stops s s.last (linked t u s.routes) numbered.last numbered
+    (all_linked (λ x. IfSome x.place IsNumber) t u s.routes numbered.stops))
 
 IsNumbered-after_cut : (s : State) (t : ℕ) → IsNumbered s → IsNumbered (after_cut s t)
 IsNumbered-after_cut s t numbered =
-    keeps_unless_refused IsNumbered s (parted s t) _ numbered (λ ok e. IsNumbered-more_stops s s.last (unlinked t s.routes) numbered.last numbered (all_unlinked (λ x. IfSome x.place IsNumber) t s.routes numbered.stops))
+    keeps_unless_refused IsNumbered s (parted s t) _ numbered (λ ok e. IsNumbered-more_stops s s.last (unlinked t s.routes) numbered.last numbered
+    (all_unlinked (λ x. IfSome x.place IsNumber) t s.routes numbered.stops))
 
 IsNumbered-after_swap : (s : State) (t u : ℕ) → IsNumbered s → IsNumbered (after_swap s t u)
 IsNumbered-after_swap s t u numbered =
     keeps_unless_refused IsNumbered s (swapped s t u) _ numbered (λ ok e. IsNumbered-more_stops s s.last (exchanged t u s.routes) numbered.last numbered
-    (exchanged_keeps (λ routes. AllByRecursion (λ x. IfSome x.place IsNumber) (stop_list routes)) t u s.routes (all_unlinked (λ x. IfSome x.place IsNumber)) (all_linked (λ x. IfSome x.place IsNumber)) numbered.stops))
+    (exchanged_keeps (λ routes. AllByRecursion (λ x. IfSome x.place IsNumber) (stop_list routes)) t u s.routes (all_unlinked (λ x. IfSome x.place IsNumber))
+    (all_linked (λ x. IfSome x.place IsNumber)) numbered.stops))
 
 IsNumbered-after_mark : (s : State) (at t : ℕ) → IsNumbered s → IsNumbered (after_mark s at t)
 IsNumbered-after_mark s at t numbered = keeps_unless_refused IsNumbered s (marked s at t) _ numbered (λ n e.
@@ -532,7 +545,8 @@ IsNumbered-after_mark s at t numbered = keeps_unless_refused IsNumbered s (marke
       last = subst IsNumber (sym ticket.1) (ticket_left s.last _ ticket.0 numbered.last);
       keys = numbered.keys;
       stops = numbered.stops;
-      marks = all_append (λ m. IfSome m.place IsNumber × IfSome m.stop IsNumber) s.marks (new ∷ []) numbered.marks ((place_number s at first.0 numbered first.1, stop_number s t second.0 numbered second.1), tt);
+      marks = all_append (λ m. IfSome m.place IsNumber × IfSome m.stop IsNumber) s.marks (new ∷ []) numbered.marks
+          ((place_number s at first.0 numbered first.1, stop_number s t second.0 numbered second.1), tt);
     })
 
 abbrev Numbers : Mark → Type 0
@@ -621,4 +635,5 @@ pub IsSound-from_empty : (rooms : Rooms) (last : ℕ) (lines : List Line) → Is
 IsSound-from_empty rooms last lines = kept_by_lines IsSound (λ s change is on sound. IsSound-changed s change is sound) (empty rooms last) lines (IsSound-empty rooms last)
 
 pub IsNumbered-from_empty : (rooms : Rooms) (last : ℕ) (lines : List Line) → IsNumber last → IsNumbered (after_lines (empty rooms last) lines)
-IsNumbered-from_empty rooms last lines small = kept_by_lines IsNumbered (λ s change is on numbered. IsNumbered-changed s change is numbered) (empty rooms last) lines (IsNumbered-empty rooms last small)
+IsNumbered-from_empty rooms last lines small = kept_by_lines IsNumbered (λ s change is on numbered. IsNumbered-changed s change is numbered) (empty rooms last) lines
+    (IsNumbered-empty rooms last small)

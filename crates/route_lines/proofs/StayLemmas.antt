@@ -26,7 +26,8 @@ same_found xs ys same among k = at (find (has_ticket k) ys) refl
     at : (o : Option Stop) → find (has_ticket k) ys ≡ o → find (has_ticket k) ys ≡ find (has_ticket k) xs
     at None e = e ∙ sym (none_found (has_ticket k) xs (sym (same k) ∙ not_found (has_ticket k) ys e))
     at (Some y) e =
-        let own : find (has_ticket y.ticket) xs ≡ Some y = subst (λ o. IfSome o (λ t. find (has_ticket t.ticket) xs ≡ Some t)) e (found_in (λ t. find (has_ticket t.ticket) xs ≡ Some t) (has_ticket k) ys among) in
+        let own : find (has_ticket y.ticket) xs ≡ Some y = subst (λ o. IfSome o (λ t. find (has_ticket t.ticket) xs ≡ Some t)) e
+        (found_in (λ t. find (has_ticket t.ticket) xs ≡ Some t) (has_ticket k) ys among) in
         let ticket : y.ticket ≡ k = eqb-true y.ticket k (found_passes (has_ticket k) ys y e) in
         e ∙ sym own ∙ ap (λ n. find (has_ticket n) xs) ticket
 
@@ -119,7 +120,8 @@ module _ (s : ℕ) (new : Stop) where
           ∙ ap (find (has_ticket k)) (up_to_behind (has_ticket s) r.stops)
       at false = refl
 
-  new_behind : (routes : List Route) → count_of (has_ticket new.ticket) (stop_list routes) ≡ 0 → 1 ≤ count_of (has_ticket s) (stop_list routes) → stop_of (put_behind s new routes) new.ticket ≡ Some new
+  new_behind : (routes : List Route) → count_of (has_ticket new.ticket) (stop_list routes) ≡ 0 → 1 ≤ count_of (has_ticket s) (stop_list routes)
+      → stop_of (put_behind s new routes) new.ticket ≡ Some new
   new_behind [] fresh some = absurd (omega (arith, some))
   new_behind (r ∷ routes) fresh some =
       find-append (has_ticket new.ticket) (longer r).stops (stop_list (put_behind s new routes)) ∙ at (has_stop s r) refl (new_behind routes (omega (arith, parts new.ticket, fresh)))
@@ -141,7 +143,8 @@ module _ (s : ℕ) (new : Stop) where
       at true e later =
           let own : find (has_ticket new.ticket) (new ∷ back) ≡ Some new = rw (eq-eqb new.ticket new.ticket refl) refl in
           let none : find (has_ticket new.ticket) front ≡ None = none_found (has_ticket new.ticket) front (omega (arith, fresh, parts new.ticket, halves new.ticket)) in
-          ap (λ o. option_or o (stop_of (put_behind s new routes) new.ticket)) (find-append (has_ticket new.ticket) front (new ∷ back) ∙ ap (λ o. option_or o (find (has_ticket new.ticket) (new ∷ back))) none ∙ own)
+          ap (λ o. option_or o (stop_of (put_behind s new routes) new.ticket)) (find-append (has_ticket new.ticket) front (new ∷ back)
+          ∙ ap (λ o. option_or o (find (has_ticket new.ticket) (new ∷ back))) none ∙ own)
       at false e later =
           ap (λ o. option_or o (stop_of (put_behind s new routes) new.ticket)) (none_found (has_ticket new.ticket) r.stops (omega (arith, fresh, parts new.ticket)))
           ∙ later (omega (arith, some, parts s, count-none (has_ticket s) r.stops e))
@@ -164,7 +167,14 @@ module _ (s : ℕ) (new : Stop) where
       at true e later =
           let none : count_of (has_ticket s) (stop_list routes) ≡ 0 = omega (arith, parts, one, count-any (has_ticket s) r.stops e) in
           rw (put_behind-none s new routes none)
-          (omega (arith, length-append (front ++ new ∷ back) (stop_list routes), length-append r.stops (stop_list routes), length-append front (new ∷ back), length-append front back, ap length (up_to_behind (has_ticket s) r.stops)))
+          (omega (
+            arith,
+            length-append (front ++ new ∷ back) (stop_list routes),
+            length-append r.stops (stop_list routes),
+            length-append front (new ∷ back),
+            length-append front back,
+            ap length (up_to_behind (has_ticket s) r.stops),
+          ))
       at false e later =
           omega (arith, later (omega (arith, parts, one, count-none (has_ticket s) r.stops e)), length-append r.stops (stop_list (put_behind s new routes)), length-append r.stops (stop_list routes))
 

@@ -40,13 +40,15 @@ module _ (top most : ℕ) (three : 3 ≤ top) where
   rest (EndPlace ∷ steps) a b paid done p run =
       let u = p.places in let v = p.stops in let x = p.places_up in let y = p.stops_up in
       let less = run.1.0.0 in let np = run.1.0.1.0 in let ns = run.1.0.1.1.0 in let nl = run.1.0.1.1.1 in
-      let r = rest steps run.0 b paid (done + 1) (record { places = omega (arith, u, np); stops = omega (arith, v, ns); places_up = omega (arith, less, np); stops_up = omega (arith, y, ns) }) run.1.1 in
+      let r = rest steps run.0 b paid (done + 1) (record { places = omega (arith, u, np); stops = omega (arith, v, ns); places_up = omega (arith, less, np); stops_up = omega (arith, y, ns) })
+      run.1.1 in
       let pa = r.paid_all in let la = r.looks_all in
       record { paid_all = omega (arith, pa); looks_all = omega (arith, la, nl) }
   rest (EndStop ∷ steps) a b paid done p run =
       let u = p.places in let v = p.stops in let x = p.places_up in let y = p.stops_up in
       let less = run.1.0.0 in let ns = run.1.0.1.0 in let np = run.1.0.1.1.0 in let nl = run.1.0.1.1.1 in
-      let r = rest steps run.0 b paid (done + 1) (record { places = omega (arith, u, np); stops = omega (arith, v, ns); places_up = omega (arith, x, np); stops_up = omega (arith, less, ns) }) run.1.1 in
+      let r = rest steps run.0 b paid (done + 1) (record { places = omega (arith, u, np); stops = omega (arith, v, ns); places_up = omega (arith, x, np); stops_up = omega (arith, less, ns) })
+      run.1.1 in
       let pa = r.paid_all in let la = r.looks_all in
       record { paid_all = omega (arith, pa); looks_all = omega (arith, la, nl) }
   rest (EndPlaceAfterPack ∷ steps) a b paid done p run =

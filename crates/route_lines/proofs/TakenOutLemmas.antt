@@ -32,7 +32,13 @@ AreWritten-taken_out s routes written = by (route_of routes s) refl
 
         few : (k : ℕ) → count_of (has_ticket k) rest + count_of (has_ticket k) (stop_list others) ≤ 1
         few k =
-            omega (arith, total-filter (λ x. cond (has_ticket k x) 1 0) (has_ticket s) r.stops, ap (count_of (has_ticket k)) (with_found s routes r e), total-without (λ x. cond (has_ticket k x) 1 0) s routes (written.once s), written.once k)
+            omega (
+              arith,
+              total-filter (λ x. cond (has_ticket k x) 1 0) (has_ticket s) r.stops,
+              ap (count_of (has_ticket k)) (with_found s routes r e),
+              total-without (λ x. cond (has_ticket k x) 1 0) s routes (written.once s),
+              written.once k,
+            )
 
         at : (b : Bool) → AreWritten (put_route (cond b (ring rest) (linear rest)) others)
         at true = AreWritten-put (ring rest) others (IsWritten-ring rest) whole (λ k. omega (arith, few k, total-ring (λ x. cond (has_ticket k x) 1 0) rest))
@@ -51,7 +57,8 @@ weightless s weight (x ∷ xs) none = at (has_ticket s x) refl (weightless s wei
     at false e h = omega (arith, h (omega (arith, none)))
 
 -- the stops but those of the ticket are left
-pub total-taken_out : (weight : Stop → ℕ) (s : ℕ) (routes : List Route) → AreWritten routes → total weight (stop_list (taken_out s routes)) + total (weight_under s weight) (stop_list routes) ≡ total weight (stop_list routes)
+pub total-taken_out : (weight : Stop → ℕ) (s : ℕ) (routes : List Route) → AreWritten routes → total weight (stop_list (taken_out s routes)) + total (weight_under s weight) (stop_list routes)
+    ≡ total weight (stop_list routes)
 total-taken_out weight s routes written = by (route_of routes s) refl
   where
     others : List Route
@@ -70,7 +77,13 @@ total-taken_out weight s routes written = by (route_of routes s) refl
 
         lack : count_of (has_ticket s) (stop_list others) ≡ 0
         lack =
-            omega (arith, count-any (has_ticket s) r.stops (found_passes (has_stop s) routes r e), ap (count_of (has_ticket s)) (with_found s routes r e), total-without (λ x. cond (has_ticket s x) 1 0) s routes (written.once s), written.once s)
+            omega (
+              arith,
+              count-any (has_ticket s) r.stops (found_passes (has_stop s) routes r e),
+              ap (count_of (has_ticket s)) (with_found s routes r e),
+              total-without (λ x. cond (has_ticket s x) 1 0) s routes (written.once s),
+              written.once s,
+            )
 
         parts : total weight rest + total weight (stop_list others) + total (weight_under s weight) (stop_list routes) ≡ total weight (stop_list routes)
         parts =

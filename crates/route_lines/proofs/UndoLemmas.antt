@@ -40,7 +40,8 @@ place_in routes s = option_and_then (λ t. t.place) (stop_of routes s)
 fits_own : (routes : List Route) → AreWritten routes → Fits (place_in routes) (stop_list routes)
 unfolding place_in
 fits_own routes written =
-    all_weaker (λ t. stop_of routes t.ticket ≡ Some t) (λ t. t.place ≡ place_in routes t.ticket) (stop_list routes) (λ t e. sym (ap (option_and_then (λ u. u.place)) e)) (own_stop (stop_list routes) written.once)
+    all_weaker (λ t. stop_of routes t.ticket ≡ Some t) (λ t. t.place ≡ place_in routes t.ticket) (stop_list routes) (λ t e. sym (ap (option_and_then (λ u. u.place)) e))
+    (own_stop (stop_list routes) written.once)
 
 all_any : (P : ℕ → Type 0) (xs : List Stop) → ((n : ℕ) → P n) → AllByRecursion (λ t. P t.ticket) xs
 all_any P [] h = tt
@@ -74,13 +75,15 @@ starts_if_no_previous s r none some = at r.is_ring r.stops none some
         go true is f = is
         go false is f = cc
 
-    at : (b : Bool) (xs : List Stop) → ticket_of (option_or (last_item (before (has_ticket s) xs)) (cond b (last_item xs) None)) ≡ None → 1 ≤ count_of (has_ticket s) xs → cond b false (is_ticket (head_or None xs) s) ≡ true
+    at : (b : Bool) (xs : List Stop) → ticket_of (option_or (last_item (before (has_ticket s) xs)) (cond b (last_item xs) None)) ≡ None → 1 ≤ count_of (has_ticket s) xs
+        → cond b false (is_ticket (head_or None xs) s) ≡ true
     at b [] e k = absurd (omega (arith, k))
     at true (x ∷ xs) e k = absurd (never x xs (both (last_item (before (has_ticket s) (x ∷ xs))) (last_item (x ∷ xs)) e))
     at false (x ∷ xs) e k = head x xs (last (before (has_ticket s) (x ∷ xs)) None e)
 
 -- none leads to a stop without a previous one
-pub none_leads : (s : ℕ) (routes : List Route) → AreWritten routes → previous_stop routes s ≡ None → 1 ≤ count_of (has_ticket s) (stop_list routes) → count_of (leads_to (next_stop routes) s) (stop_list routes) ≡ 0
+pub none_leads : (s : ℕ) (routes : List Route) → AreWritten routes → previous_stop routes s ≡ None → 1 ≤ count_of (has_ticket s) (stop_list routes)
+    → count_of (leads_to (next_stop routes) s) (stop_list routes) ≡ 0
 none_leads s routes written none some = by (found_if_counted s routes some)
   where
     by : (r : Route) × (route_of routes s ≡ Some r) → count_of (leads_to (next_stop routes) s) (stop_list routes) ≡ 0
@@ -89,7 +92,8 @@ none_leads s routes written none some = by (found_if_counted s routes some)
         let has : 1 ≤ count_of (has_ticket s) f.0.stops = count-any (has_ticket s) f.0.stops (found_passes _ routes f.0 f.1) in
         omega (arith, none_leads_to_start (next_stop routes) s routes f.0 (Links-next_stop routes written.once) f.1 (starts_if_no_previous s f.0 own has), written.once s)
 
-pub unlinked-linked : (s u : ℕ) (routes : List Route) → AreWritten routes → next_stop routes s ≡ None → previous_stop routes u ≡ None → 1 ≤ count_of (has_ticket s) (stop_list routes) → 1 ≤ count_of (has_ticket u) (stop_list routes)
+pub unlinked-linked : (s u : ℕ) (routes : List Route) → AreWritten routes → next_stop routes s ≡ None → previous_stop routes u ≡ None → 1 ≤ count_of (has_ticket s) (stop_list routes)
+    → 1 ≤ count_of (has_ticket u) (stop_list routes)
     → (unlinked s (linked s u routes) ≡ routes) × (next_stop (linked s u routes) s ≡ Some u)
 unlinked-linked s u routes written end start some other = (same, next_stop-is joined_next (linked s u routes) s whole.once joins has ∙ leads)
   where
@@ -148,9 +152,18 @@ next_counts next s n routes links e =
     at t false is = omega arith
 
 -- two stops do not lead to one
-apart_next : (next : ℕ → Option ℕ) (s u x y : ℕ) (routes : List Route) → AreWritten routes → Links next routes → s ≢ u → next s ≡ Some x → next u ≡ Some y → 1 ≤ count_of (has_ticket s) (stop_list routes) → 1 ≤ count_of (has_ticket u) (stop_list routes) → x ≢ y
+apart_next : (next : ℕ → Option ℕ) (s u x y : ℕ) (routes : List Route) → AreWritten routes → Links next routes → s ≢ u → next s ≡ Some x → next u ≡ Some y
+    → 1 ≤ count_of (has_ticket s) (stop_list routes) → 1 ≤ count_of (has_ticket u) (stop_list routes) → x ≢ y
 apart_next next s u x y routes written links apart e f some other same =
-    omega (arith, some, other, written.once x, leads_at_most next x routes links, total_sum (λ t. cond (has_ticket s t) 1 0) (λ t. cond (has_ticket u t) 1 0) (λ t. cond (leads_to next x t) 1 0) (stop_list routes) (λ t. at t (t.ticket == s) (t.ticket == u) refl refl))
+    omega (
+      arith,
+      some,
+      other,
+      written.once x,
+      leads_at_most next x routes links,
+      total_sum (λ t. cond (has_ticket s t) 1 0) (λ t. cond (has_ticket u t) 1 0) (λ t. cond (leads_to next x t) 1 0)
+          (stop_list routes) (λ t. at t (t.ticket == s) (t.ticket == u) refl refl),
+    )
   where
     one : (t : Stop) (n : ℕ) → t.ticket ≡ n → next n ≡ Some x → 1 ≤ cond (is_ticket (next t.ticket) x) 1 0
     one t n is to = omega (arith, ap {B = ℕ} (λ o. cond (is_ticket o x) 1 0) (ap next is ∙ to), ap {B = ℕ} (λ b. cond b 1 0) (eq-eqb x x refl))
@@ -165,7 +178,14 @@ apart_next next s u x y routes written links apart e f some other same =
 none_left : (next other : ℕ → Option ℕ) (s x : ℕ) (routes : List Route) → AreWritten routes → Links next routes → next s ≡ Some x → 1 ≤ count_of (has_ticket s) (stop_list routes)
     → ((n : ℕ) → (n ≡ s → is_ticket (other n) x ≡ false) × (n ≢ s → (other n ≡ next n) ⊎ (is_ticket (other n) x ≡ false))) → count_of (leads_to other x) (stop_list routes) ≡ 0
 none_left next other s x routes written links e some away =
-    omega (arith, some, written.once x, leads_at_most next x routes links, total_sum (λ t. cond (leads_to other x t) 1 0) (λ t. cond (has_ticket s t) 1 0) (λ t. cond (leads_to next x t) 1 0) (stop_list routes) (λ t. at t (t.ticket == s) refl))
+    omega (
+      arith,
+      some,
+      written.once x,
+      leads_at_most next x routes links,
+      total_sum (λ t. cond (leads_to other x t) 1 0) (λ t. cond (has_ticket s t) 1 0) (λ t. cond (leads_to next x t) 1 0)
+          (stop_list routes) (λ t. at t (t.ticket == s) refl),
+    )
   where
     at : (t : Stop) (b : Bool) → (t.ticket == s) ≡ b → cond (is_ticket (other t.ticket) x) 1 0 + cond b 1 0 ≤ cond (is_ticket (next t.ticket) x) 1 0
     at t true is =
@@ -187,7 +207,8 @@ exchange_of s x u y routes = linked u x (linked s y (unlinked u (unlinked s rout
 abbrev unlinked_next : ℕ → ℕ → (ℕ → Option ℕ) → ℕ → Option ℕ
 unlinked_next s u next = relinked u None (relinked s None next)
 
-pub Links-exchange : (next : ℕ → Option ℕ) (s x u y : ℕ) (routes : List Route) → AreWritten routes → Links next routes → s ≢ u → next s ≡ Some x → next u ≡ Some y → 1 ≤ count_of (has_ticket s) (stop_list routes) → 1 ≤ count_of (has_ticket u) (stop_list routes)
+pub Links-exchange : (next : ℕ → Option ℕ) (s x u y : ℕ) (routes : List Route) → AreWritten routes → Links next routes → s ≢ u → next s ≡ Some x → next u ≡ Some y
+    → 1 ≤ count_of (has_ticket s) (stop_list routes) → 1 ≤ count_of (has_ticket u) (stop_list routes)
     → Links (traded s x u y next) (exchange_of s x u y routes)
 unfolding exchange_of
 Links-exchange next s x u y routes written links apart e f some other =
@@ -303,7 +324,8 @@ Links-exchange next s x u y routes written links apart e f some other =
 pub exchange_written : (s x u y : ℕ) (routes : List Route) → AreWritten routes → AreWritten (exchange_of s x u y routes)
 unfolding exchange_of
 exchange_written s x u y routes written =
-    AreWritten-linked u x (linked s y (unlinked u (unlinked s routes))) (AreWritten-linked s y (unlinked u (unlinked s routes)) (AreWritten-unlinked u (unlinked s routes) (AreWritten-unlinked s routes written)))
+    AreWritten-linked u x (linked s y (unlinked u (unlinked s routes))) (AreWritten-linked s y (unlinked u (unlinked s routes))
+    (AreWritten-unlinked u (unlinked s routes) (AreWritten-unlinked s routes written)))
 
 pub exchange_total : (weight : Stop → ℕ) (s x u y : ℕ) (routes : List Route) → AreWritten routes → total weight (stop_list (exchange_of s x u y routes)) ≡ total weight (stop_list routes)
 unfolding exchange_of
@@ -329,7 +351,8 @@ exchanged-apart s x u y routes apart e f = rw (e, f, ne_eqb s u apart) refl
 pub exchanged-same : (s u x y : ℕ) (routes : List Route) → s ≡ u → next_stop routes s ≡ Some x → next_stop routes u ≡ Some y → exchanged s u routes ≡ routes
 exchanged-same s u x y routes same e f = rw (e, f, eq-eqb s u same) refl
 
-pub exchanged-exchanged : (s u x y : ℕ) (routes : List Route) → AreWritten routes → next_stop routes s ≡ Some x → next_stop routes u ≡ Some y → 1 ≤ count_of (has_ticket s) (stop_list routes) → 1 ≤ count_of (has_ticket u) (stop_list routes)
+pub exchanged-exchanged : (s u x y : ℕ) (routes : List Route) → AreWritten routes → next_stop routes s ≡ Some x → next_stop routes u ≡ Some y → 1 ≤ count_of (has_ticket s) (stop_list routes)
+    → 1 ≤ count_of (has_ticket u) (stop_list routes)
     → (exchanged s u (exchanged s u routes) ≡ routes) × ((v : ℕ) × (next_stop (exchanged s u routes) s ≡ Some v)) × ((w : ℕ) × (next_stop (exchanged s u routes) u ≡ Some w))
 exchanged-exchanged s u x y routes written e f some other = at (s == u) refl
   where
@@ -444,7 +467,8 @@ unfolding with_routes
 names_with s t routes names same = record {
   given = names.given;
   no_place = names.no_place;
-  stop_there = found_if_any (has_ticket t) (stop_list routes) (any-count (has_ticket t) (stop_list routes) (omega (arith, same, found_counted (has_ticket t) (stop_list s.routes) names.stop_there.0 names.stop_there.1)));
+  stop_there = found_if_any (has_ticket t) (stop_list routes) (any-count (has_ticket t) (stop_list routes)
+      (omega (arith, same, found_counted (has_ticket t) (stop_list s.routes) names.stop_there.0 names.stop_there.1)));
 }
 
 pub allowed-ok : (b : Bool) → allowed b ≡ Ok tt → b ≡ true

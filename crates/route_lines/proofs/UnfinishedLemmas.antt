@@ -21,7 +21,8 @@ pub HasNoLineEnd-append : (xs ys : List ℕ) → HasNoLineEnd xs → HasNoLineEn
 HasNoLineEnd-append xs ys h h' = All-append (λ b. (b == 10) ≡ false) xs ys h h'
 
 -- nothing of the piece is taken yet
-pub Takes-none : (begun piece : List ℕ) (kept : Unfinished) (s : State) (held : Option (List ℕ)) (counts : Counts) → HasNoLineEnd begun → StandsFor kept begun → Takes (begun ++ piece) piece kept s s held held counts counts
+pub Takes-none : (begun piece : List ℕ) (kept : Unfinished) (s : State) (held : Option (List ℕ)) (counts : Counts) → HasNoLineEnd begun → StandsFor kept begun
+    → Takes (begun ++ piece) piece kept s s held held counts counts
 Takes-none begun piece kept s held counts none stands = record {
   lines = [];
   rest = begun;
@@ -34,16 +35,19 @@ Takes-none begun piece kept s held counts none stands = record {
 
 -- a line more is carried out
 pub Takes-line : (bytes left line behind : List ℕ) (kept cleared : Unfinished) (command : Option Command) (s t u : State) (a b c : Option (List ℕ)) (before between later : Counts)
-    → Takes bytes left kept s t a b before between → left ≡ line ++ 10 ∷ behind → HasNoLineEnd line → ((begun : List ℕ) → StandsFor kept begun → command ≡ command_of (begun ++ line)) → StandsFor cleared []
+    → Takes bytes left kept s t a b before between → left ≡ line ++ 10 ∷ behind → HasNoLineEnd line → ((begun : List ℕ) → StandsFor kept begun → command ≡ command_of (begun ++ line))
+    → StandsFor cleared []
     → u ≡ next t command → Appends b c (reply t command) → CountsFor t command between later
     → Takes bytes behind cleared s u a c before later
 Takes-line bytes left line behind kept cleared command s t u a b c before between later taken split none spelled stands state replied counts =
     let same : command ≡ command_of (taken.rest ++ line) = spelled taken.rest taken.stands in
-    let one = Carries-one t u (whole (taken.rest ++ line)) b c between later (state ∙ ap (next t) same) (subst (λ x. Appends b c (reply t x)) same replied) (subst (λ x. CountsFor t x between later) same counts) in
+    let one = Carries-one t u (whole (taken.rest ++ line)) b c between later (state ∙ ap (next t) same) (subst (λ x. Appends b c (reply t x)) same replied)
+    (subst (λ x. CountsFor t x between later) same counts) in
     record {
       lines = taken.lines ++ (taken.rest ++ line) ∷ [];
       rest = [];
-      is = taken.is ∙ ap (λ l. flat_map ended taken.lines ++ (taken.rest ++ l)) split ∙ regrouped (flat_map ended taken.lines) taken.rest line behind ∙ ap (λ l. l ++ behind) (sym (flat_map-append ended taken.lines ((taken.rest ++ line) ∷ [])));
+      is = taken.is ∙ ap (λ l. flat_map ended taken.lines ++ (taken.rest ++ l)) split ∙ regrouped (flat_map ended taken.lines) taken.rest line behind
+          ∙ ap (λ l. l ++ behind) (sym (flat_map-append ended taken.lines ((taken.rest ++ line) ∷ [])));
       each = each-append taken.lines ((taken.rest ++ line) ∷ []) taken.each (HasNoLineEnd-append taken.rest line taken.none none, tt);
       none = All-nil (λ b. (b == 10) ≡ false);
       stands = stands;
@@ -64,7 +68,8 @@ pub Stops-at_line : (bytes left line behind : List ℕ) (kept : Unfinished) (com
     → Stops bytes s u a c before later
 Stops-at_line bytes left line behind kept command s t u a b c before between later taken split none spelled state begins counts =
     let same : command ≡ command_of (taken.rest ++ line) = spelled taken.rest taken.stands in
-    let one = BreaksOff-one t u (whole (taken.rest ++ line)) b c between later (state ∙ ap (next t) same) (subst (λ x. AppendsBeginning b c (reply t x)) same begins) (subst (λ x. CountsFor t x between later) same counts) in
+    let one = BreaksOff-one t u (whole (taken.rest ++ line)) b c between later (state ∙ ap (next t) same) (subst (λ x. AppendsBeginning b c (reply t x)) same begins)
+    (subst (λ x. CountsFor t x between later) same counts) in
     record {
       lines = taken.lines;
       line = taken.rest ++ line;
@@ -77,7 +82,8 @@ Stops-at_line bytes left line behind kept command s t u a b c before between lat
     }
 
 -- what holds no LF is kept
-pub Takes-rest : (bytes left : List ℕ) (kept longer : Unfinished) (s t : State) (a b : Option (List ℕ)) (before later : Counts) → Takes bytes left kept s t a b before later → HasNoLineEnd left → ((begun : List ℕ) → StandsFor kept begun → StandsFor longer (begun ++ left)) → Takes bytes [] longer s t a b before later
+pub Takes-rest : (bytes left : List ℕ) (kept longer : Unfinished) (s t : State) (a b : Option (List ℕ)) (before later : Counts) → Takes bytes left kept s t a b before later → HasNoLineEnd left
+    → ((begun : List ℕ) → StandsFor kept begun → StandsFor longer (begun ++ left)) → Takes bytes [] longer s t a b before later
 Takes-rest bytes left kept longer s t a b before later taken none more = record {
   lines = taken.lines;
   rest = taken.rest ++ left;
@@ -90,7 +96,8 @@ Takes-rest bytes left kept longer s t a b before later taken none more = record 
 
 -- ---- pieces one after another
 
-pub Takes-cuts : (bytes : List ℕ) (kept : Unfinished) (s t : State) (a b : Option (List ℕ)) (before later : Counts) (taken : Takes bytes [] kept s t a b before later) → Cuts bytes taken.lines taken.rest
+pub Takes-cuts : (bytes : List ℕ) (kept : Unfinished) (s t : State) (a b : Option (List ℕ)) (before later : Counts) (taken : Takes bytes [] kept s t a b before later)
+    → Cuts bytes taken.lines taken.rest
 Takes-cuts bytes kept s t a b before later taken = record {
   whole = taken.is ∙ ap (λ r. flat_map ended taken.lines ++ r) (append-nil taken.rest);
   each = taken.each;
@@ -99,10 +106,12 @@ Takes-cuts bytes kept s t a b before later taken = record {
 
 -- a piece more is taken
 pub Takes-piece : (bytes piece : List ℕ) (kept kept' : Unfinished) (s t u : State) (a b c : Option (List ℕ)) (before between later : Counts)
-    → Takes bytes [] kept s t a b before between → ((begun : List ℕ) → HasNoLineEnd begun → StandsFor kept begun → Takes (begun ++ piece) [] kept' t u b c between later) → Takes (bytes ++ piece) [] kept' s u a c before later
+    → Takes bytes [] kept s t a b before between → ((begun : List ℕ) → HasNoLineEnd begun → StandsFor kept begun → Takes (begun ++ piece) [] kept' t u b c between later)
+    → Takes (bytes ++ piece) [] kept' s u a c before later
 Takes-piece bytes piece kept kept' s t u a b c before between later first more =
     let second = more first.rest first.none first.stands in
-    let cuts = Cuts-append bytes piece first.lines second.lines first.rest second.rest (Takes-cuts bytes kept s t a b before between first) (Takes-cuts (first.rest ++ piece) kept' t u b c between later second) in
+    let cuts = Cuts-append bytes piece first.lines second.lines first.rest second.rest (Takes-cuts bytes kept s t a b before between first)
+    (Takes-cuts (first.rest ++ piece) kept' t u b c between later second) in
     record {
       lines = first.lines ++ second.lines;
       rest = second.rest;
@@ -115,19 +124,22 @@ Takes-piece bytes piece kept kept' s t u a b c before between later first more =
     }
 
 -- whole lines alone are carried out
-pub Takes-whole : (bytes : List ℕ) (kept : Unfinished) (s t : State) (a b : Option (List ℕ)) (before later : Counts) → Takes bytes [] kept s t a b before later → Carries s (map whole (whole_lines bytes)) t a b before later
+pub Takes-whole : (bytes : List ℕ) (kept : Unfinished) (s t : State) (a b : Option (List ℕ)) (before later : Counts) → Takes bytes [] kept s t a b before later
+    → Carries s (map whole (whole_lines bytes)) t a b before later
 Takes-whole bytes kept s t a b before later taken =
     subst (λ ls. Carries s (map whole ls) t a b before later) (sym (whole_lines-cut bytes taken.lines taken.rest (Takes-cuts bytes kept s t a b before later taken))) taken.carries
 
 -- at the end the rest is answered
-pub Takes-all : (bytes : List ℕ) (kept : Unfinished) (s t u : State) (a b c : Option (List ℕ)) (before between later : Counts) → (taken : Takes bytes [] kept s t a b before between) → Carries t (unended_line taken.rest) u b c between later → Carries s (lines bytes) u a c before later
+pub Takes-all : (bytes : List ℕ) (kept : Unfinished) (s t u : State) (a b c : Option (List ℕ)) (before between later : Counts) → (taken : Takes bytes [] kept s t a b before between)
+    → Carries t (unended_line taken.rest) u b c between later → Carries s (lines bytes) u a c before later
 Takes-all bytes kept s t u a b c before between later taken answered =
     subst (λ ls. Carries s ls u a c before later) (sym (lines-cut bytes taken.lines taken.rest (Takes-cuts bytes kept s t a b before between taken)))
     (Carries-trans s t u (map whole taken.lines) (unended_line taken.rest) a b c before between later taken.carries answered)
 
 -- a write fails in a piece
 pub Stops-within : (bytes piece : List ℕ) (left : Option (List ℕ)) (kept : Unfinished) (s t u : State) (a b c : Option (List ℕ)) (before between later : Counts)
-    → Takes bytes [] kept s t a b before between → ((begun : List ℕ) → HasNoLineEnd begun → StandsFor kept begun → Stops (begun ++ piece) t u b c between later) → StopsWithin (bytes ++ piece) left s u a c before later
+    → Takes bytes [] kept s t a b before between → ((begun : List ℕ) → HasNoLineEnd begun → StandsFor kept begun → Stops (begun ++ piece) t u b c between later)
+    → StopsWithin (bytes ++ piece) left s u a c before later
 Stops-within bytes piece left kept s t u a b c before between later taken stops =
     let at = stops taken.rest taken.none taken.stands in
     let cuts = Takes-cuts bytes kept s t a b before between taken in

@@ -27,12 +27,14 @@ own_stops [] once = tt
 own_stops (y ∷ ys) once = (
   ap (λ b. cond b (Some y) (find (has_ticket y.ticket) ys)) (eq-eqb y.ticket y.ticket refl),
   all_weaker (λ x. (1 ≤ count_of (has_ticket x.ticket) ys) × (find (has_ticket x.ticket) ys ≡ Some x)) (λ x. find (has_ticket x.ticket) (y ∷ ys) ≡ Some x) ys
-      (λ x h. ap (λ b. cond b (Some y) (find (has_ticket x.ticket) ys)) (ne_eqb y.ticket x.ticket (λ same. omega (arith, once x.ticket, h.0, ap {B = ℕ} (λ b. cond b 1 0) (eq-eqb y.ticket x.ticket same)))) ∙ h.1)
+      (λ x h. ap (λ b. cond b (Some y) (find (has_ticket x.ticket) ys)) (ne_eqb y.ticket x.ticket
+      (λ same. omega (arith, once x.ticket, h.0, ap {B = ℕ} (λ b. cond b 1 0) (eq-eqb y.ticket x.ticket same)))) ∙ h.1)
       (all_both (λ x. 1 ≤ count_of (has_ticket x.ticket) ys) (λ x. find (has_ticket x.ticket) ys ≡ Some x) ys (all_counted ys) (own_stops ys (λ k. omega (arith, once k)))),
 )
 
 -- two that end are one
-one_to_end : (next : ℕ → Option ℕ) (routes : List Route) (xs ys : List Stop) → Leads next None xs → Leads next None ys → AreKnown routes xs → AreKnown routes ys → head_or None xs ≡ head_or None ys → xs ≡ ys
+one_to_end : (next : ℕ → Option ℕ) (routes : List Route) (xs ys : List Stop) → Leads next None xs → Leads next None ys → AreKnown routes xs → AreKnown routes ys
+    → head_or None xs ≡ head_or None ys → xs ≡ ys
 one_to_end next routes [] [] h k known other e = refl
 one_to_end next routes [] (y ∷ ys) h k known other e = cc
 one_to_end next routes (x ∷ xs) [] h k known other e = cc
@@ -129,8 +131,10 @@ standing routes s written some = of (found_if_counted s routes some)
           route = f.0;
           found = f.1;
           known = subst (AreKnown routes) (sym same) (all_stops_with (λ x. stop_of routes x.ticket ≡ Some x) s routes (own_stops (stop_list routes) written.once));
-          leads = subst (λ o. IfSome o (λ r. Leads (next_stop routes) (closing_of r) r.stops)) f.1 (found_in (λ r. Leads (next_stop routes) (closing_of r) r.stops) (has_stop s) routes (Links-next_stop routes written.once));
-          own = subst (λ o. IfSome o (λ r. AllByRecursion (λ t. route_of routes t.ticket ≡ Some r) r.stops)) f.1 (found_in (λ r. AllByRecursion (λ t. route_of routes t.ticket ≡ Some r) r.stops) (has_stop s) routes (own_route routes written.once));
+          leads = subst (λ o. IfSome o (λ r. Leads (next_stop routes) (closing_of r) r.stops)) f.1
+              (found_in (λ r. Leads (next_stop routes) (closing_of r) r.stops) (has_stop s) routes (Links-next_stop routes written.once));
+          own = subst (λ o. IfSome o (λ r. AllByRecursion (λ t. route_of routes t.ticket ≡ Some r) r.stops)) f.1
+              (found_in (λ r. AllByRecursion (λ t. route_of routes t.ticket ≡ Some r) r.stops) (has_stop s) routes (own_route routes written.once));
           once = λ k. omega (arith, ap (count_of (has_ticket k)) same, count_with k s routes, written.once k);
           has = count-any (has_ticket s) f.0.stops (found_passes (has_stop s) routes f.0 f.1);
         }
@@ -163,7 +167,8 @@ walked_both_ways s front behind t sound known leads first = from front refl
         st = standing routes x.ticket sound.routes (found_counted (has_ticket x.ticket) (stop_list routes) x here)
 
         begins : (st.route.is_ring ≡ false) × (head_or None st.route.stops ≡ Some x.ticket)
-        begins = starts_parts x.ticket st.route (starts_if_none_leads (next_stop routes) x.ticket st.route st.leads (none_of (next_stop routes) x.ticket st.route.stops (λ u. first u x rest is)) st.has)
+        begins = starts_parts x.ticket st.route (starts_if_none_leads (next_stop routes) x.ticket st.route st.leads (none_of (next_stop routes) x.ticket st.route.stops (λ u. first u x rest is))
+            st.has)
 
         open_end : closing_of st.route ≡ None
         open_end = ap (λ b. cond b (head_or None st.route.stops) None) begins.0
@@ -186,7 +191,8 @@ walked_both_ways s front behind t sound known leads first = from front refl
               ap {B = ℕ} (λ b. cond b 1 0) (eq-eqb t.ticket t.ticket refl),
             )
 
-        walked : (b : Bool) → b ≡ false → cond b (round t.ticket st.route.stops) (onward (has_ticket t.ticket) st.route.stops ++ reverse (before (has_ticket t.ticket) st.route.stops)) ≡ (t ∷ behind) ++ reverse front
+        walked : (b : Bool) → b ≡ false → cond b (round t.ticket st.route.stops) (onward (has_ticket t.ticket) st.route.stops ++ reverse (before (has_ticket t.ticket) st.route.stops))
+            ≡ (t ∷ behind) ++ reverse front
         walked true e = cc
         walked false e =
             ap (λ xs. xs ++ reverse (before (has_ticket t.ticket) st.route.stops)) (ap (onward (has_ticket t.ticket)) (sym same) ∙ onward_at t front behind off)
@@ -224,8 +230,10 @@ walked_round s t behind sound known leads off = ap (λ o. option_map_or (walk_in
         let all = subst (AreKnown routes) whole (all_round (λ x. stop_of routes x.ticket ≡ Some x) t.ticket xs st.known) in
         let one : head.first ≡ t = one_stop routes head.first t all.0 known.0 head.ticket in
         let counted = ap (count_of (has_ticket t.ticket)) (sym whole) ∙ total-round (λ u. cond (has_ticket t.ticket u) 1 0) t.ticket xs in
-        let lacks : count_of (has_ticket t.ticket) (head.rest ++ before (has_ticket t.ticket) xs) ≡ 0 = omega (arith, counted, st.once t.ticket, ap {B = ℕ} (λ b. cond b 1 0) (eq-eqb head.first.ticket t.ticket head.ticket)) in
-        let here : Leads next (Some t.ticket) (head.first ∷ head.rest ++ before (has_ticket t.ticket) xs) = subst (λ k. Leads next (Some k) (head.first ∷ head.rest ++ before (has_ticket t.ticket) xs)) head.ticket there in
+        let lacks : count_of (has_ticket t.ticket) (head.rest ++ before (has_ticket t.ticket) xs) ≡ 0 = omega
+        (arith, counted, st.once t.ticket, ap {B = ℕ} (λ b. cond b 1 0) (eq-eqb head.first.ticket t.ticket head.ticket)) in
+        let here : Leads next (Some t.ticket) (head.first ∷ head.rest ++ before (has_ticket t.ticket) xs) = subst
+        (λ k. Leads next (Some k) (head.first ∷ head.rest ++ before (has_ticket t.ticket) xs)) head.ticket there in
         whole ∙ ap (λ z. z ∷ head.rest ++ before (has_ticket t.ticket) xs) one
         ∙ ap (λ ys. t ∷ ys) (one_round next routes t.ticket (head.rest ++ before (has_ticket t.ticket) xs) behind here.1 leads.1 all.1 known.1 lacks off (sym here.0 ∙ ap next head.ticket ∙ leads.0))
     by false e = absurd (

@@ -29,7 +29,8 @@ pub record BreaksOff (old : State) (lines : List Line) (line : Line) (new : Stat
   pub short : 0 < length missing
   pub state : new ≡ after_lines old (lines ++ line ∷ [])
   pub replied : Appends held written (replies old lines ++ part)
-  pub counts : ComparesWithin before later (most_comparisons_over most_keys old (lines ++ line ∷ [])) (most_comparisons_over most_tickets old (lines ++ line ∷ [])) (most_comparisons_over most_tickets old (lines ++ line ∷ []))
+  pub counts : ComparesWithin before later (most_comparisons_over most_keys old (lines ++ line ∷ [])) (most_comparisons_over most_tickets old (lines ++ line ∷ []))
+      (most_comparisons_over most_tickets old (lines ++ line ∷ []))
 
 -- a line without LF comes at the end of the input alone
 abbrev pub ComesIn : Line → Option (List ℕ) → Type 0

@@ -60,7 +60,8 @@ with_key-placed s key word is e = from (with_key key s.places) refl e
     room : (b : Bool) → cond b (Err Full) (Ok (New (s.last + 1))) ≡ Ok is → with_key key (put new s.places) ≡ Some new
         → with_key key (cond b s (record s { last = s.last + 1; places = put new s.places })).places ≡ Some (record { ticket = placed_ticket is; key = key; word = word })
     room true h there = cc
-    room false h there = let same : New (s.last + 1) ≡ is = cc in subst (λ (q : Placed). with_key key (put new s.places) ≡ Some (record { ticket = placed_ticket q; key = key; word = word })) same there
+    room false h there = let same : New (s.last + 1) ≡ is = cc in subst (λ (q : Placed). with_key key (put new s.places) ≡ Some (record { ticket = placed_ticket q; key = key; word = word })) same
+        there
 
     from : (o : Option Place) → with_key key s.places ≡ o → placed_from o ≡ Ok is
         → with_key key (after_place s key word).places ≡ Some (record { ticket = placed_ticket is; key = key; word = word })

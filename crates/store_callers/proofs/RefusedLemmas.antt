@@ -38,7 +38,8 @@ holds_place s key p sound e =
     let some = found_if_any (λ (q : Place). q.ticket == p.ticket) s.places (has-ticket key s.places p e) in
     let ticket : some.0.ticket ≡ p.ticket = eqb-true some.0.ticket p.ticket (found_passes (λ (q : Place). q.ticket == p.ticket) s.places some.0 some.1) in
     let given : (0 < some.0.ticket) × (some.0.ticket ≤ s.last) =
-    subst (λ o. IfSome o (λ (q : Place). (0 < q.ticket) × (q.ticket ≤ s.last))) some.1 (found_in (λ (q : Place). (0 < q.ticket) × (q.ticket ≤ s.last)) (λ (q : Place). q.ticket == p.ticket) s.places sound.given) in
+    subst (λ o. IfSome o (λ (q : Place). (0 < q.ticket) × (q.ticket ≤ s.last))) some.1 (found_in (λ (q : Place). (0 < q.ticket) × (q.ticket ≤ s.last)) (λ (q : Place). q.ticket == p.ticket)
+    s.places sound.given) in
     (some.0, holder-place s p.ticket some.0 (given-new p.ticket s.last (omega (arith, ticket, given.0)) (omega (arith, ticket, given.1))) some.1)
 
 -- ---- a start and an extension
@@ -73,9 +74,11 @@ holds_start s later at n sound start is first =
     let no_place : place_of later.places n ≡ None =
     ap (λ (s : State). place_of s.places n) made ∙ none_found (λ p. p.ticket == n) s.places (none_above (λ (p : Place). p.ticket) s.last n s.places sound.given (omega (arith, first))) in
     let own : find (has_ticket n) (new ∷ []) ≡ Some new = rw (eq-eqb n n refl) refl in
-    let none : find (has_ticket n) (stop_list s.routes) ≡ None = none_found (has_ticket n) (stop_list s.routes) (none_above (λ (u : Stop). u.ticket) s.last n (stop_list s.routes) sound.given_stops (omega (arith, first))) in
+    let none : find (has_ticket n) (stop_list s.routes) ≡ None = none_found (has_ticket n) (stop_list s.routes)
+    (none_above (λ (u : Stop). u.ticket) s.last n (stop_list s.routes) sound.given_stops (omega (arith, first))) in
     let has : stop_of later.routes n ≡ Some new =
-    ap (λ (s : State). stop_of s.routes n) made ∙ ap (find (has_ticket n)) (stop_list-more s.routes new) ∙ find-append (has_ticket n) (stop_list s.routes) (new ∷ []) ∙ ap (λ o. option_or o (find (has_ticket n) (new ∷ []))) none ∙ own in
+    ap (λ (s : State). stop_of s.routes n) made ∙ ap (find (has_ticket n)) (stop_list-more s.routes new) ∙ find-append (has_ticket n) (stop_list s.routes) (new ∷ [])
+    ∙ ap (λ o. option_or o (find (has_ticket n) (new ∷ []))) none ∙ own in
     holder-stop later n new given no_place has
 
 pub places-start : (s later : State) (at n : ℕ) → started s at ≡ Ok n → later ≡ after_start s at → later.places ≡ s.places

@@ -166,16 +166,19 @@ module _ {I : Type 0} (number : I → ℕ) where
         let here : entry_in new i ≡ Some (g, e) = added.entries i ∙ rw (eq-eqb i i refl) refl in
         ap (along (entry_in new)) order
         ∙ along-append (entry_in new) (order_in number old) (i ∷ [])
-        ∙ ap (λ l. l ++ along (entry_in new) (i ∷ [])) (along_with (entry_in old) (entry_in new) i (g, e) added.vacant added.entries (order_in number old) (live_along old None (order_in number old) ordered.linear))
+        ∙ ap (λ l. l ++ along (entry_in new) (i ∷ [])) (along_with (entry_in old) (entry_in new) i (g, e) added.vacant added.entries (order_in number old)
+        (live_along old None (order_in number old) ordered.linear))
         ∙ ap (λ l. entries_of number old ++ l) (along_some (entry_in new) i [] (g, e) here)
 
     -- an entry behind the last one
-    pub added_behind : (h : ℕ) → StandsAt (Some (h, Greater)) (order_in number old) (order_in number new) i → last_or None (order_in number old) ≡ Some h → entries_of number new ≡ entries_of number old ++ e ∷ []
+    pub added_behind : (h : ℕ) → StandsAt (Some (h, Greater)) (order_in number old) (order_in number new) i → last_or None (order_in number old) ≡ Some h
+        → entries_of number new ≡ entries_of number old ++ e ∷ []
     added_behind h stands last = added_last (behind stands)
       where
         behind : StandsBeside Right (order_in number old) (order_in number new) h i → order_in number new ≡ order_in number old ++ i ∷ []
         behind beside =
-            let none : beside.after ≡ [] = none_behind (ends_in number old.chains) beside.before h beside.after (subst (λ w. Stands (ends_in number old.chains) None w None) beside.was ordered.linear) (ap (last_or None) (sym beside.was) ∙ last) in
+            let none : beside.after ≡ [] = none_behind (ends_in number old.chains) beside.before h beside.after
+            (subst (λ w. Stands (ends_in number old.chains) None w None) beside.was ordered.linear) (ap (last_or None) (sym beside.was) ∙ last) in
             beside.is ∙ ap (λ after. beside.before ++ h ∷ i ∷ after) none
             ∙ sym (append_assoc beside.before (h ∷ []) (i ∷ []))
             ∙ ap (λ w. w ++ i ∷ []) (sym (beside.was ∙ ap (λ after. beside.before ++ h ∷ after) none))

@@ -1,11 +1,11 @@
 //! The book of living tickets.
-ghost use Rattle.std.specs.Prelude.{◌≡◌, ◌+◌, ◌<◌, ◌≤◌, ◌++◌, [], ◌∷◌, length, map, true, false, Some, None, IfOk, IfSome, IfNone};
+ghost use Rattle.std.specs.Prelude.{◌≡◌, ◌+◌, ◌<◌, ◌≤◌, ◌↔◌, ◌++◌, [], ◌∷◌, length, map, true, false, Some, None, IsTrue, IsOk, IsErrOf, IfOk, IfSome, IfNone};
 ghost use Rattle.std.specs.Option.{option_map};
 ghost use Rattle.counted_search.specs.Searches.{most_comparisons};
 ghost use Rattle.ticket_book.specs.Mirrors.{numbers, renewed_entry};
 ghost use Rattle.ticket_book.specs.Tickets.{AreBelow, Entry as EntryView, asked, lookup, stays, without_ticket};
 ghost use Rattle.triple_arena.specs.ArenaRoom.{room_of};
-ghost use Rattle.triple_arena_ord.specs.Growth.{IsRoomRefusal};
+ghost use Rattle.triple_arena_stack.specs.Room.{capacity as capacity_of, IsBeyond};
 
 use crate::entry::{Entry, Kind};
 use crate::insertion::put;
@@ -52,8 +52,10 @@ impl<P: PtrCore, S: OrdSlots<P, Entry<P>>> TicketBook<P, S> {
     pub fn with_room(alloc: S::Alloc, room: usize) -> Result<Self, ReallocationError>
         ensures empty { IfOk result (λ book. book.entries ≡ []) }
         ensures fits { IfOk result (λ book. room ≤ book.capacity) }
-        ensures refusal { IsRoomRefusal S.takes_memory room (room_of P.Inx.greatest (S.room_at 0))
-            (room_of P.Inx.greatest (S.room_at room)).limit result }
+        ensures succeeds { room ≤ capacity_of (room_of P.Inx.greatest (S.room_at 0)) → IsOk result }
+        ensures beyond { IsErrOf result ReallocationError.BeyondMaxCapacity
+            ↔ IsBeyond (room_of P.Inx.greatest (S.room_at room)).limit room }
+        ensures memory { IsErrOf result ReallocationError.AllocError → IsTrue S.takes_memory }
     {
         Ok(TicketBook {
             arena: SimpleOrdArena::with_min_capacity(alloc, room)?,

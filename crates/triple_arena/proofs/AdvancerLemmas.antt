@@ -33,11 +33,11 @@ falls_back (p ∷ l) order =
 
 module _ {T : Type 0} where
   -- the entries have indexes from this one on, each above those before it
-  RiseFrom : ℕ → List (ℕ × (ℕ × T)) → Type 0
+  unfoldable pub RiseFrom : ℕ → List (ℕ × (ℕ × T)) → Type 0
   RiseFrom n [] = Unit {0}
   RiseFrom n (e ∷ l) = (n ≤ e.0) × RiseFrom (e.0 + 1) l
 
-  rise_from : (n : ℕ) (l : List (ℕ × (ℕ × T))) → IsStrictlyIncreasing (map index_of l) → (0 < length l → n ≤ slice_index (map index_of l) 0) → RiseFrom n l
+  pub rise_from : (n : ℕ) (l : List (ℕ × (ℕ × T))) → IsStrictlyIncreasing (map index_of l) → (0 < length l → n ≤ slice_index (map index_of l) 0) → RiseFrom n l
   unfolding RiseFrom
   rise_from n [] rises first = tt
   rise_from n (e ∷ l) rises first =
@@ -59,7 +59,7 @@ module _ {T : Type 0} where
         | inr other ↦ rw other.0 at none
       ]
 
-  first_stands : (e : ℕ × (ℕ × T)) (l : List (ℕ × (ℕ × T))) → look_up (e ∷ l) e.0 ≡ None → ⊥
+  pub first_stands : (e : ℕ × (ℕ × T)) (l : List (ℕ × (ℕ × T))) → look_up (e ∷ l) e.0 ≡ None → ⊥
   first_stands e l none = true≢false (ap is_some (rw (eq-eqb e.0 e.0 refl) at none))
 
   found_above : (n : ℕ) (l : List (ℕ × (ℕ × T))) (i g : ℕ) → RiseFrom n l → generation_at (look_up l) i ≡ Some g → n ≤ i

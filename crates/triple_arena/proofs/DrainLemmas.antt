@@ -1,148 +1,205 @@
--- What a removal at the first live index does to the entries that are left, and to what a drain leaves.
-use Rattle.std.proofs.Common.{◌≡◌, ◌≢◌, ℕ, zero, suc, ◌+◌, ◌-◌, ◌<◌, ◌≤◌, List, [], ◌∷◌, length, get_or, Option, Some, None, IfSome, inl, inr, refl, sym, ap, subst, ◌∙◌, arith}
-use Rattle.std.proofs.lemmas.Bool.{eq-eqb, ne_eqb}
+-- What a removal at the first live index does to the entries that are left, and to the removals that are still to come, in any arena.
+use Rattle.std.proofs.Common.{◌≡◌, ◌≢◌, ◌⊎◌, ℕ, ◌+◌, ◌<◌, ◌≤◌, List, [], ◌∷◌, length, map, slice_index, Bool, true, false, true≢false, Option, Some, None, IsSome, is_some, inl, inr, refl, sym, ap, subst, ◌∙◌, arith}
+use Rattle.std.proofs.lemmas.Bool.{eq-eqb, ne_eqb, cases_order}
 use Rattle.std.proofs.lemmas.Bool.Decides.{eqb_tells}
-use Rattle.std.specs.Fn.{iterate}
+use Rattle.std.specs.List.Sorted.{IsStrictlyIncreasing}
 use Rattle.std.specs.Option.{option_map}
-use Rattle.triple_arena_ptr.specs.Generation.{next_generation, next_wraps}
-use Rattle.triple_arena_ptr.specs.InvalidationOption.{value_of, overflowed}
-use Rattle.triple_arena_ptr.specs.declared.invalidation.InvalidationOption.{InvalidationOption}
-use Rattle.triple_arena.specs.Changes.{IsRemoved}
-use Rattle.triple_arena.specs.Entries.{without}
-use Rattle.triple_arena.specs.Content.{Content, entry_at, live_count, some_counter}
-use Rattle.triple_arena.specs.LiveEntries.{listed_from, live_entries, live_entries-length}
-use Rattle.triple_arena.specs.CopyLaws.{listed-none}
-use Rattle.triple_arena.specs.Drains.{removals, removal_of, drained, DrainKeeps, DrainKeepsAlong}
-use Rattle.triple_arena.specs.declared.arena.drain.Drain.{Drain}
+use Rattle.triple_arena_ptr.specs.Generation.{next_generation}
+use Rattle.triple_arena.specs.Compression.{index_of}
+use Rattle.triple_arena.specs.Drains.{removals, DrainKeeps, DrainKeepsAlong, IsAllAhead}
+use Rattle.triple_arena.specs.Entries.{counter_wraps, generation_at, look_up, value_if, without}
+use Rattle.triple_arena.specs.Walk.{Walk, IsAhead, ComesBefore, IsFirstLive, past}
+use Rattle.triple_arena.specs.declared.drain.Drain.{Drain}
+use Rattle.triple_arena.proofs.AdvancerLemmas.{RiseFrom, rise_from, first_stands}
 
--- a step of a repetition, taken first
-pub iterate_first : {A : Type 0} (h : A → A) (n : ℕ) (x : A) → 0 < n → iterate h (n - 1) (h x) ≡ iterate h n x
-iterate_first h zero x some = absurd (omega arith)
-iterate_first h (suc n) x some = let less : suc n - 1 ≡ n = omega arith in rw less refl
+-- a walk that rises goes on behind what it passed
+rising : (w : Walk) (i j : ℕ) → w.falls ≡ false → i + 1 ≤ j → j ≤ w.high → ((past w i).falls ≡ false) × IsAhead (past w i) j
+rising w i j is low high = rw is (refl, (low, high))
 
 module _ {T : Type 0} where
-  -- the same at each place is listed alike, also where one of the two ends earlier
-  listed_same : (n : ℕ) (xs ys : List (Option (ℕ × T))) → ((k : ℕ) → get_or ys k None ≡ get_or xs k None) → listed_from n ys ≡ listed_from n xs
-  listed_same n [] [] same = refl
-  listed_same n [] (y ∷ ys) same = rw (same 0) (listed_same (n + 1) [] ys (λ k. same (suc k)))
-  listed_same n (None ∷ xs) [] same = listed_same (n + 1) xs [] (λ k. same (suc k))
-  listed_same n (Some e ∷ xs) [] same = absurd (let none = same 0 in cc)
-  listed_same n (None ∷ xs) (y ∷ ys) same = rw (same 0) (listed_same (n + 1) xs ys (λ k. same (suc k)))
-  listed_same n (Some e ∷ xs) (y ∷ ys) same = rw (same 0) (ap (λ l. (n, e) ∷ l) (listed_same (n + 1) xs ys (λ k. same (suc k))))
-
-  -- the first entry, and the others once it is gone
-  pub listed_first : (n k : ℕ) (e : ℕ × T) (xs ys : List (Option (ℕ × T))) → ((j : ℕ) → j < k → get_or xs j None ≡ None) → get_or xs k None ≡ Some e
-      → get_or ys k None ≡ None → ((j : ℕ) → j ≢ k → get_or ys j None ≡ get_or xs j None) → listed_from n xs ≡ (n + k, e) ∷ listed_from n ys
-  listed_first n k e [] ys lower found gone others = absurd (cc)
-  listed_first n zero e (x ∷ xs) [] lower found gone others =
-      let same = listed_same (n + 1) [] xs (λ k. sym (others (suc k) (λ is. omega arith))) in
-      let here : n + 0 ≡ n = omega arith in
-      rw (here, found, same) refl
-  listed_first n zero e (x ∷ xs) (y ∷ ys) lower found gone others =
-      let same = listed_same (n + 1) ys xs (λ k. sym (others (suc k) (λ is. omega arith))) in
-      let here : n + 0 ≡ n = omega arith in
-      rw (here, found, gone, same) refl
-  listed_first n (suc k) e (x ∷ xs) [] lower found gone others =
-      let next : n + suc k ≡ (n + 1) + k = omega arith in
-      rw (next, lower 0 (omega arith))
-      (listed_first (n + 1) k e xs [] (λ j below. lower (suc j) (omega arith)) found gone
-      (λ j other. others (suc j) (λ is. other (omega (arith, is)))))
-  listed_first n (suc k) e (x ∷ xs) (y ∷ ys) lower found gone others =
-      let next : n + suc k ≡ (n + 1) + k = omega arith in
-      rw (next, others 0 (λ is. omega arith), lower 0 (omega arith))
-      (listed_first (n + 1) k e xs ys (λ j below. lower (suc j) (omega arith)) found gone
-      (λ j other. others (suc j) (λ is. other (omega (arith, is)))))
-
-  -- where no index is live, no entry is listed
-  pub none_left : (c : Content T) → ((j : ℕ) → entry_at c j ≡ None) → live_entries c ≡ []
-  none_left c none = listed-none 1 c.slots (λ k. none (suc k))
-
-  -- the entry at the first live index comes first, and then those that are left without it
-  pub first_taken : (old new : Content T) (i : ℕ) (e : ℕ × T) → ((j : ℕ) → j < i → entry_at old j ≡ None) → entry_at old i ≡ Some e
-      → ((j : ℕ) → entry_at new j ≡ without (entry_at old) i j) → live_entries old ≡ (i, e) ∷ live_entries new
-  first_taken old new zero e lower found taken = absurd (cc)
-  first_taken old new (suc k) e lower found taken =
-      let next : suc k ≡ 1 + k = omega arith in
-      rw next
-      (listed_first 1 k e old.slots new.slots (λ j below. lower (suc j) (omega arith)) found
-      (taken (suc k) ∙ rw (eq-eqb (suc k) (suc k) refl) refl)
-      (λ j other. taken (suc j) ∙ rw (ne_eqb (suc j) (suc k) (λ is. other (omega (arith, is)))) refl))
-
-  counter_is : (last : Option ℕ) (old new : Content T) → some_counter new ≡ option_map (next_generation last) (some_counter old)
-      → new.counter ≡ next_generation last old.counter
-  counter_is last old new stepped = cc
-
-  -- what is left to remove after a removal
-  removals_taken : (last : Option ℕ) (old new : Content T) (i : ℕ) (e : ℕ × T) → live_entries old ≡ (i, e) ∷ live_entries new
-      → some_counter new ≡ option_map (next_generation last) (some_counter old)
-      → removals last old.counter (live_entries old) ≡ ((i, e), next_wraps last old.counter) ∷ removals last new.counter (live_entries new)
-  removals_taken last old new i e listed stepped = let is = counter_is last old new stepped in rw (listed, is) refl
-
-  -- a removal does not change what is left in the end
-  drained_same : (last : Option ℕ) (old new : Content T) (i : ℕ) → IsRemoved entry_at live_count some_counter (λ c. c.room) last i old new
-      → drained last new ≡ drained last old
-  drained_same last old new i removed =
-      let is = counter_is last old new removed.counter in
-      let fewer = removed.live in
-      let one_less : live_count new ≡ live_count old - 1 = omega (arith, fewer) in
-      rw (removed.room, is, one_less, iterate_first (next_generation last) (live_count old) old.counter (omega (arith, fewer))) refl
-
   -- there is a removal for each entry
-  pub length-removals : (last : Option ℕ) (counter : ℕ) (entries : List (ℕ × (ℕ × T))) → length (removals last counter entries) ≡ length entries
+  pub length-removals : (last counter : Option ℕ) (entries : List (ℕ × (ℕ × T))) → length (removals last counter entries) ≡ length entries
   length-removals last counter [] = refl
-  length-removals last counter (e ∷ entries) = let rest = length-removals last (next_generation last counter) entries in omega (arith, rest)
+  length-removals last counter (e ∷ entries) = let rest = length-removals last (option_map (next_generation last) counter) entries in omega (arith, rest)
 
-  -- so many removals are left as entries are live
-  pub removals_left : (last : Option ℕ) (c : Content T) → live_count c ≡ length (removals last c.counter (live_entries c))
-  removals_left last c = sym (length-removals last c.counter (live_entries c) ∙ live_entries-length c)
+  pub removals_none : (last counter : Option ℕ) {entries : List (ℕ × (ℕ × T))} → entries ≡ [] → removals last counter entries ≡ []
+  removals_none last counter none = rw none refl
 
-  pub removals_none : (last : Option ℕ) (c : Content T) → ((j : ℕ) → entry_at c j ≡ None) → removals last c.counter (live_entries c) ≡ []
-  removals_none last c none = rw (none_left c none) refl
+  not_below : (n i : ℕ) (l : List (ℕ × (ℕ × T))) → RiseFrom n l → i < n → look_up l i ≡ None
+  unfolding RiseFrom
+  not_below n i [] rise below = refl
+  not_below n i (e ∷ l) rise below =
+      let from = rise.0 in
+      rw (ne_eqb e.0 i (λ same. omega (arith, same, from, below))) (not_below (e.0 + 1) i l rise.1 (omega (arith, from, below)))
 
-  -- an index is passed once its entry is gone
-  pub passed_on : (old new : Content T) (i : ℕ) → ((j : ℕ) → j < i → entry_at old j ≡ None) → ((j : ℕ) → entry_at new j ≡ without (entry_at old) i j)
-      → (j : ℕ) → j ≤ i → entry_at new j ≡ None
-  passed_on old new i lower taken j within =
-      elim (eqb_tells j i) [
-        | inl same ↦ taken j ∙ rw same.0 refl
-        | inr other ↦ taken j ∙ rw other.0 (lower j (omega (arith, within, other.1)))
+  look_up_here : (e : ℕ × (ℕ × T)) (l : List (ℕ × (ℕ × T))) → look_up (e ∷ l) e.0 ≡ Some e.1
+  look_up_here e l = rw (eq-eqb e.0 e.0 refl) refl
+
+  look_up_other : (e : ℕ × (ℕ × T)) (l : List (ℕ × (ℕ × T))) (i : ℕ) → e.0 ≢ i → look_up (e ∷ l) i ≡ look_up l i
+  look_up_other e l i differs = rw (ne_eqb e.0 i differs) refl
+
+  -- what is listed under each index makes the list
+  by_look_up : (n : ℕ) (k l : List (ℕ × (ℕ × T))) → RiseFrom n k → RiseFrom n l → ((i : ℕ) → look_up k i ≡ look_up l i) → k ≡ l
+  unfolding RiseFrom
+  by_look_up n [] [] rk rl same = refl
+  by_look_up n [] (y ∷ l) rk rl same = absurd (first_stands y l (sym (same y.0)))
+  by_look_up n (x ∷ k) [] rk rl same = absurd (first_stands x k (same x.0))
+  by_look_up n (x ∷ k) (y ∷ l) rk rl same =
+      elim (cases_order x.0 y.0) [
+        | inl is ↦
+            let here : Some x.1 ≡ Some y.1 = sym (look_up_here x k) ∙ same x.0 ∙ ap (look_up (y ∷ l)) is ∙ look_up_here y l in
+            let first : x.1 ≡ y.1 = cc in
+            let rest = by_look_up (x.0 + 1) k l rk.1 (subst (λ m. RiseFrom (m + 1) l) (sym is) rl.1) (others is) in
+            ap (λ m. (m, x.1) ∷ k) is ∙ ap (λ e. (y.0, e) ∷ k) first ∙ ap (λ m. y ∷ m) rest
+        | inr (inl less) ↦ absurd (first_stands x k (same x.0 ∙ not_below (x.0 + 1) x.0 (y ∷ l) (omega (arith, less), rl.1) (omega arith)))
+        | inr (inr more) ↦ absurd (first_stands y l (sym (same y.0) ∙ not_below (y.0 + 1) y.0 (x ∷ k) (omega (arith, more), rk.1) (omega arith)))
+      ]
+    where
+      others : x.0 ≡ y.0 → (i : ℕ) → look_up k i ≡ look_up l i
+      others is i =
+          elim (eqb_tells x.0 i) [
+            | inl this ↦
+                let low = this.1 in
+                not_below (x.0 + 1) i k rk.1 (omega (arith, low)) ∙ sym (not_below (y.0 + 1) i l rl.1 (omega (arith, low, is)))
+            | inr other ↦ sym (look_up_other x k i other.1) ∙ same i ∙ look_up_other y l i (λ z. other.1 (is ∙ z))
+          ]
+
+  -- a list whose indexes increase rises from where each of them is above
+  rise_above : (n : ℕ) (l : List (ℕ × (ℕ × T))) → IsStrictlyIncreasing (map index_of l) → ((i : ℕ) → IsSome (look_up l i) → n ≤ i) → RiseFrom n l
+  rise_above n l increase above = rise_from n l increase (first l above)
+    where
+      first : (m : List (ℕ × (ℕ × T))) → ((i : ℕ) → IsSome (look_up m i) → n ≤ i) → 0 < length m → n ≤ slice_index (map index_of m) 0
+      first [] each some = absurd (omega (arith, some))
+      first (x ∷ m) each some = each x.0 (ap is_some (look_up_here x m))
+
+  pub same_listed : (k l : List (ℕ × (ℕ × T))) → IsStrictlyIncreasing (map index_of k) → IsStrictlyIncreasing (map index_of l)
+      → ((i : ℕ) → look_up k i ≡ look_up l i) → k ≡ l
+  same_listed k l ik il same = by_look_up 0 k l (rise_above 0 k ik (λ i some. omega arith)) (rise_above 0 l il (λ i some. omega arith)) same
+
+  none_some : {o : Option (ℕ × T)} → o ≡ None → IsSome o → ⊥
+  none_some none some = true≢false (sym some ∙ ap is_some none)
+
+  or_none : (o : Option (ℕ × T)) → (IsSome o → o ≡ None) → o ≡ None
+  or_none None none = refl
+  or_none (Some e) none = none refl
+
+  -- where no index is live no entry is listed
+  pub none_listed : (entries : ℕ → Option (ℕ × T)) (l : List (ℕ × (ℕ × T))) → ((j : ℕ) → entries j ≡ look_up l j) → ((j : ℕ) → entries j ≡ None) → l ≡ []
+  none_listed entries [] listed none = refl
+  none_listed entries (e ∷ l) listed none = absurd (first_stands e l (sym (listed e.0) ∙ none e.0))
+
+  -- where nothing is found ahead no index is live
+  pub none_ahead : (entries : ℕ → Option (ℕ × T)) (w : Walk) → IsAllAhead entries w → ((j : ℕ) → IsAhead w j → entries j ≡ None) → (j : ℕ) → entries j ≡ None
+  none_ahead entries w ahead none j = or_none (entries j) (λ some. none j (ahead j some).1)
+
+  -- where no index is live, each is ahead
+  pub all_gone : (entries : ℕ → Option (ℕ × T)) (w : Walk) → ((j : ℕ) → entries j ≡ None) → IsAllAhead entries w
+  all_gone entries w none j some = absurd (none_some (none j) some)
+
+  none_before : (entries : ℕ → Option (ℕ × T)) (w : Walk) (i g : ℕ) → IsAllAhead entries w → IsFirstLive entries w i g → (j : ℕ) → j < i → entries j ≡ None
+  none_before entries w i g ahead first j below =
+      or_none (entries j) (λ some.
+      let is = ahead j some in
+      first.first j is.1 (subst (λ b. ComesBefore b j i) (sym is.0) below))
+
+  -- the first live index ahead has a value under its generation
+  pub live_value : (entries : ℕ → Option (ℕ × T)) (i g : ℕ) → generation_at entries i ≡ Some g → None ≡ value_if g (entries i) → ⊥
+  live_value entries i g live none = by_entry (entries i) live none
+    where
+      by_entry : (o : Option (ℕ × T)) → option_map (λ (e : ℕ × T). e.0) o ≡ Some g → None ≡ value_if g o → ⊥
+      by_entry None live none = absurd (cc)
+      by_entry (Some e) live none =
+          let same : e.0 ≡ g = cc in
+          let found : value_if g (Some e) ≡ Some e.1 = rw (eq-eqb e.0 g same) refl in
+          true≢false (ap is_some (sym (none ∙ found)))
+
+  -- a value that is found under a generation stands there
+  entry_of_value : (o : Option (ℕ × T)) (g : ℕ) (t : T) → Some t ≡ value_if g o → o ≡ Some (g, t)
+  entry_of_value None g t found = absurd (cc)
+  entry_of_value (Some e) g t found =
+      elim (eqb_tells e.0 g) [
+        | inl same ↦
+            let at : value_if g (Some e) ≡ Some e.1 = rw same.0 refl in
+            let given : Some t ≡ Some e.1 = found ∙ at in
+            let is : t ≡ e.1 = cc in
+            ap (λ n. Some (n, e.1)) same.1 ∙ ap (λ x. Some (g, x)) (sym is)
+        | inr other ↦ absurd (let none : value_if g (Some e) ≡ None = rw other.0 refl in let given : Some t ≡ None = found ∙ none in cc)
       ]
 
--- a step of a drain, which took what stood at this index
-pub record Stepped {P T : Type 0} (last : Option ℕ) (index generation : P → ℕ) (old : Content T) (item : InvalidationOption (P × T)) (i : ℕ)
-    (new : Content T) : Type 0 where
-  pub first : removals last old.counter (live_entries old) ≡ removal_of index generation item ∷ removals last new.counter (live_entries new)
-  pub leaves : drained last new ≡ drained last old
-  pub passed : (j : ℕ) → j ≤ i → entry_at new j ≡ None
+module _ {T : Type 0} (old new : ℕ → Option (ℕ × T)) (i : ℕ) (taken : (j : ℕ) → new j ≡ without old i j) where
+  gone : new i ≡ None
+  gone = taken i ∙ rw (eq-eqb i i refl) refl
 
-module _ {P T : Type 0} (last : Option ℕ) (index generation : P → ℕ) where
-  stepped_by : (old new : Content T) (item : InvalidationOption (P × T)) (i : ℕ) → ((j : ℕ) → j < i → entry_at old j ≡ None)
-      → index (value_of item).0 ≡ i → Some (generation (value_of item).0, (value_of item).1) ≡ entry_at old i
-      → overflowed item ≡ next_wraps last old.counter → IsRemoved entry_at live_count some_counter (λ c. c.room) last i old new
-      → Stepped last index generation old item i new
-  stepped_by old new item i lower indexed entry told removed =
-      let listed = first_taken old new i _ lower (sym entry) removed.entries in
+  kept : (j : ℕ) → j ≢ i → new j ≡ old j
+  kept j differs = taken j ∙ rw (ne_eqb j i differs) refl
+
+  -- the entry at the first live index comes first, and then those that are left without it
+  first_taken : (before after : List (ℕ × (ℕ × T))) (e : ℕ × T) → IsStrictlyIncreasing (map index_of before) → IsStrictlyIncreasing (map index_of after)
+      → ((j : ℕ) → old j ≡ look_up before j) → ((j : ℕ) → new j ≡ look_up after j) → ((j : ℕ) → j < i → old j ≡ None) → old i ≡ Some e
+      → before ≡ (i, e) ∷ after
+  unfolding RiseFrom
+  first_taken before after e increase increases was is lower found =
+      by_look_up 0 before ((i, e) ∷ after) (rise_above 0 before increase (λ j some. omega arith)) (omega arith, rise_above (i + 1) after increases above) same
+    where
+      above : (j : ℕ) → IsSome (look_up after j) → i + 1 ≤ j
+      above j some =
+          let live : IsSome (new j) = subst IsSome (sym (is j)) some in
+          elim (cases_order i j) [
+            | inl this ↦ absurd (none_some (ap new (sym this) ∙ gone) live)
+            | inr (inl less) ↦ omega (arith, less)
+            | inr (inr more) ↦ absurd (none_some (kept j (λ z. omega (arith, z, more)) ∙ lower j more) live)
+          ]
+
+      same : (j : ℕ) → look_up before j ≡ look_up ((i, e) ∷ after) j
+      same j =
+          elim (eqb_tells i j) [
+            | inl this ↦ sym (was j) ∙ ap old (sym this.1) ∙ found ∙ rw this.0 refl
+            | inr other ↦ sym (was j) ∙ sym (kept j (λ z. other.1 (sym z))) ∙ is j ∙ sym (look_up_other (i, e) after j other.1)
+          ]
+
+  -- after a removal each live index is ahead of what was passed
+  still_ahead : (w : Walk) (g : ℕ) → IsAllAhead old w → IsFirstLive old w i g → IsAllAhead new (past w i)
+  still_ahead w g ahead first j some =
+      elim (eqb_tells j i) [
+        | inl same ↦ absurd (none_some (ap new same.1 ∙ gone) some)
+        | inr other ↦
+            let was : IsSome (old j) = subst IsSome (kept j other.1) some in
+            let is = ahead j was in
+            let low : j < i → ⊥ = λ below. none_some (none_before old w i g ahead first j below) was in
+            let differs = other.1 in
+            rising w i j is.0 (omega (arith, differs, low)) is.1.1
+      ]
+
+module _ {S T : Type 0} (entry_of : S → ℕ → Option (ℕ × T)) (listed : S → List (ℕ × (ℕ × T))) where
+  -- the entry at the first live index left, and the walk went on
+  pub record FirstLeft (old new : S) (entry : ℕ × (ℕ × T)) (after : Walk) : Type 0 where
+    pub first : listed old ≡ entry ∷ listed new
+    pub ahead : IsAllAhead (entry_of new) after
+
+  pub first_left : ((s : S) (j : ℕ) → entry_of s j ≡ look_up (listed s) j) → ((s : S) → IsStrictlyIncreasing (map index_of (listed s)))
+      → (old new : S) (before after : Walk) (i g : ℕ) (t : T) → IsAllAhead (entry_of old) before
+      → IsFirstLive (entry_of old) before i g × (after ≡ past before i) → Some t ≡ value_if g (entry_of old i)
+      → ((j : ℕ) → entry_of new j ≡ without (entry_of old) i j) → FirstLeft old new (i, (g, t)) after
+  first_left entry_listed increase old new before after i g t ahead step value taken =
       record {
-        first = rw (indexed, told) (removals_taken last old new i _ listed removed.counter);
-        leaves = drained_same last old new i removed;
-        passed = passed_on old new i lower removed.entries;
+        first =
+            first_taken (entry_of old) (entry_of new) i taken (listed old) (listed new) (g, t) (increase old) (increase new) (entry_listed old)
+            (entry_listed new) (none_before (entry_of old) before i g ahead step.0) (entry_of_value (entry_of old i) g t value);
+        ahead = subst (IsAllAhead (entry_of new)) (sym step.1) (still_ahead (entry_of old) (entry_of new) i taken before g ahead step.0);
       }
 
-  pub stepped : (old new : Content T) (given : Option (InvalidationOption (P × T))) (item : InvalidationOption (P × T)) (i : ℕ) → given ≡ Some item
-      → ((j : ℕ) → j < i → entry_at old j ≡ None) → IfSome given (λ x. index (value_of x).0 ≡ i)
-      → IfSome given (λ x. Some (generation (value_of x).0, (value_of x).1) ≡ entry_at old i)
-      → IfSome given (λ x. overflowed x ≡ next_wraps last old.counter)
-      → IfSome given (λ x. IsRemoved entry_at live_count some_counter (λ c. c.room) last i old new)
-      → Stepped last index generation old item i new
-  stepped old new None item i is lower indexed entry told removed = absurd (cc)
-  stepped old new (Some x) item i is lower indexed entry told removed =
-      let same : x ≡ item = cc in
-      subst (λ y. Stepped last index generation old y i new) same (stepped_by old new x i lower indexed entry told removed)
+-- the first removal that is still to come was made
+pub removal_made : {T : Type 0} (last counter : Option ℕ) {after : Option ℕ} {old new : List (ℕ × (ℕ × T))} {entry : ℕ × (ℕ × T)} {wrapped : Bool}
+    → old ≡ entry ∷ new → wrapped ≡ counter_wraps last counter → after ≡ option_map (next_generation last) counter
+    → removals last counter old ≡ (entry, wrapped) ∷ removals last after new
+removal_made last counter first told stepped = rw (first, stepped, told) refl
 
-module _ {P T S Inx Gen Alloc : Type 0} (last : Option ℕ) (index generation : P → ℕ) where
+module _ {P T A Inx Gen Alloc Adv : Type 0} (entry_of : A → ℕ → Option (ℕ × T)) (walk_of : Adv → Walk) (counter_of : A → Option ℕ)
+    (listed : A → List (ℕ × (ℕ × T))) (is_removed : A → ℕ → A → Type 0) (left : A → A) (last : Option ℕ) (index generation : P → ℕ) where
   -- what a drain keeps at a step it keeps at every later one
-  pub keeps_along : (first : Drain P T S Inx Gen Alloc) → DrainKeepsAlong last index generation first
-  keeps_along first [] later run = subst (DrainKeeps last first) run (refl, refl)
+  pub keeps_along : (first : Drain P T A Inx Gen Alloc Adv)
+      → DrainKeepsAlong entry_of walk_of counter_of listed is_removed left last index generation first
+  keeps_along first [] later run = subst (DrainKeeps left first) run (refl, refl)
   keeps_along first (item ∷ items) later run =
       let step = run.1.1 in
       let rest = keeps_along run.0 items later run.2 in

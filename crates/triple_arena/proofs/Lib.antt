@@ -16,5 +16,4 @@ mod DirectCopyLemmas
 pub mod RecastingLemmas
 pub mod StepsLemmas
 pub mod DrainLemmas
-pub mod DirectDrainLemmas
 pub mod IteratorLemmas

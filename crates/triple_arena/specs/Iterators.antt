@@ -1,14 +1,28 @@
 -- What an iterator over an arena has left, and what a search by it finds.
-use Rattle.std.specs.Prelude.{◌≡◌, ℕ, ◌<◌, Bool, true, false, List, [], ◌∷◌, ◌++◌, Option, Some, None, slice_index_or}
+use Rattle.std.specs.Prelude.{◌≡◌, ℕ, ◌+◌, ◌<◌, ◌≤◌, Bool, true, false, List, [], ◌∷◌, ◌++◌, length, map, Option, Some, None, IfSome}
+use Rattle.std.specs.Iterator.{UpTo, at_most}
+use Rattle.std.specs.Iterator.SizeHint.{IsWithinCount}
+use Rattle.triple_arena.specs.LiveEntries.{listed_from}
 
 module _ {T : Type 0} where
   -- the index and the generation of a listed entry
   abbrev pub pointer_of : ℕ × (ℕ × T) → ℕ × ℕ
   pointer_of entry = (entry.0, entry.1.0)
 
-  -- the first of these slots, so many, have no entry
-  abbrev pub AreVacant : ℕ → List (Option (ℕ × T)) → Type 0
-  AreVacant n slots = (k : ℕ) → k < n → slice_index_or slots k None ≡ None
+-- a listed entry with a part of its value
+abbrev pub with_part : {V T : Type 0} → (V → T) → ℕ × (ℕ × V) → ℕ × (ℕ × T)
+with_part part entry = (entry.0, (entry.1.0, part entry.1.1))
+
+-- what is left of some slots, of which so many came before: they hold so many entries, and have indexes up to the greatest
+pub record IsCursor {E T : Type 0} (shown : E → Option (ℕ × T)) (slots : List E) (passed left greatest : ℕ) : Type 0 where
+  pub counted : left ≡ length (listed_from (passed + 1) (map shown slots))
+  pub indexed : passed + length slots ≤ greatest
+
+-- a hint of how many items are left that has the number for both bounds; and so what any hint tells of its bounds
+pub record IsExact (hint : ℕ × Option ℕ) (n : ℕ) : Type 0 where
+  pub bounds : hint ≡ (n, Some n)
+  pub lower : IsWithinCount hint.0 (at_most n)
+  pub upper : IfSome hint.1 (UpTo (at_most n))
 
 -- what a test answers at a value
 module _ {T : Type 0} (answers : T → Bool → Type 0) where

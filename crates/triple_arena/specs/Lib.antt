@@ -39,6 +39,6 @@ pub mod RecasterLaws
 pub mod Copy
 pub mod CopyLaws
 pub mod Drains
-pub mod DirectDrains
+pub mod DrainLaws
 pub mod TransferLaws
 pub mod IteratorLaws

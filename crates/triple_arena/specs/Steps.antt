@@ -12,8 +12,9 @@ use Rattle.triple_arena.specs.Changes.{IsNew, IsInserted, IsRemoved, IsInvalidat
 -- an entry stored at an index under a generation; the entry at an index removed; its pointer ended, and one with this
 -- generation given in its place; all entries removed at once; each of them taken out, by a drain or by a transfer from here; the
 -- counter stepped alone; the entries moved to the first indexes; the values at two indexes exchanged; a value written; room made;
--- a copy to here given up where its map refused, so that room for it was made and all entries were removed at once; and whatever leaves the generation at each index, and the counter. The last is one step for many calls, since what else they
--- change matters to no pointer: a recast, the free slots put in order or taken from the end, a limit, a place that is let go
+-- a copy to here given up where its map refused, so that room for it was made and all entries were removed at once; and whatever
+-- leaves the generation at each index, and the counter. The last is one step for many calls, since what else they change matters to
+-- no pointer: a recast, the free slots put in order or taken from the end, a limit, a place that is let go
 pub data Step (T : Type 0) : Type 0 where
   insert : ℕ → ℕ → T → Step T
   remove : ℕ → Step T

@@ -8,10 +8,8 @@ ghost use Rattle.triple_arena.specs.Slot.{entry_of};
 ghost use Rattle.triple_arena.specs.Content.{live_count, empty, IsWellFormed};
 
 mod calls;
-mod capacity_drain;
 mod compression;
 mod copy;
-mod drain;
 mod entry;
 mod exchange;
 mod free_slots;
@@ -29,9 +27,7 @@ mod text;
 mod transfer;
 
 use crate::{ArenaSlot, ArenaSlots};
-pub use capacity_drain::CapacityDrain;
 pub(crate) use compression::{compact, keep_first, take_entry};
-pub use drain::Drain;
 pub use entry::{ArenaInsertEntries, ArenaInsertEntry, ArenaInsertEntryTrait};
 pub(crate) use reading::ValueAtMut;
 pub(crate) use recast::{RecastByIndex, recast_values};

@@ -8,11 +8,14 @@ ghost use Rattle.triple_arena_ptr.specs.InvalidationOption.{value_of, overflowed
 ghost use Rattle.triple_arena_ptr.specs.InvalidationResult.{answer_of};
 ghost use Rattle.triple_arena_stack.specs.Room.{Room, capacity as capacity_of, IsBeyond};
 ghost use Rattle.triple_arena.specs.Changes.{IsNew, IsReallocated, IsRemoved, IsInvalidated, IsCleared, IsCompressed};
+ghost use Rattle.triple_arena.specs.Drains.{drain_arena, drain_lender, DrainCanStep, DrainKeepsAlong};
 ghost use Rattle.triple_arena.specs.Entries.{number_if, value_if, counter_wraps, with_value_at, generation_at, look_up};
+ghost use Rattle.triple_arena.specs.Transfer.{IsGivenUp};
 ghost use Rattle.triple_arena.specs.Walk.{Walk, Steps};
 ghost use Rattle.std.specs.List.Sorted.{IsStrictlyIncreasing};
 ghost use Rattle.triple_arena.specs.Compression.{compression_wraps, index_of, generation_of, value_of as value_of_entry, IsMapped};
 
+use crate::drain::Drain;
 use triple_arena_ptr::{
     Advancer, InvalidationOption, InvalidationResult, PtrCore, PtrGenCore, ReallocationError,
 };
@@ -56,12 +59,17 @@ pub trait ArenaTrait<P: PtrCore, T: Drop> {
     // The arena with another value at an index, if it is live.
     ghost with_value: { Self → ℕ → T → Self };
 
-    // The arena without the entry at an index, with the entry at an index under the stepped counter, and without any.
-    ghost removed: { Self → ℕ → Self };
+    // What an arena becomes without the entry at an index. It is a relation, since nothing says which of its trees an
+    // ordered arena has then.
+    ghost is_removed: { Self → ℕ → Self → Type 0 };
 
+    // The arena with the entry at an index under the stepped counter, and without any entry.
     ghost invalidated: { Self → ℕ → Self };
 
     ghost cleared: { Self → Self };
+
+    // The arena without an entry and without a slot, its counter, where it has one, stepped once for each entry.
+    ghost drained: { Self → Self };
 
     // What an arena becomes whose live entries go to the first indexes, with these values and with the generations
     // renewed. It is a relation, since an arena whose slots hold pointers' indexes has no word for the new ones.
@@ -202,7 +210,7 @@ pub trait ArenaTrait<P: PtrCore, T: Drop> {
             (λ a. overflowed a ≡ counter_wraps P.Gen.last (counter self.old)) }
         ensures removed { OnSome (answer_of result) (IsRemoved entry_at live_count counter room
             P.Gen.last (P.index p) self.old self.new) }
-        ensures exact { OnSome (answer_of result) (self.new ≡ removed self.old (P.index p)) }
+        ensures exact { OnSome (answer_of result) (is_removed self.old (P.index p) self.new) }
         ensures formed { is_formed self.new }
         ensures invalid { IfNone (answer_of result) (self.new ≡ self.old) };
 
@@ -215,7 +223,7 @@ pub trait ArenaTrait<P: PtrCore, T: Drop> {
             (λ a. overflowed a ≡ counter_wraps P.Gen.last (counter self.old)) }
         ensures removed { OnSome (answer_of result) (IsRemoved entry_at live_count counter room
             P.Gen.last (P.Inx.number i) self.old self.new) }
-        ensures exact { OnSome (answer_of result) (self.new ≡ removed self.old (P.Inx.number i)) }
+        ensures exact { OnSome (answer_of result) (is_removed self.old (P.Inx.number i) self.new) }
         ensures formed { is_formed self.new }
         ensures invalid { IfNone (answer_of result) (self.new ≡ self.old) };
 
@@ -248,6 +256,11 @@ pub trait ArenaTrait<P: PtrCore, T: Drop> {
         ensures cleared { IsCleared entry_at live_count counter room P.Gen.last
             self.old self.new }
         ensures exact { self.new ≡ cleared self.old }
+        ensures formed { is_formed self.new };
+
+    /// Removes every entry, each by a step of the counter, where there is one, and every slot: what a drain leaves.
+    fn take_all(&mut self)
+        ensures exact { self.new ≡ drained self.old }
         ensures formed { is_formed self.new };
 
     /// Moves the live entries, in the order of their indexes, to the indexes from 1 on, and gives each what `map` makes
@@ -303,6 +316,29 @@ pub trait ArenaTrait<P: PtrCore, T: Drop> {
         → counter (with_value s i t) ≡ counter s };
 
     ghost room_with_value: { (s : Self) (i : ℕ) (t : T) → room (with_value s i t) ≡ room s };
+
+    ghost drained_gives_up: { (s : Self)
+        → IsGivenUp entry_at live_count counter room P.Gen.last s (drained s) };
+
+    // A removal does not change what a drain leaves in the end.
+    ghost drained_removed: { (old new : Self) (i : ℕ)
+        → IsRemoved entry_at live_count counter room P.Gen.last i old new
+        → drained new ≡ drained old };
+
+    /// Takes each entry out, in the order of the indexes. Once the iterator is dropped, the arena has no entry and no
+    /// slot, its counter, where it has one, has stepped once for each entry that it had, and its room is as it was.
+    final fn drain(&mut self) -> Drain<'_, P, T, Self>
+        ensures arena { drain_arena result ≡ self.old }
+        ensures same_reference { drain_lender result ≡ self.entry.ghost_name }
+        ensures ready { DrainCanStep entry_at walk result }
+        ensures stays { DrainKeepsAlong entry_at walk counter live_entries is_removed drained
+            P.Gen.last P.index P.generation result }
+    {
+        Drain {
+            walk: self.advancer(),
+            arena: self,
+        }
+    }
 
     /// The same as `compress_with`, with the values as they are.
     final fn compress(&mut self, reset: bool) -> InvalidationOption<()>

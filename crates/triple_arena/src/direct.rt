@@ -4,9 +4,7 @@ ghost use Rattle.triple_arena.specs.ArenaRoom.{room_of};
 ghost use Rattle.triple_arena.specs.DirectContent.{live_count, empty, IsWellFormed};
 
 mod calls;
-mod capacity_drain;
 mod copy;
-mod drain;
 mod entry;
 mod exchange;
 mod indexing;
@@ -21,8 +19,6 @@ mod text;
 mod transfer;
 
 use crate::{DirectSlot, DirectSlots};
-pub use capacity_drain::CapacityDrain;
-pub use drain::Drain;
 pub use entry::ArenaDirectInsertEntry;
 use std::marker::{Model, PhantomData};
 use triple_arena_ptr::PtrCore;

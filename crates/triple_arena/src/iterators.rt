@@ -4,12 +4,12 @@ ghost use Rattle.std.specs.Iterator.{YieldsFirstBy, item_count};
 ghost use Rattle.std.specs.Option.{option_map};
 ghost use Rattle.triple_arena_ptr.specs.Index.{max_index_of};
 ghost use Rattle.triple_arena.specs.Compression.{value_of};
-ghost use Rattle.triple_arena.specs.Iterators.{pointer_of};
+ghost use Rattle.triple_arena.specs.Iterators.{IsCursor, IsExact, pointer_of, with_part};
 ghost use Rattle.triple_arena.specs.LiveEntries.{listed_from};
 ghost use Rattle.triple_arena.specs.Slot.{entry_of};
 
 use crate::arena::pointer_at;
-use crate::{ArenaSlot, DirectSlot};
+use crate::{ArenaSlot, DirectSlot, Part, Whole};
 use std::iter::FusedIterator;
 use std::marker::{Model, PhantomData};
 use std::num::NonZeroUsize;
@@ -42,43 +42,75 @@ impl<P: PtrCore, T> LentEntry<P, T> for DirectSlot<P, T> {
 }
 
 /// The pointers and the values of the live entries, in the order of the indexes, seen as the list of the entries that
-/// are left.
+/// are left. Of each value it gives the part that `M` shows.
 #[derive(Drop)]
-pub struct Iter<'a, P: PtrCore, T, E: LentEntry<P, T>> {
+pub struct Iter<'a, P: PtrCore, V, T, E: LentEntry<P, V>, M: Part<V, T>> {
     // The slots that are left.
     slots: &'a [E],
     // The index before that of the first of them.
     passed: usize,
-    entries: PhantomData<(P, &'a T)>,
+    // How many of them are allocated.
+    left: usize,
+    entries: PhantomData<(P, &'a V, &'a T, M)>,
 }
 
-impl<'a, P: PtrCore, T, E: LentEntry<P, T>> Model for Iter<'a, P, T, E> {
-    ghost use Rattle.std.specs.Prelude.{ℕ, ◌+◌, ◌≤◌, List, length, map};
+impl<'a, P: PtrCore, V, T, E: LentEntry<P, V>, M: Part<V, T>> Model for Iter<'a, P, V, T, E, M> {
+    ghost use Rattle.std.specs.Prelude.{ℕ, ◌+◌, List, map};
     ghost use Rattle.triple_arena_ptr.specs.Index.{max_index_of};
+    ghost use Rattle.triple_arena.specs.Iterators.{IsCursor, with_part};
     ghost use Rattle.triple_arena.specs.LiveEntries.{listed_from};
 
     ghost Value = { List (ℕ × (ℕ × T)) };
 
-    ghost view = { λ it. listed_from (it.passed + 1) (map E.shown it.slots.now) };
+    ghost view = { λ it. map (with_part M.part) (listed_from (it.passed + 1) (map E.shown it.slots.now)) };
 
-    ghost invariant = { λ it. it.passed + length it.slots.now ≤ max_index_of P.Inx.greatest };
+    ghost invariant = { λ it. IsCursor E.shown it.slots.now it.passed it.left (max_index_of P.Inx.greatest) };
 }
 
-impl<'a, P: PtrCore, T, E: LentEntry<P, T>> Iter<'a, P, T, E> {
-    // Over the slots from index 1 on.
-    pub(crate) fn over(slots: &'a [E]) -> Self
-        requires { length slots.now ≤ max_index_of P.Inx.greatest }
+impl<'a, P: PtrCore, T, E: LentEntry<P, T>> Iter<'a, P, T, T, E, Whole> {
+    // Over the slots from index 1 on, so many of which are allocated.
+    pub(crate) fn over(slots: &'a [E], left: usize) -> Self
+        requires { IsCursor E.shown slots.now 0 left (max_index_of P.Inx.greatest) }
         ensures { result ≡ listed_from 1 (list_map E.shown slots.now) }
     {
         Iter {
             slots,
             passed: 0,
+            left,
             entries: PhantomData,
         }
     }
+
+    /// The same entries, of each value the part that `M` shows.
+    pub fn shown_by<U, M: Part<T, U>>(self) -> Iter<'a, P, T, U, E, M>
+        ensures { result ≡ list_map (with_part M.part) self.entry }
+    {
+        Iter {
+            slots: self.slots,
+            passed: self.passed,
+            left: self.left,
+            entries: PhantomData,
+        }
+    }
+
+    /// The pointers to the entries that are left.
+    pub fn into_ptrs(self) -> Ptrs<'a, P, T, E>
+        ensures { result ≡ list_map pointer_of self.entry }
+    {
+        Ptrs { entries: self }
+    }
 }
 
-impl<'a, P: PtrCore, T, E: LentEntry<P, T>> Iterator for Iter<'a, P, T, E> {
+impl<'a, P: PtrCore, V, T, E: LentEntry<P, V>, M: Part<V, T>> Iter<'a, P, V, T, E, M> {
+    /// The values of the entries that are left.
+    pub fn into_vals(self) -> Vals<'a, P, V, T, E, M>
+        ensures { result ≡ list_map value_of self.entry }
+    {
+        Vals { entries: self }
+    }
+}
+
+impl<'a, P: PtrCore, V, T, E: LentEntry<P, V>, M: Part<V, T>> Iterator for Iter<'a, P, V, T, E, M> {
     type Item = (P, &'a T);
 
     ghost next_gives = { YieldsFirstBy (λ e. (P.index e.0, (P.generation e.0, e.1.now))) (λ left. left) };
@@ -91,24 +123,34 @@ impl<'a, P: PtrCore, T, E: LentEntry<P, T>> Iterator for Iter<'a, P, T, E> {
             self.slots = rest;
             self.passed = index.get();
             if let Some((generation, value)) = slot.lent_entry() {
-                return Some((pointer_at(index, generation), value));
+                self.left -= 1;
+                return Some((pointer_at(index, generation), M::part_of(value)));
             }
         }
         None
     }
 
-    // No more entries come than slots are left.
-    fn size_hint(&self) -> (usize, Option<usize>) {
-        (0, Some(self.slots.len()))
+    fn size_hint(&self) -> (usize, Option<usize>)
+        ensures { IsExact result (length self.now) }
+    {
+        (self.left, Some(self.left))
     }
 }
 
-impl<'a, P: PtrCore, T, E: LentEntry<P, T>> FusedIterator for Iter<'a, P, T, E> {}
+impl<'a, P: PtrCore, V, T, E: LentEntry<P, V>, M: Part<V, T>> ExactSizeIterator
+    for Iter<'a, P, V, T, E, M> {
+    fn len(&self) -> usize {
+        self.left
+    }
+}
+
+impl<'a, P: PtrCore, V, T, E: LentEntry<P, V>, M: Part<V, T>> FusedIterator
+    for Iter<'a, P, V, T, E, M> {}
 
 /// The pointers to the live entries, in the order of the indexes, seen as the list of those that are left.
 #[derive(Drop)]
 pub struct Ptrs<'a, P: PtrCore, T, E: LentEntry<P, T>> {
-    entries: Iter<'a, P, T, E>,
+    entries: Iter<'a, P, T, T, E, Whole>,
 }
 
 impl<'a, P: PtrCore, T, E: LentEntry<P, T>> Model for Ptrs<'a, P, T, E> {
@@ -118,15 +160,6 @@ impl<'a, P: PtrCore, T, E: LentEntry<P, T>> Model for Ptrs<'a, P, T, E> {
     ghost Value = { List (ℕ × ℕ) };
 
     ghost view = { λ it. map pointer_of it.entries };
-}
-
-impl<'a, P: PtrCore, T, E: LentEntry<P, T>> Ptrs<'a, P, T, E> {
-    // Of the entries that are left.
-    pub(crate) fn of(entries: Iter<'a, P, T, E>) -> Self
-        ensures { result ≡ list_map pointer_of entries.entry }
-    {
-        Ptrs { entries }
-    }
 }
 
 impl<'a, P: PtrCore, T, E: LentEntry<P, T>> Iterator for Ptrs<'a, P, T, E> {
@@ -143,20 +176,29 @@ impl<'a, P: PtrCore, T, E: LentEntry<P, T>> Iterator for Ptrs<'a, P, T, E> {
         }
     }
 
-    fn size_hint(&self) -> (usize, Option<usize>) {
+    fn size_hint(&self) -> (usize, Option<usize>)
+        ensures { IsExact result (length self.now) }
+    {
         self.entries.size_hint()
+    }
+}
+
+impl<'a, P: PtrCore, T, E: LentEntry<P, T>> ExactSizeIterator for Ptrs<'a, P, T, E> {
+    fn len(&self) -> usize {
+        self.entries.len()
     }
 }
 
 impl<'a, P: PtrCore, T, E: LentEntry<P, T>> FusedIterator for Ptrs<'a, P, T, E> {}
 
-/// The values of the live entries, in the order of the indexes, seen as the list of those that are left.
+/// The values of the live entries, in the order of the indexes, seen as the list of those that are left. Of each it gives
+/// the part that `M` shows.
 #[derive(Drop)]
-pub struct Vals<'a, P: PtrCore, T, E: LentEntry<P, T>> {
-    entries: Iter<'a, P, T, E>,
+pub struct Vals<'a, P: PtrCore, V, T, E: LentEntry<P, V>, M: Part<V, T>> {
+    entries: Iter<'a, P, V, T, E, M>,
 }
 
-impl<'a, P: PtrCore, T, E: LentEntry<P, T>> Model for Vals<'a, P, T, E> {
+impl<'a, P: PtrCore, V, T, E: LentEntry<P, V>, M: Part<V, T>> Model for Vals<'a, P, V, T, E, M> {
     ghost use Rattle.std.specs.Prelude.{List, map};
     ghost use Rattle.triple_arena.specs.Compression.{value_of};
 
@@ -165,16 +207,7 @@ impl<'a, P: PtrCore, T, E: LentEntry<P, T>> Model for Vals<'a, P, T, E> {
     ghost view = { λ it. map value_of it.entries };
 }
 
-impl<'a, P: PtrCore, T, E: LentEntry<P, T>> Vals<'a, P, T, E> {
-    // Of the entries that are left.
-    pub(crate) fn of(entries: Iter<'a, P, T, E>) -> Self
-        ensures { result ≡ list_map value_of entries.entry }
-    {
-        Vals { entries }
-    }
-}
-
-impl<'a, P: PtrCore, T, E: LentEntry<P, T>> Iterator for Vals<'a, P, T, E> {
+impl<'a, P: PtrCore, V, T, E: LentEntry<P, V>, M: Part<V, T>> Iterator for Vals<'a, P, V, T, E, M> {
     type Item = &'a T;
 
     ghost next_gives = { YieldsFirstBy (λ value. value.now) (λ left. left) };
@@ -188,9 +221,19 @@ impl<'a, P: PtrCore, T, E: LentEntry<P, T>> Iterator for Vals<'a, P, T, E> {
         }
     }
 
-    fn size_hint(&self) -> (usize, Option<usize>) {
+    fn size_hint(&self) -> (usize, Option<usize>)
+        ensures { IsExact result (length self.now) }
+    {
         self.entries.size_hint()
     }
 }
 
-impl<'a, P: PtrCore, T, E: LentEntry<P, T>> FusedIterator for Vals<'a, P, T, E> {}
+impl<'a, P: PtrCore, V, T, E: LentEntry<P, V>, M: Part<V, T>> ExactSizeIterator
+    for Vals<'a, P, V, T, E, M> {
+    fn len(&self) -> usize {
+        self.entries.len()
+    }
+}
+
+impl<'a, P: PtrCore, V, T, E: LentEntry<P, V>, M: Part<V, T>> FusedIterator
+    for Vals<'a, P, V, T, E, M> {}

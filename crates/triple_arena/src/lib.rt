@@ -7,6 +7,20 @@
 //! (from an `ArenaCloneSource`), and `ArenaTransferTrait` of entries moved from another arena (an
 //! `ArenaTransferSource`).
 //!
+//! ```rust
+//! use std::alloc::Global;
+//! use triple_arena::{ArenaInsertTrait, ArenaTrait, HeapArena, P0};
+//!
+//! fn main(rt: HostRuntime) -> anyhow::Result<()> {
+//!     let mut trees: HeapArena<P0, &str, Global> = HeapArena::new(rt.alloc());
+//!     let oak = trees.insert("oak")?;
+//!     let elm = trees.insert("elm")?;
+//!     drop(trees.remove(oak));
+//!     println!(rt; "{:?} {:?}", trees.get(oak), trees.get(elm))?; // None Some("elm")
+//!     Ok(())
+//! }
+//! ```
+//!
 //! Contracts speak of an arena's `Content` (`specs/Content.antt`): the generation and the value at each index, the
 //! counter, the free indexes in the order in which they are taken, and the room; and of a direct arena's
 //! `DirectContent`. What a call leaves is said once, in the trait: by a record of `specs/Changes.antt` for any arena
@@ -25,14 +39,17 @@
 mod advancer;
 mod arena;
 mod arena_trait;
+mod capacity_drain;
 mod copy;
 mod direct;
 mod direct_insert_trait;
 mod direct_slot;
 mod disjointable_trait;
+mod drain;
 mod insert_trait;
 mod iterators;
 pub mod laws;
+mod part;
 mod slot;
 mod slots;
 mod stack_room;
@@ -41,33 +58,49 @@ mod transfer;
 /// The advancers of the arenas, and the iterators of `Arena`.
 pub mod arena_iterators {
     pub use crate::advancer::PtrAdvancer;
-    pub use crate::arena::{CapacityDrain, Drain};
-    use crate::{ArenaSlot, iterators};
+    use crate::{Arena, ArenaSlot, Whole, capacity_drain, drain, iterators};
+
+    /// The entries of an arena, each taken out.
+    pub type Drain<'a, P, T, S> = drain::Drain<'a, P, T, Arena<P, T, S>>;
+
+    /// The entries of an arena, by value.
+    pub type CapacityDrain<P, T, S> = capacity_drain::CapacityDrain<P, T, Arena<P, T, S>>;
 
     /// The pointers and the values of an arena.
-    pub type Iter<'a, P, T> = iterators::Iter<'a, P, T, ArenaSlot<P, T>>;
+    pub type Iter<'a, P, T> = PartIter<'a, P, T, T, Whole>;
 
     /// The pointers of an arena.
     pub type Ptrs<'a, P, T> = iterators::Ptrs<'a, P, T, ArenaSlot<P, T>>;
 
     /// The values of an arena.
-    pub type Vals<'a, P, T> = iterators::Vals<'a, P, T, ArenaSlot<P, T>>;
+    pub type Vals<'a, P, T> = PartVals<'a, P, T, T, Whole>;
+
+    /// The pointers of an arena, and of each value `V` the part `T` that `M` shows.
+    pub type PartIter<'a, P, V, T, M> = iterators::Iter<'a, P, V, T, ArenaSlot<P, V>, M>;
+
+    /// Of each value `V` of an arena the part `T` that `M` shows.
+    pub type PartVals<'a, P, V, T, M> = iterators::Vals<'a, P, V, T, ArenaSlot<P, V>, M>;
 }
 
 /// The advancer and the iterators of `DirectArena`.
 pub mod direct_iterators {
     pub use crate::advancer::PtrAdvancer;
-    pub use crate::direct::{CapacityDrain, Drain};
-    use crate::{DirectSlot, iterators};
+    use crate::{DirectArena, DirectSlot, Whole, capacity_drain, drain, iterators};
+
+    /// The entries of a direct arena, each taken out.
+    pub type Drain<'a, P, T, S> = drain::Drain<'a, P, T, DirectArena<P, T, S>>;
+
+    /// The entries of a direct arena, by value.
+    pub type CapacityDrain<P, T, S> = capacity_drain::CapacityDrain<P, T, DirectArena<P, T, S>>;
 
     /// The pointers and the values of a direct arena.
-    pub type Iter<'a, P, T> = iterators::Iter<'a, P, T, DirectSlot<P, T>>;
+    pub type Iter<'a, P, T> = iterators::Iter<'a, P, T, T, DirectSlot<P, T>, Whole>;
 
     /// The pointers of a direct arena.
     pub type Ptrs<'a, P, T> = iterators::Ptrs<'a, P, T, DirectSlot<P, T>>;
 
     /// The values of a direct arena.
-    pub type Vals<'a, P, T> = iterators::Vals<'a, P, T, DirectSlot<P, T>>;
+    pub type Vals<'a, P, T> = iterators::Vals<'a, P, T, T, DirectSlot<P, T>, Whole>;
 }
 
 pub use arena::{
@@ -75,6 +108,7 @@ pub use arena::{
     HeapArena, LimitedArena, compress_recaster,
 };
 pub use arena_trait::{ArenaTrait, CompactArenaTrait};
+pub use capacity_drain::CapacityDrain;
 pub use copy::{ArenaCloneFromWith, ArenaCloneSource};
 pub use direct::{
     ArenaDirectInsertEntry, ArrayDirectArena, BoxedDirectArena, DirectArena, HeapDirectArena,
@@ -83,7 +117,9 @@ pub use direct::{
 pub use direct_insert_trait::{ArenaDirectInsertEntryTrait, ArenaDirectInsertTrait};
 pub use direct_slot::DirectSlot;
 pub use disjointable_trait::DisjointableArenaTrait;
+pub use drain::Drain;
 pub use insert_trait::ArenaInsertTrait;
+pub use part::{Part, Whole};
 pub use slot::ArenaSlot;
 pub use slots::{ArenaSlots, DirectSlots};
 pub use transfer::{ArenaTransferSource, ArenaTransferTrait};

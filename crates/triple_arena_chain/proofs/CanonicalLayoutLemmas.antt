@@ -17,7 +17,8 @@ use Rattle.triple_arena_chain.proofs.PassLemmas.{live_ends}
 use Rattle.triple_arena_chain.proofs.RenamingLemmas.{slot_at, live_below-first, live_below-same, live_below-live, live_below-none, listed-ranked}
 use Rattle.triple_arena_chain.proofs.RunLemmas.{run-on, run-within}
 use Rattle.triple_arena_chain.proofs.GatherLemmas.{some_moved}
-use Rattle.triple_arena_chain.proofs.GatheredLemmas.{renamed_after, laid_same}
+use Rattle.triple_arena_chain.specs.CanonicalLayoutLaws.{laid_same}
+use Rattle.triple_arena_chain.proofs.GatheredLemmas.{renamed_after}
 
 -- where all before an index are live it has its own number
 live_below_full : {A : Type 0} (at : ℕ → Option A) (i : ℕ) → at 0 ≡ None → ((j : ℕ) → 1 ≤ j → j < i → IsSome (at j)) → 1 ≤ i → live_below at i + 1 ≡ i

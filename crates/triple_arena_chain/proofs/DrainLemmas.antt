@@ -79,7 +79,16 @@ module _ {I T : Type 0} (number : I → ℕ) (last : Option ℕ) where
   pub nothing_left : (c : Content (IndexLink I T)) → IsRestDrained number last None c c
   nothing_left c walk is =
       subst (λ w. IsDrained number last w c c) (sym is)
-      (record { ends = λ k. refl; lists = chain_gone (ends_in number c) (ends_in number c) [] (λ k. refl); values = λ k. refl; live = omega arith; counter = refl; free = refl; slots = refl; room = refl })
+      (record {
+        ends = λ k. refl;
+        lists = chain_gone (ends_in number c) (ends_in number c) [] (λ k. refl);
+        values = λ k. refl;
+        live = omega arith;
+        counter = refl;
+        free = refl;
+        slots = refl;
+        room = refl;
+      })
 
   -- what is left of a walk whose first link was taken out
   pub record Advanced (i : ℕ) (next : Option ℕ) (c d : Content (IndexLink I T)) : Type 0 where

@@ -223,7 +223,8 @@ module _ (e : ℕ → Option Ends) (agreed : IsAgreed e) where
               elim (leb_tells q first) [
                 | inl low ↦ let more = o.closed.back p q goes low.1 in omega (arith, more, at)
                 | inr high ↦
-                    let on : On (members c) p = holds_prev e c q p chain (subst (λ l. On l q) (sym is) (run-on (first + 1) (o.count + 1) q (omega (arith, high.1)) (omega (arith, within, at)))) (agreed.forward p q goes) in
+                    let on : On (members c) p = holds_prev e c q p chain (subst (λ l. On l q) (sym is)
+                    (run-on (first + 1) (o.count + 1) q (omega (arith, high.1)) (omega (arith, within, at)))) (agreed.forward p q goes) in
                     let inside = run-within (first + 1) (o.count + 1) p (subst (λ l. On l p) is on) in
                     omega (arith, inside.1, at)
               ];

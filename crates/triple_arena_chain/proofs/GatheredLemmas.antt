@@ -1,4 +1,5 @@
 -- Chains that are brought to successive indexes, one after another.
+use mathlib.Core.List.{map-map}
 use Rattle.std.proofs.Common.{◌≡◌, ◌≢◌, ℕ, zero, suc, ◌+◌, ◌-◌, ◌<◌, ◌≤◌, List, [], ◌∷◌, ◌++◌, length, map, Option, Some, None, IsSome, is_some, option_map, true≢false, refl, sym, ap, subst, ◌∙◌, arith, inl, inr, ◌⊎◌, append_assoc}
 use Rattle.std.specs.Prelude.{count_by, cond, slice_index_or}
 use Rattle.std.specs.List.{range_with_len}
@@ -9,10 +10,11 @@ use Rattle.triple_arena.specs.Content.{Content, IsWellFormed}
 use Rattle.triple_arena_chain.specs.LinkLaws.{kept_on}
 use Rattle.triple_arena_chain.specs.declared.link.IndexLink.{IndexLink}
 use Rattle.triple_arena_chain.specs.Chains.{Ends, next_in, next_at, IsAgreed, first_or, On, Apart}
-use Rattle.triple_arena_chain.specs.ListLaws.{On-first, On-front, On-back, live_next_in, live_prev_in, chain_where}
+use Rattle.triple_arena_chain.specs.ListLaws.{On-first, On-front, On-back, live_next_in, live_prev_in}
 use Rattle.triple_arena_chain.specs.Lists.{Chain, Linear, Cyclic, members, all_members, IsChainOf, IsWritten, AreAllChainsOf}
 use Rattle.triple_arena_chain.specs.Links.{values_in, ends_in, IsChained}
 use Rattle.triple_arena_chain.specs.Renaming.{renamed, ends_renamed, FollowsRenaming}
+use Rattle.triple_arena_chain.specs.CanonicalLayoutLaws.{laid_same}
 use Rattle.triple_arena_chain.specs.CanonicalLayout.{IsLaidOut, IsHead, IsClosed, IsMoved, IsGathered, IsAllGathered, swapped_index}
 use Rattle.triple_arena_chain.proofs.PassLemmas.{live_ends}
 use Rattle.triple_arena_chain.proofs.WalkLemmas.{bounded}
@@ -28,18 +30,14 @@ swapped_self i k =
       | inr other ↦ rw other.0 refl
     ]
 
-map_twice : (f g : ℕ → ℕ) (xs : List ℕ) → map f (map g xs) ≡ map (λ x. f (g x)) xs
-map_twice f g [] = refl
-map_twice f g (x ∷ xs) = ap (λ l. f (g x) ∷ l) (map_twice f g xs)
-
 map_fixed : (f : ℕ → ℕ) (xs : List ℕ) → ((k : ℕ) → On xs k → f k ≡ k) → map f xs ≡ xs
 map_fixed f [] fixed = refl
 map_fixed f (x ∷ xs) fixed =
     ap (λ y. y ∷ map f xs) (fixed x (On-first x xs)) ∙ ap (λ l. x ∷ l) (map_fixed f xs (λ k on. fixed k (On-back (x ∷ []) xs k on)))
 
 renamed_twice : (f g : ℕ → ℕ) (c : Chain) → renamed f (renamed g c) ≡ renamed (λ x. f (g x)) c
-renamed_twice f g (Linear xs) = ap Linear (map_twice f g xs)
-renamed_twice f g (Cyclic xs) = ap Cyclic (map_twice f g xs)
+renamed_twice f g (Linear xs) = ap Linear (map-map f g xs)
+renamed_twice f g (Cyclic xs) = ap Cyclic (map-map f g xs)
 
 renamed_fixed : (f : ℕ → ℕ) (c : Chain) → ((k : ℕ) → On (members c) k → f k ≡ k) → renamed f c ≡ c
 renamed_fixed f (Linear xs) fixed = ap Linear (map_fixed f xs fixed)
@@ -81,23 +79,6 @@ renamed_after f g a b c r s =
           (m.0, m.1, ap f m.2 ∙ n.2);
       lists = λ d chain. subst (IsChainOf c) (renamed_twice f g d) (s.lists (renamed g d) (r.lists d chain));
     }
-
--- interlinks that are the same have the same layout
-pub laid_same : (e e' : ℕ → Option Ends) (n : ℕ) → ((i : ℕ) → e' i ≡ e i) → IsLaidOut e n → IsLaidOut e' n
-laid_same e e' n same laid =
-    record {
-      chains = laid.chains;
-      are = record {
-        chains = all laid.chains laid.are.chains;
-        once = laid.are.once;
-        whole = λ i some. laid.are.whole i (ap is_some (sym (same i)) ∙ some);
-      };
-      runs = laid.runs;
-    }
-  where
-    all : (cs : List Chain) → AreAllChainsOf e cs → AreAllChainsOf e' cs
-    all [] are = tt
-    all (c ∷ cs) are = ((chain_where e e' c (λ k on. same k) are.0.0, are.0.1), all cs are.1)
 
 swap_fixes : (i j low k : ℕ) → low < i → low < j → k ≤ low → swapped_index i j k ≡ k
 swap_fixes i j low k above_i above_j within = swap_other i j k (λ same. omega (arith, same, within, above_i)) (λ same. omega (arith, same, within, above_j))

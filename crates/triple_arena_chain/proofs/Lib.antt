@@ -26,11 +26,11 @@ pub mod MappingLemmas
 pub mod RenamingLemmas
 pub mod PassLemmas
 pub mod CompactingLemmas
-pub mod IndexDrainLemmas
 pub mod LinkCopyLemmas
 pub mod SwapLemmas
 pub mod SwappedLinkLemmas
 pub mod RunLemmas
+pub mod RunLawLemmas
 pub mod GatherLemmas
 pub mod ChainStartLemmas
 pub mod GatheredLemmas

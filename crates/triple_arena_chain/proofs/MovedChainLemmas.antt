@@ -89,7 +89,9 @@ module _ (e : ℕ → Option Ends) where
       let all = all_append done c in
       record {
         chains = are_append e done c d.chains h.is_chain h.written;
-        once = subst Apart (sym all) (Apart-append (all_members done) (members c) d.once h.apart (λ i on. off_or_not (members c) i (λ there. on_differs (all_members done) i i on (h.fresh i there) refl)));
+        once =
+            subst Apart (sym all) (Apart-append (all_members done) (members c) d.once h.apart
+            (λ i on. off_or_not (members c) i (λ there. on_differs (all_members done) i i on (h.fresh i there) refl)));
         below = λ i less some.
             subst (λ l. On l i) (sym all)
             (elim (eqb_tells i k) [

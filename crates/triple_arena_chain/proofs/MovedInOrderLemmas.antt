@@ -165,17 +165,21 @@ module _ {Q U P T J I F : Type 0} (old_index old_generation : Q → ℕ) (index 
   pub moved_in_order : IsMovedInOrder old_index old_generation index generation old_number number step f last old into
   moved_in_order =
       record {
-        chains = m.done;
-        in_order = record {
-          are = record { chains = m.are.chains; once = m.are.once; whole = whole };
-          rising = rising_of low m.done m.are.rising;
+        order = links_along (values_in old) (all_members m.done);
+        laid = record {
+          chains = m.done;
+          in_order = record {
+            are = record { chains = m.are.chains; once = m.are.once; whole = whole };
+            rising = rising_of low m.done m.are.rising;
+          };
+          along = refl;
+          to = place_in (all_members m.done);
+          runs = places_run (all_members m.done) m.are.once ∙ ap (range_with_len 1) count;
+          renamed = follows;
+          slots = m.moved.placed.slots ∙ count;
+          free = m.moved.placed.free;
         };
         moved = transferred;
-        to = place_in (all_members m.done);
-        runs = places_run (all_members m.done) m.are.once ∙ ap (range_with_len 1) count;
-        renamed = follows;
-        slots = m.moved.placed.slots ∙ count;
-        free = m.moved.placed.free;
       }
 
   pub moved_chained : IsChained number into

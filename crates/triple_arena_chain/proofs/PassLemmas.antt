@@ -347,7 +347,8 @@ module _ {I T : Type 0} (number : I → ℕ) (old : Content (IndexLink I T)) whe
         record {
           nexts = λ k.
               elim (eqb_tells k (number y)) [
-                | inl same ↦ subst (λ n. next_at (ends_in number new) n ≡ next_at (ends_in number c) n) (sym same.1) (ap next_in written ∙ next_reprev number old (Some (number x)) (ends_in number c (number y)))
+                | inl same ↦ subst (λ n. next_at (ends_in number new) n ≡ next_at (ends_in number c) n) (sym same.1)
+                    (ap next_in written ∙ next_reprev number old (Some (number x)) (ends_in number c (number y)))
                 | inr other ↦ ap next_in (unwritten k other.1)
               ] ∙ j.nexts k;
           joined = λ p q below out.

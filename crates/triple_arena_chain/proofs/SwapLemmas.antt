@@ -184,7 +184,15 @@ module _ (e : ℕ → Option Ends) (agreed : IsAgreed e) (i j : ℕ) (u v : Ends
       let to_j : prev_at e k ≢ Some j = λ h. not_v (ap (option_map by_name) (sym (ap next_in at_j) ∙ agreed.backward j k h) ∙ ap Some is) in
       ap (prev_at e) is ∙ sym (prev_r k ∙ ap (λ x. option_map by_name (prev_at e x)) is ∙ other_option (prev_at e k) to_i to_j)
 
-  pub moved : (f0 f1 f2 f3 f4 f5 f6 f7 f8 : ℕ → Option Ends) → ((k : ℕ) → f0 k ≡ e (swapped_index i j k)) → ((k : ℕ) → f1 k ≡ with_next_if f0 (Some i) (option_map (swapped_index i j) v.1) k) → ((k : ℕ) → f2 k ≡ with_next_if f1 (Some j) (option_map (swapped_index i j) u.1) k) → ((k : ℕ) → f3 k ≡ with_next_if f2 (option_map (swapped_index i j) v.0) (Some i) k) → ((k : ℕ) → f4 k ≡ with_next_if f3 (option_map (swapped_index i j) u.0) (Some j) k) → ((k : ℕ) → f5 k ≡ with_prev_if f4 (Some i) (option_map (swapped_index i j) v.0) k) → ((k : ℕ) → f6 k ≡ with_prev_if f5 (Some j) (option_map (swapped_index i j) u.0) k) → ((k : ℕ) → f7 k ≡ with_prev_if f6 (option_map (swapped_index i j) v.1) (Some i) k) → ((k : ℕ) → f8 k ≡ with_prev_if f7 (option_map (swapped_index i j) u.1) (Some j) k) → (k : ℕ) → f8 k ≡ under (swapped_index i j) e k
+  pub moved : (f0 f1 f2 f3 f4 f5 f6 f7 f8 : ℕ → Option Ends) → ((k : ℕ) → f0 k ≡ e (swapped_index i j k))
+      → ((k : ℕ) → f1 k ≡ with_next_if f0 (Some i) (option_map (swapped_index i j) v.1) k)
+      → ((k : ℕ) → f2 k ≡ with_next_if f1 (Some j) (option_map (swapped_index i j) u.1) k)
+      → ((k : ℕ) → f3 k ≡ with_next_if f2 (option_map (swapped_index i j) v.0) (Some i) k)
+      → ((k : ℕ) → f4 k ≡ with_next_if f3 (option_map (swapped_index i j) u.0) (Some j) k)
+      → ((k : ℕ) → f5 k ≡ with_prev_if f4 (Some i) (option_map (swapped_index i j) v.0) k)
+      → ((k : ℕ) → f6 k ≡ with_prev_if f5 (Some j) (option_map (swapped_index i j) u.0) k)
+      → ((k : ℕ) → f7 k ≡ with_prev_if f6 (option_map (swapped_index i j) v.1) (Some i) k)
+      → ((k : ℕ) → f8 k ≡ with_prev_if f7 (option_map (swapped_index i j) u.1) (Some j) k) → (k : ℕ) → f8 k ≡ under (swapped_index i j) e k
   moved f0 f1 f2 f3 f4 f5 f6 f7 f8 w0 w1 w2 w3 w4 w5 w6 w7 w8 k = by (e (swapped_index i j k)) refl
     where
       s0 : is_some (f0 k) ≡ is_some (e (swapped_index i j k))

@@ -1,7 +1,6 @@
 -- The order of the chains in a canonical transfer is one alone, and a linear chain of all links is moved as it is.
 use Rattle.std.proofs.Common.{◌≡◌, ℕ, List, [], ◌∷◌, ◌++◌, map, Option, Some, None, IsSome, refl, sym, ap, subst, ◌∙◌, arith, inl, inr, append-nil}
 use Rattle.std.specs.List.{range_with_len}
-use Rattle.triple_arena_ptr.specs.declared.invalidation.InvalidationOption.{InvalidationOption}
 use Rattle.triple_arena.specs.Content.{Content, live_count}
 use Rattle.triple_arena_chain.specs.declared.link.IndexLink.{IndexLink}
 use Rattle.triple_arena_chain.specs.Chains.{Ends, last_or, On, Apart, IsLinear, IsRing}
@@ -11,7 +10,7 @@ use Rattle.triple_arena_chain.specs.UniquenessLaws.{same_around}
 use Rattle.triple_arena_chain.specs.ListLaws.{On-first, On-front, On-back, On-either, Apart-back, on_differs, linear_same, ring_or_linear, ring_same, live_in}
 use Rattle.triple_arena_chain.specs.Lists.{Chain, Linear, Cyclic, members, all_members, IsChainOf, IsWritten, AreAllChainsOf, AreChains}
 use Rattle.triple_arena_chain.specs.Links.{ends_in}
-use Rattle.triple_arena_chain.specs.CanonicalTransfer.{AreRising, AreInOrder, IsMovedInOrder}
+use Rattle.triple_arena_chain.specs.CanonicalTransfer.{AreRising, AreInOrder, IsMovedAlong}
 
 -- a chain as it is written has an index
 member_of : (c : Chain) → IsWritten c → (k : ℕ) × On (members c) k
@@ -109,15 +108,17 @@ module _ (e : ℕ → Option Ends) where
           let here = subst (λ l. On l m.0) (sym first) (shared d chains.1.0.0 m.0 m.1) in
           absurd (Apart-both (members c) (members d ++ all_members ds) m.0 once here (On-front (members d) (all_members ds) m.0 m.1))
 
-module _ {Q U P T J I F : Type 0} (old_index old_generation : Q → ℕ) (index generation : P → ℕ) (old_number : J → ℕ) (number : I → ℕ)
-    (step : F → Q → InvalidationOption U → P → T → F → Type 0) (f : F) (last : Option ℕ) (old : Content (IndexLink J U)) (new : Content (IndexLink I T))
-    (w : List ℕ) (linear : IsLinear (ends_in old_number old) w) (whole : (i : ℕ) → IsSome (ends_in old_number old i) → On w i) where
+module _ {J I U T : Type 0} (old_number : J → ℕ) (number : I → ℕ) (order : List (ℕ × (ℕ × U))) (old : Content (IndexLink J U)) (new : Content (IndexLink I T))
+    (w : List ℕ) (linear : IsLinear (ends_in old_number old) w) (whole : (i : ℕ) → IsSome (ends_in old_number old i) → On w i)
+    (m : IsMovedAlong old_number number order old new) where
   -- where all links stand in one linear chain, they are moved in its order
-  pub linear_order : (m : IsMovedInOrder old_index old_generation index generation old_number number step f last old new) → all_members m.chains ≡ w
-  linear_order m = linear_in_order (ends_in old_number old) w m.chains m.in_order.are linear whole
+  pub linear_order : all_members m.chains ≡ w
+  linear_order = linear_in_order (ends_in old_number old) w m.chains m.in_order.are linear whole
 
-  -- and the new chain is the indexes from 1 on
-  pub linear_moved : IsMovedInOrder old_index old_generation index generation old_number number step f last old new
-      → IsLinear (ends_in number new) (range_with_len 1 (live_count old))
-  linear_moved m =
-      subst (IsLinear (ends_in number new)) (sym (ap (map m.to) (linear_order m)) ∙ m.runs) (m.renamed.lists (Linear w) linear)
+  -- each goes to the next index, from 1 on
+  pub linear_run : map m.to w ≡ range_with_len 1 (live_count old)
+  linear_run = sym (ap (map m.to) linear_order) ∙ m.runs
+
+  -- and the new chain is those indexes
+  pub linear_moved : IsLinear (ends_in number new) (range_with_len 1 (live_count old))
+  linear_moved = subst (IsLinear (ends_in number new)) linear_run (m.renamed.lists (Linear w) linear)

@@ -78,7 +78,8 @@ module _ {P I T : Type 0} (index generation : P → ℕ) (number : I → ℕ) wh
 
   at_place : (c d : Content (IndexLink I T)) (i g : ℕ) (t : T) (o : Option (Place ℕ)) (place : Place ℕ) → o ≡ Some place
       → IfSome o (λ place. IsPlaced number place i g t c d) → IsPlaced number place i g t c d
-  at_place c d i g t o place is placed = let there : IfSome (Some place) (λ place. IsPlaced number place i g t c d) = subst (λ x. IfSome x (λ place. IsPlaced number place i g t c d)) is placed in there
+  at_place c d i g t o place is placed =
+      let there : IfSome (Some place) (λ place. IsPlaced number place i g t c d) = subst (λ x. IfSome x (λ place. IsPlaced number place i g t c d)) is placed in there
 
   -- a link for itself
   pub put-disconnected : (c d : Content (IndexLink I T)) (i g : ℕ) (t : T) → IsSome (place_among index generation number c Disconnected)
@@ -99,28 +100,33 @@ module _ {P I T : Type 0} (index generation : P → ℕ) (number : I → ℕ) wh
       → IfSome (place_among index generation number c (ChainEnd p)) (λ place. IsPlaced number place i g t c d)
       → IsPutIn (Some (index p), None) i (ends_in number c) (ends_in number d)
   put-chain_end c d p i g t there placed =
-      (at_place c d i g t (at_end (index p) (ends_found number c (index p) (generation p))) (Between (Some (index p)) None) (end_place (index p) (ends_found number c (index p) (generation p)) there) placed).lists
+      (at_place c d i g t (at_end (index p) (ends_found number c (index p) (generation p))) (Between (Some (index p)) None)
+      (end_place (index p) (ends_found number c (index p) (generation p)) there) placed).lists
 
   -- in front of its start
   pub put-chain_start : (c d : Content (IndexLink I T)) (p : P) (i g : ℕ) (t : T) → IsSome (place_among index generation number c (ChainStart p))
       → IfSome (place_among index generation number c (ChainStart p)) (λ place. IsPlaced number place i g t c d)
       → IsPutIn (None, Some (index p)) i (ends_in number c) (ends_in number d)
   put-chain_start c d p i g t there placed =
-      (at_place c d i g t (at_start (index p) (ends_found number c (index p) (generation p))) (Between None (Some (index p))) (start_place (index p) (ends_found number c (index p) (generation p)) there) placed).lists
+      (at_place c d i g t (at_start (index p) (ends_found number c (index p) (generation p))) (Between None (Some (index p)))
+      (start_place (index p) (ends_found number c (index p) (generation p)) there) placed).lists
 
   -- between a link and its next
   pub put-at_interlink : (c d : Content (IndexLink I T)) (p q : P) (i g : ℕ) (t : T) → IsSome (place_among index generation number c (AtInterlink p q))
       → IfSome (place_among index generation number c (AtInterlink p q)) (λ place. IsPlaced number place i g t c d)
       → IsPutIn (Some (index p), Some (index q)) i (ends_in number c) (ends_in number d)
   put-at_interlink c d p q i g t there placed =
-      (at_place c d i g t (at_interlink (index p) (index q) (ends_found number c (index p) (generation p)) (ends_found number c (index q) (generation q))) (Between (Some (index p)) (Some (index q))) (interlink_place (index p) (index q) (ends_found number c (index p) (generation p)) (ends_found number c (index q) (generation q)) there) placed).lists
+      (at_place c d i g t (at_interlink (index p) (index q) (ends_found number c (index p) (generation p)) (ends_found number c (index q) (generation q)))
+      (Between (Some (index p)) (Some (index q))) (interlink_place (index p) (index q) (ends_found number c (index p) (generation p)) (ends_found number c (index q) (generation q)) there)
+      placed).lists
 
   -- between an end and a start
   pub put-bridge : (c d : Content (IndexLink I T)) (p q : P) (i g : ℕ) (t : T) → IsSome (place_among index generation number c (Bridge p q))
       → IfSome (place_among index generation number c (Bridge p q)) (λ place. IsPlaced number place i g t c d)
       → IsPutIn (Some (index p), Some (index q)) i (ends_in number c) (ends_in number d)
   put-bridge c d p q i g t there placed =
-      (at_place c d i g t (at_bridge (index p) (index q) (ends_found number c (index p) (generation p)) (ends_found number c (index q) (generation q))) (Between (Some (index p)) (Some (index q))) (bridge_place (index p) (index q) (ends_found number c (index p) (generation p)) (ends_found number c (index q) (generation q)) there) placed).lists
+      (at_place c d i g t (at_bridge (index p) (index q) (ends_found number c (index p) (generation p)) (ends_found number c (index q) (generation q)))
+      (Between (Some (index p)) (Some (index q))) (bridge_place (index p) (index q) (ends_found number c (index p) (generation p)) (ends_found number c (index q) (generation q)) there) placed).lists
 
   -- directly before a link
   pub put-prev_to : (c d : Content (IndexLink I T)) (p : P) (i g : ℕ) (t : T) → IsSome (place_among index generation number c (PrevTo p))

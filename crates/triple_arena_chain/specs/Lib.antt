@@ -21,10 +21,12 @@ pub mod Listed
 pub mod ListedLaws
 pub mod Renaming
 pub mod CanonicalLayout
+pub mod Runs
 pub mod CanonicalTransfer
 pub mod CanonicalTransferLaws
+pub mod CanonicalLayoutLaws
 pub mod LinkCopies
 pub mod LinkRecasting
 pub mod SameLinksLaws
 pub mod LinkText
-pub mod IndexDrains
+pub mod EmptiedLaws

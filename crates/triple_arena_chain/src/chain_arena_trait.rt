@@ -224,8 +224,8 @@ pub trait ChainArenaTrait<P: PtrCore, T: Drop>: ArenaTrait<P, T> {
     ghost links_with_value: { (s : Self) (i : ℕ) (t : T)
         → links (Self.with_value s i t) ≡ with_value_in (links s) i t };
 
-    ghost links_removed: { (s : Self) (i : ℕ)
-        → links (Self.removed s i) ≡ link_removed P.Inx.number P.Gen.last (links s) i };
+    ghost links_removed: { (s : Self) (i : ℕ) (new : Self) → Self.is_removed s i new
+        → links new ≡ link_removed P.Inx.number P.Gen.last (links s) i };
 
     ghost links_invalidated: { (s : Self) (i : ℕ)
         → links (Self.invalidated s i) ≡ invalidated P.Gen.last (links s) i };

@@ -7,6 +7,7 @@ ghost use Rattle.triple_arena_chain.specs.declared.kind.InsertKind.TheVariants.{
 ghost use Rattle.triple_arena_chain.specs.declared.link.IndexLink.{IndexLink};
 ghost use Rattle.triple_arena_chain.specs.Chains.{Ends, next_in, next_at, linked, unlinked, exchanged, IsLinear, IsRing, On, Apart};
 ghost use Rattle.triple_arena_chain.specs.Lists.{Chain, members, IsChainOf, AreChains};
+ghost use Rattle.triple_arena_chain.specs.Runs.{IsRunFrom};
 ghost use Rattle.triple_arena_chain.specs.Walks.{IsWalkFrom};
 ghost use Rattle.triple_arena_chain.specs.Links.{ends_in, ends_found, values_in, place_among, IsChained, IsPlaced, IsTakenOut, IsRelinked};
 ghost use Rattle.triple_arena_chain.specs.UniquenessLaws.{IsInOneChain};
@@ -141,4 +142,12 @@ pub fn compress_canonical_stays<P: PtrCore, T>()
         → IsCanonical P.Inx.number P.Gen.last reset before between
         → (second : IsCanonical P.Inx.number P.Gen.last again between after)
         → (i : ℕ) → IsSome (ends_in P.Inx.number between i) → second.to i ≡ i }
+{}
+
+/// `compress_canonical` leaves each list at successive indexes, in its order and with its values.
+pub fn compress_canonical_makes_runs<P: PtrCore, T>()
+    ensures { (before after : Content (IndexLink P.Inx T)) (reset : Bool) (list : List ℕ)
+        → IsCanonical P.Inx.number P.Gen.last reset before after
+        → IsLinear (ends_in P.Inx.number before) list
+        → (first : ℕ) × IsRunFrom P.Inx.number first list before after }
 {}

@@ -1,6 +1,7 @@
 //! A link of a chain.
 ghost use Rattle.std.specs.Prelude.{◌≡◌};
 
+use triple_arena::Part;
 use triple_arena_ptr::{PtrCore, PtrInxCore};
 
 /// A value with the indexes, of the type `I`, of the links before and after it.
@@ -48,5 +49,16 @@ impl<I: PtrInxCore, T> IndexLink<I, T> {
         ensures { result ≡ (self.now.prev, self.now.next) }
     {
         (self.prev, self.next)
+    }
+}
+
+/// The marker of the value of a link.
+pub struct LinkValue;
+
+impl<I: PtrInxCore, T> Part<IndexLink<I, T>, T> for LinkValue {
+    ghost part = { λ link. link.t };
+
+    fn part_of(link: &IndexLink<I, T>) -> &T {
+        &link.t
     }
 }

@@ -133,7 +133,8 @@ module _ {I K T : Type 0} (number : I → ℕ) (cmp : K → K → Ordering) (key
       pub checking_fails : cmp (key link.t.t) (key next.t.t) ≡ Greater → Ascends w → ⊥
       checking_fails more a =
           let g = goes i on in
-          let low = first below (k.cur, (k.here.stamp, link.t.t)) (i, (s.stamp, next.t.t)) (rows g.rest) (subst (λ l. IsSorted below l) (both g.rest) (subst (λ l. Ascends (k.cur ∷ l)) g.is (k.down a))) in
+          let low = first below (k.cur, (k.here.stamp, link.t.t)) (i, (s.stamp, next.t.t)) (rows g.rest)
+          (subst (λ l. IsSorted below l) (both g.rest) (subst (λ l. Ascends (k.cur ∷ l)) g.is (k.down a))) in
           let high : is_lt (cmp (key next.t.t) (key link.t.t)) ≡ true = ap is_lt (total.antisymm (key next.t.t) (key link.t.t) ∙ ap ordering_reverse more) in
           absurd (cc)
 

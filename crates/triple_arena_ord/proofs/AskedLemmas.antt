@@ -15,7 +15,7 @@ use Rattle.rank_tree.specs.Store.{Store, rank_or_link, rank_or_zero}
 use Rattle.rank_tree.specs.Tree.{Tree, leaf, node, walk, rank_of, IsRanked}
 use Rattle.rank_tree.specs.Shape.{knot, root_of, Represents}
 use Rattle.rank_tree.specs.Whole.{IsWhole, tree_of}
-use Rattle.rank_tree.proofs.Spots.{rank_link}
+use Rattle.rank_tree.specs.SpotLaws.{rank_link}
 use Rattle.triple_arena_ord.specs.Asked.{IsWay, Question, IsAsked}
 use Rattle.triple_arena_ord.specs.Node.{knots_among, items_among}
 

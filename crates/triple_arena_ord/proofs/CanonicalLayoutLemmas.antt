@@ -73,7 +73,9 @@ module _ {I T : Type 0} (number : I → ℕ) (last : Option ℕ) (reset : Bool) 
     pub ordered : IsOrdered number new
     pub laid : IsLaidInOrder number last reset o new
 
-  renewed_item : (g : ℕ) (x : Option (ℕ × IndexNode I T)) → option_map itemed (option_map (λ (e : ℕ × IndexNode I T). (let y : ℕ × IndexNode I T = (g, e.1) in y)) x) ≡ option_map (λ (e : ℕ × T). (let y : ℕ × T = (g, e.1) in y)) (option_map itemed x)
+  renewed_item : (g : ℕ) (x : Option (ℕ × IndexNode I T))
+      → option_map itemed (option_map (λ (e : ℕ × IndexNode I T). (let y : ℕ × IndexNode I T = (g, e.1) in y)) x)
+      ≡ option_map (λ (e : ℕ × T). (let y : ℕ × T = (g, e.1) in y)) (option_map itemed x)
   renewed_item g None = refl
   renewed_item g (Some e) = refl
 

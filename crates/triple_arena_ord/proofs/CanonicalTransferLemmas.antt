@@ -8,19 +8,19 @@ use Rattle.triple_arena_stack.specs.Room.{Room}
 use Rattle.triple_arena.specs.Compression.{entry_of_listed, generation_of}
 use Rattle.triple_arena.specs.Content.{Content, live_count, some_counter}
 use Rattle.triple_arena.specs.Transfer.{IsTransferred, IsFilled}
-use Rattle.triple_arena_chain.specs.CanonicalTransferLaws.{linear_in_order}
+use Rattle.triple_arena_chain.specs.CanonicalTransfer.{IsMovedAlong}
+use Rattle.triple_arena_chain.specs.CanonicalTransferLaws.{linear_order, linear_run, linear_moved}
 use Rattle.triple_arena_chain.specs.declared.link.IndexLink.{IndexLink}
 use Rattle.triple_arena_chain.specs.Chains.{On, IsLinear}
 use Rattle.triple_arena_chain.specs.IterChains.{links_along}
 use Rattle.triple_arena_chain.specs.Links.{ends_in, values_in}
 use Rattle.triple_arena_chain.specs.Listed.{listed_values}
-use Rattle.triple_arena_chain.specs.Lists.{Linear, all_members}
+use Rattle.triple_arena_chain.specs.Lists.{all_members}
 use Rattle.triple_arena_chain.specs.Values.{room_in as chain_room}
 use Rattle.rank_tree.specs.Halving.{IsHalvingOf}
 use Rattle.triple_arena_ord.specs.CanonicalTransfer.{IsTransferredInOrder}
 use Rattle.triple_arena_ord.specs.declared.node.IndexNode.{IndexNode}
 use Rattle.triple_arena_ord.specs.Indexed.{listed_item, indexed}
-use Rattle.triple_arena_ord.specs.LinkMoves.{IsMovedAlong}
 use Rattle.triple_arena_ord.specs.Node.{knots_in, itemed, rest}
 use Rattle.triple_arena_ord.specs.Ordered.{Ordered, IsOrdered, entry_in, size_in, counter_in, room_in, tree_in, order_in, ordered_entries}
 use Rattle.triple_arena_ord.specs.Rebuilt.{IsRebuilt}
@@ -34,27 +34,23 @@ use Rattle.std.proofs.lemmas.Option.{slice_get-map}
 module _ {J I U T : Type 0} (old_number : J → ℕ) (number : I → ℕ) (o : Ordered J U) (is : IsOrdered old_number o)
     (mid : Content (IndexLink I (IndexNode I T))) (nodes : List (ℕ × (ℕ × IndexNode J U))) (m : IsMovedAlong old_number number nodes o.chains mid)
     (live : live_count mid ≡ size_in o) where
-  members_are : all_members m.chains ≡ order_in old_number o
-  members_are = linear_in_order (ends_in old_number o.chains) (order_in old_number o) m.chains m.in_order.are is.linear (on_order old_number o is)
-
-  run_is : map m.to (order_in old_number o) ≡ range_with_len 1 (size_in o)
-  run_is = ap (map m.to) (sym members_are) ∙ m.runs
-
   -- the new list is the run of all indexes
   pub run_linear : IsLinear (ends_in number mid) (range_with_len 1 (size_in o))
-  run_linear = subst (IsLinear (ends_in number mid)) run_is (m.renamed.lists (Linear (order_in old_number o)) is.linear)
+  run_linear = linear_moved old_number number nodes o.chains mid (order_in old_number o) is.linear (on_order old_number o is) m
 
   pub run_long : length (range_with_len 1 (size_in o)) ≡ live_count mid
   run_long = length-range_with_len 1 (size_in o) ∙ sym live
 
   run_whole : (k : ℕ) → IsSome (ends_in number mid k) → On (range_with_len 1 (size_in o)) k
   run_whole k some =
-      subst (λ w. On w k) run_is
+      subst (λ w. On w k) (linear_run old_number number nodes o.chains mid (order_in old_number o) is.linear (on_order old_number o is) m)
       (on_renamed (ends_in old_number o.chains) (ends_in number mid) m.to (order_in old_number o) m.renamed (on_order old_number o is) k some)
 
   -- the nodes were taken along the list
   pub nodes_are : map listed_item nodes ≡ ordered_entries old_number o
-  nodes_are = ap (map listed_item) (m.along ∙ ap (links_along (values_in o.chains)) members_are) ∙ along_items (values_in o.chains) (order_in old_number o)
+  nodes_are =
+      let along = linear_order old_number number nodes o.chains mid (order_in old_number o) is.linear (on_order old_number o is) m in
+      ap (map listed_item) (m.along ∙ ap (links_along (values_in o.chains)) along) ∙ along_items (values_in o.chains) (order_in old_number o)
 
   module _ (g : ℕ) (room : Room) (before : Content (IndexLink I (IndexNode I T))) (old : Ordered I T)
       (f : IsFilled values_in live_count some_counter chain_room listed_values (size_in o) g room before mid) where

@@ -17,7 +17,8 @@ same_stamp e g h u at is = let z : Some g ≡ Some h = sym (ap (option_map (λ e
 module _ {I T : Type 0} (number : I → ℕ) where
   module _ {P : Type 0} (index generation : P → ℕ) (t : T) (o new : Ordered I T) (p q : P) (u : Option T) where
     -- the insertion answers the pointer that was told
-    pub inserted_told : (allows : Option OrdInsertionError → Type 0) (place there : Option (ℕ × Ordering)) (result : Result (P × Option T) OrdInsertionError) → result ≡ Ok (q, u) → IsSamePlace (order_in number o) there place → IsReadyAt place (index p) (generation p) o
+    pub inserted_told : (allows : Option OrdInsertionError → Type 0) (place there : Option (ℕ × Ordering)) (result : Result (P × Option T) OrdInsertionError)
+        → result ≡ Ok (q, u) → IsSamePlace (order_in number o) there place → IsReadyAt place (index p) (generation p) o
         → IsInsertedAt number index generation allows there t result o new → IsInsertedAt number index generation allows place t (Ok (p, u)) o new
     inserted_told allows place there result is same ready raw = by u refl
       where

@@ -13,7 +13,7 @@ use Rattle.triple_arena_ord.specs.Near.{IsStop}
 use Rattle.triple_arena_ord.specs.Asked.{Question, IsAsked, AnswersBy, answer_of, answer_at, found_by}
 use Rattle.triple_arena_ord.specs.Found.{IsFound, IsSimilar}
 use Rattle.triple_arena_ord.specs.Ordered.{Ordered, IsOrdered, tree_in, order_in, entry_in, size_in}
-use Rattle.rank_tree.proofs.Climbs.{size-walk}
+use Rattle.rank_tree.specs.ClimbLaws.{size-walk}
 use Rattle.triple_arena_ord.proofs.LiveLemmas.{entry_counted}
 use Rattle.triple_arena_ord.proofs.SeekLemmas.{all-counted, unequal}
 use Rattle.triple_arena_ord.proofs.WayLemmas.{walk-counted, way_answers}

@@ -21,7 +21,7 @@ use Rattle.rank_tree.specs.Search.{AllIn, Before, IsParted, IsAnswer}
 use Rattle.triple_arena_ord.specs.Ordered.{Ordered, IsOrdered, tree_in, order_in, asked_of, asked_at}
 use Rattle.triple_arena_ord.specs.Placing.{IsPlaceByKey}
 use Rattle.triple_arena_ord.specs.Inserted.{Replaces, StandsAt, IsRenewed, IsReplaced, IsInsertedAt, IsPlacedByKey, IsKeyInserted}
-use Rattle.rank_tree.proofs.Descents.{AllIn-append, AllIn-map, parted-after, parted-before}
+use Rattle.rank_tree.specs.DescentLaws.{AllIn-append, AllIn-map, parted-after, parted-before}
 use Rattle.triple_arena_ord.proofs.PlacingLemmas.{placed_by_key}
 use Rattle.triple_arena_ord.proofs.SeekLemmas.{parts_at, absent}
 use Rattle.triple_arena_ord.proofs.SameListLemmas.{Reordered, same_list}

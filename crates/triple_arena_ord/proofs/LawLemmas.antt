@@ -7,7 +7,7 @@ use Rattle.std.specs.declared.cmp.Ordering.TheVariants.{Less, Equal, Greater}
 use Rattle.triple_arena_chain.specs.Chains.{On}
 use Rattle.rank_tree.specs.Search.{AllIn, Before, IsParted}
 use Rattle.triple_arena_ord.specs.Ordered.{Ordered, IsOrdered, IsAscending, tree_in, order_in, entry_in, asked_of, asked_at}
-use Rattle.rank_tree.proofs.Descents.{before, after, AllIn-map, parted-after, parted-before, plug-walk_is}
+use Rattle.rank_tree.specs.DescentLaws.{before, after, AllIn-map, parted-after, parted-before, plug-walk_is}
 use Rattle.triple_arena_ord.proofs.LeafLemmas.{Located, located}
 use Rattle.triple_arena_ord.proofs.LiveLemmas.{entry_counted}
 use Rattle.triple_arena_ord.proofs.SeekLemmas.{parts_at}

@@ -20,10 +20,10 @@ use Rattle.rank_tree.specs.Shape.{make, knot, root_of, Context, top, under, plug
 use Rattle.rank_tree.specs.Repair.{Gap, filled, Restored}
 use Rattle.triple_arena_ord.specs.Inserted.{IsAdded}
 use Rattle.triple_arena_ord.specs.Ordered.{Ordered, IsOrdered, StandsBeside, tree_in, order_in}
-use Rattle.rank_tree.proofs.Frames.{one-same, one-other, Represents-keep, make-count, plug-count, plug-opens, count-same, IsDistinct-walk}
-use Rattle.rank_tree.proofs.Descents.{before, after, plug-walk_is, rest_leaf}
-use Rattle.rank_tree.proofs.Unique.{tree_is}
-use Rattle.rank_tree.proofs.SeekShapes.{counted-lives}
+use Rattle.rank_tree.specs.FrameLaws.{one-same, one-other, Represents-keep, make-count, plug-count, plug-opens, count-same, IsDistinct-walk}
+use Rattle.rank_tree.specs.DescentLaws.{before, after, plug-walk_is, rest_leaf}
+use Rattle.rank_tree.specs.UniqueLaws.{tree_is}
+use Rattle.rank_tree.specs.SeekLaws.{counted-lives}
 use Rattle.triple_arena_ord.proofs.RestLemmas.{rested}
 use Rattle.triple_arena_ord.proofs.GapLemmas.{linear_gap, linear_ends, last_snoc}
 

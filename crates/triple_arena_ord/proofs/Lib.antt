@@ -42,3 +42,4 @@ pub mod CompressedLemmas
 pub mod ListEndLemmas
 pub mod LinkMoveLemmas
 pub mod CanonicalTransferLemmas
+pub mod CompactListLemmas

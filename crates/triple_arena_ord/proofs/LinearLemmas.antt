@@ -93,7 +93,8 @@ module _ {I T : Type 0} (number : I → ℕ) where
           subst (λ z. IsAnswer (asked_at cmp key k z) (tree_in number z) (Some (i, d))) same
           (stop_answers (asked_at cmp key k inside) (tree_in number inside) i d (taken r e (stops (order_in number inside) is.linear on)))
         where
-          taken : (s : Option (I × Ordering)) → option_map {U = ℕ × Ordering} (λ a. (number a.0, a.1)) s ≡ Some (i, d) → IfSome s (λ a. IsStop (asked_at cmp key k inside) (order_in number inside) (number a.0) a.1)
+          taken : (s : Option (I × Ordering)) → option_map {U = ℕ × Ordering} (λ a. (number a.0, a.1)) s ≡ Some (i, d)
+              → IfSome s (λ a. IsStop (asked_at cmp key k inside) (order_in number inside) (number a.0) a.1)
               → IsStop (asked_at cmp key k inside) (order_in number inside) i d
           taken None u h = absurd (cc)
           taken (Some y) u h =

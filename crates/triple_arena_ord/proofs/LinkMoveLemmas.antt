@@ -5,12 +5,12 @@ use Rattle.std.proofs.lemmas.List.{length-map}
 use Rattle.triple_arena_ptr.specs.declared.invalidation.InvalidationOption.{InvalidationOption}
 use Rattle.triple_arena_ptr.specs.InvalidationOption.{value_of, overflowed}
 use Rattle.triple_arena.specs.Compression.{listed_under}
+use Rattle.triple_arena.specs.Iterators.{with_part}
 use Rattle.triple_arena.specs.Transfer.{Transfer, steps_wrap, wrapped, entry_before, entry_after, IsTransferred}
 use Rattle.triple_arena_chain.specs.IterChains.{link_and, links_along}
 use Rattle.triple_arena_ord.specs.Ascending.{entries_along}
 use Rattle.triple_arena_ord.specs.declared.node.IndexNode.{IndexNode}
 use Rattle.triple_arena_ord.specs.Indexed.{listed_item}
-use Rattle.triple_arena_ord.specs.LinkMoves.{under}
 use Rattle.triple_arena_ord.specs.Node.{itemed, items_among}
 
 -- nodes along a list, with their items alone
@@ -29,9 +29,9 @@ module _ {Q V U P W T F : Type 0} (old_index old_generation : Q → ℕ) (index 
   record ItemMoves (f : F) (moves : List (Transfer Q V P W)) (last : F) : Type 0 where
     pub items : List (Transfer Q U P T)
     pub calls : FoldsTo (λ g move h. step g move.from move.item move.to move.given h) f items last
-    pub before : map (entry_before old_index old_generation index generation) items ≡ map (under item) (map (entry_before old_index old_generation index generation) moves)
+    pub before : map (entry_before old_index old_generation index generation) items ≡ map (with_part item) (map (entry_before old_index old_generation index generation) moves)
     pub told : map wrapped items ≡ map wrapped moves
-    pub after : map (entry_after old_index old_generation index generation) items ≡ map (under given) (map (entry_after old_index old_generation index generation) moves)
+    pub after : map (entry_after old_index old_generation index generation) items ≡ map (with_part given) (map (entry_after old_index old_generation index generation) moves)
 
 module _ {Q V U P W T F G : Type 0} {old_index old_generation : Q → ℕ} {index generation : P → ℕ}
     {step : F → Q → InvalidationOption U → P → T → F → Type 0}
@@ -60,14 +60,14 @@ module _ {Q V U P W T F G : Type 0} {old_index old_generation : Q → ℕ} {inde
   -- the transfer is that of the items
   pub items_transferred : {g : G} {last counter : Option ℕ} {old : List (ℕ × (ℕ × V))} {new : List (ℕ × (ℕ × W))}
       → IsTransferred old_index old_generation index generation noded g last counter old new
-      → IsTransferred old_index old_generation index generation step (state g) last counter (map (under item) old) (map (under given) new)
+      → IsTransferred old_index old_generation index generation step (state g) last counter (map (with_part item) old) (map (with_part given) new)
   items_transferred {g} {last} {counter} {old} m =
       let items = item_moves m.moves g m.last m.calls in
       record {
         moves = items.items;
         last = state m.last;
         calls = items.calls;
-        before = items.before ∙ ap (map (under item)) m.before;
-        told = items.told ∙ m.told ∙ ap (λ n. steps_wrap last n counter) (sym (length-map old (under item)));
-        after = items.after ∙ ap (map (under given)) m.after;
+        before = items.before ∙ ap (map (with_part item)) m.before;
+        told = items.told ∙ m.told ∙ ap (λ n. steps_wrap last n counter) (sym (length-map old (with_part item)));
+        after = items.after ∙ ap (map (with_part given)) m.after;
       }

@@ -6,7 +6,7 @@ use Rattle.triple_arena_ord.specs.declared.node.IndexNode.{IndexNode}
 use Rattle.triple_arena_ord.specs.Node.{knots_in, knot_of, itemed}
 use Rattle.rank_tree.specs.Shape.{count}
 use Rattle.triple_arena_ord.specs.Ordered.{Ordered, IsOrdered, tree_in, entry_in}
-use Rattle.rank_tree.proofs.SeekShapes.{counted-lives}
+use Rattle.rank_tree.specs.SeekLaws.{counted-lives}
 
 module _ {I T : Type 0} (number : I → ℕ) where
   pub item-some : (e : Option (ℕ × IndexNode I T)) → IsSome (option_map itemed e) → IsSome (option_map (λ e. knot_of number e.1) e)

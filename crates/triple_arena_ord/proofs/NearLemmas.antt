@@ -9,7 +9,7 @@ use Rattle.triple_arena_chain.specs.ChainLaws.{Off-not_on}
 use Rattle.triple_arena_chain.specs.UniquenessLaws.{linear_apart}
 use Rattle.rank_tree.specs.Search.{AllIn, Before, IsParted, Places}
 use Rattle.triple_arena_ord.specs.Near.{IsNear, IsEndNear, IsGapNear, HasEnd, IsWalked, IsPlaceCounted, IsKeyCounted, onward, if_onward, up_to, beyond, path_from}
-use Rattle.rank_tree.proofs.Descents.{AllIn-append, AllIn-back, AllIn-map, parted-after, parted-before}
+use Rattle.rank_tree.specs.DescentLaws.{AllIn-append, AllIn-back, AllIn-map, parted-after, parted-before}
 use Rattle.triple_arena_ord.proofs.GapLemmas.{Last, last_in, linear_ends, last_snoc}
 
 -- what holds of each index of a list holds of the one at a place
@@ -302,7 +302,8 @@ module _ (e : ℕ → Option Ends) (f : ℕ → Ordering) (w : List ℕ) (start 
   near_greater cur num k parted j near =
       let h = k.right refl near.from near.starts in
       let ahead = near.ahead in
-      AllIn-at (λ y. f y ≡ Greater) k.before (k.low refl parted) near.to j (at_front k.before (cur ∷ k.after) near.to j (omega (arith, h, ahead)) (subst (λ l. slice_get l near.to ≡ Some j) k.is near.ends))
+      AllIn-at (λ y. f y ≡ Greater) k.before (k.low refl parted) near.to j (at_front k.before (cur ∷ k.after) near.to j (omega (arith, h, ahead))
+      (subst (λ l. slice_get l near.to ≡ Some j) k.is near.ends))
 
   near_less : (cur num : ℕ) → Walking f w start path Less cur num → IsParted f w → (j : ℕ) → IsNear num w start j → f j ≡ Less
   near_less cur num k parted j near =

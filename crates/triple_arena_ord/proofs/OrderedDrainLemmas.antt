@@ -13,7 +13,7 @@ use Rattle.triple_arena_chain.specs.ChainLaws.{Off-not_on, On-cons}
 use Rattle.triple_arena_chain.specs.ListLaws.{On-first}
 use Rattle.triple_arena_chain.specs.Links.{ends_in}
 use Rattle.triple_arena_chain.specs.UniquenessLaws.{linear_apart}
-use Rattle.triple_arena_ord.specs.Ordered.{Ordered, IsOrdered, order_in, entry_in, size_in, ordered_entries, entries_at}
+use Rattle.triple_arena_ord.specs.Ordered.{Ordered, IsOrdered, order_in, entry_in, size_in, counter_in, ordered_entries, entries_at}
 use Rattle.triple_arena_ord.specs.OrderedDrains.{emptied_after, IsFirstTaken, TakesFirst, drain_arena, drain_lender, drain_rest, IsOn, DrainSteps, DrainKeepsAlong}
 use Rattle.triple_arena_ord.specs.Removal.{Loses, IsEntryRemoved}
 use Rattle.triple_arena_ord.specs.declared.ord_arena.drain.OrderedDrain.{OrderedDrain}
@@ -92,7 +92,7 @@ module _ {I T : Type 0} where
         }
 
 -- what is left in the end
-pub emptied_next : {I T : Type 0} (number : I → ℕ) (last : Option ℕ) (n h : ℕ) (o p : Ordered I T) → IsEntryRemoved number last h o p
+emptied_next : {I T : Type 0} (number : I → ℕ) (last : Option ℕ) (n h : ℕ) (o p : Ordered I T) → IsEntryRemoved number last h o p
     → emptied_after last n p ≡ emptied_after last (suc n) o
 emptied_next number last n h o p removed = rw (removed.room, removed.counter) refl
 
@@ -110,8 +110,8 @@ module _ {I T : Type 0} (number : I → ℕ) (o : Ordered I T) (is : IsOrdered n
   all_listed = listed_length (order_in number o) (on_lives number o is) ∙ is.counted
 
   -- and so many are left to remove
-  pub removals_left : (last : Option ℕ) → length (removals last o.chains.counter (ordered_entries number o)) ≡ size_in o
-  removals_left last = length-removals last o.chains.counter (ordered_entries number o) ∙ all_listed
+  pub removals_left : (last : Option ℕ) → length (removals last (counter_in o) (ordered_entries number o)) ≡ size_in o
+  removals_left last = length-removals last (counter_in o) (ordered_entries number o) ∙ all_listed
 
 module _ {P T S Inx Gen Alloc : Type 0} (last : Option ℕ) (number : Inx → ℕ) (index generation : P → ℕ) where
   -- the first entry leaves: a drain gives its removal, and is on by one
@@ -119,13 +119,13 @@ module _ {P T S Inx Gen Alloc : Type 0} (last : Option ℕ) (number : Inx → �
       → TakesFirst number last index generation item (drain_arena old) (drain_arena new) → drain_lender new ≡ drain_lender old
       → DrainSteps last number index generation old item new
   drain_steps None old new took lender =
-      let rest : drain_rest last number old ≡ [] = ap (removals last (drain_arena old).chains.counter) took.0 in (
-        (rest, ap (λ (o : Ordered Inx T). removals last o.chains.counter (ordered_entries number o)) took.1 ∙ rest),
+      let rest : drain_rest last number old ≡ [] = ap (removals last (counter_in (drain_arena old))) took.0 in (
+        (rest, ap (λ (o : Ordered Inx T). removals last (counter_in o) (ordered_entries number o)) took.1 ∙ rest),
         record { lender = lender; leaves = ap (emptied_after last 1) took.1 },
         took,
       )
   drain_steps (Some item) old new took lender = (
-    ap (removals last (drain_arena old).chains.counter) took.first ∙ rw (took.overflow, took.removed.counter) refl,
+    ap (removals last (counter_in (drain_arena old))) took.first ∙ rw (took.overflow, took.removed.counter) refl,
     record { lender = lender; leaves = emptied_next number last 1 (index (value_of item).0) (drain_arena old) (drain_arena new) took.removed },
     took,
   )

@@ -19,7 +19,7 @@ use Rattle.triple_arena_ord.proofs.EndLemmas.{last_some}
 use Rattle.triple_arena_ord.proofs.GapLemmas.{linear_ends}
 use Rattle.triple_arena_ord.proofs.LawLemmas.{stands}
 use Rattle.triple_arena_ord.proofs.LiveLemmas.{counted_entry}
-use Rattle.rank_tree.proofs.SeekShapes.{counted-lives}
+use Rattle.rank_tree.specs.SeekLaws.{counted-lives}
 use Rattle.triple_arena_ord.proofs.WayLemmas.{walk-counted}
 
 -- a list whose indexes are apart, and the function that leads along it

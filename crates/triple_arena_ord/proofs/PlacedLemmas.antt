@@ -10,7 +10,7 @@ use Rattle.rank_tree.specs.Search.{Before, IsParted}
 use Rattle.triple_arena_ord.specs.Ordered.{Ordered, IsOrdered, IsAscending, StandsBeside, order_in, entry_in, asked_of, asked_at}
 use Rattle.triple_arena_ord.specs.Inserted.{StandsAt, IsInsertedAt, IsPlacedByKey}
 use Rattle.triple_arena_ord.specs.Placing.{IsPlaceByKey, IsPlaceBeforeEqual, before_equal}
-use Rattle.rank_tree.proofs.Descents.{AllIn-map, parted-after, parted-before}
+use Rattle.rank_tree.specs.DescentLaws.{AllIn-map, parted-after, parted-before}
 use Rattle.triple_arena_ord.proofs.SeekLemmas.{parts_at}
 use Rattle.triple_arena_ord.proofs.AscendingLemmas.{IsBetween, inserted_ascending}
 use Rattle.triple_arena_ord.proofs.InsertLemmas.{by_key}

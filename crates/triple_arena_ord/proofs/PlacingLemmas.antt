@@ -7,7 +7,7 @@ use Rattle.rank_tree.specs.Tree.{size}
 use Rattle.rank_tree.specs.Search.{IsAnswer}
 use Rattle.triple_arena_ord.specs.Ordered.{Ordered, IsOrdered, tree_in, entry_in, size_in, asked_at}
 use Rattle.triple_arena_ord.specs.Placing.{IsPlaceByKey}
-use Rattle.rank_tree.proofs.Climbs.{size-walk}
+use Rattle.rank_tree.specs.ClimbLaws.{size-walk}
 use Rattle.triple_arena_ord.proofs.FoundLemmas.{root_size, none_counted}
 use Rattle.triple_arena_ord.proofs.LiveLemmas.{counted_entry}
 use Rattle.triple_arena_ord.proofs.NameLemmas.{if_answered}

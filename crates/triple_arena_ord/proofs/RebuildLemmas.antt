@@ -15,9 +15,9 @@ use Rattle.rank_tree.specs.Store.{Store, Written, Reparented}
 use Rattle.rank_tree.specs.Tree.{Tree, leaf, node, walk}
 use Rattle.rank_tree.specs.Shape.{root_of, one, count, IsDistinct, Represents}
 use Rattle.rank_tree.specs.Halving.{part_rank, IsTopRank, IsBuilt}
-use Rattle.rank_tree.proofs.Frames.{one-same, one-other}
-use Rattle.rank_tree.proofs.Climbs.{size-walk}
-use Rattle.rank_tree.proofs.BuildLemmas.{built_over}
+use Rattle.rank_tree.specs.FrameLaws.{one-same, one-other}
+use Rattle.rank_tree.specs.ClimbLaws.{size-walk}
+use Rattle.rank_tree.specs.BuildLaws.{built_over}
 use Rattle.triple_arena_ord.specs.declared.node.IndexNode.{IndexNode}
 use Rattle.triple_arena_ord.specs.Node.{knots_in, knot_of, rest}
 use Rattle.triple_arena_ord.proofs.RestLemmas.{rested}

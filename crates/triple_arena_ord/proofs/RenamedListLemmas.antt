@@ -20,7 +20,11 @@ on_mapped : (to : ℕ → ℕ) (xs : List ℕ) (i : ℕ) → On xs i → On (map
 on_mapped to [] i on = absurd (on_differs [] i i on tt refl)
 on_mapped to (x ∷ xs) i on =
     elim (On-either (x ∷ []) xs i on) [
-      | inl here ↦ elim (eqb_tells x i) [ inl same ↦ subst (λ k. On (to x ∷ map to xs) (to k)) same.1 (On-first (to x) (map to xs)) | inr other ↦ absurd (on_differs (x ∷ []) i i here (other.1, tt) refl) ]
+      | inl here ↦ elim (eqb_tells x i) [
+        | inl same ↦ subst (λ k. On (to x ∷ map to xs) (to k)) same.1 (On-first (to x) (map to xs))
+        | inr other ↦ absurd
+            (on_differs (x ∷ []) i i here (other.1, tt) refl)
+      ]
       | inr there ↦ On-back (to x ∷ []) (map to xs) (to i) (on_mapped to xs i there)
     ]
 

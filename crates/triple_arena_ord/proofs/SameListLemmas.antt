@@ -1,16 +1,41 @@
 -- Where the nodes and the interlinks stay, so does the list.
-use Rattle.std.proofs.Common.{◌≡◌, ℕ, ◌<◌, length, None, IsSome, sym, ap, ◌∙◌, subst}
+use Rattle.std.proofs.Common.{◌≡◌, ℕ, zero, suc, ◌<◌, length, Option, Some, None, IsSome, refl, sym, ap, ◌∙◌, subst}
 use Rattle.triple_arena.specs.Content.{live_count}
 use Rattle.triple_arena_chain.specs.Chains.{IsLinear}
 use Rattle.triple_arena_chain.specs.Links.{ends_in}
 use Rattle.triple_arena_chain.specs.Lists.{Linear}
 use Rattle.triple_arena_chain.specs.ListLaws.{chain_where}
 use Rattle.triple_arena_ord.specs.Node.{knots_in}
-use Rattle.rank_tree.specs.Tree.{walk, IsRanked}
+use Rattle.rank_tree.specs.Knot.{Knot}
+use Rattle.rank_tree.specs.Store.{Store, rank_or_link}
+use Rattle.rank_tree.specs.Tree.{Tree, leaf, node, walk, IsRanked}
+use Rattle.rank_tree.specs.Whole.{read_tree, tree_of}
 use Rattle.rank_tree.specs.Shape.{Stands, IsDistinct, count}
 use Rattle.triple_arena_ord.specs.Ordered.{Ordered, IsOrdered, tree_in, order_in}
-use Rattle.rank_tree.proofs.Frames.{Represents-keep}
-use Rattle.rank_tree.proofs.Unique.{tree_is}
+use Rattle.rank_tree.specs.FrameLaws.{Represents-keep}
+use Rattle.rank_tree.specs.UniqueLaws.{tree_is}
+
+-- what hangs from a node, read as deep as the fuel goes
+abbrev hanging : ℕ → Store → ℕ → Option Knot → Tree
+hanging fuel n i o = elim o [ None ↦ leaf | Some v ↦ node (read_tree fuel n v.left) i v.rank (read_tree fuel n v.right) ]
+
+module _ (n m : Store) (same : (k : ℕ) → n k ≡ m k) where
+  read_same : (fuel : ℕ) (root : Option ℕ) → read_tree fuel n root ≡ read_tree fuel m root
+  read_same zero root = refl
+  read_same (suc fuel) None = refl
+  read_same (suc fuel) (Some i) = ap (hanging fuel n i) (same i) ∙ by (m i) (read_same fuel)
+    where
+      by : (o : Option Knot) → ((root : Option ℕ) → read_tree fuel n root ≡ read_tree fuel m root) → hanging fuel n i o ≡ hanging fuel m i o
+      by None below = refl
+      by (Some v) below = rw (below v.left, below v.right) refl
+
+  fuel_same : (root : Option ℕ) → rank_or_link n root ≡ rank_or_link m root
+  fuel_same None = refl
+  fuel_same (Some i) = rw (same i) refl
+
+  -- of the same nodes the same tree is read
+  pub tree_same : (root : Option ℕ) → tree_of n root ≡ tree_of m root
+  tree_same root = rw (fuel_same root) (read_same (rank_or_link m root) root)
 
 module _ {I T : Type 0} (number : I → ℕ) where
   -- the list is the same, and as it must be

@@ -15,10 +15,10 @@ use Rattle.rank_tree.specs.Tree.{Tree, leaf, node, walk, rank_of, size}
 use Rattle.rank_tree.specs.Shape.{count}
 use Rattle.rank_tree.specs.Search.{AllIn, Before, IsParted, IsAnswer, IsFreeAt}
 use Rattle.triple_arena_ord.specs.Ordered.{Ordered, IsOrdered, IsAscending, tree_in, order_in, entry_in, size_in, asked_of, asked_at}
-use Rattle.rank_tree.proofs.Bound.{size_bound}
-use Rattle.rank_tree.proofs.Climbs.{size-walk}
-use Rattle.rank_tree.proofs.Descents.{Descent, Here, descent_begins, descent_free, step_down, AllIn-front, AllIn-back, AllIn-append, AllIn-map, parted-after, parted-before}
-use Rattle.rank_tree.proofs.Frames.{one-other, one-same}
+use Rattle.rank_tree.specs.BoundLaws.{size_bound}
+use Rattle.rank_tree.specs.ClimbLaws.{size-walk}
+use Rattle.rank_tree.specs.DescentLaws.{Descent, Here, descent_begins, descent_free, step_down, AllIn-front, AllIn-back, AllIn-append, AllIn-map, parted-after, parted-before}
+use Rattle.rank_tree.specs.FrameLaws.{one-other, one-same}
 use Rattle.triple_arena_ord.proofs.NameLemmas.{if_answered}
 use Rattle.triple_arena_ord.proofs.LiveLemmas.{counted_entry, entry_counted}
 use Rattle.triple_arena_ord.proofs.SortedLemmas.{parted_from}
@@ -44,7 +44,8 @@ counted-all P (node l i k r) h =
     AllIn-append P (walk l) (i ∷ walk r) (counted-all P l (λ j z. h j (omega arith))) (here, counted-all P r (λ j z. h j (omega arith)))
 
 -- no entry of the walk is equal where the search ended at none
-pub unequal : (f : ℕ → Ordering) (t : Tree) (a : Option (ℕ × Ordering)) → IsAnswer f t a → ((i : ℕ) (d : Ordering) → a ≡ Some (i, d) → d ≢ Equal) → IsParted f (walk t) → AllIn (λ y. f y ≢ Equal) (walk t)
+pub unequal : (f : ℕ → Ordering) (t : Tree) (a : Option (ℕ × Ordering)) → IsAnswer f t a → ((i : ℕ) (d : Ordering) → a ≡ Some (i, d) → d ≢ Equal)
+    → IsParted f (walk t) → AllIn (λ y. f y ≢ Equal) (walk t)
 unequal f leaf a is not parted = tt
 unequal f (node l x r_k r) None is not parted = let z = is.empty refl in absurd (cc)
 unequal f (node l x r_k r) (Some p) is not parted = by p.1 refl
@@ -118,7 +119,8 @@ module _ {I K T : Type 0} (number : I → ℕ) (cmp : K → K → Ordering) (key
 
   -- a search that ends beside a gap ends where a child is missing
   pub seek_ends : (o inside : Ordered I T) → inside ≡ o → IsOrdered number inside → (r : Option (I × Ordering)) (link : Option ℕ) (asked : ℕ) → link ≡ None
-      → Descent (knots_in number o.chains) (asked_at cmp key k o) (tree_in number o) link (option_map (λ a. (number a.0, a.1)) r) asked → IfSome r (λ a. IsFreeAt a.1 (knots_in number o.chains (number a.0)))
+      → Descent (knots_in number o.chains) (asked_at cmp key k o) (tree_in number o) link (option_map (λ a. (number a.0, a.1)) r) asked
+      → IfSome r (λ a. IsFreeAt a.1 (knots_in number o.chains (number a.0)))
   seek_ends o inside same is r link asked at d =
       let it : IsOrdered number o = subst (IsOrdered number) same is in
       if_answered number (λ i d. IsFreeAt d (knots_in number o.chains i)) r
@@ -133,7 +135,8 @@ module _ {I K T : Type 0} (number : I → ℕ) (cmp : K → K → Ordering) (key
   parts_at total o is ascending =
       parted_from total key (entry_in o) k (order_in number o) (counted-all (λ i. IsSome (entry_in o i)) (tree_in number o) (λ j h. counted_entry number o is j h)) ascending
 
-  pub absent : IsTotalOrder cmp → (o : Ordered I T) → IsOrdered number o → (a : Option (ℕ × Ordering)) → IsAnswer (asked_at cmp key k o) (tree_in number o) a → ((i : ℕ) (d : Ordering) → a ≡ Some (i, d) → d ≢ Equal)
+  pub absent : IsTotalOrder cmp → (o : Ordered I T) → IsOrdered number o → (a : Option (ℕ × Ordering)) → IsAnswer (asked_at cmp key k o) (tree_in number o) a
+      → ((i : ℕ) (d : Ordering) → a ≡ Some (i, d) → d ≢ Equal)
       → IsAscending number cmp key o → (j : ℕ) → option_map (λ e. cmp k (key e.1)) (entry_in o j) ≢ Some Equal
   absent total o is a answer not ascending j e =
       let f = asked_at cmp key k o in

@@ -19,13 +19,13 @@ use Rattle.rank_tree.specs.Shape.{knot, root_of, Context, top, under, plug, hold
 use Rattle.rank_tree.specs.Search.{IsFreeAt}
 use Rattle.triple_arena_ord.specs.Ordered.{Ordered, IsOrdered, StandsBeside, tree_in, order_in}
 use Rattle.triple_arena_ord.specs.Inserted.{StandsAt, IsSamePlace, IsReplaced, IsAdded, IsInsertedAt}
-use Rattle.rank_tree.proofs.Frames.{plug-opens}
-use Rattle.rank_tree.proofs.Descents.{before, after, plug-walk_is}
+use Rattle.rank_tree.specs.FrameLaws.{plug-opens}
+use Rattle.rank_tree.specs.DescentLaws.{before, after, plug-walk_is}
 use Rattle.triple_arena_ord.proofs.GapLemmas.{linear_ends, last_snoc}
 use Rattle.triple_arena_ord.proofs.InsertLemmas.{split_same}
 use Rattle.triple_arena_ord.proofs.LeafLemmas.{Located, located}
 use Rattle.triple_arena_ord.proofs.SuccessorLemmas.{flat, snoc}
-use Rattle.rank_tree.proofs.Unique.{plug_in, plug_in-plug, First, first_at}
+use Rattle.rank_tree.specs.UniqueLaws.{plug_in, plug_in-plug, First, first_at}
 
 -- the greatest index of a tree: the last of its walk has no right child
 record Final (t : Tree) : Type 0 where

@@ -9,7 +9,7 @@ use Rattle.std.specs.declared.cmp.Ordering.TheVariants.{Less, Equal, Greater}
 use Rattle.std.proofs.lemmas.Cmp.{alike_right}
 use Rattle.rank_tree.specs.Search.{AllIn, Before, IsParted}
 use Rattle.triple_arena_ord.specs.Ordered.{asked_of}
-use Rattle.rank_tree.proofs.Descents.{AllIn-map}
+use Rattle.rank_tree.specs.DescentLaws.{AllIn-map}
 
 before-trans : (a b c : Ordering) → Before a b → Before b c → Before a c
 before-trans a b c p q = record { less = λ e. q.less (p.less e); greater = λ e. p.greater (q.greater e) }

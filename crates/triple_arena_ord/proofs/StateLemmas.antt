@@ -14,9 +14,10 @@ use Rattle.triple_arena_chain.specs.SameLinksLaws.{ends-same_slots, ends-invalid
 use Rattle.triple_arena_ord.specs.declared.node.IndexNode.{IndexNode}
 use Rattle.triple_arena_ord.specs.Node.{knots_in, knot_of, items_in, itemed}
 use Rattle.triple_arena_ord.specs.Inserted.{IsRenewed, IsReplaced}
-use Rattle.triple_arena_ord.specs.Ordered.{Ordered, IsOrdered, entry_in, size_in, counter_in, room_in}
+use Rattle.rank_tree.specs.Tree.{walk}
+use Rattle.triple_arena_ord.specs.Ordered.{Ordered, IsOrdered, order_in, entry_in, size_in, counter_in, room_in}
 use Rattle.triple_arena_ord.specs.States.{invalidated_in, with_item}
-use Rattle.triple_arena_ord.proofs.SameListLemmas.{Reordered, same_list}
+use Rattle.triple_arena_ord.proofs.SameListLemmas.{Reordered, same_list, tree_same}
 use Rattle.triple_arena_ord.proofs.InsertLemmas.{renewed, renewed_ordered, replaced}
 
 module _ {I T : Type 0} where
@@ -49,6 +50,11 @@ module _ {I T : Type 0} (number : I → ℕ) where
           ≡ option_map (λ e. knot_of number e.1) (option_map valued o)
       by None = refl
       by (Some e) = refl
+
+  -- the pointer of one entry changes alone
+  pub order-invalidated : (last : Option ℕ) (o : Ordered I T) (i : ℕ) → order_in number (invalidated_in last o i) ≡ order_in number o
+  order-invalidated last o i =
+      ap walk (tree_same (knots_in number (invalidated last o.chains i)) (knots_in number o.chains) (knots-invalidated last o.chains i) o.root)
 
   -- the same slots
   pub same_slots_list : (o p : Ordered I T) → p.root ≡ o.root → p.chains.slots ≡ o.chains.slots → IsOrdered number o → Reordered number o p

@@ -15,16 +15,16 @@ use Rattle.rank_tree.specs.Shape.{knot, root_of, Context, top, under, plug, hold
 use Rattle.rank_tree.specs.Repair.{Loose, Restored, Exchange}
 use Rattle.triple_arena_ord.specs.Ordered.{Ordered, IsOrdered, tree_in, order_in}
 use Rattle.triple_arena_ord.specs.Removal.{IsUprooted}
-use Rattle.rank_tree.proofs.Frames.{one-same, one-other, plug-opens, count_split}
-use Rattle.rank_tree.proofs.Descents.{before, after, plug-walk_is}
-use Rattle.rank_tree.proofs.Leans.{plug-ranked}
-use Rattle.rank_tree.proofs.EdgeLemmas.{plug-ranked-opens, loose_lives}
+use Rattle.rank_tree.specs.FrameLaws.{one-same, one-other, plug-opens, count_split}
+use Rattle.rank_tree.specs.DescentLaws.{before, after, plug-walk_is}
+use Rattle.rank_tree.specs.TurningLaws.{plug-ranked}
+use Rattle.rank_tree.specs.EdgeLaws.{plug-ranked-opens, loose_lives}
 use Rattle.triple_arena_ord.proofs.EndLemmas.{after_off}
 use Rattle.triple_arena_ord.proofs.GapLemmas.{linear_ends}
 use Rattle.triple_arena_ord.proofs.InsertLemmas.{split_same}
 use Rattle.triple_arena_ord.proofs.LeafLemmas.{Located, located}
 use Rattle.triple_arena_ord.proofs.RestLemmas.{rested}
-use Rattle.rank_tree.proofs.Unique.{plug_in, plug_in-plug, First, first_at}
+use Rattle.rank_tree.specs.UniqueLaws.{plug_in, plug_in-plug, First, first_at}
 
 -- the ranks are the same under another index
 renamed-ranked : (c : Context) (l : Tree) (i j k : ℕ) (r : Tree) → IsRanked (plug c (node l i k r)) → IsRanked (plug c (node l j k r))

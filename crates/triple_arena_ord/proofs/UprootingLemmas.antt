@@ -21,9 +21,9 @@ use Rattle.rank_tree.specs.Shape.{knot, root_of, top, plug, holder, Stands, IsDi
 use Rattle.rank_tree.specs.Repair.{Loose, Restored}
 use Rattle.triple_arena_ord.specs.Ordered.{Ordered, IsOrdered, tree_in, order_in, entry_in}
 use Rattle.triple_arena_ord.specs.Removal.{Loses, IsUprooted, IsEntryRemoved}
-use Rattle.rank_tree.proofs.Frames.{one-same, one-other, Represents-keep, plug-opens, count_split}
-use Rattle.rank_tree.proofs.Descents.{before, after, plug-walk_is, rest_leaf}
-use Rattle.rank_tree.proofs.Unique.{tree_is}
+use Rattle.rank_tree.specs.FrameLaws.{one-same, one-other, Represents-keep, plug-opens, count_split}
+use Rattle.rank_tree.specs.DescentLaws.{before, after, plug-walk_is, rest_leaf}
+use Rattle.rank_tree.specs.UniqueLaws.{tree_is}
 use Rattle.triple_arena_ord.proofs.LeafLemmas.{Located, located}
 use Rattle.triple_arena_ord.proofs.RestLemmas.{Rested, rested}
 
@@ -147,7 +147,8 @@ module _ {I T : Type 0} (number : I → ℕ) where
         let stands2 : Stands (knots_in number c2) root1 r.tree = (r.stands.0, Represents-keep (knots_in number c1) (knots_in number c2) None r.tree (λ j c. other j (in_new j c)) r.stands.1) in
         let tree : tree_in number p ≡ r.tree = tree_is (knots_in number c2) root1 r.tree stands2 r.ranked in
         let order : order_in number p ≡ up.before ++ up.after = ap walk tree ∙ r.is_walk in
-        let linear0 = chain_where (ends_in number o.chains) (ends_in number c1) (Linear (up.before ++ h ∷ up.after)) (λ i on. same.ends i) (subst (IsLinear (ends_in number o.chains)) up.was is.linear) in
+        let linear0 = chain_where (ends_in number o.chains) (ends_in number c1) (Linear (up.before ++ h ∷ up.after)) (λ i on. same.ends i)
+        (subst (IsLinear (ends_in number o.chains)) up.was is.linear) in
         let linear2 : IsLinear (ends_in number c2) (up.before ++ up.after) = out.lists.from_linear up.before up.after linear0 in
         let live2 = out.live in
         let l1 : length (order_in number o) ≡ length (up.before ++ h ∷ up.after) = ap length up.was in

@@ -8,8 +8,8 @@ use Rattle.rank_tree.specs.Tree.{Tree, leaf, node, walk}
 use Rattle.rank_tree.specs.Shape.{root_of, count}
 use Rattle.rank_tree.specs.Search.{AllIn, Before, IsParted, Places, IsAnswer}
 use Rattle.triple_arena_ord.specs.Asked.{left_by, IsWay}
-use Rattle.rank_tree.proofs.Descents.{AllIn-append, AllIn-back, AllIn-map, parted-after, parted-before}
-use Rattle.rank_tree.proofs.Frames.{one-same}
+use Rattle.rank_tree.specs.DescentLaws.{AllIn-append, AllIn-back, AllIn-map, parted-after, parted-before}
+use Rattle.rank_tree.specs.FrameLaws.{one-same}
 use Rattle.triple_arena_ord.proofs.SeekLemmas.{all-counted}
 
 -- an index of the walk is counted
@@ -89,7 +89,8 @@ module _ (f : ℕ → Ordering) where
       opened = subst (IsParted f) (cut ∙ sym (append_assoc low way.0.front (a.0 ∷ (way.0.back ++ high)))) parted
 
       turn : (c : Ordering) → a.1 ≡ c
-          → (a.1 ≡ Less → IsParted f (low ++ (way.0.front ++ a.0 ∷ (way.0.back ++ high))) → AllIn (λ y. f y ≡ Less) (a.0 ∷ (way.0.back ++ high)) → Places f (low ++ (way.0.front ++ a.0 ∷ (way.0.back ++ high))) i d)
+          → (a.1 ≡ Less → IsParted f (low ++ (way.0.front ++ a.0 ∷ (way.0.back ++ high))) → AllIn (λ y. f y ≡ Less) (a.0 ∷ (way.0.back ++ high)) → Places f
+          (low ++ (way.0.front ++ a.0 ∷ (way.0.back ++ high))) i d)
           → (a.1 ≡ Greater → IsParted f ((low ++ (way.0.front ++ a.0 ∷ [])) ++ (way.0.back ++ high)) → AllIn (λ y. f y ≡ Greater) (low ++ (way.0.front ++ a.0 ∷ []))
           → Places f ((low ++ (way.0.front ++ a.0 ∷ [])) ++ (way.0.back ++ high)) i d)
           → Places f (low ++ (w ++ high)) i d
@@ -110,7 +111,8 @@ module _ (f : ℕ → Ordering) where
           let here : f a.0 ≡ Greater = all.0 ∙ u in
           subst (λ l. Places f l i d) (sym (cut ∙ second)) (to_right u (subst (IsParted f) (cut ∙ second) parted)
           (AllIn-append (λ y. f y ≡ Greater) low (way.0.front ++ a.0 ∷ []) below (AllIn-append (λ y. f y ≡ Greater) way.0.front (a.0 ∷ [])
-          (AllIn-back (λ y. f y ≡ Greater) low way.0.front (AllIn-map (λ y. Before (f y) (f a.0)) (λ y. f y ≡ Greater) (λ y z. z.greater here) (low ++ way.0.front) (parted-before f (low ++ way.0.front) a.0 (way.0.back ++ high) opened)))
+          (AllIn-back (λ y. f y ≡ Greater) low way.0.front (AllIn-map (λ y. Before (f y) (f a.0)) (λ y. f y ≡ Greater) (λ y z. z.greater here) (low ++ way.0.front)
+          (parted-before f (low ++ way.0.front) a.0 (way.0.back ++ high) opened)))
           (here, tt))))
 
   pub way_answers : (t : Tree) (asked : List (ℕ × Ordering)) → IsWay asked (walk t) → AllByRecursion (λ (a : ℕ × Ordering). f a.0 ≡ a.1) asked → IsAnswer f t (last_or None asked)

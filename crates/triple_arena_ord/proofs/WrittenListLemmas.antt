@@ -12,9 +12,9 @@ use Rattle.triple_arena_chain.specs.Lists.{Linear}
 use Rattle.triple_arena_chain.specs.Links.{ends_in, entry_ends, valued}
 use Rattle.rank_tree.specs.Tree.{Tree, leaf, node, walk, IsRanked}
 use Rattle.rank_tree.specs.Shape.{Stands, one, count, IsDistinct}
-use Rattle.rank_tree.proofs.Frames.{one-same}
-use Rattle.rank_tree.proofs.Unique.{tree_is}
-use Rattle.rank_tree.proofs.HalvingLemmas.{halving_ranked}
+use Rattle.rank_tree.specs.FrameLaws.{one-same}
+use Rattle.rank_tree.specs.UniqueLaws.{tree_is}
+use Rattle.rank_tree.specs.HalvingLaws.{halving_ranked}
 use Rattle.rank_tree.specs.Halving.{IsHalvingOf}
 use Rattle.triple_arena_ord.specs.declared.node.IndexNode.{IndexNode}
 use Rattle.triple_arena_ord.specs.Node.{knots_in, knot_of, rest}

@@ -1,16 +1,11 @@
 -- The canonical transfer of an ordered arena: the entries at the indexes from 1 on, in the order of the list, and the tree written anew.
-use Rattle.std.specs.Prelude.{◌≡◌, ℕ, [], Option, None, length}
+use Rattle.std.specs.Prelude.{◌≡◌, ℕ, [], Option, length}
 use Rattle.std.specs.List.{range_with_len}
 use Rattle.triple_arena_ptr.specs.declared.invalidation.InvalidationOption.{InvalidationOption}
-use Rattle.triple_arena.specs.Drains.{drained}
 use Rattle.triple_arena.specs.Transfer.{IsTransferred}
 use Rattle.rank_tree.specs.Halving.{IsHalvingOf}
 use Rattle.triple_arena_ord.specs.Indexed.{indexed}
 use Rattle.triple_arena_ord.specs.Ordered.{Ordered, size_in, counter_in, tree_in, order_in, ordered_entries}
-
--- no entry and no slot, and the counter stepped once for each that was there
-abbrev pub drained_in : {I T : Type 0} → Option ℕ → Ordered I T → Ordered I T
-drained_in last o = record { chains = drained last o.chains; root = None }
 
 module _ {Q U P T J I F : Type 0} (old_index old_generation : Q → ℕ) (index generation : P → ℕ) (old_number : J → ℕ) (number : I → ℕ)
     (step : F → Q → InvalidationOption U → P → T → F → Type 0) where

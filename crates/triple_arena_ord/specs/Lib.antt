@@ -20,11 +20,10 @@ pub mod OrderedWalks
 pub mod OrderedDrains
 pub mod Indexed
 pub mod IndexedLaws
-pub mod IndexDrains
+pub mod EmptiedLaws
 pub mod Rebuilt
 pub mod CanonicalLayout
 pub mod CanonicalTransfer
-pub mod LinkMoves
 pub mod Copies
 pub mod ItemRecasting
 pub mod Compressed

@@ -8,7 +8,7 @@ use Rattle.triple_arena_ptr.specs.InvalidationOption.{value_of, overflowed}
 use Rattle.triple_arena_ptr.specs.declared.invalidation.InvalidationOption.{InvalidationOption}
 use Rattle.triple_arena.specs.Content.{emptied, with_counter}
 use Rattle.triple_arena.specs.Drains.{removals, removal_of}
-use Rattle.triple_arena_ord.specs.Ordered.{Ordered, ordered_entries}
+use Rattle.triple_arena_ord.specs.Ordered.{Ordered, counter_in, ordered_entries}
 use Rattle.triple_arena_ord.specs.Removal.{IsEntryRemoved}
 use Rattle.triple_arena_ord.specs.declared.ord_arena.drain.OrderedDrain.{OrderedDrain}
 
@@ -58,7 +58,7 @@ module _ {P T S Inx Gen Alloc : Type 0} where
     module _ (number : Inx → ℕ) where
       -- the removals that are still to come
       abbrev pub drain_rest : OrderedDrain P T S Inx Gen Alloc → List ((ℕ × (ℕ × T)) × Bool)
-      drain_rest d = removals last (drain_arena d).chains.counter (ordered_entries number (drain_arena d))
+      drain_rest d = removals last (counter_in (drain_arena d)) (ordered_entries number (drain_arena d))
 
       module _ (index generation : P → ℕ) where
         -- a step gives the first removal that is still to come, which it has made, or nothing where there is none

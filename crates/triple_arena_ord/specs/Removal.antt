@@ -1,8 +1,6 @@
 -- What a removal finds and leaves.
 use Rattle.std.specs.Prelude.{◌≡◌, ◌==◌, if◌then◌else◌, ℕ, ◌+◌, List, ◌∷◌, ◌++◌, length, Option, Some, None}
 use Rattle.triple_arena_ptr.specs.Generation.{next_generation}
-use Rattle.triple_arena_ptr.specs.InvalidationOption.{value_of}
-use Rattle.triple_arena_ptr.specs.declared.invalidation.InvalidationOption.{InvalidationOption}
 use Rattle.triple_arena.specs.Content.{removed}
 use Rattle.triple_arena.specs.Entries.{without}
 use Rattle.triple_arena_ord.specs.Node.{knots_in}
@@ -38,8 +36,3 @@ pub record IsEntryRemoved {I T : Type 0} (number : I → ℕ) (last : Option ℕ
   pub free : new.chains.free ≡ (removed last old.chains h).free
   pub slots : length new.chains.slots ≡ length (removed last old.chains h).slots
   pub room : new.chains.room ≡ old.chains.room
-
--- the entry of this item, under its pointer, is removed; nothing is where there is no item
-abbrev pub Removes : {P I T : Type 0} → (I → ℕ) → Option ℕ → (P → ℕ) → Option (InvalidationOption (P × T)) → Ordered I T → Ordered I T → Type 0
-Removes number last index None old new = new ≡ old
-Removes number last index (Some item) old new = IsEntryRemoved number last (index (value_of item).0) old new

@@ -1,6 +1,7 @@
 -- What exactly an ordered arena is after the calls that leave its list as it is, and after those that leave no entry.
 use Rattle.std.specs.Prelude.{ℕ, Option, None}
 use Rattle.triple_arena.specs.Content.{cleared, empty, invalidated, reallocated, stepped, with_counter}
+use Rattle.triple_arena.specs.Drains.{drained}
 use Rattle.triple_arena_chain.specs.Links.{with_link}
 use Rattle.triple_arena_stack.specs.Room.{Room}
 use Rattle.triple_arena_ord.specs.Ordered.{Ordered}
@@ -33,3 +34,7 @@ module _ {I T : Type 0} where
   -- with no entry and no slot, and the next counter
   abbrev pub cleared_in : Option ℕ → Ordered I T → Ordered I T
   cleared_in last o = record { chains = cleared last o.chains; root = None }
+
+  -- with no entry and no slot, and the counter stepped once for each that was there
+  abbrev pub drained_in : Option ℕ → Ordered I T → Ordered I T
+  drained_in last o = record { chains = drained last o.chains; root = None }

@@ -1,18 +1,21 @@
 //! What follows from the calls of an ordered arena.
 ghost use Rattle.std.specs.Prelude.{◌≡◌, ◌≢◌, ◌+◌, ◌*◌, ◌^◌, ◌<◌, ◌≤◌, ℕ, Bool, List, ◌∷◌, ◌++◌, length, Option, Some, None, IsSome, Result};
-ghost use Rattle.std.specs.List.{AllByRecursion};
+ghost use Rattle.std.specs.List.{AllByRecursion, range_with_len};
 ghost use Rattle.std.specs.Option.{option_map};
 ghost use Rattle.std.specs.declared.cmp.Ordering.{Ordering as Way};
 ghost use Rattle.triple_arena_ptr.specs.declared.errors.OrdInsertionError.{OrdInsertionError as Refused};
+ghost use Rattle.triple_arena_stack.specs.Room.{Room};
+ghost use Rattle.triple_arena.specs.Transfer.{IsFilled};
 ghost use Rattle.triple_arena_chain.specs.Chains.{On};
 ghost use Rattle.triple_arena_ord.specs.Asked.{IsWay};
 ghost use Rattle.triple_arena_ord.specs.AskedLaws.{IsCutAt, last_greater, last_less};
+ghost use Rattle.triple_arena_ord.specs.Indexed.{indexed};
 ghost use Rattle.triple_arena_ord.specs.Inserted.{IsInsertedAt, IsReplaced, either_room};
-ghost use Rattle.triple_arena_ord.specs.Ordered.{Ordered, IsOrdered, IsAscending, tree_in, order_in, ordered_entries, entry_in, size_in, asked_at};
+ghost use Rattle.triple_arena_ord.specs.Ordered.{Ordered, IsOrdered, IsAscending, tree_in, order_in, ordered_entries, entry_in, size_in, counter_in, room_in, asked_at};
 ghost use Rattle.triple_arena_ord.specs.Placing.{IsPlaceByKey, IsPlaceBeforeEqual};
 ghost use Rattle.triple_arena_ord.specs.Removal.{IsEntryRemoved};
 ghost use Rattle.rank_tree.specs.Search.{AllIn};
-ghost use Rattle.triple_arena_ord.specs.States.{with_item};
+ghost use Rattle.triple_arena_ord.specs.States.{invalidated_in, with_item};
 ghost use Rattle.rank_tree.specs.Tree.{height, rank_of};
 
 use crate::SimpleOrdItem;
@@ -65,6 +68,12 @@ pub fn removals_keep_keys_ascending<P: PtrCore, T: SimpleOrdItem>()
         → IsAscending P.Inx.number T.Key.cmp T.key_of old → IsAscending P.Inx.number T.Key.cmp T.key_of new }
 {}
 
+/// Where an invalidation ended a pointer, the list stays.
+pub fn invalidations_keep_the_list<P: PtrCore, T>()
+    ensures { (last : Option ℕ) (o : Ordered P.Inx T) (i : ℕ)
+        → order_in P.Inx.number (invalidated_in last o i) ≡ order_in P.Inx.number o }
+{}
+
 /// Whatever is written in place of an item, the list, the tree and all else stay.
 pub fn writes_keep_the_list<P: PtrCore, T>()
     ensures replaced { (o : Ordered P.Inx T) (i g : ℕ) (t u : T) → IsOrdered P.Inx.number o → entry_in o i ≡ Some (g, u)
@@ -93,4 +102,12 @@ pub fn insertions_keep_keys_ascending<P: PtrCore, T: SimpleOrdItem>()
 pub fn questions_end_at_the_gap()
     ensures { (asked : List (ℕ × Way)) (w : List ℕ) → IsWay asked w → AllByRecursion (λ (a : ℕ × Way). a.1 ≢ Way.Equal) asked
         → IsCutAt w (last_greater None asked) (last_less None asked) }
+{}
+
+/// After a canonical transfer the entries along the list are those in the order of their indexes.
+pub fn canonical_transfers_list_by_index<P: PtrCore, T>()
+    ensures { (n g : ℕ) (own : Room) (old new : Ordered P.Inx T)
+        → IsFilled entry_in size_in counter_in room_in indexed n g own old new
+        → order_in P.Inx.number new ≡ range_with_len 1 n
+        → ordered_entries P.Inx.number new ≡ indexed new }
 {}

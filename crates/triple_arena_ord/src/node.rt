@@ -1,6 +1,7 @@
 //! A node of the tree, which holds its item.
 
-use triple_arena::{PtrCore, PtrInxCore};
+use triple_arena::{Part, PtrCore, PtrInxCore};
+use triple_arena_chain::IndexLink;
 
 /// An item with its place in the tree: the indexes, of the type `I`, of the parent, of the left and of the right child, and
 /// the rank.
@@ -20,3 +21,14 @@ pub struct IndexNode<I: PtrInxCore, T> {
 
 /// An item with its place in the tree, by the indexes of a pointer type.
 pub type SimpleOrdArenaNode<P, T> = IndexNode<<P as PtrCore>::Inx, T>;
+
+/// The marker of the item of a link's node.
+pub struct NodeItem;
+
+impl<I: PtrInxCore, T> Part<IndexLink<I, IndexNode<I, T>>, T> for NodeItem {
+    ghost part = { λ link. link.t.t };
+
+    fn part_of(link: &IndexLink<I, IndexNode<I, T>>) -> &T {
+        &link.t.t
+    }
+}

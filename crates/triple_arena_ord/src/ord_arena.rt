@@ -1,20 +1,18 @@
 //! The ordered arena.
 ghost use Rattle.std.specs.Prelude.{◌≡◌, [], ◌∷◌, ◌<◌, ◌↔◌, Some, None, IsSome, IsOk, IfOk, OnErr};
 ghost use Rattle.std.specs.Option.{option_map};
-ghost use Rattle.triple_arena.specs.Content.{live_count, arena_capacity, empty};
-ghost use Rattle.triple_arena.specs.ArenaRoom.{room_of};
-ghost use Rattle.triple_arena_ptr.specs.Generation.{second_generation};
-ghost use Rattle.triple_arena_ord.specs.Ordered.{IsOrdered, StandsBeside, size_in, order_in};
+ghost use Rattle.triple_arena.specs.Content.{live_count, arena_capacity};
+ghost use Rattle.triple_arena_ord.specs.Ordered.{IsOrdered, StandsBeside, order_in};
 ghost use Rattle.triple_arena_ord.specs.Inserted.{IsAdded};
 ghost use Rattle.rank_tree.specs.Store.{child_of};
 ghost use Rattle.triple_arena_ord.specs.Node.{knots_in};
 
 mod advancer;
+mod arena_calls;
 mod canonical;
 mod canonical_layout;
 mod canonical_transfer;
 mod check;
-mod clear;
 mod compression;
 mod copy;
 mod default;
@@ -24,13 +22,11 @@ pub(crate) mod entry;
 mod found;
 mod generation;
 mod growth;
-pub(crate) mod index_drain;
 mod indexing;
 mod insert;
 pub(crate) mod into_iter;
 pub(crate) mod iter_ordered;
-pub(crate) mod iterators;
-mod lending;
+mod iterators;
 mod link_copies;
 mod link_moves;
 mod manual;
@@ -38,7 +34,6 @@ mod mapping;
 mod max_capacity;
 mod nodes;
 mod placing;
-mod reading;
 mod recast;
 mod remove;
 mod search;
@@ -112,28 +107,6 @@ impl<P: PtrCore, T: Drop, S: OrdSlots<P, T>> Model for SimpleOrdArena<P, T, S> {
 }
 
 impl<P: PtrCore, T: Drop, S: OrdSlots<P, T>> SimpleOrdArena<P, T, S> {
-    /// An arena without an entry, which takes no memory.
-    pub fn new(alloc: S::Alloc) -> Self
-        ensures exact { result.chains
-            ≡ empty (second_generation P.Gen.last) (room_of P.Inx.greatest (S.room_at 0)) }
-        ensures ordered { IsOrdered P.Inx.number result }
-    {
-        SimpleOrdArena {
-            chains: ChainArena::new(alloc),
-            root: None,
-            first: None,
-            last: None,
-        }
-    }
-
-    /// How many entries are live.
-    pub fn len(&self) -> usize
-        ensures value { result ≡ size_in self.now }
-        ensures ordered { IsOrdered P.Inx.number self.now }
-    {
-        self.chains.len()
-    }
-
     // A new entry directly before or after that of `holder`, which has no child on this side. It is inlined, since the side is
     // known at each call.
     #[inline(always)]

@@ -1,8 +1,9 @@
 //! Pointers into generational arenas, and what the arenas' crates share.
 //!
 //! A pointer is an index, which says where in an arena an element is kept, and a generation, which says when it was
-//! put there. An arena gives each element the generation of its counter and steps the counter at each removal. So
-//! a pointer finds its own element or nothing, until the counter wraps or is reset.
+//! put there. An arena gives each element the generation of its counter and steps the counter at each removal. So, where
+//! generations are counted, a pointer finds its own element or nothing, until the counter wraps or is reset. [`P5`] has
+//! no generation: it finds whatever is put at its index next.
 //!
 //! - [`Ptr`], [`PtrInx`] and [`PtrGen`] say what a pointer, an index and a generation are. The order of pointers goes by index and
 //!   then by generation, with `==` and `Hash` in agreement.
@@ -45,7 +46,7 @@
 //! ```
 //!
 //! A generation of one's own is an integer that is not 0 with an invariant, and impls of [`PtrGenCore`] and [`PtrGen`]: the crate
-//! `narrow_ptr` has one that counts to 3, for tests.
+//! `test_kit` has one that counts to 3, for tests.
 #![tactic(auto)]
 
 mod advancer;

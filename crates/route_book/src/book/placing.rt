@@ -19,6 +19,7 @@ use route_lines::laws::changes_keep_states_sound;
 use route_lines::{Change, Counts, Placed, Refusal, Word};
 use std::cmp::Ordering;
 use ticket_book::Kind;
+use triple_arena::ArenaTrait;
 use triple_arena_ord::laws::entries_stand_in_the_list;
 use triple_arena_ptr::PtrCore;
 use unreached::unreached;

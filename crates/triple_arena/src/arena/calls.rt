@@ -4,6 +4,8 @@ ghost use Rattle.triple_arena_ptr.specs.Generation.{second_generation};
 ghost use Rattle.triple_arena.specs.ArenaRoom.{room_of};
 ghost use Rattle.triple_arena.specs.Content.{some_counter, entry_at as entry_of_index, live_count as live_count_of, empty as empty_of, reallocated as reallocated_of, removed as removed_of, invalidated as invalidated_of, cleared as cleared_of, with_value as with_value_of, IsWellFormed};
 ghost use Rattle.triple_arena.specs.ContentLaws.{entry-with_value, live-with_value, some_counter-with_value, room-with_value};
+ghost use Rattle.triple_arena.specs.Drains.{drained as drained_of};
+ghost use Rattle.triple_arena.specs.DrainLaws.{drained-gives_up, drained-removed};
 ghost use Rattle.triple_arena.specs.LiveEntries.{live_entries as live_entries_of, entry-listed, live_entries-increase, live_entries-length};
 ghost use Rattle.triple_arena.specs.Compression.{renewed, compacted};
 
@@ -47,11 +49,13 @@ impl<P: PtrCore, T: Drop, S: ArenaSlots<P, T>> ArenaTrait<P, T> for Arena<P, T, 
 
     ghost is_formed = { IsWellFormed };
 
-    ghost removed = { removed_of P.Gen.last };
+    ghost is_removed = { λ c i new. new ≡ removed_of P.Gen.last c i };
 
     ghost invalidated = { invalidated_of P.Gen.last };
 
     ghost cleared = { cleared_of P.Gen.last };
+
+    ghost drained = { drained_of P.Gen.last };
 
     ghost is_compressed = { λ c reset values new. new
         ≡ compacted (renewed P.Gen.last reset c.counter) values c };
@@ -73,6 +77,10 @@ impl<P: PtrCore, T: Drop, S: ArenaSlots<P, T>> ArenaTrait<P, T> for Arena<P, T, 
     ghost counter_with_value = { some_counter-with_value };
 
     ghost room_with_value = { room-with_value };
+
+    ghost drained_gives_up = { drained-gives_up P.Gen.last };
+
+    ghost drained_removed = { drained-removed P.Gen.last };
 
     ghost entry_listed = { entry-listed };
 
@@ -237,6 +245,17 @@ impl<P: PtrCore, T: Drop, S: ArenaSlots<P, T>> ArenaTrait<P, T> for Arena<P, T, 
         } else {
             InvalidationOption::Success(())
         }
+    }
+
+    fn take_all(&mut self) {
+        let mut left = self.live();
+        while left > 0 {
+            let _ = self.step();
+            left -= 1;
+        }
+        self.empty();
+        // The arena is well-formed after.
+        self.recall_formed();
     }
 
     fn compress_with<F: FnMut(P, T, P) -> T>(

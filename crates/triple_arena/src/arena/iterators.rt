@@ -4,8 +4,7 @@ ghost use Rattle.triple_arena.specs.Compression.{value_of};
 ghost use Rattle.triple_arena.specs.Iterators.{pointer_of};
 ghost use Rattle.triple_arena.specs.LiveEntries.{live_entries};
 
-use crate::arena::CapacityDrain;
-use crate::arena_iterators::{Iter, Ptrs, Vals};
+use crate::arena_iterators::{CapacityDrain, Iter, Ptrs, Vals};
 use crate::{Arena, ArenaSlots, iterators};
 use triple_arena_ptr::PtrCore;
 
@@ -14,14 +13,14 @@ impl<P: PtrCore, T: Drop, S: ArenaSlots<P, T>> Arena<P, T, S> {
     pub fn ptrs(&self) -> Ptrs<'_, P, T>
         ensures { result ≡ map pointer_of (live_entries self.now) }
     {
-        iterators::Ptrs::of(self.iter())
+        self.iter().into_ptrs()
     }
 
     /// The values, in the order of the indexes.
     pub fn vals(&self) -> Vals<'_, P, T>
         ensures { result ≡ map value_of (live_entries self.now) }
     {
-        iterators::Vals::of(self.iter())
+        self.iter().into_vals()
     }
 
     /// The pointers and the values of the entries, in the order of the indexes.
@@ -30,7 +29,7 @@ impl<P: PtrCore, T: Drop, S: ArenaSlots<P, T>> Arena<P, T, S> {
     {
         // Each slot has an index of the pointer type.
         let _ = self.own_capacity();
-        iterators::Iter::over(self.slots.as_slice())
+        iterators::Iter::over(self.slots.as_slice(), self.len)
     }
 }
 
@@ -54,15 +53,6 @@ impl<P: PtrCore, T: Drop, S: ArenaSlots<P, T>> IntoIterator for Arena<P, T, S> {
     ghost into_iter_gives = { λ arena it. it ≡ live_entries arena };
 
     fn into_iter(self) -> CapacityDrain<P, T, S> {
-        // Each slot has an index of the pointer type.
-        let _ = self.own_capacity();
-        let Arena {
-            slots,
-            counter: _,
-            head: _,
-            len: _,
-            values: _,
-        } = self;
-        CapacityDrain::over(slots)
+        CapacityDrain::of(self)
     }
 }

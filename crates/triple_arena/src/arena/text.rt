@@ -1,13 +1,13 @@
 //! The debug text of an arena.
-use crate::ArenaSlots;
 use crate::arena::Arena;
 use crate::iterators::{Iter, LentEntry};
+use crate::{ArenaSlots, Whole};
 use std::fmt;
 use triple_arena_ptr::Ptr;
 
 // Writes the entries as a map from the pointers to the values.
 pub(crate) fn write_entries<P: Ptr, T: fmt::Debug, E: LentEntry<P, T>, W: fmt::Write>(
-    entries: Iter<'_, P, T, E>,
+    entries: Iter<'_, P, T, T, E, Whole>,
     f: &mut fmt::Formatter<W>,
 ) -> fmt::Result {
     let mut out = f.debug_map();

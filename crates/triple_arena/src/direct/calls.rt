@@ -3,6 +3,7 @@ ghost use Rattle.std.specs.Prelude.{◌≡◌, false, [], Some, None, IsSome, re
 ghost use Rattle.triple_arena.specs.ArenaRoom.{room_of};
 ghost use Rattle.triple_arena.specs.DirectContent.{as_content, no_counter, entry_at as entry_of_index, live_count as live_count_of, live_entries as live_entries_of, empty as empty_of, reallocated as reallocated_of, removed as removed_of, invalidated as invalidated_of, cleared as cleared_of, compressed as compressed_of, with_value as with_value_of, IsWellFormed as IsFormed};
 ghost use Rattle.triple_arena.specs.DirectLaws.{entry-with_value, live-with_value, room-with_value};
+ghost use Rattle.triple_arena.specs.DrainLaws.{directly_drained-gives_up, directly_drained-removed};
 ghost use Rattle.triple_arena.specs.LiveEntries.{entry-listed, live_entries-increase, live_entries-length};
 
 use crate::advancer::{LivePointers, PtrAdvancer};
@@ -43,11 +44,13 @@ impl<P: PtrCore, T: Drop, S: DirectSlots<P, T>> ArenaTrait<P, T> for DirectArena
 
     ghost is_formed = { λ d. IsFormed d };
 
-    ghost removed = { removed_of };
+    ghost is_removed = { λ d i new. new ≡ removed_of d i };
 
     ghost invalidated = { invalidated_of P.Gen.last };
 
     ghost cleared = { cleared_of };
+
+    ghost drained = { cleared_of };
 
     ghost is_compressed = { λ d reset values new. new ≡ compressed_of P.Gen.last d reset values };
 
@@ -68,6 +71,10 @@ impl<P: PtrCore, T: Drop, S: DirectSlots<P, T>> ArenaTrait<P, T> for DirectArena
     ghost counter_with_value = { λ d i t. refl };
 
     ghost room_with_value = { room-with_value };
+
+    ghost drained_gives_up = { directly_drained-gives_up P.Gen.last };
+
+    ghost drained_removed = { directly_drained-removed P.Gen.last };
 
     ghost entry_listed = { λ d. entry-listed (as_content d) };
 
@@ -217,6 +224,10 @@ impl<P: PtrCore, T: Drop, S: DirectSlots<P, T>> ArenaTrait<P, T> for DirectArena
         // The arena is well-formed after.
         self.recall_formed();
         InvalidationOption::Success(())
+    }
+
+    fn take_all(&mut self) {
+        let _ = self.clear();
     }
 
     fn compress_with<F: FnMut(P, T, P) -> T>(

@@ -4,8 +4,7 @@ ghost use Rattle.triple_arena.specs.Compression.{value_of};
 ghost use Rattle.triple_arena.specs.Iterators.{pointer_of};
 ghost use Rattle.triple_arena.specs.DirectContent.{live_entries};
 
-use crate::direct::CapacityDrain;
-use crate::direct_iterators::{Iter, Ptrs, Vals};
+use crate::direct_iterators::{CapacityDrain, Iter, Ptrs, Vals};
 use crate::{DirectArena, DirectSlots, iterators};
 use triple_arena_ptr::PtrCore;
 
@@ -14,14 +13,14 @@ impl<P: PtrCore, T: Drop, S: DirectSlots<P, T>> DirectArena<P, T, S> {
     pub fn ptrs(&self) -> Ptrs<'_, P, T>
         ensures { result ≡ map pointer_of (live_entries self.now) }
     {
-        iterators::Ptrs::of(self.iter())
+        self.iter().into_ptrs()
     }
 
     /// The values, in the order of the indexes.
     pub fn vals(&self) -> Vals<'_, P, T>
         ensures { result ≡ map value_of (live_entries self.now) }
     {
-        iterators::Vals::of(self.iter())
+        self.iter().into_vals()
     }
 
     /// The pointers and the values of the entries, in the order of the indexes.
@@ -30,7 +29,7 @@ impl<P: PtrCore, T: Drop, S: DirectSlots<P, T>> DirectArena<P, T, S> {
     {
         // Each slot has an index of the pointer type.
         let _ = self.own_capacity();
-        iterators::Iter::over(self.slots.as_slice())
+        iterators::Iter::over(self.slots.as_slice(), self.len)
     }
 }
 
@@ -54,13 +53,6 @@ impl<P: PtrCore, T: Drop, S: DirectSlots<P, T>> IntoIterator for DirectArena<P, 
     ghost into_iter_gives = { λ arena it. it ≡ live_entries arena };
 
     fn into_iter(self) -> CapacityDrain<P, T, S> {
-        // Each slot has an index of the pointer type.
-        let _ = self.own_capacity();
-        let DirectArena {
-            slots,
-            len: _,
-            values: _,
-        } = self;
-        CapacityDrain::over(slots)
+        CapacityDrain::of(self)
     }
 }

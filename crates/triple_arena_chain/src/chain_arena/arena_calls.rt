@@ -1,8 +1,10 @@
 //! The calls of a `ChainArena` that every arena has, over the values of the links.
-ghost use Rattle.std.specs.Prelude.{true, refl};
+ghost use Rattle.std.specs.Prelude.{◌≡◌, true, refl};
 ghost use Rattle.triple_arena_ptr.specs.Generation.{second_generation};
 ghost use Rattle.triple_arena.specs.ArenaRoom.{room_of};
 ghost use Rattle.triple_arena.specs.Content.{some_counter, live_count as live_count_of, empty as empty_of, reallocated as reallocated_of, invalidated as invalidated_of, cleared as cleared_of};
+ghost use Rattle.triple_arena.specs.Drains.{drained as drained_of};
+ghost use Rattle.triple_arena_chain.specs.EmptiedLaws.{drained-gives_up, drained-removed};
 ghost use Rattle.triple_arena_chain.specs.Links.{values_in, with_value_in, link_removed, IsChained};
 ghost use Rattle.triple_arena_chain.specs.LinkLaws.{values-with_value_in, live-with_value_in, counter-with_value_in, room-with_value_in};
 ghost use Rattle.triple_arena_chain.specs.Listed.{listed_values};
@@ -45,11 +47,13 @@ impl<P: PtrCore, T: Drop, S: ChainSlots<P, T>> ArenaTrait<P, T> for ChainArena<P
 
     ghost is_formed = { IsChained P.Inx.number };
 
-    ghost removed = { link_removed P.Inx.number P.Gen.last };
+    ghost is_removed = { λ c i new. new ≡ link_removed P.Inx.number P.Gen.last c i };
 
     ghost invalidated = { invalidated_of P.Gen.last };
 
     ghost cleared = { cleared_of P.Gen.last };
+
+    ghost drained = { drained_of P.Gen.last };
 
     ghost is_compressed = { λ c reset values new. IsCompacted P.Inx.number P.Gen.last reset values c new };
 
@@ -70,6 +74,10 @@ impl<P: PtrCore, T: Drop, S: ChainSlots<P, T>> ArenaTrait<P, T> for ChainArena<P
     ghost counter_with_value = { counter-with_value_in };
 
     ghost room_with_value = { room-with_value_in };
+
+    ghost drained_gives_up = { drained-gives_up P.Gen.last };
+
+    ghost drained_removed = { drained-removed P.Gen.last };
 
     ghost entry_listed = { value-listed };
 
@@ -180,6 +188,10 @@ impl<P: PtrCore, T: Drop, S: ChainSlots<P, T>> ArenaTrait<P, T> for ChainArena<P
 
     fn clear(&mut self) -> InvalidationOption<()> {
         self.arena.clear()
+    }
+
+    fn take_all(&mut self) {
+        self.arena.take_all();
     }
 
     fn compress_with<F: FnMut(P, T, P) -> T>(

@@ -32,7 +32,7 @@ impl<P: PtrCore, T: Drop, S: ChainSlots<P, T>> ChainArenaTrait<P, T> for ChainAr
 
     ghost links_with_value = { λ c i t. refl };
 
-    ghost links_removed = { λ c i. refl };
+    ghost links_removed = { λ c i new is. is };
 
     ghost links_invalidated = { λ c i. refl };
 

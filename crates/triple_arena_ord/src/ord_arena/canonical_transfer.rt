@@ -3,9 +3,10 @@ ghost use Rattle.std.specs.Prelude.{◌≡◌, ◌≤◌, ◌↔◌, IsTrue, IsO
 ghost use Rattle.triple_arena_stack.specs.Room.{capacity as capacity_of, IsBeyond};
 ghost use Rattle.triple_arena.specs.ArenaRoom.{room_with};
 ghost use Rattle.triple_arena.specs.Transfer.{IsFilled};
-ghost use Rattle.triple_arena_ord.specs.CanonicalTransfer.{drained_in, IsTransferredInOrder};
+ghost use Rattle.triple_arena_ord.specs.CanonicalTransfer.{IsTransferredInOrder};
 ghost use Rattle.triple_arena_ord.specs.Indexed.{indexed};
 ghost use Rattle.triple_arena_ord.specs.Ordered.{IsOrdered, entry_in, size_in, counter_in, room_in};
+ghost use Rattle.triple_arena_ord.specs.States.{drained_in};
 
 use crate::ord_arena::canonical_layout::ends_of_run;
 use crate::ord_arena::link_moves::move_items;

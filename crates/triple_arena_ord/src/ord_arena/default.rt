@@ -6,7 +6,7 @@ ghost use Rattle.triple_arena.specs.Content.{empty};
 ghost use Rattle.triple_arena_ord.specs.Ordered.{IsOrdered};
 
 use crate::{SimpleOrdArena, SimpleOrdArenaNode};
-use triple_arena::{ArenaSlot, NonZeroInxArray, PtrCore};
+use triple_arena::{ArenaSlot, ArenaTrait, NonZeroInxArray, PtrCore};
 use triple_arena_chain::LinkNoGen;
 
 impl<P: PtrCore, T: Drop, const LIMIT: usize> Default

@@ -1,7 +1,8 @@
 //! Taking the entries out of an arena along the list.
-ghost use Rattle.std.specs.Prelude.{◌≡◌};
-ghost use Rattle.std.specs.Iterator.{item_count};
-ghost use Rattle.triple_arena_ord.specs.Ordered.{IsOrdered};
+ghost use Rattle.std.specs.Prelude.{◌≡◌, Some, IfSome};
+ghost use Rattle.std.specs.Iterator.{item_count, UpTo};
+ghost use Rattle.std.specs.Iterator.SizeHint.{IsWithinCount};
+ghost use Rattle.triple_arena_ord.specs.Ordered.{IsOrdered, size_in};
 ghost use Rattle.triple_arena_ord.specs.OrderedDrains.{drain_arena, drain_lender, drain_rest, drain_leaves, TakesFirst, DrainSteps, DrainKeepsAlong};
 
 use crate::{OrdSlots, SimpleOrdArena};
@@ -65,7 +66,11 @@ impl<'a, P: PtrCore, T: Drop, S: OrdSlots<P, T>> Iterator for OrderedDrain<'a, P
         self.arena.take_first()
     }
 
-    fn size_hint(&self) -> (usize, Option<usize>) {
+    fn size_hint(&self) -> (usize, Option<usize>)
+        ensures lower { IsWithinCount result.0 (item_count (drain_rest P.Gen.last P.Inx.number) self.now) }
+        ensures upper { IfSome result.1 (UpTo (item_count (drain_rest P.Gen.last P.Inx.number) self.now)) }
+        ensures exact { result ≡ (size_in (drain_arena self.now), Some (size_in (drain_arena self.now))) }
+    {
         let len = self.arena.len();
         (len, Some(len))
     }

@@ -14,7 +14,7 @@ use crate::ord_arena::found::found_at;
 use crate::ord_arena::insert::grown_error;
 use crate::{OrdEntryKind, OrdInsertKind, OrdSlots, SimpleOrdArena, SimpleOrdItem};
 use std::cmp::Ordering;
-use triple_arena::PtrCore;
+use triple_arena::{ArenaTrait, PtrCore};
 use triple_arena_ptr::OrdInsertionError;
 use unreached::unreached;
 

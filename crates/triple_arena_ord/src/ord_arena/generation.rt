@@ -1,13 +1,12 @@
 //! The counter of an ordered arena.
-ghost use Rattle.std.specs.Prelude.{◌≡◌, IfSome};
-ghost use Rattle.std.specs.Option.{option_map};
-ghost use Rattle.triple_arena_ptr.specs.Generation.{next_wraps, IsGeneration};
+ghost use Rattle.std.specs.Prelude.{◌≡◌};
+ghost use Rattle.triple_arena_ptr.specs.Generation.{next_wraps};
 ghost use Rattle.triple_arena_ptr.specs.InvalidationOption.{overflowed};
-ghost use Rattle.triple_arena_ord.specs.Ordered.{IsOrdered, counter_in};
+ghost use Rattle.triple_arena_ord.specs.Ordered.{IsOrdered};
 ghost use Rattle.triple_arena_ord.specs.States.{with_counter_in, stepped_in};
 
 use crate::{OrdSlots, SimpleOrdArena};
-use triple_arena::{ArenaTrait, InvalidationOption, PtrCore};
+use triple_arena::{InvalidationOption, PtrCore};
 
 impl<P: PtrCore, T: Drop, S: OrdSlots<P, T>> SimpleOrdArena<P, T, S> {
     /// The counter, which is the generation of the next entry.
@@ -15,14 +14,6 @@ impl<P: PtrCore, T: Drop, S: OrdSlots<P, T>> SimpleOrdArena<P, T, S> {
         ensures { P.Gen.number result ≡ self.now.chains.counter }
     {
         self.chains.generation()
-    }
-
-    /// The counter, in an arena that has one, as each ordered arena does.
-    pub fn singular_generation(&self) -> Option<P::Gen>
-        ensures value { option_map P.Gen.number result ≡ counter_in self.now }
-        ensures counted { IfSome result (λ g. IsGeneration P.Gen.last (P.Gen.number g)) }
-    {
-        self.chains.singular_generation()
     }
 
     /// Sets the counter. A pointer that ended long ago may be given again where the counter goes back.

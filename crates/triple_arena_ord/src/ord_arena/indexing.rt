@@ -3,10 +3,9 @@ ghost use Rattle.std.specs.Prelude.{◌≡◌, Some, IsSome};
 ghost use Rattle.triple_arena.specs.Entries.{value_if};
 ghost use Rattle.triple_arena_ord.specs.Ordered.{entry_in};
 
-use crate::ord_arena::lending::ItemAtMut;
 use crate::{OrdSlots, SimpleOrdArena};
 use std::ops::{Index, IndexMut};
-use triple_arena::PtrCore;
+use triple_arena::{ArenaTrait, PtrCore};
 use unreached::unreached;
 
 impl<P: PtrCore, T: Drop, S: OrdSlots<P, T>> Index<P> for SimpleOrdArena<P, T, S> {
@@ -40,6 +39,6 @@ impl<P: PtrCore, T: Drop, S: OrdSlots<P, T>> IndexMut<P> for SimpleOrdArena<P, T
             (with_item self.old (P.index p))) }
         ensures value { value_if (P.generation p) (entry_in self.old (P.index p)) ≡ Some result.now }
     {
-        self.item_at_mut(p.inx())
+        self.get_inx_mut_unwrap(p.inx())
     }
 }

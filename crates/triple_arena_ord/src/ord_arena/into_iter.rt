@@ -1,12 +1,13 @@
 //! Going over the entries of an arena that is given away, along the list.
-ghost use Rattle.std.specs.Prelude.{◌≡◌};
-ghost use Rattle.std.specs.Iterator.{YieldsFirstBy, item_count};
+ghost use Rattle.std.specs.Prelude.{◌≡◌, Some, IfSome, length};
+ghost use Rattle.std.specs.Iterator.{YieldsFirstBy, item_count, at_most, UpTo};
+ghost use Rattle.std.specs.Iterator.SizeHint.{IsWithinCount};
 ghost use Rattle.triple_arena_ord.specs.Ordered.{ordered_entries};
 
 use crate::{OrdSlots, SimpleOrdArena};
 use std::iter::FusedIterator;
 use std::marker::Model;
-use triple_arena::PtrCore;
+use triple_arena::{ArenaTrait, PtrCore};
 
 /// The pointers and the items of the entries, by value, from the first of the list to the last, seen as the list of those
 /// that are left. Dropped, it drops those.
@@ -36,7 +37,11 @@ impl<P: PtrCore, T: Drop, S: OrdSlots<P, T>> Iterator for CapacityDrain<P, T, S>
         Some(item.allow())
     }
 
-    fn size_hint(&self) -> (usize, Option<usize>) {
+    fn size_hint(&self) -> (usize, Option<usize>)
+        ensures lower { IsWithinCount result.0 (at_most (length self.now)) }
+        ensures upper { IfSome result.1 (UpTo (at_most (length self.now))) }
+        ensures exact { result ≡ (length self.now, Some (length self.now)) }
+    {
         let len = self.arena.len();
         (len, Some(len))
     }

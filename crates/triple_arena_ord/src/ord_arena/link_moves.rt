@@ -6,11 +6,12 @@ ghost use Rattle.triple_arena_stack.specs.Room.{IsBeyond};
 ghost use Rattle.triple_arena.specs.ArenaRoom.{room_with};
 ghost use Rattle.triple_arena.specs.Content.{live_count, some_counter, arena_capacity};
 ghost use Rattle.triple_arena.specs.Drains.{drained};
+ghost use Rattle.triple_arena.specs.Iterators.{with_part};
 ghost use Rattle.triple_arena.specs.Transfer.{IsTransferred, IsFilled};
+ghost use Rattle.triple_arena_chain.specs.CanonicalTransfer.{IsMovedAlong};
 ghost use Rattle.triple_arena_chain.specs.Links.{values_in, IsChained};
 ghost use Rattle.triple_arena_chain.specs.Listed.{listed_values};
 ghost use Rattle.triple_arena_chain.specs.Values.{room_in};
-ghost use Rattle.triple_arena_ord.specs.LinkMoves.{under, IsMovedAlong};
 
 use crate::IndexNode;
 use triple_arena::{InvalidationOption, PtrCore, PtrInxCore, ReallocationError};
@@ -196,8 +197,8 @@ where
     ensures moved { OnOk result ((order : List (ℕ × (ℕ × V)))
         × (B.is_moved source.old order target.new
         × IsTransferred B.old_index B.old_generation B.index B.generation F.step map B.last
-        (B.counter source.old) (list_map (under V.item) order)
-        (list_map (under W.item) (B.values target.new)))) }
+        (B.counter source.old) (list_map (with_part V.item) order)
+        (list_map (with_part W.item) (B.values target.new)))) }
     ensures filled { OnOk result (B.is_filled (B.number new_generation) source.old target.old target.new) }
     ensures given_up { OnOk result (source.new ≡ B.given_up source.old) }
     ensures formed { B.is_formed target.new }

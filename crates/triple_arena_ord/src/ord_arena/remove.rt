@@ -1,10 +1,9 @@
 //! Removals.
-ghost use Rattle.std.specs.Prelude.{◌≡◌, ℕ, Some, IsSome, IfSome, IfNone, OnSome};
+ghost use Rattle.std.specs.Prelude.{◌≡◌, ℕ, Some, IsSome};
 ghost use Rattle.std.specs.Option.{option_map};
 ghost use Rattle.triple_arena_ptr.specs.Generation.{next_wraps};
 ghost use Rattle.triple_arena_ptr.specs.InvalidationOption.{value_of, overflowed};
 ghost use Rattle.triple_arena_ptr.specs.InvalidationResult.{answer_of};
-ghost use Rattle.triple_arena.specs.Entries.{value_if};
 ghost use Rattle.triple_arena_chain.specs.Links.{ends_in};
 ghost use Rattle.triple_arena_ord.specs.Node.{knots_in};
 ghost use Rattle.triple_arena_ord.specs.Ordered.{IsOrdered, entry_in};
@@ -14,7 +13,7 @@ ghost use Rattle.triple_arena_ord.specs.declared.node.IndexNode.{IndexNode};
 
 use crate::uprooting::take_entry;
 use crate::{OrdSlots, SimpleOrdArena, SimpleOrdArenaNode};
-use triple_arena::{ArenaTrait, InvalidationResult, PtrCore, PtrInxCore};
+use triple_arena::{InvalidationResult, PtrCore, PtrInxCore};
 use triple_arena_chain::{ChainArena, ChainArenaTrait, LinkNoGen};
 use unreached::unreached;
 
@@ -77,43 +76,5 @@ impl<P: PtrCore, T: Drop, S: OrdSlots<P, T>> SimpleOrdArena<P, T, S> {
         self.first = ended(self.first, gone, next);
         self.last = ended(self.last, gone, prev);
         item_of::<P, T>(taken)
-    }
-
-    /// Removes the item that `p` points to, and steps the counter. All other pointers find their items in the same order, so
-    /// that a list whose keys ascend still does (`laws::removals_keep_keys_ascending`). It answers `InvalidPtr`, and changes
-    /// nothing, where `p` points to none.
-    #[inline(always)]
-    pub fn remove(&mut self, p: P) -> InvalidationResult<T>
-        ensures value { option_map value_of (answer_of result) ≡ value_if (P.generation p) (entry_in self.old (P.index p)) }
-        ensures overflow { IfSome (answer_of result) (λ a. overflowed a ≡ next_wraps P.Gen.last self.old.chains.counter) }
-        ensures removed { OnSome (answer_of result) (IsEntryRemoved P.Inx.number P.Gen.last (P.index p) self.old self.new) }
-        ensures invalid { IfNone (answer_of result) (self.new ≡ self.old) }
-        ensures ordered { IsOrdered P.Inx.number self.new }
-    {
-        if !self.chains.contains(p) {
-            return InvalidationResult::InvalidPtr;
-        }
-        match self.remove_live(p.inx()) {
-            InvalidationResult::Success((_, t)) => InvalidationResult::Success(t),
-            InvalidationResult::GenerationOverflow((_, t)) => {
-                InvalidationResult::GenerationOverflow(t)
-            }
-            InvalidationResult::InvalidPtr => InvalidationResult::InvalidPtr,
-        }
-    }
-
-    /// Removes the entry at an index in the same way. It answers `InvalidPtr`, and changes nothing, where the index is not
-    /// live.
-    pub fn remove_inx(&mut self, i: P::Inx) -> InvalidationResult<(P::Gen, T)>
-        ensures value { option_map (λ a. (P.Gen.number (value_of a).0, (value_of a).1)) (answer_of result) ≡ entry_in self.old (P.Inx.number i) }
-        ensures overflow { IfSome (answer_of result) (λ a. overflowed a ≡ next_wraps P.Gen.last self.old.chains.counter) }
-        ensures removed { OnSome (answer_of result) (IsEntryRemoved P.Inx.number P.Gen.last (P.Inx.number i) self.old self.new) }
-        ensures invalid { IfNone (answer_of result) (self.new ≡ self.old) }
-        ensures ordered { IsOrdered P.Inx.number self.new }
-    {
-        if self.chains.get_inx(i).is_none() {
-            return InvalidationResult::InvalidPtr;
-        }
-        self.remove_live(i)
     }
 }

@@ -11,7 +11,8 @@ returns-then-test g c =
 
 pub loop-p-preserved : goal.loop-p-preserved
 loop-p-preserved g c =
-    search_passes (λ t b. FnReturnsAt g.F.Fn c.args.test t b) (live_entries c.args.arena.now) _ _ _ c.loop-p.invariant c.in-Some.ensures.steps record { shown = c.in-Some.value; shows = refl; says = record { met = c.if-test.ensures } }
+    search_passes (λ t b. FnReturnsAt g.F.Fn c.args.test t b) (live_entries c.args.arena.now) _ _ _ c.loop-p.invariant c.in-Some.ensures.steps record
+    { shown = c.in-Some.value; shows = refl; says = record { met = c.if-test.ensures } }
 
 pub returns : goal.returns
 returns g c = search_ends (λ t b. FnReturnsAt g.F.Fn c.args.test t b) c.args.arena.now _ c.loop-p.invariant c.in-None.ensures.steps.0

@@ -22,7 +22,8 @@ returns-clause-next g c =
     } in
     let left = stepped index generation number o c.in_ok-walk.walk c.advance.new.self c.advance.result (index c.args.p) from.after
     c.advance.ensures.given from.left_is in
-    (next_given index generation number o (IsSome (value_if (generation c.args.p) (orders_in o (index c.args.p)))) compared (linear_apart (ends_in number o.chains) None (order_in number o) ordered.linear)
+    (next_given index generation number o (IsSome (value_if (generation c.args.p) (orders_in o (index c.args.p)))) compared
+    (linear_apart (ends_in number o.chains) None (order_in number o) ordered.linear)
     c.requires.apart from.before from.after (index c.args.p) from.is c.advance.new.self c.advance-2.new.self c.advance-2.result
     c.advance-2.ensures.given left).0
 
@@ -41,6 +42,7 @@ returns-clause-none g c =
     } in
     let left = stepped index generation number o c.in_ok-walk.walk c.advance.new.self c.advance.result (index c.args.p) from.after
     c.advance.ensures.given from.left_is in
-    (next_given index generation number o (IsSome (value_if (generation c.args.p) (orders_in o (index c.args.p)))) compared (linear_apart (ends_in number o.chains) None (order_in number o) ordered.linear)
+    (next_given index generation number o (IsSome (value_if (generation c.args.p) (orders_in o (index c.args.p)))) compared
+    (linear_apart (ends_in number o.chains) None (order_in number o) ordered.linear)
     c.requires.apart from.before from.after (index c.args.p) from.is c.advance.new.self c.advance-2.new.self c.advance-2.result
     c.advance-2.ensures.given left).1

@@ -31,7 +31,8 @@ exchanged_twice g c =
     c.len.ensures.formed to_p to_q at_q c.in_ok-exchange_next.ensures.relinked c.in_ok-exchange_next.ensures.lists c.exchange_next-2.new.self there again second)
 
 -- or at the end, where it was parted from itself and appended
-appended : (g : _) (c : goal.After-connect g) → IsSome c.connect.result × Reversed g.P.Inx.PtrInxCore.number c.args.songs.now (g.P.PtrCore.index c.args.before) (g.P.PtrCore.index c.args.p) c.connect.new.self
+appended : (g : _) (c : goal.After-connect g) → IsSome c.connect.result × Reversed g.P.Inx.PtrInxCore.number c.args.songs.now (g.P.PtrCore.index c.args.before) (g.P.PtrCore.index c.args.p)
+    c.connect.new.self
 appended g c =
     let number = g.P.Inx.PtrInxCore.number in
     let index = g.P.PtrCore.index in
@@ -60,11 +61,13 @@ appended g c =
     let breaks : (s : ℕ) → next_at (ends_in number m) p ≡ Some s → IsRelinked number (unlinked (ends_in number m) p s) m c.break_next.new.self = search rules in
     let splits : (s : ℕ) → next_at (ends_in number m) p ≡ Some s → IsSplit p s (ends_in number m) (ends_in number c.break_next.new.self) = search rules in
     let fit : IsSome (place_among index generation number c.break_next.new.self (Bridge c.in_ok-q.q c.args.p)) =
-    fits number old m o p q (generation c.args.before) (generation c.args.p) h c.len.ensures.formed to_p to_q at_q relinked first c.break_next.new.self end breaks index generation c.args.p c.in_ok-q.q refl refl refl refl in
+    fits number old m o p q (generation c.args.before) (generation c.args.p) h c.len.ensures.formed to_p to_q at_q relinked first c.break_next.new.self end breaks index generation c.args.p
+    c.in_ok-q.q refl refl refl refl in
     let some : IsSome c.connect.result = c.connect.ensures.variant.1 fit in
     let joined : IsRelinked number (linked (ends_in number c.break_next.new.self) q p) c.break_next.new.self c.connect.new.self = search rules in
     let ends : IsAppended q p (ends_in number c.break_next.new.self) (ends_in number c.connect.new.self) = search rules in
-    let turned = appended_back number old m o p q (generation c.args.before) (generation c.args.p) h c.len.ensures.formed to_p to_q at_q relinked first c.break_next.new.self end breaks c.connect.new.self splits joined ends in
+    let turned = appended_back number old m o p q (generation c.args.before) (generation c.args.p) h c.len.ensures.formed to_p to_q at_q relinked first c.break_next.new.self end breaks
+    c.connect.new.self splits joined ends in
     (some, turned)
 
 -- it is parted from itself
@@ -93,7 +96,8 @@ parts g c =
     let variant : IsSome (next_in (ends_found number m q h)) × IsSome (next_in (ends_found number m p (generation c.args.p))) → IsSome c.exchange_next-2.result =
     subst (λ x. IsSome (next_in (ends_found number x q h)) × IsSome (next_in (ends_found number x p (generation c.args.p))) → IsSome c.exchange_next-2.result) (sym same)
     c.exchange_next-2.ensures.variant.1 in
-    let there : IsSome (next_in (ends_found number m p (generation c.args.p))) = ap is_some (still_next number old m o p q (generation c.args.before) (generation c.args.p) h c.len.ensures.formed to_p to_q at_q relinked first) in
+    let there : IsSome (next_in (ends_found number m p (generation c.args.p))) = ap is_some
+    (still_next number old m o p q (generation c.args.before) (generation c.args.p) h c.len.ensures.formed to_p to_q at_q relinked first) in
     let some : IsSome c.break_next.result = c.break_next.ensures.variant.1 there in
     let none : c.break_next.result ≡ None = search rules in
     absurd (true≢false (sym some ∙ ap is_some none))

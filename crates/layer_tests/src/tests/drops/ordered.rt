@@ -5,7 +5,7 @@ use super::Counted;
 use crate::tests::calls::put_in;
 use std::cell::Cell;
 use std::process::Abort;
-use triple_arena::{ArenaSlot, InvalidationOption, NonZeroInxArray, P0, PtrCore};
+use triple_arena::{ArenaSlot, ArenaTrait, InvalidationOption, NonZeroInxArray, P0, PtrCore};
 use triple_arena_chain::LinkNoGen;
 use triple_arena_ord::{OrdPair, OrdSlots, SimpleOrdArena, SimpleOrdArenaNode};
 

@@ -1,4 +1,4 @@
-use Rattle.rank_tree.proofs.HalvingLemmas.{halving_ranked, halving_unique}
+use Rattle.rank_tree.specs.HalvingLaws.{halving_ranked, halving_unique}
 use Rattle.rank_tree.proofs.laws.halving_trees_keep_the_rules.Goals as goal
 
 pub returns-clause-ranked : goal.returns-clause-ranked

@@ -1,4 +1,4 @@
-use Rattle.rank_tree.proofs.Bound.{height-le-rank, size_bound}
+use Rattle.rank_tree.specs.BoundLaws.{height-le-rank, size_bound}
 use Rattle.rank_tree.proofs.laws.paths_are_short.Goals as goal
 
 pub returns-clause-high : goal.returns-clause-high

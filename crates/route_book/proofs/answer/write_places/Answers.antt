@@ -22,7 +22,11 @@ loop-ticket-preserved g c =
     let before = c.loop-ticket.invariant.gathered in
     let room = c.in_ok-make_room.ensures.ok in
     record {
-      gathered = (before.0 ++ room.0, line_more place_line c.args.places c.loop-ticket.places c.next.new.self _ before.0 _ room.0 _ _ before.1 c.in-Some.ensures.steps room.1 c.push_place.ensures, Appends-trans _ _ _ _ _ before.2 room.2);
+      gathered = (
+        before.0 ++ room.0,
+        line_more place_line c.args.places c.loop-ticket.places c.next.new.self _ before.0 _ room.0 _ _ before.1 c.in-Some.ensures.steps room.1 c.push_place.ensures,
+        Appends-trans _ _ _ _ _ before.2 room.2,
+      );
       failed = c.in_ok-make_room.ensures.ok_failed ∙ c.loop-ticket.invariant.failed;
     }
 
@@ -36,11 +40,13 @@ returns-clause-err g c =
     let before = c.loop-ticket.invariant.gathered in
     let room = c.in_ok-make_room-2.ensures.ok in
     on_err_weaker c.send.result
-    (broken_off_last place_line _ _ _ _ c.args.places c.loop-ticket.places before.0 _ room.0 _ _ before.1 c.in_default.ensures.steps.0 room.1 (c.as_slice.ensures ∙ c.push_line.ensures) before.2 room.2) c.send.ensures.err
+    (broken_off_last place_line _ _ _ _ c.args.places c.loop-ticket.places before.0 _ room.0 _ _ before.1 c.in_default.ensures.steps.0 room.1 (c.as_slice.ensures ∙ c.push_line.ensures) before.2
+    room.2) c.send.ensures.err
 
 pub returns-clause-ok : goal.returns-clause-ok
 returns-clause-ok g c =
     let before = c.loop-ticket.invariant.gathered in
     let room = c.in_ok-make_room-2.ensures.ok in
     on_ok_weaker c.send.result
-    (written_last place_line _ _ _ _ c.args.places c.loop-ticket.places before.0 _ room.0 _ _ before.1 c.in_default.ensures.steps.0 room.1 (c.as_slice.ensures ∙ c.push_line.ensures) before.2 room.2) c.send.ensures.ok
+    (written_last place_line _ _ _ _ c.args.places c.loop-ticket.places before.0 _ room.0 _ _ before.1 c.in_default.ensures.steps.0 room.1 (c.as_slice.ensures ∙ c.push_line.ensures) before.2
+    room.2) c.send.ensures.ok

@@ -4,6 +4,7 @@ use Rattle.ticket_book.proofs.WalkLemmas.{step_is, end_all, all_before, cast_ahe
 use Rattle.triple_arena_chain.specs.Renaming.{live_below}
 use Rattle.route_book.specs.Packing.{recast_stop}
 use Rattle.route_book.proofs.PassedLemmas.{below_passed, counted_below}
+use Rattle.triple_arena.proofs.DrainLemmas.{live_value}
 use Rattle.route_book.proofs.recasts.recast_stops.Goals as goal
 
 pub loop-p-preserved-in-Some-get_mut : goal.loop-p-preserved-in-Some-get_mut
@@ -28,7 +29,8 @@ loop-p-preserved-in-Some-get_mut g c =
     let looks = inv.looks in
     record {
       rises = st.still_rises;
-      reaches = λ j some. subst (λ k. j ≤ k) (sym st.high) (inv.reaches j (cast_live cast at0 at at' low i h v c.recast.new.self inv.passed inv.ahead st.up st.between stands c.recast.ensures made.0 made.1 j some));
+      reaches = λ j some. subst (λ k. j ≤ k) (sym st.high)
+          (inv.reaches j (cast_live cast at0 at at' low i h v c.recast.new.self inv.passed inv.ahead st.up st.between stands c.recast.ensures made.0 made.1 j some));
       passed = λ j below. cast_passed cast at0 at at' low i h v c.recast.new.self inv.passed inv.ahead st.up st.between stands c.recast.ensures made.0 made.1 j (subst (λ l. j < l) st.low below);
       ahead = λ j past. cast_ahead cast at0 at at' low i h v c.recast.new.self inv.passed inv.ahead st.up st.between stands c.recast.ensures made.0 made.1 j (subst (λ l. l ≤ j) st.low past);
       live = g.met.A.ArenaTrait.live_with_value _ _ _ ∙ inv.live;
@@ -42,7 +44,8 @@ pub returns-clause-entries : goal.returns-clause-entries
 returns-clause-entries g c =
     let inv = c.loop-p.invariant in
     let at = g.A.ArenaTrait.entry_at c.loop-p.stops in
-    cast_all (recast_stop (numbers g.P.PtrCore.index g.P.PtrCore.generation (g.M.ArenaTrait.entry_at c.args.places.now))) (g.A.ArenaTrait.entry_at c.args.stops.now) at (g.A.ArenaTrait.walk c.loop-p.walk).low inv.passed inv.ahead
+    cast_all (recast_stop (numbers g.P.PtrCore.index g.P.PtrCore.generation (g.M.ArenaTrait.entry_at c.args.places.now))) (g.A.ArenaTrait.entry_at c.args.stops.now) at
+    (g.A.ArenaTrait.walk c.loop-p.walk).low inv.passed inv.ahead
     (end_all at (g.A.ArenaTrait.walk c.loop-p.walk) (g.A.ArenaTrait.walk c.advance.new.self) inv.rises inv.reaches (g.met.A.ArenaTrait.advances _ _ _ _ c.in_default.ensures.given))
 
 pub returns-clause-looks : goal.returns-clause-looks
@@ -56,3 +59,9 @@ returns-clause-looks g c =
     (g.A.ArenaTrait.live_count c.args.stops.now) (g.met.A.ArenaTrait.live_entries_counted c.args.stops.now) low (all_before at0 at low inv.ahead all) in
     let looks = inv.looks in
     omega (arith, looks, n)
+
+-- the pointer that the walk gives finds its entry
+pub loop-p-preserved : goal.loop-p-preserved
+loop-p-preserved g c =
+    let step = g.met.A.ArenaTrait.advances _ _ _ _ c.in-Some.ensures.given in
+    absurd (live_value (g.A.ArenaTrait.entry_at c.loop-p.stops) (g.P.PtrCore.index c.in-Some.p) (g.P.PtrCore.generation c.in-Some.p) step.0.live c.in_default-get_mut.ensures.value)

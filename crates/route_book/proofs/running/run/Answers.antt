@@ -27,8 +27,12 @@ returns-in-Err-clause-read g c =
 pub returns-in-Ok-end-clause-ok : goal.returns-in-Ok-end-clause-ok
 returns-in-Ok-end-clause-ok g c =
     let taken = c.loop.invariant.taken in
-    let read = c.in-Ok.ensures.bytes in
-    (taken.0, nothing_read _ _ _ taken.0 _ _ taken.1 read.0 c.if-n-eq0.true, read.1 c.if-n-eq0.true (omega (arith, c.read.auto.buf, c.loop.invariant.room)), Takes-all _ _ _ _ _ _ _ _ _ _ _ taken.2 (c.in-Ok-end.ensures.ok taken.2.rest taken.2.stands))
+    let read = c.in-Ok.ensures.bytes in (
+      taken.0,
+      nothing_read _ _ _ taken.0 _ _ taken.1 read.0 c.if-n-eq0.true,
+      read.1 c.if-n-eq0.true (omega (arith, c.read.auto.buf, c.loop.invariant.room)),
+      Takes-all _ _ _ _ _ _ _ _ _ _ _ taken.2 (c.in-Ok-end.ensures.ok taken.2.rest taken.2.stands),
+    )
 
 pub returns-in-Err-end-clause-write : goal.returns-in-Err-end-clause-write
 returns-in-Err-end-clause-write g c =

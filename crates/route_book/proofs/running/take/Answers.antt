@@ -13,14 +13,16 @@ pub loop-line-preserved : goal.loop-line-preserved
 loop-line-preserved g c =
     let done = c.in_ok-carry_out.ensures in
     record {
-      taken = λ begun none stands. Takes-line _ _ _ _ _ _ c.finish-command.result _ _ _ _ _ _ _ _ _ (c.loop-line.invariant.taken begun none stands) c.in-Some.ensures.found.0 c.in-Some.ensures.found.1 c.finish-command.ensures.command c.finish-command.ensures.cleared done.state done.ok done.counts;
+      taken = λ begun none stands. Takes-line _ _ _ _ _ _ c.finish-command.result _ _ _ _ _ _ _ _ _ (c.loop-line.invariant.taken begun none stands) c.in-Some.ensures.found.0
+          c.in-Some.ensures.found.1 c.finish-command.ensures.command c.finish-command.ensures.cleared done.state done.ok done.counts;
       failed = done.ok_failed ∙ c.loop-line.invariant.failed;
     }
 
 pub returns-in_err-carry_out-clause-err : goal.returns-in_err-carry_out-clause-err
 returns-in_err-carry_out-clause-err g c =
     let broken = c.in_err-carry_out.ensures in
-    on_err c.from_residual.result (λ begun none stands. Stops-at_line _ _ _ _ _ c.finish-command.result _ _ _ _ _ _ _ _ _ (c.loop-line.invariant.taken begun none stands) c.in-Some.ensures.found.0 c.in-Some.ensures.found.1 c.finish-command.ensures.command broken.state broken.err broken.counts)
+    on_err c.from_residual.result (λ begun none stands. Stops-at_line _ _ _ _ _ c.finish-command.result _ _ _ _ _ _ _ _ _ (c.loop-line.invariant.taken begun none stands) c.in-Some.ensures.found.0
+    c.in-Some.ensures.found.1 c.finish-command.ensures.command broken.state broken.err broken.counts)
 
 pub returns-clause-ok : goal.returns-clause-ok
 returns-clause-ok g c begun none stands =

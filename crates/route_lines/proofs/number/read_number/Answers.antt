@@ -24,7 +24,8 @@ returns-in_err-number-clause-none c = IfNone-number_of _ _ (returns-in_err-numbe
 
 pub returns-clause-exact : goal.returns-clause-exact
 returns-clause-exact c =
-    sym (finished _ _ _ c.loop-byte.invariant.read (omega arith) (grind (arith, nat_tests, c.if-is_empty.ensures)) (λ first more. false≢true (c.if-has_leading_zero.ensures.1 (first, more))) (omega arith))
+    sym (finished _ _ _ c.loop-byte.invariant.read (omega arith) (grind (arith, nat_tests, c.if-is_empty.ensures)) (λ first more. false≢true (c.if-has_leading_zero.ensures.1 (first, more)))
+    (omega arith))
 
 pub returns-clause-found : goal.returns-clause-found
 returns-clause-found c = IfSome-number_of _ _ (returns-clause-exact c)

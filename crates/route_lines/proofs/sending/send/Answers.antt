@@ -12,7 +12,11 @@ loop-rest-preserved g c =
     let split : before.0 ++ rest ≡ (before.0 ++ take taken rest) ++ drop taken rest =
     ap (λ xs. before.0 ++ xs) (sym (take-append-drop taken rest)) ∙ sym (append_assoc before.0 (take taken rest) (drop taken rest)) in
     record {
-      taken = (before.0 ++ take taken rest, before.1 ∙ split ∙ ap (λ xs. (before.0 ++ take taken rest) ++ xs) (sym (take_rest rest taken)), Appends-trans _ _ _ _ _ before.2 c.in_ok-taken.ensures.bytes);
+      taken = (
+        before.0 ++ take taken rest,
+        before.1 ∙ split ∙ ap (λ xs. (before.0 ++ take taken rest) ++ xs) (sym (take_rest rest taken)),
+        Appends-trans _ _ _ _ _ before.2 c.in_ok-taken.ensures.bytes,
+      );
       failed = none_failed _ _ taken _ c.if-taken-eq0.false c.in_ok-taken.ensures.failed ∙ c.loop-rest.invariant.failed;
     }
   where

@@ -7,19 +7,25 @@ use Rattle.store_callers.proofs.dispatching.dispatch.Goals as goal
 
 pub returns-clause-place : goal.returns-clause-place
 returns-clause-place g c =
-    ap (with_key c.args.key) (places-kept c.place.new.self.state c.start.new.self.state c.extend.new.self.state c.ticket_of-place.result c.in_ok-first.first c.in_ok-second.second c.places_arena.ensures.sound c.places_arena-2.ensures.sound (sym c.in_ok-first.ensures.result) (sym c.in_ok-second.ensures.result) c.in_ok-first.ensures.state c.in_ok-second.ensures.state)
-    ∙ keyed c.args.book.now.state c.place.new.self.state c.args.key c.args.word c.in_ok-place.field-0 c.ticket_of-place.result (sym c.in_ok-place.ensures.result) c.in_ok-place.ensures.state c.ticket_of-place.ensures
+    ap (with_key c.args.key) (places-kept c.place.new.self.state c.start.new.self.state c.extend.new.self.state c.ticket_of-place.result c.in_ok-first.first c.in_ok-second.second
+    c.places_arena.ensures.sound c.places_arena-2.ensures.sound (sym c.in_ok-first.ensures.result) (sym c.in_ok-second.ensures.result) c.in_ok-first.ensures.state c.in_ok-second.ensures.state)
+    ∙ keyed c.args.book.now.state c.place.new.self.state c.args.key c.args.word c.in_ok-place.field-0 c.ticket_of-place.result (sym c.in_ok-place.ensures.result) c.in_ok-place.ensures.state
+    c.ticket_of-place.ensures
 
 pub returns-clause-walk : goal.returns-clause-walk
 returns-clause-walk g c =
-    walked-new c.place.new.self.state c.start.new.self.state c.extend.new.self.state c.ticket_of-place.result c.in_ok-first.first c.in_ok-second.second c.places_arena.ensures.sound c.places_arena-2.ensures.sound (sym c.in_ok-first.ensures.result) (sym c.in_ok-second.ensures.result) c.in_ok-first.ensures.state c.in_ok-second.ensures.state
-    (c.new_tickets_come_next.ensures.start c.place.new.self.state c.ticket_of-place.result c.in_ok-first.first (sym c.in_ok-first.ensures.result)).0 (c.new_tickets_come_next.ensures.extend c.start.new.self.state c.in_ok-first.first c.ticket_of-place.result c.in_ok-second.second (sym c.in_ok-second.ensures.result)).0
-    (λ k apart. c.extensions_add_one_stop.ensures.others c.start.new.self.state c.in_ok-first.first c.ticket_of-place.result c.in_ok-second.second k c.places_arena-2.ensures.sound (sym c.in_ok-second.ensures.result) apart)
+    walked-new c.place.new.self.state c.start.new.self.state c.extend.new.self.state c.ticket_of-place.result c.in_ok-first.first c.in_ok-second.second c.places_arena.ensures.sound
+    c.places_arena-2.ensures.sound (sym c.in_ok-first.ensures.result) (sym c.in_ok-second.ensures.result) c.in_ok-first.ensures.state c.in_ok-second.ensures.state
+    (c.new_tickets_come_next.ensures.start c.place.new.self.state c.ticket_of-place.result c.in_ok-first.first (sym c.in_ok-first.ensures.result)).0
+    (c.new_tickets_come_next.ensures.extend c.start.new.self.state c.in_ok-first.first c.ticket_of-place.result c.in_ok-second.second (sym c.in_ok-second.ensures.result)).0
+    (λ k apart. c.extensions_add_one_stop.ensures.others c.start.new.self.state c.in_ok-first.first c.ticket_of-place.result c.in_ok-second.second k c.places_arena-2.ensures.sound
+    (sym c.in_ok-second.ensures.result) apart)
 
 pub returns-clause-others : goal.returns-clause-others
 returns-clause-others g c = λ v first second.
     ap (λ (s : State). next_stop s.routes v) c.in_ok-second.ensures.state
-    ∙ c.extensions_lead_through.ensures.others c.start.new.self.state c.in_ok-first.first c.ticket_of-place.result c.in_ok-second.second v c.places_arena-2.ensures.sound (sym c.in_ok-second.ensures.result) first second
+    ∙ c.extensions_lead_through.ensures.others c.start.new.self.state c.in_ok-first.first c.ticket_of-place.result c.in_ok-second.second v c.places_arena-2.ensures.sound
+    (sym c.in_ok-second.ensures.result) first second
     ∙ ap (λ (s : State). next_stop s.routes v) c.in_ok-first.ensures.state
     ∙ c.starts_lead_nowhere.ensures.others c.place.new.self.state c.ticket_of-place.result c.in_ok-first.first v c.places_arena.ensures.sound (sym c.in_ok-first.ensures.result) first
     ∙ ap (λ (s : State). next_stop s.routes v) c.in_ok-place.ensures.state
@@ -27,7 +33,8 @@ returns-clause-others g c = λ v first second.
 
 pub returns-in_err-first-clause-refused : goal.returns-in_err-first-clause-refused
 returns-in_err-first-clause-refused g c =
-    let p = holds_place c.place.new.self.state c.args.key _ c.places_arena.ensures.sound (keyed c.args.book.now.state c.place.new.self.state c.args.key c.args.word c.in_ok-place.field-0 c.ticket_of-place.result (sym c.in_ok-place.ensures.result) c.in_ok-place.ensures.state c.ticket_of-place.ensures) in
+    let p = holds_place c.place.new.self.state c.args.key _ c.places_arena.ensures.sound (keyed c.args.book.now.state c.place.new.self.state c.args.key c.args.word c.in_ok-place.field-0
+    c.ticket_of-place.result (sym c.in_ok-place.ensures.result) c.in_ok-place.ensures.state c.ticket_of-place.ensures) in
     let full = start-refused c.place.new.self.state c.ticket_of-place.result p.0 c.in_err-first.field-0.0 p.1 (sym c.in_err-first.ensures.result) in
     handed_on c.from_residual-in_err-first.result c.in_err-first.field-0.0 _ c.from_residual-in_err-first.ensures.1 (full.0, inr (ap is_full_of_stops c.in_err-first.ensures.state ∙ full.1))
 
@@ -35,7 +42,8 @@ pub returns-in_err-second-clause-refused : goal.returns-in_err-second-clause-ref
 returns-in_err-second-clause-refused g c =
     let start = sym c.in_ok-first.ensures.result in
     let places = places-start c.place.new.self.state c.start.new.self.state c.ticket_of-place.result c.in_ok-first.first start c.in_ok-first.ensures.state in
-    let p = holds_place c.start.new.self.state c.args.key _ c.places_arena-2.ensures.sound (ap (with_key c.args.key) places ∙ keyed c.args.book.now.state c.place.new.self.state c.args.key c.args.word c.in_ok-place.field-0 c.ticket_of-place.result (sym c.in_ok-place.ensures.result) c.in_ok-place.ensures.state c.ticket_of-place.ensures) in
+    let p = holds_place c.start.new.self.state c.args.key _ c.places_arena-2.ensures.sound (ap (with_key c.args.key) places ∙ keyed c.args.book.now.state c.place.new.self.state c.args.key
+    c.args.word c.in_ok-place.field-0 c.ticket_of-place.result (sym c.in_ok-place.ensures.result) c.in_ok-place.ensures.state c.ticket_of-place.ensures) in
     let first = c.new_tickets_come_next.ensures.start c.place.new.self.state c.ticket_of-place.result c.in_ok-first.first start in
     let u = holds_start c.place.new.self.state c.start.new.self.state c.ticket_of-place.result c.in_ok-first.first c.places_arena.ensures.sound start c.in_ok-first.ensures.state first.0 in
     let full = extend-refused c.start.new.self.state c.in_ok-first.first c.ticket_of-place.result _ p.0 c.in_err-second.field-0.0 u p.1 (sym c.in_err-second.ensures.result) in

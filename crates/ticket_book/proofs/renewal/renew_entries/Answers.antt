@@ -25,7 +25,8 @@ loop-p-preserved-in-Some-get_mut g c =
     let made = entry_written at at' i h c.renew.new.self replaced.entries in
     record {
       rises = st.still_rises;
-      reaches = λ j some. subst (λ k. j ≤ k) (sym st.high) (inv.reaches j (cast_live cast at0 at at' low i h v c.renew.new.self inv.passed inv.ahead st.up st.between stands c.renew.ensures made.0 made.1 j some));
+      reaches = λ j some. subst (λ k. j ≤ k) (sym st.high)
+          (inv.reaches j (cast_live cast at0 at at' low i h v c.renew.new.self inv.passed inv.ahead st.up st.between stands c.renew.ensures made.0 made.1 j some));
       passed = λ j below. cast_passed cast at0 at at' low i h v c.renew.new.self inv.passed inv.ahead st.up st.between stands c.renew.ensures made.0 made.1 j (subst (λ l. j < l) st.low below);
       ahead = λ j past. cast_ahead cast at0 at at' low i h v c.renew.new.self inv.passed inv.ahead st.up st.between stands c.renew.ensures made.0 made.1 j (subst (λ l. l ≤ j) st.low past);
       order = replaced.order ∙ inv.order;

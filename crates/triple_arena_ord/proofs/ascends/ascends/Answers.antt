@@ -5,7 +5,8 @@ use Rattle.triple_arena_ord.proofs.ascends.ascends.Goals as goal
 
 pub link_at-link-requires : goal.link_at-link-requires
 link_at-link-requires g c =
-    first_lives g.P.Inx.PtrInxCore.number g.T.Key.Ord.cmp g.T.SimpleOrdItem.key_of g.met.T.Key.Ord.total (g.A.ChainArenaTrait.links c.args.arena.now) c.requires.0 (g.P.Inx.PtrInxCore.number c.args.first) c.requires.1 c.requires.2
+    first_lives g.P.Inx.PtrInxCore.number g.T.Key.Ord.cmp g.T.SimpleOrdItem.key_of g.met.T.Key.Ord.total (g.A.ChainArenaTrait.links c.args.arena.now) c.requires.0
+    (g.P.Inx.PtrInxCore.number c.args.first) c.requires.1 c.requires.2
 
 pub along-init : goal.along-init
 along-init g c = λ w linear at most.
@@ -24,7 +25,8 @@ returns-in_default g c = λ w linear at most. (
 pub link_at-next-requires : goal.link_at-next-requires
 link_at-next-requires g c =
     next_lives g.P.Inx.PtrInxCore.number g.T.Key.Ord.cmp g.T.SimpleOrdItem.key_of g.met.T.Key.Ord.total (g.A.ChainArenaTrait.links c.args.arena.now) c.requires.0 c.along.link.now c.along._done
-    (c.along.invariant c.requires.0 c.requires.1 c.requires.2 c.requires.3) c.requires.1 (g.P.Inx.PtrInxCore.number c.in-Some.i) (ap (option_map g.P.Inx.PtrInxCore.number) (sym c.next.ensures ∙ c.in-Some.is))
+    (c.along.invariant c.requires.0 c.requires.1 c.requires.2 c.requires.3) c.requires.1 (g.P.Inx.PtrInxCore.number c.in-Some.i)
+    (ap (option_map g.P.Inx.PtrInxCore.number) (sym c.next.ensures ∙ c.in-Some.is))
 
 pub returns-in-Greater : goal.returns-in-Greater
 returns-in-Greater g c = λ w linear at most.
@@ -34,8 +36,11 @@ returns-in-Greater g c = λ w linear at most.
     let links = g.A.ChainArenaTrait.links c.args.arena.now in
     let on = ap (option_map number) (sym c.next.ensures ∙ c.in-Some.is) in
     let s = seen number cmp key g.met.T.Key.Ord.total links (number c.in-Some.i) c.link_at-next.result.now c.link_at-next.ensures in
-    let answer = ap (λ x. cmp x (key c.link_at-next.result.now.t.t)) (sym c.key.ensures) ∙ ap (cmp c.key.result.now) (sym c.key-in-along.ensures) ∙ sym c.cmp.ensures in
-    (λ t. absurd (cc), λ a. absurd (checking_fails number cmp key g.met.T.Key.Ord.total links w c.along.link.now c.along._done (c.along.invariant w linear at most) linear (number c.in-Some.i) c.link_at-next.result.now on s (answer ∙ c.in-Greater.is) a))
+    let answer = ap (λ x. cmp x (key c.link_at-next.result.now.t.t)) (sym c.key.ensures) ∙ ap (cmp c.key.result.now) (sym c.key-in-along.ensures) ∙ sym c.cmp.ensures in (
+      λ t. absurd (cc),
+      λ a. absurd (checking_fails number cmp key g.met.T.Key.Ord.total links w c.along.link.now c.along._done (c.along.invariant w linear at most) linear
+          (number c.in-Some.i) c.link_at-next.result.now on s (answer ∙ c.in-Greater.is) a),
+    )
 
 pub along-preserved : goal.along-preserved
 along-preserved g c = λ w linear at most.

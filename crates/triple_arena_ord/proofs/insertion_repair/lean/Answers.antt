@@ -3,8 +3,9 @@ use Rattle.std.specs.Option.{option_map}
 use Rattle.triple_arena_ord.proofs.NameLemmas.{not_some, if_live}
 use Rattle.triple_arena_ord.specs.Node.{knots_in}
 use Rattle.rank_tree.specs.Repair.{Leaning}
-use Rattle.rank_tree.proofs.Spots.{spot_low, spot_parent, spot_high, spot_child}
-use Rattle.rank_tree.proofs.Leans.{TurnsTwice, LeanReads, lean_spot, lean_reads, lean_once, lean_twice, root-some}
+use Rattle.rank_tree.specs.SpotLaws.{spot_low, spot_parent, spot_high, spot_child}
+use Rattle.rank_tree.specs.LeanLaws.{LeanReads, lean_spot, lean_reads, lean_once, lean_twice}
+use Rattle.rank_tree.specs.TurningLaws.{TurnsTwice, root-some}
 use Rattle.triple_arena_ord.proofs.insertion_repair.lean.Goals.{After-rank_at, In-Some-inner}
 use Rattle.triple_arena_ord.proofs.insertion_repair.lean.Goals as goal
 

@@ -1,8 +1,8 @@
 use Rattle.std.proofs.Common.{◌≡◌, ◌+◌, ◌*◌, ◌^◌, ◌<◌, ◌≤◌, sym, ◌∙◌, subst}
 use Rattle.triple_arena_ord.specs.Ordered.{tree_in, size_in}
 use Rattle.rank_tree.specs.Tree.{size, rank_of}
-use Rattle.rank_tree.proofs.Bound.{size_bound, height-le-rank}
-use Rattle.rank_tree.proofs.Climbs.{size-walk}
+use Rattle.rank_tree.specs.BoundLaws.{size_bound, height-le-rank}
+use Rattle.rank_tree.specs.ClimbLaws.{size-walk}
 use Rattle.triple_arena_ord.proofs.laws.paths_are_short.Goals as goal
 
 pub returns-clause-high : goal.returns-clause-high

@@ -5,7 +5,7 @@ use Rattle.triple_arena_ord.specs.Node.{knots_in}
 use Rattle.rank_tree.specs.Named.{named}
 use Rattle.rank_tree.specs.Store.{child_of}
 use Rattle.rank_tree.specs.Repair.{Spot}
-use Rattle.rank_tree.proofs.Spots.{Reads, spotted, reads, rank_read, spot_low, spot_parent, spot_high, spot_child, spot_far}
+use Rattle.rank_tree.specs.SpotLaws.{Reads, spotted, reads, rank_read, spot_low, spot_parent, spot_high, spot_child, spot_far}
 use Rattle.triple_arena_ord.proofs.looks.look_around.Goals.{After-side_of-side}
 use Rattle.triple_arena_ord.proofs.looks.look_around.Goals as goal
 

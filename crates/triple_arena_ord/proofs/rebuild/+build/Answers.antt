@@ -4,7 +4,7 @@ use Rattle.triple_arena_chain.specs.Links.{ends_in}
 use Rattle.triple_arena_ord.specs.Node.{knots_in}
 use Rattle.triple_arena_ord.specs.Rebuilt.{IsAhead}
 use Rattle.rank_tree.specs.Halving.{IsBuilt}
-use Rattle.rank_tree.proofs.BuildLemmas.{built_none}
+use Rattle.rank_tree.specs.BuildLaws.{built_none}
 use Rattle.triple_arena_ord.proofs.RebuildLemmas.{parts, empty_ahead, right_ahead, stays_there, lives_if, root_lives, live_knot, part_built}
 use Rattle.triple_arena_ord.proofs.rebuild.+build.Goals as goal
 
@@ -92,7 +92,8 @@ returns-clause-built g t c = λ w a.
     part_built (ends_in number c.args.chains.now) (option_map number c.args.cursor.now) c.args.count c.args.top c.rank_of_part-rank.result
     (number c.in-Some.root) w a.after _ _ _ _ _ _ _ _ p is
     (subst (λ k. IsBuilt k p.v (option_map number c.build-left.result) (knots_in number c.args.chains.now) (knots_in number c.build-left.new.chains)) under (c.build-left.ensures.built p.v p.left))
-    (subst (λ k. IsBuilt k p.u (option_map number c.build-right.result) (knots_in number c.build-left.new.chains) (knots_in number c.build-right.new.chains)) under (c.build-right.ensures.built p.u r.0))
+    (subst (λ k. IsBuilt k p.u (option_map number c.build-right.result) (knots_in number c.build-left.new.chains) (knots_in number c.build-right.new.chains)) under
+    (c.build-right.ensures.built p.u r.0))
     c.reparent.ensures.does c.reparent-2.ensures.does c.rank_of_part-rank.ensures c.write.ensures.written
 
 pub returns-clause-goes_on : goal.returns-clause-goes_on

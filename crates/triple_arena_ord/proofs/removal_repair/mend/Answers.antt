@@ -5,8 +5,8 @@ use Rattle.triple_arena_ord.specs.Node.{knots_in}
 use Rattle.rank_tree.specs.Named.{named}
 use Rattle.rank_tree.specs.Store.{rank_in}
 use Rattle.rank_tree.specs.Repair.{Broken}
-use Rattle.rank_tree.proofs.Spots.{spot_low}
-use Rattle.rank_tree.proofs.Mends.{MendReads, Lowered, Higher, Sibling, broken_lives, broken_reads, broken_ends, broken_lower, broken_sibling, mend_reads, not_fit, not_fit_at, mend_higher, higher_some, mend_lower, sibling_short, sets_lives}
+use Rattle.rank_tree.specs.SpotLaws.{spot_low}
+use Rattle.rank_tree.specs.MendLaws.{MendReads, Lowered, Higher, Sibling, broken_lives, broken_reads, broken_ends, broken_lower, broken_sibling, mend_reads, not_fit, not_fit_at, mend_higher, higher_some, mend_lower, sibling_short, sets_lives}
 use Rattle.triple_arena_ord.proofs.removal_repair.mend.Goals.{After-rank_at-right, After-set_rank, After-child, In-Some, After-set_rank-3}
 use Rattle.triple_arena_ord.proofs.removal_repair.mend.Goals as goal
 

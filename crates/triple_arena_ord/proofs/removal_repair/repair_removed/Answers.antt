@@ -4,7 +4,7 @@ use Rattle.triple_arena_ord.proofs.NameLemmas.{if_numbered}
 use Rattle.triple_arena_ord.specs.Node.{knots_in}
 use Rattle.rank_tree.specs.Store.{rank_in}
 use Rattle.rank_tree.specs.Repair.{Pending}
-use Rattle.rank_tree.proofs.Mends.{mend_falls, broken_small}
+use Rattle.rank_tree.specs.MendLaws.{mend_falls, broken_small}
 use Rattle.triple_arena_ord.proofs.removal_repair.repair_removed.Goals as goal
 
 pub climb-smaller : goal.climb-smaller

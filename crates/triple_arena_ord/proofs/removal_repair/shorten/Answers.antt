@@ -2,8 +2,8 @@ use Rattle.std.proofs.Common.{◌+◌, ◌-◌, List, ℕ, sym, ◌∙◌, ap, a
 use Rattle.std.specs.Option.{option_map}
 use Rattle.triple_arena_ord.specs.Node.{knots_in}
 use Rattle.rank_tree.specs.Repair.{Short}
-use Rattle.rank_tree.proofs.Leans.{TurnsTwice, root-some}
-use Rattle.rank_tree.proofs.Turnings.{short_once, short_twice}
+use Rattle.rank_tree.specs.ShortLaws.{short_once, short_twice}
+use Rattle.rank_tree.specs.TurningLaws.{TurnsTwice, root-some}
 use Rattle.triple_arena_ord.proofs.removal_repair.shorten.Goals.{In-Some}
 use Rattle.triple_arena_ord.proofs.removal_repair.shorten.Goals as goal
 

@@ -3,7 +3,7 @@ use Rattle.rank_tree.specs.Store.{other_side, child_of, with_child}
 use Rattle.triple_arena_ord.specs.Node.{knots_in}
 use Rattle.rank_tree.specs.Named.{named}
 use Rattle.triple_arena_ord.proofs.NameLemmas.{not_some, if_live}
-use Rattle.rank_tree.proofs.Spots.{spot_low, spot_parent, spot_high, spot_child, spot_holder, write-lives, reparent-lives, turn_works}
+use Rattle.rank_tree.specs.SpotLaws.{spot_low, spot_parent, spot_high, spot_child, spot_holder, write-lives, reparent-lives, turn_works}
 use Rattle.triple_arena_ord.proofs.turn.turn.Goals as goal
 
 pub read-below-requires : goal.read-below-requires
@@ -33,7 +33,8 @@ returns-clause-does g c = λ spot.
     let below = named number c.read-below.result in
     let raised_is : named number c.with_child-raised.result ≡ with_child (other_side c.side_of-side.result) (Some (number c.in-Some.high)) below =
     c.with_child-raised.ensures ∙ ap (λ z. with_child z (Some (number c.in-Some.high)) below) c.other-2.ensures in
-    turn_works _ _ _ _ _ _ _ _ c.args.low_rank c.args.high_rank _ _ _ c.side_of-side.result (option_map number c.child-middle.result) (named number c.with_child-lowered.result) (named number c.with_child-raised.result)
+    turn_works _ _ _ _ _ _ _ _ c.args.low_rank c.args.high_rank _ _ _ c.side_of-side.result (option_map number c.child-middle.result) (named number c.with_child-lowered.result)
+    (named number c.with_child-raised.result)
     c.read-below.ensures (ap (option_map number) c.in-Some.is) c.read-above.ensures c.side_of-side.ensures.left c.side_of-side.ensures.right
     (c.child-middle.ensures ∙ ap (λ z. child_of z below) c.other.ensures) c.with_child-lowered.ensures raised_is
     c.write.ensures.written c.reparent.ensures.does c.write-2.ensures.written c.relink.ensures.does spot

@@ -1,7 +1,7 @@
-use Rattle.rank_tree.proofs.Spots.{write-lives, reparent-lives}
+use Rattle.rank_tree.specs.SpotLaws.{write-lives, reparent-lives}
 use Rattle.triple_arena_ord.specs.Node.{knots_in}
 use Rattle.triple_arena_ord.proofs.NameLemmas.{if_live}
-use Rattle.rank_tree.proofs.ChangeLemmas.{exchange_lives, exchange_links, exchange_works}
+use Rattle.rank_tree.specs.ChangeLaws.{exchange_lives, exchange_links, exchange_works}
 use Rattle.triple_arena_ord.proofs.uprooting.exchange.Goals as goal
 
 pub read-knot-requires : goal.read-knot-requires

@@ -11,10 +11,12 @@ invariant_of-self g c =
     let law = c.cuts_part_one_stop.ensures in
     let stay = c.stops_stay_as_routes_change.ensures in
     let sound = c.self.invariant.sound in
-    let re = parted_links _ _ _ _ _ _ _ _ c.self.invariant.book _ c.self.view_is c.len.ensures.formed.agreed t _ _ c.in_ok-from.ensures.found _ (c.in-Some.ensures.variant.0 refl) c.in-Some.ensures.relinked in
+    let re = parted_links _ _ _ _ _ _ _ _ c.self.invariant.book _ c.self.view_is c.len.ensures.formed.agreed t _ _ c.in_ok-from.ensures.found _ (c.in-Some.ensures.variant.0 refl)
+    c.in-Some.ensures.relinked in
     record {
       book = cut_leaves _ _ _ _ _ _ _ _ c.self.invariant.book _ c.self.view_is c.len.ensures.formed.agreed t _ _ c.in_ok-from.ensures.found _ _ c.changed-self-inside.ensures
-          (c.in-Some.ensures.variant.0 refl) c.in-Some.ensures.relinked (λ ok. law.next s t sound ok) (λ x ok apart. law.others s t x sound ok apart) (λ x. stay.parted s t x sound) (stay.parted_count s t sound);
+          (c.in-Some.ensures.variant.0 refl) c.in-Some.ensures.relinked (λ ok. law.next s t sound ok) (λ x ok apart. law.others s t x sound ok apart) (λ x. stay.parted s t x sound)
+          (stay.parted_count s t sound);
       sound = subst IsSound (sym c.changed-self-inside.ensures) (c.changes_keep_states_sound.ensures.sound s (Cut t) tt sound);
       counts = c.self.invariant.counts;
       room = c.self.invariant.room;
@@ -29,16 +31,19 @@ returns-in-Some-clause-result g c =
 
 pub returns-in-Some-clause-kept : goal.returns-in-Some-clause-kept
 returns-in-Some-clause-kept g c =
-    let re = parted_links _ _ _ _ _ _ _ _ c.self.invariant.book _ c.self.view_is c.len.ensures.formed.agreed c.args.stop _ _ c.in_ok-from.ensures.found _ (c.in-Some.ensures.variant.0 refl) c.in-Some.ensures.relinked in
+    let re = parted_links _ _ _ _ _ _ _ _ c.self.invariant.book _ c.self.view_is c.len.ensures.formed.agreed c.args.stop _ _ c.in_ok-from.ensures.found _ (c.in-Some.ensures.variant.0 refl)
+    c.in-Some.ensures.relinked in
     relinked_keeps _ _ _ _ _ _ _ _ c.self.invariant.book _ c.self.view_is _ _ _ re.1
 
 pub returns-in-None-clause-result : goal.returns-in-None-clause-result
 returns-in-None-clause-result g c =
-    (told_whole _ _ _ _ _ _ _ _ c.self.invariant.book _ c.self.view_is c.len.ensures.formed.agreed c.args.stop _ _ c.in_ok-from.ensures.found (λ some. true≢false (sym (c.in-None.ensures.variant.1 some)))).0
+    (told_whole _ _ _ _ _ _ _ _ c.self.invariant.book _ c.self.view_is c.len.ensures.formed.agreed c.args.stop _ _ c.in_ok-from.ensures.found
+    (λ some. true≢false (sym (c.in-None.ensures.variant.1 some)))).0
 
 pub returns-in-None-clause-state : goal.returns-in-None-clause-state
 returns-in-None-clause-state g c =
-    (told_whole _ _ _ _ _ _ _ _ c.self.invariant.book _ c.self.view_is c.len.ensures.formed.agreed c.args.stop _ _ c.in_ok-from.ensures.found (λ some. true≢false (sym (c.in-None.ensures.variant.1 some)))).1
+    (told_whole _ _ _ _ _ _ _ _ c.self.invariant.book _ c.self.view_is c.len.ensures.formed.agreed c.args.stop _ _ c.in_ok-from.ensures.found
+    (λ some. true≢false (sym (c.in-None.ensures.variant.1 some)))).1
 
 pub returns-in-None-clause-kept : goal.returns-in-None-clause-kept
 returns-in-None-clause-kept g c = refused_keeps _ _ _ _ _ _ _ _ c.self.invariant.book _ c.self.view_is _ c.in-None.ensures.none

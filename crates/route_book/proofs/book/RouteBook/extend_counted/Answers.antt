@@ -19,7 +19,8 @@ invariant_of-self g c =
     let room = c.self.invariant.room in
     let same = c.add.ensures.capacity in
     record {
-      book = extend_leaves _ _ _ s _ _ _ _ c.self.invariant.book _ c.self.view_is t _ _ c.in_ok-behind.ensures.found pt _ _ c.in_ok-at.ensures.found c.if-is_full_of_stops.ensures.is c.is_full_of_stops.ensures.chained
+      book = extend_leaves _ _ _ s _ _ _ _ c.self.invariant.book _ c.self.view_is t _ _ c.in_ok-behind.ensures.found pt _ _ c.in_ok-at.ensures.found c.if-is_full_of_stops.ensures.is
+          c.is_full_of_stops.ensures.chained
           _ _ _ c.new-new.ensures.ticket c.new-new.ensures.place _ c.in-Ok.ensures.placed c.in-Ok.ensures.room _ _ c.changed-self-inside.ensures c.add.ensures.entries
           (λ m ok. law.next s t pt m sound ok) (λ m ok. law.new s t pt m sound ok) (λ m x ok apart off. law.others s t pt m x sound ok apart off)
           (λ m ok. stay.new s t pt m sound ok) (λ m x ok apart. stay.others s t pt m x sound ok apart) (λ m ok. stay.count s t pt m sound ok);
@@ -33,5 +34,6 @@ invariant_of-self g c =
 
 pub returns-clause-kept : goal.returns-clause-kept
 returns-clause-kept g c =
-    extend_keeps_in _ _ _ _ _ _ _ _ c.self.invariant.book _ c.self.view_is c.args.stop _ _ c.in_ok-behind.ensures.found c.args.place _ _ c.in_ok-at.ensures.found c.if-is_full_of_stops.ensures.is c.is_full_of_stops.ensures.chained
+    extend_keeps_in _ _ _ _ _ _ _ _ c.self.invariant.book _ c.self.view_is c.args.stop _ _ c.in_ok-behind.ensures.found c.args.place _ _ c.in_ok-at.ensures.found c.if-is_full_of_stops.ensures.is
+    c.is_full_of_stops.ensures.chained
     _ _ _ c.new-new.ensures.ticket c.new-new.ensures.place _ c.in-Ok.ensures.placed c.in-Ok.ensures.room _

@@ -13,7 +13,7 @@ returns-in-Some-get-clause-result g c =
     let b = c.self.invariant.book in
     let rise : KeysRise (in_order g.P.Inx.PtrInxCore.number c.self.inside.places) = subst KeysRise b.held.in_order b.keys_rise in
     let on : (i : ℕ) → IsSome (entry_in c.self.inside.places i) → On (order_in g.P.Inx.PtrInxCore.number c.self.inside.places) i =
-    λ i some. c.entries_stand_in_the_list.ensures c.self.inside.places i c.len.ensures.ordered some in
+    λ i some. c.entries_stand_in_the_list.ensures c.self.inside.places i c.len.ensures.formed.ordered some in
     ap Some c.ticket.ensures
     ∙ ap (option_map (λ (p : Place). p.ticket))
     (c.in-Some-get.ensures

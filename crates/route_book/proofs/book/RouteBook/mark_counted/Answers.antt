@@ -20,7 +20,8 @@ invariant_of-self g c =
     let same = c.add.ensures.capacity in
     record {
       book = mark_leaves _ _ _ s _ _ _ _ c.self.invariant.book _ c.self.view_is pt _ _ c.in_ok-at.ensures.found st _ _ c.in_ok-by.ensures.found c.if-is_full_of_marks.ensures
-          _ _ _ c.new-mark.ensures.ticket c.new-mark.ensures.place c.new-mark.ensures.stop _ put.vacant put.entries _ _ c.changed-self-inside.ensures c.add.ensures.entries put.live c.in-Ok.ensures.room;
+          _ _ _ c.new-mark.ensures.ticket c.new-mark.ensures.place c.new-mark.ensures.stop _ put.vacant put.entries _ _ c.changed-self-inside.ensures c.add.ensures.entries put.live
+          c.in-Ok.ensures.room;
       sound = subst IsSound (sym c.changed-self-inside.ensures) (c.changes_keep_states_sound.ensures.sound s (Mark pt st) tt sound);
       counts = c.self.invariant.counts;
       room = omega (arith, room, same);

@@ -3,7 +3,7 @@ use Rattle.triple_arena_stack.specs.Room.{capacity}
 use Rattle.triple_arena.specs.Content.{arena_capacity}
 use Rattle.triple_arena_chain.specs.CanonicalLayout.{IsLaidOut}
 use Rattle.triple_arena_chain.specs.Links.{ends_in}
-use Rattle.triple_arena_chain.proofs.GatheredLemmas.{laid_same}
+use Rattle.triple_arena_chain.specs.CanonicalLayoutLaws.{laid_same}
 use Rattle.route_book.specs.Book.{Book}
 use Rattle.route_book.specs.Removals.{references_in}
 use Rattle.route_book.proofs.RunLemmas.{marks_run}
@@ -11,17 +11,19 @@ use Rattle.route_book.proofs.WholeLemmas.{ready_places, ready_stops, ready_marks
 use Rattle.route_book.proofs.book.RouteBook.pack_counted.Goals as goal
 
 pub mirror_places-requires : goal.mirror_places-requires
-mirror_places-requires g c = record {
-  booked = ready_places g.P.Inx.PtrInxCore.number g.P.Gen.PtrGenCore.last _ _ _ _ _ _ _ _ _ _ c.self.invariant.book c.compress_all.ensures c.entries_stand_in_the_list.ensures _ refl _ c.self.invariant.place_mirror;
-}
+mirror_places-requires g c =
+    ready_places g.P.Inx.PtrInxCore.number g.P.Gen.PtrGenCore.last _ _ _ _ _ _ _ _ _ _ c.self.invariant.book c.compress_all.ensures c.entries_stand_in_the_list.ensures _ refl _
+    c.self.invariant.place_mirror
 
 pub mirror_stops-requires : goal.mirror_stops-requires
 mirror_stops-requires g c =
-    ready_stops g.P.Inx.PtrInxCore.number g.P.Gen.PtrGenCore.last _ _ _ _ _ _ _ _ _ _ c.self.invariant.book c.compress_all.ensures c.entries_stand_in_the_list.ensures _ refl _ c.self.invariant.stop_mirror
+    ready_stops g.P.Inx.PtrInxCore.number g.P.Gen.PtrGenCore.last _ _ _ _ _ _ _ _ _ _ c.self.invariant.book c.compress_all.ensures c.entries_stand_in_the_list.ensures _ refl _
+    c.self.invariant.stop_mirror
 
 pub mirror_marks-requires : goal.mirror_marks-requires
 mirror_marks-requires g c =
-    ready_marks g.P.Inx.PtrInxCore.number g.P.Gen.PtrGenCore.last _ _ _ _ _ _ _ _ _ _ c.self.invariant.book c.compress_all.ensures c.entries_stand_in_the_list.ensures _ refl _ c.self.invariant.mark_mirror
+    ready_marks g.P.Inx.PtrInxCore.number g.P.Gen.PtrGenCore.last _ _ _ _ _ _ _ _ _ _ c.self.invariant.book c.compress_all.ensures c.entries_stand_in_the_list.ensures _ refl _
+    c.self.invariant.mark_mirror
 
 pub returns-clause-packed : goal.returns-clause-packed
 returns-clause-packed g c = record {
@@ -32,7 +34,8 @@ returns-clause-packed g c = record {
   place_counter = c.compress_all.ensures.laid.counter;
   stop_counter = whole_stop_counter g.P.Inx.PtrInxCore.number g.P.Gen.PtrGenCore.last _ _ _ _ _ _ _ _ _ _ c.self.invariant.book c.compress_all.ensures c.entries_stand_in_the_list.ensures
       c.recast_all_stops.new.stops c.recast_all_marks.new.marks _ _ _ _ _ _ refl refl refl c.mirror_places.ensures.mirrored c.mirror_stops.ensures.mirrored c.mirror_marks.ensures.mirrored
-      c.recast_all_stops.ensures.entries c.recast_all_marks.ensures.entries c.recast_all_stops.ensures.ends c.recast_all_stops.ensures.counter c.recast_all_stops.ensures.live c.recast_all_stops.ensures.room
+      c.recast_all_stops.ensures.entries c.recast_all_marks.ensures.entries c.recast_all_stops.ensures.ends c.recast_all_stops.ensures.counter c.recast_all_stops.ensures.live
+      c.recast_all_stops.ensures.room
       c.recast_all_marks.ensures.live c.recast_all_marks.ensures.room;
   order = places_in_order g.P.Inx.PtrInxCore.number g.P.Gen.PtrGenCore.last _ _ _ _ _ _ _ _ _ _ c.self.invariant.book c.compress_all.ensures c.entries_stand_in_the_list.ensures;
   stop_runs = subst (IsLaidOut (ends_in g.P.Inx.PtrInxCore.number c.recast_all_stops.new.stops)) (sym (c.recast_all_stops.ensures.live ∙ c.compress_all.ensures.canonical.live))
@@ -41,11 +44,13 @@ returns-clause-packed g c = record {
   mark_run = marks_run c.compress_all.new.marks c.recast_all_marks.new.marks _ c.compress_all.ensures.compressed.entries c.recast_all_marks.ensures.entries c.recast_all_marks.ensures.live;
   stops = whole_stops g.P.Inx.PtrInxCore.number g.P.Gen.PtrGenCore.last _ _ _ _ _ _ _ _ _ _ c.self.invariant.book c.compress_all.ensures c.entries_stand_in_the_list.ensures
       c.recast_all_stops.new.stops c.recast_all_marks.new.marks _ _ _ _ _ _ refl refl refl c.mirror_places.ensures.mirrored c.mirror_stops.ensures.mirrored c.mirror_marks.ensures.mirrored
-      c.recast_all_stops.ensures.entries c.recast_all_marks.ensures.entries c.recast_all_stops.ensures.ends c.recast_all_stops.ensures.counter c.recast_all_stops.ensures.live c.recast_all_stops.ensures.room
+      c.recast_all_stops.ensures.entries c.recast_all_marks.ensures.entries c.recast_all_stops.ensures.ends c.recast_all_stops.ensures.counter c.recast_all_stops.ensures.live
+      c.recast_all_stops.ensures.room
       c.recast_all_marks.ensures.live c.recast_all_marks.ensures.room;
   marks = whole_marks g.P.Inx.PtrInxCore.number g.P.Gen.PtrGenCore.last _ _ _ _ _ _ _ _ _ _ c.self.invariant.book c.compress_all.ensures c.entries_stand_in_the_list.ensures
       c.recast_all_stops.new.stops c.recast_all_marks.new.marks _ _ _ _ _ _ refl refl refl c.mirror_places.ensures.mirrored c.mirror_stops.ensures.mirrored c.mirror_marks.ensures.mirrored
-      c.recast_all_stops.ensures.entries c.recast_all_marks.ensures.entries c.recast_all_stops.ensures.ends c.recast_all_stops.ensures.counter c.recast_all_stops.ensures.live c.recast_all_stops.ensures.room
+      c.recast_all_stops.ensures.entries c.recast_all_marks.ensures.entries c.recast_all_stops.ensures.ends c.recast_all_stops.ensures.counter c.recast_all_stops.ensures.live
+      c.recast_all_stops.ensures.room
       c.recast_all_marks.ensures.live c.recast_all_marks.ensures.room;
 }
 
@@ -54,9 +59,11 @@ invariant_of-self g c =
     let room = c.self.invariant.room in
     let same = c.renew.ensures.capacity in
     record {
-      book = rw c.renew.ensures.entries (whole_kept g.P.Inx.PtrInxCore.number g.P.Gen.PtrGenCore.last _ _ _ _ _ _ _ _ _ _ c.self.invariant.book c.compress_all.ensures c.entries_stand_in_the_list.ensures
+      book = rw c.renew.ensures.entries (whole_kept g.P.Inx.PtrInxCore.number g.P.Gen.PtrGenCore.last _ _ _ _ _ _ _ _ _ _ c.self.invariant.book c.compress_all.ensures
+          c.entries_stand_in_the_list.ensures
           c.recast_all_stops.new.stops c.recast_all_marks.new.marks _ _ _ _ _ _ refl refl refl c.mirror_places.ensures.mirrored c.mirror_stops.ensures.mirrored c.mirror_marks.ensures.mirrored
-          c.recast_all_stops.ensures.entries c.recast_all_marks.ensures.entries c.recast_all_stops.ensures.ends c.recast_all_stops.ensures.counter c.recast_all_stops.ensures.live c.recast_all_stops.ensures.room
+          c.recast_all_stops.ensures.entries c.recast_all_marks.ensures.entries c.recast_all_stops.ensures.ends c.recast_all_stops.ensures.counter c.recast_all_stops.ensures.live
+          c.recast_all_stops.ensures.room
           c.recast_all_marks.ensures.live c.recast_all_marks.ensures.room);
       sound = c.self.invariant.sound;
       counts = c.self.invariant.counts;

@@ -12,25 +12,30 @@ use Rattle.route_book.proofs.book.RouteBook.place_found.Goals as goal
 
 pub replace_word-requires-clause-live : goal.replace_word-requires-clause-live
 replace_word-requires-clause-live g c =
-    answers_live g.P.Inx.PtrInxCore.number c.args.self.now.places g.P.PtrCore.index g.P.PtrCore.generation c.args.key c.in-Some.at _ (c.requires.similar.some c.in-Some.at _ (c.in-Some.ensures.some c.in-Some.at refl))
+    answers_live g.P.Inx.PtrInxCore.number c.args.self.now.places g.P.PtrCore.index g.P.PtrCore.generation c.args.key c.in-Some.at _
+    (c.requires.similar.some c.in-Some.at _ (c.in-Some.ensures.some c.in-Some.at refl))
 
 pub replace_word-requires-clause-found : goal.replace_word-requires-clause-found
 replace_word-requires-clause-found g c =
     let b = c.self.invariant.book in
     let rise : KeysRise (in_order g.P.Inx.PtrInxCore.number c.self.inside.places) = subst KeysRise b.held.in_order b.keys_rise in
-    let similar = subst (λ (b : Book g.row.P-Inx.Denot). IsSimilar g.P.PtrCore.index g.P.PtrCore.generation g.P.Inx.PtrInxCore.number (asked_at nat_cmp (λ (p : Place). p.key) c.args.key b.places) (IsAscending g.P.Inx.PtrInxCore.number nat_cmp (λ (p : Place). p.key) b.places) c.args.found b.places) (sym c.self.view_is) c.requires.similar in
+    let similar = subst (λ (b : Book g.row.P-Inx.Denot). IsSimilar g.P.PtrCore.index g.P.PtrCore.generation g.P.Inx.PtrInxCore.number (asked_at nat_cmp (λ (p : Place). p.key) c.args.key b.places)
+    (IsAscending g.P.Inx.PtrInxCore.number nat_cmp (λ (p : Place). p.key) b.places) c.args.found b.places) (sym c.self.view_is) c.requires.similar in
     let on : (i : ℕ) → IsSome (entry_in c.self.inside.places i) → On (order_in g.P.Inx.PtrInxCore.number c.self.inside.places) i =
-    λ i some. c.entries_stand_in_the_list.ensures c.self.inside.places i c.len.ensures.ordered some in
+    λ i some. c.entries_stand_in_the_list.ensures c.self.inside.places i c.len.ensures.formed.ordered some in
     subst (λ (b : Book g.row.P-Inx.Denot). value_if (g.P.PtrCore.generation c.in-Some.at) (entry_in b.places (g.P.PtrCore.index c.in-Some.at)) ≡ with_key c.args.key b.state.places) c.self.view_is
-    (key_found g.P.Inx.PtrInxCore.number c.self.inside.places g.P.PtrCore.index g.P.PtrCore.generation c.args.key c.in-Some.at rise on (similar.some c.in-Some.at _ (c.in-Some.ensures.some c.in-Some.at refl))
+    (key_found g.P.Inx.PtrInxCore.number c.self.inside.places g.P.PtrCore.index g.P.PtrCore.generation c.args.key c.in-Some.at rise on
+    (similar.some c.in-Some.at _ (c.in-Some.ensures.some c.in-Some.at refl))
     ∙ ap (with_key c.args.key) (sym b.held.in_order))
 
 pub add_place-requires-clause-missing : goal.add_place-requires-clause-missing
 add_place-requires-clause-missing g c =
     let b = c.self.invariant.book in
     let rise : KeysRise (in_order g.P.Inx.PtrInxCore.number c.self.inside.places) = subst KeysRise b.held.in_order b.keys_rise in
-    let similar = subst (λ (b : Book g.row.P-Inx.Denot). IsSimilar g.P.PtrCore.index g.P.PtrCore.generation g.P.Inx.PtrInxCore.number (asked_at nat_cmp (λ (p : Place). p.key) c.args.key b.places) (IsAscending g.P.Inx.PtrInxCore.number nat_cmp (λ (p : Place). p.key) b.places) c.args.found b.places) (sym c.self.view_is) c.requires.similar in
+    let similar = subst (λ (b : Book g.row.P-Inx.Denot). IsSimilar g.P.PtrCore.index g.P.PtrCore.generation g.P.Inx.PtrInxCore.number (asked_at nat_cmp (λ (p : Place). p.key) c.args.key b.places)
+    (IsAscending g.P.Inx.PtrInxCore.number nat_cmp (λ (p : Place). p.key) b.places) c.args.found b.places) (sym c.self.view_is) c.requires.similar in
     sym (ap (λ (b : Book g.row.P-Inx.Denot). with_key c.args.key b.state.places) c.self.view_is)
     ∙ ap (with_key c.args.key) b.held.in_order
-    ∙ search_missing g.P.Inx.PtrInxCore.number c.self.inside.places g.P.PtrCore.index g.P.PtrCore.generation c.args.key (IsAscending g.P.Inx.PtrInxCore.number nat_cmp (λ (p : Place). p.key) c.self.inside.places) c.args.found (ascending _ rise) c.len.ensures.ordered rise similar
+    ∙ search_missing g.P.Inx.PtrInxCore.number c.self.inside.places g.P.PtrCore.index g.P.PtrCore.generation c.args.key
+    (IsAscending g.P.Inx.PtrInxCore.number nat_cmp (λ (p : Place). p.key) c.self.inside.places) c.args.found (ascending _ rise) c.len.ensures.formed.ordered rise similar
     (c.in-None.ensures.none refl)

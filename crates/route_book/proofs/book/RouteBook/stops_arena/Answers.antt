@@ -18,4 +18,5 @@ returns-clause-routes g c =
 
 pub returns-clause-next : goal.returns-clause-next
 returns-clause-next g c =
-    subst (λ (b : Book g.row.P-Inx.Denot). LeadAs (λ (t : StopView). t.ticket) (values_in c.self.inside.stops) (ends_in g.P.Inx.PtrInxCore.number c.self.inside.stops) (next_stop b.state.routes)) c.self.view_is c.self.invariant.book.held.routes
+    subst (λ (b : Book g.row.P-Inx.Denot). LeadAs (λ (t : StopView). t.ticket) (values_in c.self.inside.stops) (ends_in g.P.Inx.PtrInxCore.number c.self.inside.stops) (next_stop b.state.routes))
+    c.self.view_is c.self.invariant.book.held.routes

@@ -13,10 +13,13 @@ invariant_of-self g c =
     let stay = c.stops_stay_as_routes_change.ensures in
     let sound = c.self.invariant.sound in
     let some = c.in-Some.ensures.variant.0 refl in
-    let re = swapped_links _ _ _ _ _ _ _ _ c.self.invariant.book _ c.self.view_is c.len.ensures.formed.agreed t _ _ c.in_ok-from.ensures.found u _ _ c.in_ok-by.ensures.found _ some c.in-Some.ensures.relinked in
+    let re = swapped_links _ _ _ _ _ _ _ _ c.self.invariant.book _ c.self.view_is c.len.ensures.formed.agreed t _ _ c.in_ok-from.ensures.found u _ _ c.in_ok-by.ensures.found _ some
+    c.in-Some.ensures.relinked in
     record {
-      book = swap_leaves _ _ _ _ _ _ _ _ c.self.invariant.book _ c.self.view_is c.len.ensures.formed.agreed t _ _ c.in_ok-from.ensures.found u _ _ c.in_ok-by.ensures.found _ _ c.changed-self-inside.ensures
-          some c.in-Some.ensures.relinked (λ ok. law.first s t u sound ok) (λ ok. law.second s t u sound ok) (λ x ok apart off. law.others s t u x sound ok apart off) (λ x. stay.swapped s t u x sound) (stay.swapped_count s t u sound);
+      book = swap_leaves _ _ _ _ _ _ _ _ c.self.invariant.book _ c.self.view_is c.len.ensures.formed.agreed t _ _ c.in_ok-from.ensures.found u _ _ c.in_ok-by.ensures.found _ _
+          c.changed-self-inside.ensures
+          some c.in-Some.ensures.relinked (λ ok. law.first s t u sound ok) (λ ok. law.second s t u sound ok) (λ x ok apart off. law.others s t u x sound ok apart off)
+          (λ x. stay.swapped s t u x sound) (stay.swapped_count s t u sound);
       sound = subst IsSound (sym c.changed-self-inside.ensures) (c.changes_keep_states_sound.ensures.sound s (Swap t u) tt sound);
       counts = c.self.invariant.counts;
       room = c.self.invariant.room;
@@ -27,20 +30,24 @@ invariant_of-self g c =
 
 pub returns-in-Some-clause-result : goal.returns-in-Some-clause-result
 returns-in-Some-clause-result g c =
-    told_swapped _ _ _ _ _ _ _ _ c.self.invariant.book _ c.self.view_is c.len.ensures.formed.agreed c.args.stop _ _ c.in_ok-from.ensures.found c.args.other _ _ c.in_ok-by.ensures.found (c.in-Some.ensures.variant.0 refl)
+    told_swapped _ _ _ _ _ _ _ _ c.self.invariant.book _ c.self.view_is c.len.ensures.formed.agreed c.args.stop _ _ c.in_ok-from.ensures.found c.args.other _ _ c.in_ok-by.ensures.found
+    (c.in-Some.ensures.variant.0 refl)
 
 pub returns-in-Some-clause-kept : goal.returns-in-Some-clause-kept
 returns-in-Some-clause-kept g c =
-    let re = swapped_links _ _ _ _ _ _ _ _ c.self.invariant.book _ c.self.view_is c.len.ensures.formed.agreed c.args.stop _ _ c.in_ok-from.ensures.found c.args.other _ _ c.in_ok-by.ensures.found _ (c.in-Some.ensures.variant.0 refl) c.in-Some.ensures.relinked in
+    let re = swapped_links _ _ _ _ _ _ _ _ c.self.invariant.book _ c.self.view_is c.len.ensures.formed.agreed c.args.stop _ _ c.in_ok-from.ensures.found c.args.other _ _ c.in_ok-by.ensures.found
+    _ (c.in-Some.ensures.variant.0 refl) c.in-Some.ensures.relinked in
     relinked_keeps _ _ _ _ _ _ _ _ c.self.invariant.book _ c.self.view_is _ _ _ re.1.1
 
 pub returns-in-None-clause-result : goal.returns-in-None-clause-result
 returns-in-None-clause-result g c =
-    (told_unswapped _ _ _ _ _ _ _ _ c.self.invariant.book _ c.self.view_is c.len.ensures.formed.agreed c.args.stop _ _ c.in_ok-from.ensures.found c.args.other _ _ c.in_ok-by.ensures.found (λ some. true≢false (sym (c.in-None.ensures.variant.1 some)))).0
+    (told_unswapped _ _ _ _ _ _ _ _ c.self.invariant.book _ c.self.view_is c.len.ensures.formed.agreed c.args.stop _ _ c.in_ok-from.ensures.found c.args.other _ _ c.in_ok-by.ensures.found
+    (λ some. true≢false (sym (c.in-None.ensures.variant.1 some)))).0
 
 pub returns-in-None-clause-state : goal.returns-in-None-clause-state
 returns-in-None-clause-state g c =
-    (told_unswapped _ _ _ _ _ _ _ _ c.self.invariant.book _ c.self.view_is c.len.ensures.formed.agreed c.args.stop _ _ c.in_ok-from.ensures.found c.args.other _ _ c.in_ok-by.ensures.found (λ some. true≢false (sym (c.in-None.ensures.variant.1 some)))).1
+    (told_unswapped _ _ _ _ _ _ _ _ c.self.invariant.book _ c.self.view_is c.len.ensures.formed.agreed c.args.stop _ _ c.in_ok-from.ensures.found c.args.other _ _ c.in_ok-by.ensures.found
+    (λ some. true≢false (sym (c.in-None.ensures.variant.1 some)))).1
 
 pub returns-in-None-clause-kept : goal.returns-in-None-clause-kept
 returns-in-None-clause-kept g c = refused_keeps _ _ _ _ _ _ _ _ c.self.invariant.book _ c.self.view_is _ c.in-None.ensures.none

@@ -33,15 +33,17 @@ invariant_of-self-in-Place g c =
     let it = found_place _ _ _ _ _ _ _ _ c.self.invariant.book _ c.self.view_is t positive given e.0 e.1.0 _ _ e.1.1.1.0 e.1.1.1.1.0 kind in
     let counts = counts_on g.P.Gen.PtrGenCore.last c.self.invariant.counts in
     let calm : next_wraps g.P.Gen.PtrGenCore.last c.self.inside.places.chains.counter ≡ false =
-    sym (c.wraps-places_wrap.ensures ∙ ap (next_wraps g.P.Gen.PtrGenCore.last) c.generation.ensures) ∙ sym (e.1.1.1.1.1 ∙ ap (stays c.wraps-places_wrap.result c.wraps-stops_wrap.result) kind) ∙ c.if-taken.false in
-    let removed = told _ _ _ _ (c.remove.ensures.value ∙ it.1.0) c.remove.ensures.removed in
+    sym (c.wraps-places_wrap.ensures ∙ ap (next_wraps g.P.Gen.PtrGenCore.last) c.generation.ensures) ∙ sym (e.1.1.1.1.1 ∙ ap (stays c.wraps-places_wrap.result c.wraps-stops_wrap.result) kind)
+    ∙ c.if-taken.false in
+    let removed = told _ _ _ _ (c.remove.ensures.value ∙ it.1.0) c.remove.ensures.exact in
     let law = c.removed_places_leave_no_reference.ensures in
     let after = c.changes_keep_states_sound.ensures.sound s (Remove t) tt sound in
     let room = c.self.invariant.room in
     let same = c.in-Some.ensures.capacity in
     record {
       book = rw (c.in-Some.ensures.out c.if-taken.false, c.changed-self-inside.ensures)
-          (place_out _ _ _ _ _ _ _ _ c.self.invariant.book _ c.self.view_is t positive given e.0 e.1.0 _ _ e.1.1.1.0 e.1.1.1.1.0 kind c.len.ensures.ordered c.remove.new.self _ counts.0 counts.1.0 calm removed _
+          (place_out _ _ _ _ _ _ _ _ c.self.invariant.book _ c.self.view_is t positive given e.0 e.1.0 _ _ e.1.1.1.0 e.1.1.1.1.0 kind c.len.ensures.formed.ordered c.remove.new.self _ counts.0
+          counts.1.0 calm removed _
           (record {
             is = place_is s t it.0 it.1.1;
             places = λ u. law.places s t u it.0 sound it.1.1;
@@ -73,9 +75,11 @@ returns-in-Place-clause-tries g c =
     let it = found_place _ _ _ _ _ _ _ _ c.self.invariant.book _ c.self.view_is t positive given e.0 e.1.0 _ _ e.1.1.1.0 e.1.1.1.1.0 kind in
     let counts = counts_on g.P.Gen.PtrGenCore.last c.self.invariant.counts in
     let calm : next_wraps g.P.Gen.PtrGenCore.last c.self.inside.places.chains.counter ≡ false =
-    sym (c.wraps-places_wrap.ensures ∙ ap (next_wraps g.P.Gen.PtrGenCore.last) c.generation.ensures) ∙ sym (e.1.1.1.1.1 ∙ ap (stays c.wraps-places_wrap.result c.wraps-stops_wrap.result) kind) ∙ c.if-taken.false in
-    let removed = told _ _ _ _ (c.remove.ensures.value ∙ it.1.0) c.remove.ensures.removed in
-    place_tries _ _ _ _ _ _ _ _ c.self.invariant.book _ c.self.view_is t positive given e.0 e.1.0 _ _ e.1.1.1.0 e.1.1.1.1.0 kind c.len.ensures.ordered c.remove.new.self _ counts.0 counts.1.0 calm removed _ c.changed-self-inside.ensures
+    sym (c.wraps-places_wrap.ensures ∙ ap (next_wraps g.P.Gen.PtrGenCore.last) c.generation.ensures) ∙ sym (e.1.1.1.1.1 ∙ ap (stays c.wraps-places_wrap.result c.wraps-stops_wrap.result) kind)
+    ∙ c.if-taken.false in
+    let removed = told _ _ _ _ (c.remove.ensures.value ∙ it.1.0) c.remove.ensures.exact in
+    place_tries _ _ _ _ _ _ _ _ c.self.invariant.book _ c.self.view_is t positive given e.0 e.1.0 _ _ e.1.1.1.0 e.1.1.1.1.0 kind c.len.ensures.formed.ordered c.remove.new.self _ counts.0
+    counts.1.0 calm removed _ c.changed-self-inside.ensures
 
 pub invariant_of-self-in-Stop : goal.invariant_of-self-in-Stop
 invariant_of-self-in-Stop g c =
@@ -91,7 +95,8 @@ invariant_of-self-in-Stop g c =
     let link_there = link_under c.self.inside.stops (g.P.PtrCore.index c.in-Some.taken.1) (g.P.PtrCore.generation c.in-Some.taken.1) _ it.1.0 in
     let counts = counts_on g.P.Gen.PtrGenCore.last c.self.invariant.counts in
     let calm : next_wraps g.P.Gen.PtrGenCore.last c.self.inside.stops.counter ≡ false =
-    sym (c.wraps-stops_wrap.ensures ∙ ap (next_wraps g.P.Gen.PtrGenCore.last) c.generation-2.ensures) ∙ sym (e.1.1.1.1.1 ∙ ap (stays c.wraps-places_wrap.result c.wraps-stops_wrap.result) kind) ∙ c.if-taken.false in
+    sym (c.wraps-stops_wrap.ensures ∙ ap (next_wraps g.P.Gen.PtrGenCore.last) c.generation-2.ensures) ∙ sym (e.1.1.1.1.1 ∙ ap (stays c.wraps-places_wrap.result c.wraps-stops_wrap.result) kind)
+    ∙ c.if-taken.false in
     let taken = told _ _ _ _ (c.remove_link_no_gen.ensures.value ∙ link_there.1) c.remove_link_no_gen.ensures.taken in
     let law = c.removed_stops_join_their_neighbors.ensures in
     let after = c.changes_keep_states_sound.ensures.sound s (Remove t) tt sound in
@@ -99,7 +104,8 @@ invariant_of-self-in-Stop g c =
     let same = c.in-Some.ensures.capacity in
     record {
       book = rw (c.in-Some.ensures.out c.if-taken.false, c.changed-self-inside-in-Stop.ensures)
-          (stop_out _ _ _ _ _ _ _ _ c.self.invariant.book _ c.self.view_is t positive given e.0 e.1.0 _ _ e.1.1.1.0 e.1.1.1.1.0 kind c.len-in-Stop.ensures.formed c.remove_link_no_gen.new.self _ counts.0 counts.1.0 calm taken _
+          (stop_out _ _ _ _ _ _ _ _ c.self.invariant.book _ c.self.view_is t positive given e.0 e.1.0 _ _ e.1.1.1.0 e.1.1.1.1.0 kind c.len-in-Stop.ensures.formed c.remove_link_no_gen.new.self _
+          counts.0 counts.1.0 calm taken _
           (record {
             is = stop_is s t _ it.1.1;
             stops = λ u. law.stops s t u _ sound it.1.1;
@@ -130,9 +136,11 @@ returns-in-Stop-clause-tries g c =
     let link_there = link_under c.self.inside.stops (g.P.PtrCore.index c.in-Some.taken.1) (g.P.PtrCore.generation c.in-Some.taken.1) _ it.1.0 in
     let counts = counts_on g.P.Gen.PtrGenCore.last c.self.invariant.counts in
     let calm : next_wraps g.P.Gen.PtrGenCore.last c.self.inside.stops.counter ≡ false =
-    sym (c.wraps-stops_wrap.ensures ∙ ap (next_wraps g.P.Gen.PtrGenCore.last) c.generation-2.ensures) ∙ sym (e.1.1.1.1.1 ∙ ap (stays c.wraps-places_wrap.result c.wraps-stops_wrap.result) kind) ∙ c.if-taken.false in
+    sym (c.wraps-stops_wrap.ensures ∙ ap (next_wraps g.P.Gen.PtrGenCore.last) c.generation-2.ensures) ∙ sym (e.1.1.1.1.1 ∙ ap (stays c.wraps-places_wrap.result c.wraps-stops_wrap.result) kind)
+    ∙ c.if-taken.false in
     let taken = told _ _ _ _ (c.remove_link_no_gen.ensures.value ∙ link_there.1) c.remove_link_no_gen.ensures.taken in
-    stop_tries _ _ _ _ _ _ _ _ c.self.invariant.book _ c.self.view_is t positive given e.0 e.1.0 _ _ e.1.1.1.0 e.1.1.1.1.0 kind c.len-in-Stop.ensures.formed c.remove_link_no_gen.new.self _ counts.0 counts.1.0 calm taken _ c.changed-self-inside-in-Stop.ensures
+    stop_tries _ _ _ _ _ _ _ _ c.self.invariant.book _ c.self.view_is t positive given e.0 e.1.0 _ _ e.1.1.1.0 e.1.1.1.1.0 kind c.len-in-Stop.ensures.formed c.remove_link_no_gen.new.self _
+    counts.0 counts.1.0 calm taken _ c.changed-self-inside-in-Stop.ensures
 
 pub invariant_of-self-in-Mark : goal.invariant_of-self-in-Mark
 invariant_of-self-in-Mark g c =
@@ -178,4 +186,5 @@ returns-in-Mark-clause-tries g c =
     let kind = sym e.1.1.0 ∙ c.in-Mark.is in
     let it = found_mark _ _ _ _ _ _ _ _ c.self.invariant.book _ c.self.view_is t positive given e.0 e.1.0 _ _ e.1.1.1.0 e.1.1.1.1.0 kind in
     let removed = told _ _ _ _ (c.remove-in-Mark.ensures.value ∙ it.1.0) c.remove-in-Mark.ensures.removed in
-    mark_tries _ _ _ _ _ _ _ _ c.self.invariant.book _ c.self.view_is t positive given e.0 e.1.0 _ _ e.1.1.1.0 e.1.1.1.1.0 kind c.remove-in-Mark.new.self _ removed _ c.changed-self-inside-in-Mark.ensures
+    mark_tries _ _ _ _ _ _ _ _ c.self.invariant.book _ c.self.view_is t positive given e.0 e.1.0 _ _ e.1.1.1.0 e.1.1.1.1.0 kind c.remove-in-Mark.new.self _ removed _
+    c.changed-self-inside-in-Mark.ensures

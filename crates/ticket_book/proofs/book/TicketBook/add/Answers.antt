@@ -11,7 +11,8 @@ pub invariant_of-self : goal.invariant_of-self
 invariant_of-self g c =
     let at = c.put.ensures.stands in
     let last = sym c.last.ensures.at ∙ ap (option_map g.P.PtrCore.index) c.in-Some.is ∙ ap Some (sym c.inx.ensures) in
-    let entries = added_behind g.P.Inx.PtrInxCore.number c.self.inside.arena c.put.new.arena _ _ c.new-entry.result c.len.ensures.ordered c.put.ensures.added (g.P.Inx.PtrInxCore.number c.inx.result)
+    let entries = added_behind g.P.Inx.PtrInxCore.number c.self.inside.arena c.put.new.arena _ _ c.new-entry.result c.len.ensures.formed.ordered c.put.ensures.added
+    (g.P.Inx.PtrInxCore.number c.inx.result)
     (subst (λ q. StandsAt q (order_in g.P.Inx.PtrInxCore.number c.self.inside.arena) (order_in g.P.Inx.PtrInxCore.number c.put.new.arena) (g.P.PtrCore.index c.put.result)) at.1 at.2) last in
     let above = subst (AllByRecursion (λ (e : Entry). e.ticket < c.args.ticket)) (ap (λ (book : Tickets). book.entries) (sym c.self.view_is)) c.requires.above in
     let ticket : AllByRecursion (λ (e : Entry). e.ticket < c.new-entry.result.ticket) (entries_of g.P.Inx.PtrInxCore.number c.self.inside.arena) =
@@ -22,8 +23,10 @@ pub returns-in-Some-clause-entries : goal.returns-in-Some-clause-entries
 returns-in-Some-clause-entries g c =
     let at = c.put.ensures.stands in
     let last = sym c.last.ensures.at ∙ ap (option_map g.P.PtrCore.index) c.in-Some.is ∙ ap Some (sym c.inx.ensures) in
-    let entries = added_behind g.P.Inx.PtrInxCore.number c.self.inside.arena c.put.new.arena _ _ c.new-entry.result c.len.ensures.ordered c.put.ensures.added (g.P.Inx.PtrInxCore.number c.inx.result)
+    let entries = added_behind g.P.Inx.PtrInxCore.number c.self.inside.arena c.put.new.arena _ _ c.new-entry.result c.len.ensures.formed.ordered c.put.ensures.added
+    (g.P.Inx.PtrInxCore.number c.inx.result)
     (subst (λ q. StandsAt q (order_in g.P.Inx.PtrInxCore.number c.self.inside.arena) (order_in g.P.Inx.PtrInxCore.number c.put.new.arena) (g.P.PtrCore.index c.put.result)) at.1 at.2) last in
     entries
     ∙ ap (λ e. entries_of g.P.Inx.PtrInxCore.number c.self.inside.arena ++ e ∷ []) c.new-entry.ensures
-    ∙ ap (λ (book : Tickets). book.entries ++ record { ticket = c.args.ticket; kind = c.args.kind; index = g.P.PtrCore.index c.args.at; generation = g.P.PtrCore.generation c.args.at } ∷ []) c.self.view_is
+    ∙ ap (λ (book : Tickets). book.entries ++ record { ticket = c.args.ticket; kind = c.args.kind; index = g.P.PtrCore.index c.args.at; generation = g.P.PtrCore.generation c.args.at } ∷ [])
+    c.self.view_is

@@ -10,7 +10,7 @@ use Rattle.ticket_book.proofs.book.TicketBook.find_counted.Goals as goal
 pub returns-in-Some-clause-found : goal.returns-in-Some-clause-found
 returns-in-Some-clause-found g c =
     let on : (i : ℕ) → IsSome (entry_in c.self.inside.arena i) → On (order_in g.P.Inx.PtrInxCore.number c.self.inside.arena) i =
-    λ i some. c.entries_stand_in_the_list.ensures c.self.inside.arena i c.len.ensures.ordered some in
+    λ i some. c.entries_stand_in_the_list.ensures c.self.inside.arena i c.len.ensures.formed.ordered some in
     c.get.ensures
     ∙ lookup_found g.P.Inx.PtrInxCore.number g.P.PtrCore.index g.P.PtrCore.generation c.self.inside.arena c.args.ticket c.in-Some.p c.self.invariant on (c.in-Some.ensures.found.some c.in-Some.p refl)
     ∙ ap (λ (book : Tickets). lookup book.entries c.args.ticket) c.self.view_is
@@ -30,7 +30,7 @@ pub returns-in-Some-clause-bound : goal.returns-in-Some-clause-bound
 returns-in-Some-clause-bound g c =
     subst (λ (book : Tickets). asked book c.args.ticket ≤ most_comparisons (length book.entries)) c.self.view_is
     (asked_within g.P.Inx.PtrInxCore.number c.self.inside.arena c.args.ticket _ _ c.self.invariant c.in-Some.ensures.ticks c.in-Some.ensures.bound
-    (c.the_list_has_as_many_entries_as_are_live.ensures c.self.inside.arena c.len.ensures.ordered))
+    (c.the_list_has_as_many_entries_as_are_live.ensures c.self.inside.arena c.len.ensures.formed.ordered))
 
 pub returns-in-None-clause-ticks : goal.returns-in-None-clause-ticks
 returns-in-None-clause-ticks g c =
@@ -42,4 +42,4 @@ pub returns-in-None-clause-bound : goal.returns-in-None-clause-bound
 returns-in-None-clause-bound g c =
     subst (λ (book : Tickets). asked book c.args.ticket ≤ most_comparisons (length book.entries)) c.self.view_is
     (asked_within g.P.Inx.PtrInxCore.number c.self.inside.arena c.args.ticket _ _ c.self.invariant c.in-None.ensures.ticks c.in-None.ensures.bound
-    (c.the_list_has_as_many_entries_as_are_live.ensures c.self.inside.arena c.len.ensures.ordered))
+    (c.the_list_has_as_many_entries_as_are_live.ensures c.self.inside.arena c.len.ensures.formed.ordered))

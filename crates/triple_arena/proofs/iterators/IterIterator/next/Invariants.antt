@@ -1,5 +1,6 @@
-use Rattle.std.specs.Prelude.{◌≡◌, ◌+◌, ◌≤◌, length, map}
+use Rattle.std.specs.Prelude.{◌≡◌, ◌+◌, length, map}
 use Rattle.triple_arena_ptr.specs.Index.{max_index_of}
+use Rattle.triple_arena.specs.Iterators.{IsCursor, with_part}
 use Rattle.triple_arena.specs.LiveEntries.{listed_from}
 use Rattle.triple_arena.proofs.iterators.IterIterator.next.Given as goal
 
@@ -7,9 +8,8 @@ use Rattle.triple_arena.proofs.iterators.IterIterator.next.Given as goal
 abbrev pub invariant-loop-slot : goal.invariant-loop-slot
 invariant-loop-slot g l =
     record {
-      left : listed_from (l.initial.self-inside.passed + 1) (map g.E.LentEntry.shown l.initial.self-inside.slots.now)
-          ≡ listed_from (l.self-inside.passed + 1) (map g.E.LentEntry.shown l.self-inside.slots.now);
-      indexed : l.self-inside.passed + length l.self-inside.slots.now ≤ max_index_of g.P.Inx.PtrInxCore.greatest;
+      cursor : IsCursor g.E.LentEntry.shown l.self-inside.slots.now l.self-inside.passed l.self-inside.left (max_index_of g.P.Inx.PtrInxCore.greatest);
+      same : map (with_part g.M.Part.part) (listed_from (l.self-inside.passed + 1) (map g.E.LentEntry.shown l.self-inside.slots.now)) ≡ l.fn.self;
     }
 
 abbrev pub decreases-loop-slot : goal.decreases-loop-slot

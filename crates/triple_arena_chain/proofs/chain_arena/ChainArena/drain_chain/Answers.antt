@@ -6,7 +6,8 @@ use Rattle.triple_arena_chain.proofs.chain_arena.ChainArena.drain_chain.Goals as
 pub returns : goal.returns
 returns g c =
     let some : IsSome (get c.args.self.now (g.P.PtrCore.index c.args.p) (g.P.PtrCore.generation c.args.p)) = search rules in
-    let walk = walk_from g.P.Inx.PtrInxCore.number g.P.Gen.PtrGenCore.last c.args.self.now c.inx.result (g.P.PtrCore.index c.args.p) (g.P.PtrCore.generation c.args.p) c.recall_chained.ensures c.inx.ensures some in (
+    let walk = walk_from g.P.Inx.PtrInxCore.number g.P.Gen.PtrGenCore.last c.args.self.now c.inx.result (g.P.PtrCore.index c.args.p) (g.P.PtrCore.generation c.args.p)
+    c.recall_chained.ensures c.inx.ensures some in (
       (refl, λ w. refl, tt),
       record {
         variant = (λ is. some, λ is. refl);

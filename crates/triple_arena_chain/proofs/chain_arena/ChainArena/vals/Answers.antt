@@ -3,4 +3,4 @@ use Rattle.triple_arena.specs.Compression.{value_of}
 use Rattle.triple_arena_chain.proofs.chain_arena.ChainArena.vals.Goals as goal
 
 pub returns : goal.returns
-returns g c = c.of.ensures ∙ ap (map value_of) c.iter.ensures
+returns g c = c.into_vals.ensures ∙ ap (map value_of) c.iter.ensures

@@ -16,13 +16,15 @@ chain-init g c =
       rises = c.advancer-advancer.ensures.rises;
       reaches = c.advancer-advancer.ensures.high;
       moved =
-          chains_none g.Q.PtrCore.index g.Q.PtrCore.generation g.P.PtrCore.index g.P.PtrCore.generation g.Q.Inx.PtrInxCore.number g.P.Inx.PtrInxCore.number (goal.F-step g) c.args.map g.Q.Gen.PtrGenCore.last c.args.source.now (g.P.Gen.PtrGenCore.number c.args.generation) c.args.target.now.room
+          chains_none g.Q.PtrCore.index g.Q.PtrCore.generation g.P.PtrCore.index g.P.PtrCore.generation g.Q.Inx.PtrInxCore.number g.P.Inx.PtrInxCore.number (goal.F-step g) c.args.map
+          g.Q.Gen.PtrGenCore.last c.args.source.now (g.P.Gen.PtrGenCore.number c.args.generation) c.args.target.now.room
           c.requires.chained c.advancer-advancer.result.low c.args.target.now c.advancer-advancer.ensures.low c.requires.empty c.requires.free c.requires.counter refl;
     }
 
 pub chain_start-start-requires-clause-chained : goal.chain_start-start-requires-clause-chained
 chain_start-start-requires-clause-chained g c =
-    left_chained g.Q.PtrCore.index g.Q.PtrCore.generation g.P.PtrCore.index g.P.PtrCore.generation g.Q.Inx.PtrInxCore.number g.P.Inx.PtrInxCore.number (goal.F-step g) c.args.map g.Q.Gen.PtrGenCore.last c.args.source.now (g.P.Gen.PtrGenCore.number c.args.generation) c.args.target.now.room
+    left_chained g.Q.PtrCore.index g.Q.PtrCore.generation g.P.PtrCore.index g.P.PtrCore.generation g.Q.Inx.PtrInxCore.number g.P.Inx.PtrInxCore.number (goal.F-step g) c.args.map
+    g.Q.Gen.PtrGenCore.last c.args.source.now (g.P.Gen.PtrGenCore.number c.args.generation) c.args.target.now.room
     c.requires.chained c.chain.advancer.low c.chain.map c.chain.source c.chain.target c.chain.invariant.moved
 
 pub link-init : goal.link-init
@@ -37,7 +39,8 @@ link-init g c =
       way = (
         g.Q.Inx.PtrInxCore.number c.inx.result,
         next.low ∙ ap (λ n. n + 1) (sym c.inx.ensures),
-        way_taken g.Q.PtrCore.index g.Q.PtrCore.generation g.P.PtrCore.index g.P.PtrCore.generation g.Q.Inx.PtrInxCore.number g.P.Inx.PtrInxCore.number (goal.F-step g) c.args.map g.Q.Gen.PtrGenCore.last c.args.source.now (g.P.Gen.PtrGenCore.number c.args.generation) c.args.target.now.room
+        way_taken g.Q.PtrCore.index g.Q.PtrCore.generation g.P.PtrCore.index g.P.PtrCore.generation g.Q.Inx.PtrInxCore.number g.P.Inx.PtrInxCore.number (goal.F-step g) c.args.map
+            g.Q.Gen.PtrGenCore.last c.args.source.now (g.P.Gen.PtrGenCore.number c.args.generation) c.args.target.now.room
             c.requires.chained c.chain.advancer (g.Q.PtrCore.index c.in-Some.p) (g.Q.PtrCore.generation c.in-Some.p) (g.Q.Inx.PtrInxCore.number c.inx.result)
             (g.Q.Inx.PtrInxCore.number c.chain_start-start.result) (g.P.Inx.PtrInxCore.number c.behind-first.result) c.chain.map c.chain.source c.chain.target
             c.chain.invariant.moved (c.in-Some.ensures).given.0 rises c.inx.ensures c.chain_start-start.ensures.same c.chain_start-start.ensures.head
@@ -47,13 +50,15 @@ link-init g c =
 
 -- the link in hand is moved
 link_done : (g : Over) (c : After-append_link g)
-    → IsLinkMoved g.Q.PtrCore.index g.Q.PtrCore.generation g.P.PtrCore.index g.P.PtrCore.generation g.Q.Inx.PtrInxCore.number g.P.Inx.PtrInxCore.number (goal.F-step g) c.args.map g.Q.Gen.PtrGenCore.last c.args.source.now (g.P.Gen.PtrGenCore.number c.args.generation) c.args.target.now.room
+    → IsLinkMoved g.Q.PtrCore.index g.Q.PtrCore.generation g.P.PtrCore.index g.P.PtrCore.generation g.Q.Inx.PtrInxCore.number g.P.Inx.PtrInxCore.number (goal.F-step g) c.args.map
+    g.Q.Gen.PtrGenCore.last c.args.source.now (g.P.Gen.PtrGenCore.number c.args.generation) c.args.target.now.room
     c.link.invariant.way.0 (g.Q.Inx.PtrInxCore.number c.chain_start-start.result) (g.P.Inx.PtrInxCore.number c.behind-first.result)
     (g.P.Inx.PtrInxCore.number c.behind-place.result) (option_map g.Q.Inx.PtrInxCore.number c.take_link-taken.result.2) c.map-t.new.self c.take_link-taken.new.source
     c.append_link.new.target
 link_done g c =
     let room = ap capacity c.link.invariant.way.2.moved.placed.own in
-    link_moved g.Q.PtrCore.index g.Q.PtrCore.generation g.P.PtrCore.index g.P.PtrCore.generation g.Q.Inx.PtrInxCore.number g.P.Inx.PtrInxCore.number (goal.F-step g) c.args.map g.Q.Gen.PtrGenCore.last c.args.source.now (g.P.Gen.PtrGenCore.number c.args.generation) c.args.target.now.room
+    link_moved g.Q.PtrCore.index g.Q.PtrCore.generation g.P.PtrCore.index g.P.PtrCore.generation g.Q.Inx.PtrInxCore.number g.P.Inx.PtrInxCore.number (goal.F-step g) c.args.map
+    g.Q.Gen.PtrGenCore.last c.args.source.now (g.P.Gen.PtrGenCore.number c.args.generation) c.args.target.now.room
     c.requires.chained c.link.invariant.way.0 (g.Q.Inx.PtrInxCore.number c.chain_start-start.result) (g.Q.Inx.PtrInxCore.number c.link.at)
     (g.P.Inx.PtrInxCore.number c.behind-first.result) (option_map g.P.Inx.PtrInxCore.number c.link.last) c.link.map c.link.source c.link.target c.link.invariant.way.2
     c.map-t.new.self c.take_link-taken.new.source c.append_link.new.target c.take_link-taken.result.0 c.take_link-taken.result.1 c.take_link-taken.result.2
@@ -68,14 +73,16 @@ link_done g c =
 pub behind-place-requires : goal.behind-place-requires
 behind-place-requires g c =
     let fits =
-    way_fits g.Q.PtrCore.index g.Q.PtrCore.generation g.P.PtrCore.index g.P.PtrCore.generation g.Q.Inx.PtrInxCore.number g.P.Inx.PtrInxCore.number (goal.F-step g) c.args.map g.Q.Gen.PtrGenCore.last c.args.source.now (g.P.Gen.PtrGenCore.number c.args.generation) c.args.target.now.room
+    way_fits g.Q.PtrCore.index g.Q.PtrCore.generation g.P.PtrCore.index g.P.PtrCore.generation g.Q.Inx.PtrInxCore.number g.P.Inx.PtrInxCore.number (goal.F-step g) c.args.map
+    g.Q.Gen.PtrGenCore.last c.args.source.now (g.P.Gen.PtrGenCore.number c.args.generation) c.args.target.now.room
     c.requires.chained c.link.invariant.way.0 (g.Q.Inx.PtrInxCore.number c.chain_start-start.result) (g.Q.Inx.PtrInxCore.number c.link.at) (g.P.Inx.PtrInxCore.number c.behind-first.result)
     (option_map g.P.Inx.PtrInxCore.number c.link.last) c.link.map c.link.source c.link.target c.link.invariant.way.2 in
     omega (arith, fits, c.len-placed.ensures.value, c.requires.fits, c.capacity.ensures.value, c.capacity.ensures.bounded)
 
 pub take_link-taken-requires : goal.take_link-taken-requires
 take_link-taken-requires g c =
-    at_live g.Q.PtrCore.index g.Q.PtrCore.generation g.P.PtrCore.index g.P.PtrCore.generation g.Q.Inx.PtrInxCore.number g.P.Inx.PtrInxCore.number (goal.F-step g) c.args.map g.Q.Gen.PtrGenCore.last c.args.source.now (g.P.Gen.PtrGenCore.number c.args.generation) c.args.target.now.room
+    at_live g.Q.PtrCore.index g.Q.PtrCore.generation g.P.PtrCore.index g.P.PtrCore.generation g.Q.Inx.PtrInxCore.number g.P.Inx.PtrInxCore.number (goal.F-step g) c.args.map
+    g.Q.Gen.PtrGenCore.last c.args.source.now (g.P.Gen.PtrGenCore.number c.args.generation) c.args.target.now.room
     c.requires.chained c.link.invariant.way.0 (g.Q.Inx.PtrInxCore.number c.chain_start-start.result) (g.Q.Inx.PtrInxCore.number c.link.at) (g.P.Inx.PtrInxCore.number c.behind-first.result)
     (option_map g.P.Inx.PtrInxCore.number c.link.last) c.link.map c.link.source c.link.target c.link.invariant.way.2
 
@@ -87,7 +94,9 @@ link-preserved g c =
     record {
       callable = search of_calls;
       rises = c.link.invariant.rises;
-      reaches = λ j some. c.link.invariant.reaches j (still_live g.Q.Gen.PtrGenCore.last (g.Q.Inx.PtrInxCore.number c.link.at) c.link.source c.take_link-taken.new.source c.take_link-taken.ensures.removed j some);
+      reaches =
+          λ j some. c.link.invariant.reaches j (still_live g.Q.Gen.PtrGenCore.last (g.Q.Inx.PtrInxCore.number c.link.at) c.link.source c.take_link-taken.new.source
+          c.take_link-taken.ensures.removed j some);
       way = (
         c.link.invariant.way.0,
         c.link.invariant.way.1,
@@ -101,9 +110,12 @@ chain-preserved g c =
     record {
       callable = search of_calls;
       rises = c.link.invariant.rises;
-      reaches = λ j some. c.link.invariant.reaches j (still_live g.Q.Gen.PtrGenCore.last (g.Q.Inx.PtrInxCore.number c.link.at) c.link.source c.take_link-taken.new.source c.take_link-taken.ensures.removed j some);
+      reaches =
+          λ j some. c.link.invariant.reaches j (still_live g.Q.Gen.PtrGenCore.last (g.Q.Inx.PtrInxCore.number c.link.at) c.link.source c.take_link-taken.new.source
+          c.take_link-taken.ensures.removed j some);
       moved =
-          subst (λ n. AreChainsMoved g.Q.PtrCore.index g.Q.PtrCore.generation g.P.PtrCore.index g.P.PtrCore.generation g.Q.Inx.PtrInxCore.number g.P.Inx.PtrInxCore.number (goal.F-step g) c.args.map g.Q.Gen.PtrGenCore.last c.args.source.now (g.P.Gen.PtrGenCore.number c.args.generation) c.args.target.now.room
+          subst (λ n. AreChainsMoved g.Q.PtrCore.index g.Q.PtrCore.generation g.P.PtrCore.index g.P.PtrCore.generation g.Q.Inx.PtrInxCore.number g.P.Inx.PtrInxCore.number (goal.F-step g)
+          c.args.map g.Q.Gen.PtrGenCore.last c.args.source.now (g.P.Gen.PtrGenCore.number c.args.generation) c.args.target.now.room
           n c.map-t.new.self c.take_link-taken.new.source c.go_on.new.target) (sym c.link.invariant.way.1)
           ((link_done g (goal.at.chain-preserved g c).After-append_link).over c.go_on.new.target c.behind-first.result c.behind-place.result refl refl
           c.in-None.ensures.over);
@@ -111,40 +123,48 @@ chain-preserved g c =
 
 nothing : (g : Over) (c : goal.After-drop-map g) (j : ℕ) → entry_at c.chain.source j ≡ None
 nothing g c =
-    none_at_all g.Q.PtrCore.index g.Q.PtrCore.generation g.P.PtrCore.index g.P.PtrCore.generation g.Q.Inx.PtrInxCore.number g.P.Inx.PtrInxCore.number (goal.F-step g) c.args.map g.Q.Gen.PtrGenCore.last c.args.source.now (g.P.Gen.PtrGenCore.number c.args.generation) c.args.target.now.room
+    none_at_all g.Q.PtrCore.index g.Q.PtrCore.generation g.P.PtrCore.index g.P.PtrCore.generation g.Q.Inx.PtrInxCore.number g.P.Inx.PtrInxCore.number (goal.F-step g) c.args.map
+    g.Q.Gen.PtrGenCore.last c.args.source.now (g.P.Gen.PtrGenCore.number c.args.generation) c.args.target.now.room
     c.requires.chained c.chain.advancer c.chain.map c.chain.source c.chain.target c.chain.invariant.moved (c.in_default.ensures).given.0 c.chain.invariant.reaches
 
 pub returns-clause-moved : goal.returns-clause-moved
 returns-clause-moved g c =
-    moved_in_order g.Q.PtrCore.index g.Q.PtrCore.generation g.P.PtrCore.index g.P.PtrCore.generation g.Q.Inx.PtrInxCore.number g.P.Inx.PtrInxCore.number (goal.F-step g) c.args.map g.Q.Gen.PtrGenCore.last c.args.source.now (g.P.Gen.PtrGenCore.number c.args.generation) c.args.target.now.room
+    moved_in_order g.Q.PtrCore.index g.Q.PtrCore.generation g.P.PtrCore.index g.P.PtrCore.generation g.Q.Inx.PtrInxCore.number g.P.Inx.PtrInxCore.number (goal.F-step g) c.args.map
+    g.Q.Gen.PtrGenCore.last c.args.source.now (g.P.Gen.PtrGenCore.number c.args.generation) c.args.target.now.room
     c.chain.advancer.low c.chain.map c.chain.source c.chain.target c.requires.chained c.chain.invariant.moved (nothing g c)
 
 pub returns-clause-formed : goal.returns-clause-formed
 returns-clause-formed g c =
-    moved_chained g.Q.PtrCore.index g.Q.PtrCore.generation g.P.PtrCore.index g.P.PtrCore.generation g.Q.Inx.PtrInxCore.number g.P.Inx.PtrInxCore.number (goal.F-step g) c.args.map g.Q.Gen.PtrGenCore.last c.args.source.now (g.P.Gen.PtrGenCore.number c.args.generation) c.args.target.now.room
+    moved_chained g.Q.PtrCore.index g.Q.PtrCore.generation g.P.PtrCore.index g.P.PtrCore.generation g.Q.Inx.PtrInxCore.number g.P.Inx.PtrInxCore.number (goal.F-step g) c.args.map
+    g.Q.Gen.PtrGenCore.last c.args.source.now (g.P.Gen.PtrGenCore.number c.args.generation) c.args.target.now.room
     c.chain.advancer.low c.chain.map c.chain.source c.chain.target c.requires.chained c.chain.invariant.moved (nothing g c)
 
 pub returns-clause-emptied : goal.returns-clause-emptied
 returns-clause-emptied g c =
-    nothing_left g.Q.PtrCore.index g.Q.PtrCore.generation g.P.PtrCore.index g.P.PtrCore.generation g.Q.Inx.PtrInxCore.number g.P.Inx.PtrInxCore.number (goal.F-step g) c.args.map g.Q.Gen.PtrGenCore.last c.args.source.now (g.P.Gen.PtrGenCore.number c.args.generation) c.args.target.now.room
+    nothing_left g.Q.PtrCore.index g.Q.PtrCore.generation g.P.PtrCore.index g.P.PtrCore.generation g.Q.Inx.PtrInxCore.number g.P.Inx.PtrInxCore.number (goal.F-step g) c.args.map
+    g.Q.Gen.PtrGenCore.last c.args.source.now (g.P.Gen.PtrGenCore.number c.args.generation) c.args.target.now.room
     c.chain.advancer.low c.chain.map c.chain.source c.chain.target c.requires.chained c.chain.invariant.moved (nothing g c)
 
 pub returns-clause-counter : goal.returns-clause-counter
 returns-clause-counter g c =
-    stepped_for_each g.Q.PtrCore.index g.Q.PtrCore.generation g.P.PtrCore.index g.P.PtrCore.generation g.Q.Inx.PtrInxCore.number g.P.Inx.PtrInxCore.number (goal.F-step g) c.args.map g.Q.Gen.PtrGenCore.last c.args.source.now (g.P.Gen.PtrGenCore.number c.args.generation) c.args.target.now.room
+    stepped_for_each g.Q.PtrCore.index g.Q.PtrCore.generation g.P.PtrCore.index g.P.PtrCore.generation g.Q.Inx.PtrInxCore.number g.P.Inx.PtrInxCore.number (goal.F-step g) c.args.map
+    g.Q.Gen.PtrGenCore.last c.args.source.now (g.P.Gen.PtrGenCore.number c.args.generation) c.args.target.now.room
     c.chain.advancer.low c.chain.map c.chain.source c.chain.target c.requires.chained c.chain.invariant.moved (nothing g c)
 
 pub returns-clause-room : goal.returns-clause-room
 returns-clause-room g c =
-    room_left g.Q.PtrCore.index g.Q.PtrCore.generation g.P.PtrCore.index g.P.PtrCore.generation g.Q.Inx.PtrInxCore.number g.P.Inx.PtrInxCore.number (goal.F-step g) c.args.map g.Q.Gen.PtrGenCore.last c.args.source.now (g.P.Gen.PtrGenCore.number c.args.generation) c.args.target.now.room
+    room_left g.Q.PtrCore.index g.Q.PtrCore.generation g.P.PtrCore.index g.P.PtrCore.generation g.Q.Inx.PtrInxCore.number g.P.Inx.PtrInxCore.number (goal.F-step g) c.args.map
+    g.Q.Gen.PtrGenCore.last c.args.source.now (g.P.Gen.PtrGenCore.number c.args.generation) c.args.target.now.room
     c.chain.advancer.low c.chain.map c.chain.source c.chain.target c.requires.chained c.chain.invariant.moved (nothing g c)
 
 pub returns-clause-filled : goal.returns-clause-filled
 returns-clause-filled g c =
-    moved_filled g.Q.PtrCore.index g.Q.PtrCore.generation g.P.PtrCore.index g.P.PtrCore.generation g.Q.Inx.PtrInxCore.number g.P.Inx.PtrInxCore.number (goal.F-step g) c.args.map g.Q.Gen.PtrGenCore.last c.args.source.now (g.P.Gen.PtrGenCore.number c.args.generation) c.args.target.now.room
+    moved_filled g.Q.PtrCore.index g.Q.PtrCore.generation g.P.PtrCore.index g.P.PtrCore.generation g.Q.Inx.PtrInxCore.number g.P.Inx.PtrInxCore.number (goal.F-step g) c.args.map
+    g.Q.Gen.PtrGenCore.last c.args.source.now (g.P.Gen.PtrGenCore.number c.args.generation) c.args.target.now.room
     c.chain.advancer.low c.chain.map c.chain.source c.chain.target c.requires.chained c.chain.invariant.moved (nothing g c) c.args.target.now
 
 pub returns-clause-source_formed : goal.returns-clause-source_formed
 returns-clause-source_formed g c =
-    left_chained g.Q.PtrCore.index g.Q.PtrCore.generation g.P.PtrCore.index g.P.PtrCore.generation g.Q.Inx.PtrInxCore.number g.P.Inx.PtrInxCore.number (goal.F-step g) c.args.map g.Q.Gen.PtrGenCore.last c.args.source.now (g.P.Gen.PtrGenCore.number c.args.generation) c.args.target.now.room
+    left_chained g.Q.PtrCore.index g.Q.PtrCore.generation g.P.PtrCore.index g.P.PtrCore.generation g.Q.Inx.PtrInxCore.number g.P.Inx.PtrInxCore.number (goal.F-step g) c.args.map
+    g.Q.Gen.PtrGenCore.last c.args.source.now (g.P.Gen.PtrGenCore.number c.args.generation) c.args.target.now.room
     c.requires.chained c.chain.advancer.low c.chain.map c.chain.source c.chain.target c.chain.invariant.moved

@@ -11,7 +11,8 @@ returns-clause-similar g c = λ side by.
     let number = g.P.Inx.PtrInxCore.number in
     similar_asked number g.P.PtrCore.index g.P.PtrCore.generation (goal.F-step g) c.args.self.now (subst (IsOrdered number) c.self.view_is c.self.invariant.0)
     c.args.f c.ask_down.result c.args.probes.now c.ask_down.new.probes
-    (subst (λ z. IsAsked g.P.PtrCore.index g.P.PtrCore.generation (goal.F-step g) (entry_in z) (order_in number z) c.args.f c.ask_down.result c.args.probes.now c.ask_down.new.probes) c.self.view_is c.ask_down.ensures.asked)
+    (subst (λ z. IsAsked g.P.PtrCore.index g.P.PtrCore.generation (goal.F-step g) (entry_in z) (order_in number z) c.args.f c.ask_down.result c.args.probes.now c.ask_down.new.probes)
+    c.self.view_is c.ask_down.ensures.asked)
     side by
 
 pub returns-clause-rank : goal.returns-clause-rank

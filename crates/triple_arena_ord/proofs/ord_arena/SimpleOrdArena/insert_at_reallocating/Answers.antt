@@ -13,10 +13,12 @@ new g c h = let z = c.replaces.ensures.1 h in let y = c.if-replaces.false in abs
 
 pub returns-in-Ok-clause-inserted : goal.returns-in-Ok-clause-inserted
 returns-in-Ok-clause-inserted g c =
-    inserted_grown g.P.Inx.PtrInxCore.number g.P.PtrCore.index g.P.PtrCore.generation g.S.NonZeroInxGenericStack.takes_memory _ _ _ c.args.self.now c.make_room.new.self c.insert_at_within_capacity-in-Ok.new.self _
+    inserted_grown g.P.Inx.PtrInxCore.number g.P.PtrCore.index g.P.PtrCore.generation g.S.NonZeroInxGenericStack.takes_memory _ _ _ c.args.self.now c.make_room.new.self
+    c.insert_at_within_capacity-in-Ok.new.self _
     (new g c) c.in-Ok.ensures.fits (unlimited _ _ _ c.make_room.result _ c.make_room.ensures.refusal c.in-Ok.is) c.in-Ok.ensures.grown c.insert_at_within_capacity-in-Ok.ensures.inserted
 
 pub returns-in-Ok-clause-room : goal.returns-in-Ok-clause-room
 returns-in-Ok-clause-room g c =
-    room_grown g.P.Inx.PtrInxCore.number g.P.PtrCore.index g.P.PtrCore.generation g.S.NonZeroInxGenericStack.takes_memory _ _ _ _ c.args.self.now c.make_room.new.self c.insert_at_within_capacity-in-Ok.new.self _
+    room_grown g.P.Inx.PtrInxCore.number g.P.PtrCore.index g.P.PtrCore.generation g.S.NonZeroInxGenericStack.takes_memory _ _ _ _ c.args.self.now c.make_room.new.self
+    c.insert_at_within_capacity-in-Ok.new.self _
     (new g c) c.insert_at_within_capacity-in-Ok.ensures.inserted c.in-Ok.ensures.grown c.insert_at_within_capacity-in-Ok.ensures.room

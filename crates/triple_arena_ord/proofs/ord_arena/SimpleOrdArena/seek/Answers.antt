@@ -8,7 +8,7 @@ use Rattle.rank_tree.specs.Search.{IsAnswer, IsFreeAt}
 use Rattle.rank_tree.specs.Knot.{Knot}
 use Rattle.triple_arena_ord.specs.Node.{knots_in}
 use Rattle.triple_arena_ord.specs.Ordered.{asked_at}
-use Rattle.rank_tree.proofs.Descents.{Descent, falls_down, descent_ends, descent_asked, descent_lives}
+use Rattle.rank_tree.specs.DescentLaws.{Descent, falls_down, descent_ends, descent_asked, descent_lives}
 use Rattle.triple_arena_ord.proofs.SeekLemmas.{Step, seek_begins, seek_step, seek_ends}
 use Rattle.triple_arena_ord.proofs.ord_arena.SimpleOrdArena.seek.Goals.{After-cmp-answer}
 use Rattle.triple_arena_ord.proofs.ord_arena.SimpleOrdArena.seek.Goals as goal

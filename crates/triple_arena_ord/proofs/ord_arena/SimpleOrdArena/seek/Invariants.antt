@@ -3,7 +3,7 @@ use Rattle.std.specs.Option.{option_map}
 use Rattle.rank_tree.specs.Store.{rank_or_link}
 use Rattle.triple_arena_ord.specs.Node.{knots_in}
 use Rattle.triple_arena_ord.specs.Ordered.{tree_in, asked_at}
-use Rattle.rank_tree.proofs.Descents.{Descent}
+use Rattle.rank_tree.specs.DescentLaws.{Descent}
 use Rattle.triple_arena_ord.proofs.ord_arena.SimpleOrdArena.seek.Given as goal
 
 abbrev pub invariant-down : goal.invariant-down

@@ -1,0 +1,19 @@
+-- A list whose links stand at successive indexes.
+use Rattle.std.specs.Prelude.{◌≡◌, ℕ, List, Option, map, length}
+use Rattle.std.specs.List.{range_with_len}
+use Rattle.std.specs.Option.{option_map}
+use Rattle.triple_arena.specs.Content.{Content}
+use Rattle.triple_arena_chain.specs.declared.link.IndexLink.{IndexLink}
+use Rattle.triple_arena_chain.specs.Chains.{IsLinear}
+use Rattle.triple_arena_chain.specs.Links.{ends_in, values_in}
+
+module _ {I T : Type 0} where
+  -- the value at an index, without its generation
+  abbrev pub value_in : Content (IndexLink I T) → ℕ → Option T
+  value_in c i = option_map (λ e. e.1) (values_in c i)
+
+module _ {I T : Type 0} (number : I → ℕ) where
+  -- what was this list stands at the successive indexes from this one on, in its order, with its values
+  pub record IsRunFrom (first : ℕ) (list : List ℕ) (old new : Content (IndexLink I T)) : Type 0 where
+    pub linear : IsLinear (ends_in number new) (range_with_len first (length list))
+    pub values : map (value_in new) (range_with_len first (length list)) ≡ map (value_in old) list

@@ -1,3 +1,0 @@
-mod calls;
-mod documents;
-mod examples;
