@@ -1,4 +1,4 @@
-//! usage: chains slab|list queue|turn|rotate|walk|iterate|fill|renumber|clone STEPS, with the operations of the Rattle program `bench`, over a
+//! usage: chains slab|list queue|turn|rotate|walk|iterate|fill|renumber|transfer|clone STEPS, with the operations of the Rattle program `bench`, over a
 //! doubly linked list in a slab by hand, or over std's `LinkedList`.
 use std::collections::LinkedList;
 use std::env;
@@ -148,10 +148,10 @@ fn slab(sequence: &mut Sequence) -> (Slab, usize, usize) {
 }
 
 fn in_slab(operation: &str, steps: usize) -> Option<u64> {
-    if let "fill" | "renumber" | "clone" = operation {
+    if let "fill" | "renumber" | "transfer" | "clone" = operation {
         let slab = shuffled(steps);
         let slab = match operation {
-            "renumber" => slab.renumbered(),
+            "renumber" | "transfer" => slab.renumbered(),
             "clone" => slab.clone(),
             _ => slab,
         };
@@ -264,7 +264,7 @@ fn main() -> ExitCode {
             ExitCode::SUCCESS
         }
         None => {
-            eprintln!("usage: chains slab|list queue|turn|rotate|walk|iterate STEPS, chains slab fill|renumber|clone STEPS");
+            eprintln!("usage: chains slab|list queue|turn|rotate|walk|iterate STEPS, chains slab fill|renumber|transfer|clone STEPS");
             ExitCode::from(2)
         }
     }

@@ -1,4 +1,4 @@
-//! usage: ordered map|slab insert|find|remove|cancel|walk|renumber|clone LEN STEPS, with the operations of the Rattle program `bench`, over
+//! usage: ordered map|slab insert|find|remove|cancel|walk|renumber|transfer|clone LEN STEPS, with the operations of the Rattle program `bench`, over
 //! std's `BTreeMap` from keys to values, or over one from keys to the indexes of a slab that holds the entries.
 use std::collections::BTreeMap;
 use std::env;
@@ -158,7 +158,7 @@ fn in_map(operation: &str, len: usize, steps: usize) -> Option<u64> {
             }
         }
         // What is collected in order is built anew.
-        "renumber" => {
+        "renumber" | "transfer" => {
             if steps > 0 {
                 map = map.into_iter().collect();
             }
@@ -227,7 +227,7 @@ fn in_slab(operation: &str, len: usize, steps: usize) -> Option<u64> {
                 }
             }
         }
-        "renumber" => {
+        "renumber" | "transfer" => {
             if steps > 0 {
                 slab = slab.renumbered();
             }
@@ -264,7 +264,7 @@ fn main() -> ExitCode {
             ExitCode::SUCCESS
         }
         None => {
-            eprintln!("usage: ordered map|slab insert|find|remove|cancel|walk|renumber|clone LEN STEPS");
+            eprintln!("usage: ordered map|slab insert|find|remove|cancel|walk|renumber|transfer|clone LEN STEPS");
             ExitCode::from(2)
         }
     }

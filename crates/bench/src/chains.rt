@@ -10,7 +10,7 @@ use triple_arena_chain::{
 /// Runs so many steps of an operation, and answers a checksum.
 ///
 /// `fill` puts a link a step in, each behind one that is there, and then goes along the list. `renumber` compresses these
-/// links canonically before that, and `clone` goes along a clone of them.
+/// links canonically before that, `transfer` moves them canonically into a new arena, and `clone` goes along a clone of them.
 pub fn run(
     operation: &str,
     alloc: Global,
@@ -29,7 +29,9 @@ fn run_over<P: PtrCore, S: ChainSlots<P, u64, Alloc = Global>>(
 ) -> Option<Result<u64, ChainInsertionError>> {
     match operation {
         "iterate" => Some(iterate::<P, S>(alloc, steps)),
-        "fill" | "renumber" | "clone" => Some(rearrange::<P, S>(operation, alloc, steps)),
+        "fill" | "renumber" | "transfer" | "clone" => {
+            Some(rearrange::<P, S>(operation, alloc, steps))
+        }
         _ => run_in::<P, ChainArena<P, u64, S>>(operation, alloc, steps),
     }
 }
@@ -238,7 +240,20 @@ fn along<P: PtrCore, S: ChainSlots<P, u64, Alloc = Global>>(chains: &ChainArena<
     sum
 }
 
-// Fills, and does no more, or renumbers or clones what is there.
+// Goes along the links in a new arena.
+fn transfer<P: PtrCore, S: ChainSlots<P, u64, Alloc = Global>>(
+    chains: &mut ChainArena<P, u64, S>,
+    alloc: Global,
+) -> Result<u64, ChainInsertionError> {
+    let mut other = ChainArena::<P, u64, S>::new(alloc);
+    let generation = chains.generation();
+    match other.transfer_canonical_reallocating(generation, chains, |_, value, _| value.allow()) {
+        Ok(()) => Ok(along(&other)),
+        Err(_) => Err(ChainInsertionError::AllocError),
+    }
+}
+
+// Fills, and does no more, or renumbers, moves or clones what is there.
 fn rearrange<P: PtrCore, S: ChainSlots<P, u64, Alloc = Global>>(
     operation: &str,
     alloc: Global,
@@ -250,6 +265,9 @@ fn rearrange<P: PtrCore, S: ChainSlots<P, u64, Alloc = Global>>(
             Ok(copy) => Ok(along(&copy)),
             Err(_) => Err(ChainInsertionError::AllocError),
         };
+    }
+    if operation == "transfer" {
+        return transfer(&mut chains, alloc);
     }
     if operation == "renumber" {
         let _ = chains.compress_canonical(false);

@@ -17,8 +17,8 @@ type Slots = NonZeroInxVec<ArenaSlot<P0, LinkNoGen<P0, SimpleOrdArenaNode<P0, It
 /// Fills an arena with so many entries under shuffled keys, runs so many steps of an operation, and answers a checksum.
 ///
 /// `insert` is the filling alone. `find` looks up keys that are there, `remove` removes them, `cancel` removes by pointers, and
-/// `walk` goes over the entries in their order again and again. `renumber` compresses the arena canonically, and `clone`
-/// clones it, if there are steps; both then go over the entries once. `most` and `all` take no steps: the most comparisons that the
+/// `walk` goes over the entries in their order again and again. `renumber` compresses the arena canonically,
+/// `transfer` moves it canonically into a new one, and `clone` clones it, if there are steps; then they go over the entries once. `most` and `all` take no steps: the most comparisons that the
 /// search for a key takes, and those of the searches for all keys together.
 pub fn run(
     operation: &str,
@@ -47,6 +47,7 @@ fn run_over<P: PtrCore, S: OrdSlots<P, Item, Alloc = Global>>(
         "cancel" => Some(Ok(cancel(&mut arena, &pointers, steps))),
         "walk" => Some(Ok(walk(&arena, steps))),
         "renumber" => Some(Ok(renumber(&mut arena, steps))),
+        "transfer" => Some(transfer(&mut arena, alloc, steps)),
         "clone" => Some(clone(&arena, alloc, steps)),
         "most" => Some(Ok(comparisons(&arena, len).0)),
         "all" => Some(Ok(comparisons(&arena, len).1)),
@@ -163,6 +164,22 @@ fn renumber<P: PtrCore, S: OrdSlots<P, Item, Alloc = Global>>(
         let _ = arena.compress_canonical(false);
     }
     values(arena)
+}
+
+fn transfer<P: PtrCore, S: OrdSlots<P, Item, Alloc = Global>>(
+    arena: &mut Ordered<P, S>,
+    alloc: Global,
+    steps: usize,
+) -> Result<u64, OrdInsertionError> {
+    if steps == 0 {
+        return Ok(values(arena));
+    }
+    let mut other = Ordered::<P, S>::new(alloc);
+    let generation = arena.generation();
+    match other.transfer_canonical_reallocating(generation, arena, |_, item, _| item.allow()) {
+        Ok(()) => Ok(values(&other)),
+        Err(_) => Err(OrdInsertionError::AllocError),
+    }
 }
 
 fn clone<P: PtrCore, S: OrdSlots<P, Item, Alloc = Global>>(
