@@ -10,8 +10,8 @@ use triple_arena::{NonZeroInxGenericStack, PtrCore, ReallocationError};
 use triple_arena_ord::OrdPair;
 use triple_arena_ord::laws::canonical_transfers_list_by_index;
 
-/// Drops the orders of `book`, and moves those of `source` there, to the indexes from 1 on in the order of their prices. Each
-/// gets `generation`, which the counter is too. `source` is left with no order.
+/// Drops the orders of `book`, and moves those of `source` there, to the indexes from 1 on along its list, which is that of
+/// its prices. The counter is `generation` then, and `source` is left with no order.
 ///
 /// Memory is taken only if there are more orders than fit. It answers `BeyondMaxCapacity` if they are more than the greatest
 /// capacity, and `AllocError` if the memory was refused. An error leaves both books as they were.

@@ -25,7 +25,7 @@
 //! counter, the free indexes in the order in which they are taken, and the room; and of a direct arena's
 //! `DirectContent`. What a call leaves is said once, in the trait: by a record of `specs/Changes.antt` for any arena
 //! (`IsInserted`, `IsRemoved`, ..), whose fields callers use as they are, and by the exact state (`inserted`,
-//! `removed`, ..), which an arena gives as a function of its content.
+//! `cleared`, ..), which an arena gives as a function of its content; of a removal by a relation, `is_removed`.
 //!
 //! A struct over an arena takes `IsWellFormed` into its invariant: each call that changes an arena ensures it of what
 //! it leaves, and `len` of the arena as it is. Only `recast` and `set_max_capacity`, whose clauses stand below the
