@@ -17,11 +17,6 @@ rising : (w : Walk) (i j : ℕ) → w.falls ≡ false → i + 1 ≤ j → j ≤ 
 rising w i j is low high = rw is (refl, (low, high))
 
 module _ {T : Type 0} where
-  -- there is a removal for each entry
-  pub length-removals : (last counter : Option ℕ) (entries : List (ℕ × (ℕ × T))) → length (removals last counter entries) ≡ length entries
-  length-removals last counter [] = refl
-  length-removals last counter (e ∷ entries) = let rest = length-removals last (option_map (next_generation last) counter) entries in omega (arith, rest)
-
   pub removals_none : (last counter : Option ℕ) {entries : List (ℕ × (ℕ × T))} → entries ≡ [] → removals last counter entries ≡ []
   removals_none last counter none = rw none refl
 
@@ -101,17 +96,6 @@ module _ {T : Type 0} where
       or_none (entries j) (λ some.
       let is = ahead j some in
       first.first j is.1 (subst (λ b. ComesBefore b j i) (sym is.0) below))
-
-  -- the first live index ahead has a value under its generation
-  pub live_value : (entries : ℕ → Option (ℕ × T)) (i g : ℕ) → generation_at entries i ≡ Some g → None ≡ value_if g (entries i) → ⊥
-  live_value entries i g live none = by_entry (entries i) live none
-    where
-      by_entry : (o : Option (ℕ × T)) → option_map (λ (e : ℕ × T). e.0) o ≡ Some g → None ≡ value_if g o → ⊥
-      by_entry None live none = absurd (cc)
-      by_entry (Some e) live none =
-          let same : e.0 ≡ g = cc in
-          let found : value_if g (Some e) ≡ Some e.1 = rw (eq-eqb e.0 g same) refl in
-          true≢false (ap is_some (sym (none ∙ found)))
 
   -- a value that is found under a generation stands there
   entry_of_value : (o : Option (ℕ × T)) (g : ℕ) (t : T) → Some t ≡ value_if g o → o ≡ Some (g, t)

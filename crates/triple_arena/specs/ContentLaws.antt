@@ -1,11 +1,12 @@
 -- The entries of a content by their slots, what carries the free indexes over from one content to another, and what a
 -- write of a value changes and keeps.
 use Rattle.std.proofs.Common.{◌≡◌, ◌≢◌, ◌==◌, if◌then◌else◌, ℕ, zero, suc, ◌+◌, ◌-◌, ◌<◌, ◌≤◌, List, [], ◌∷◌, length, get_or, set, cond, Option, Some, None, IsSome, is_some, true≢false, inl, inr, refl, sym, ap, subst, ◌∙◌, arith}
-use Rattle.std.proofs.lemmas.Bool.{ne_eqb}
+use Rattle.std.proofs.lemmas.Bool.{eq-eqb, ne_eqb}
 use Rattle.std.proofs.lemmas.Bool.Decides.{eqb_tells}
 use Rattle.std.proofs.lemmas.List.{get_or-set_same, get_or-set_other, length-set}
 use Rattle.std.proofs.lemmas.List.Sums.{sum_by-set}
-use Rattle.triple_arena.specs.Entries.{value_if, with_value_at}
+use Rattle.std.specs.Option.{option_map}
+use Rattle.triple_arena.specs.Entries.{generation_at, value_if, with_value_at}
 use Rattle.triple_arena_stack.specs.Room.{capacity}
 use Rattle.triple_arena.specs.Content.{Content, entry_at, live_count, arena_capacity, next_index, with_value, Lacks, AllVacant, IsWellFormed}
 
@@ -21,6 +22,17 @@ module _ {T : Type 0} where
   within_slots [] k e found = absurd (cc)
   within_slots (x ∷ xs) zero e found = omega arith
   within_slots (x ∷ xs) (suc k) e found = let h = within_slots xs k e found in omega arith
+
+  -- what is live has a value under its generation
+  pub live_value : (entries : ℕ → Option (ℕ × T)) (i g : ℕ) → generation_at entries i ≡ Some g → None ≡ value_if g (entries i) → ⊥
+  live_value entries i g live none = by_entry (entries i) live none
+    where
+      by_entry : (o : Option (ℕ × T)) → option_map (λ (e : ℕ × T). e.0) o ≡ Some g → None ≡ value_if g o → ⊥
+      by_entry None live none = absurd (cc)
+      by_entry (Some e) live none =
+          let same : e.0 ≡ g = cc in
+          let found : value_if g (Some e) ≡ Some e.1 = rw (eq-eqb e.0 g same) refl in
+          true≢false (ap is_some (sym (none ∙ found)))
 
   -- the entry that a pointer finds
   pub entry_seen : (g : ℕ) (o : Option (ℕ × T)) (t : T) → value_if g o ≡ Some t → o ≡ Some (g, t)

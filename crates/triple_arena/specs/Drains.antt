@@ -5,10 +5,12 @@ use Rattle.std.specs.Fn.{iterate}
 use Rattle.std.specs.List.{zip}
 use Rattle.std.specs.Iterator.{YieldsFirstBy, Yields}
 use Rattle.triple_arena_ptr.specs.Generation.{next_generation}
+use Rattle.triple_arena_stack.specs.Room.{Room}
 use Rattle.triple_arena_ptr.specs.InvalidationOption.{value_of, overflowed}
 use Rattle.triple_arena_ptr.specs.declared.invalidation.InvalidationOption.{InvalidationOption}
 use Rattle.triple_arena.specs.Content.{Content, live_count, emptied, with_counter}
-use Rattle.triple_arena.specs.Transfer.{steps_wrap}
+use Rattle.triple_arena.specs.Changes.{IsRemoved}
+use Rattle.triple_arena.specs.Transfer.{steps_wrap, IsGivenUp}
 use Rattle.triple_arena.specs.Walk.{Walk, IsAhead}
 use Rattle.triple_arena.specs.declared.drain.Drain.{Drain}
 
@@ -24,6 +26,12 @@ module _ {T : Type 0} where
   -- each live index is ahead of a walk that rises
   abbrev pub IsAllAhead : (ℕ → Option (ℕ × T)) → Walk → Type 0
   IsAllAhead entries w = (j : ℕ) → IsSome (entries j) → (w.falls ≡ false) × IsAhead w j
+
+module _ {S T : Type 0} (entry_of : S → ℕ → Option (ℕ × T)) (live_of : S → ℕ) (counter_of : S → Option ℕ) (room_of : S → Room) where
+  -- what a drain leaves is the arena given up, and a removal does not change it; a search does not look into this word, so that it costs the loops over an arena nothing
+  unfoldable pub LeavesGivenUp : Option ℕ → (S → S) → Type 0
+  LeavesGivenUp last left = ((s : S) → IsGivenUp entry_of live_of counter_of room_of last s (left s))
+      × ((old new : S) (i : ℕ) → IsRemoved entry_of live_of counter_of room_of last i old new → left new ≡ left old)
 
 module _ {P T : Type 0} (index generation : P → ℕ) where
   -- the entry that an item has, and whether the step of its removal started the generations again

@@ -18,7 +18,7 @@ use unreached::unreached;
 ///
 /// A call gives the pointer at the first index that is live then, of those that no call has passed. Once there is
 /// none, no call gives one.
-#[derive(Drop)]
+#[derive(Clone, Copy, Drop)]
 pub struct PtrAdvancer<P: PtrCore> {
     // The indexes that are left are those after `start`, up to `end`.
     start: usize,
@@ -28,12 +28,14 @@ pub struct PtrAdvancer<P: PtrCore> {
 }
 
 impl<P: PtrCore> Model for PtrAdvancer<P> {
-    ghost use Rattle.std.specs.Prelude.{◌+◌};
+    ghost use Rattle.std.specs.Prelude.{◌+◌, ◌-◌};
     ghost use Rattle.triple_arena.specs.Walk.{Walk};
 
     ghost Value = { Walk };
 
     ghost view = { λ a. record { low = a.start + 1; high = a.end; falls = a.rev } };
+
+    ghost inverse = { λ w. record { start = w.low - 1; end = w.high; rev = w.falls; pointers = record {} } };
 }
 
 impl<P: PtrCore> PtrAdvancer<P> {

@@ -8,7 +8,7 @@ ghost use Rattle.triple_arena_ptr.specs.InvalidationOption.{value_of, overflowed
 ghost use Rattle.triple_arena_ptr.specs.InvalidationResult.{answer_of};
 ghost use Rattle.triple_arena_stack.specs.Room.{Room, capacity as capacity_of, IsBeyond};
 ghost use Rattle.triple_arena.specs.Changes.{IsNew, IsReallocated, IsRemoved, IsInvalidated, IsCleared, IsCompressed};
-ghost use Rattle.triple_arena.specs.Drains.{drain_arena, drain_lender, DrainCanStep, DrainKeepsAlong};
+ghost use Rattle.triple_arena.specs.Drains.{drain_arena, drain_lender, DrainCanStep, DrainKeepsAlong, LeavesGivenUp};
 ghost use Rattle.triple_arena.specs.Entries.{number_if, value_if, counter_wraps, with_value_at, generation_at, look_up};
 ghost use Rattle.triple_arena.specs.Transfer.{IsGivenUp};
 ghost use Rattle.triple_arena.specs.Walk.{Walk, Steps};
@@ -27,7 +27,7 @@ pub trait ArenaTrait<P: PtrCore, T: Drop> {
     type Alloc;
 
     /// What goes over the arena's pointers by their indexes.
-    type PtrAdvancer: Advancer<Self, Item = P> + Drop;
+    type PtrAdvancer: Advancer<Self, Item = P> + Copy;
 
     // The generation and the value at each index. Index 0 has none.
     ghost entry_at: { Self → ℕ → Option (ℕ × T) };
@@ -317,13 +317,8 @@ pub trait ArenaTrait<P: PtrCore, T: Drop> {
 
     ghost room_with_value: { (s : Self) (i : ℕ) (t : T) → room (with_value s i t) ≡ room s };
 
-    ghost drained_gives_up: { (s : Self)
-        → IsGivenUp entry_at live_count counter room P.Gen.last s (drained s) };
-
-    // A removal does not change what a drain leaves in the end.
-    ghost drained_removed: { (old new : Self) (i : ℕ)
-        → IsRemoved entry_at live_count counter room P.Gen.last i old new
-        → drained new ≡ drained old };
+    // What a drain leaves in the end is the arena given up, whatever was removed before.
+    ghost drains: { LeavesGivenUp entry_at live_count counter room P.Gen.last drained };
 
     /// Takes each entry out, in the order of the indexes. Once the iterator is dropped, the arena has no entry and no
     /// slot, its counter, where it has one, has stepped once for each entry that it had, and its room is as it was.
@@ -333,6 +328,10 @@ pub trait ArenaTrait<P: PtrCore, T: Drop> {
         ensures ready { DrainCanStep entry_at walk result }
         ensures stays { DrainKeepsAlong entry_at walk counter live_entries is_removed drained
             P.Gen.last P.index P.generation result }
+
+        // What it leaves in the end.
+        ensures left { IsGivenUp entry_at live_count counter room P.Gen.last self.old
+            (drained self.old) }
     {
         Drain {
             walk: self.advancer(),

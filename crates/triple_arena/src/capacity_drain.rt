@@ -1,7 +1,7 @@
 //! Going over the entries of an arena of any kind that is given away, in the order of the indexes.
-ghost use Rattle.std.specs.Prelude.{◌≡◌, Some, IfSome, length};
-ghost use Rattle.std.specs.Iterator.{YieldsFirstBy, item_count, at_most, UpTo};
-ghost use Rattle.std.specs.Iterator.SizeHint.{IsWithinCount};
+ghost use Rattle.std.specs.Prelude.{◌≡◌, length};
+ghost use Rattle.std.specs.Iterator.{YieldsFirstBy, item_count};
+ghost use Rattle.triple_arena.specs.Iterators.{IsExact};
 
 use crate::ArenaTrait;
 use std::iter::FusedIterator;
@@ -51,9 +51,7 @@ impl<P: PtrCore, T: Drop, A: ArenaTrait<P, T> + Drop> Iterator for CapacityDrain
     }
 
     fn size_hint(&self) -> (usize, Option<usize>)
-        ensures lower { IsWithinCount result.0 (at_most (length self.now)) }
-        ensures upper { IfSome result.1 (UpTo (at_most (length self.now))) }
-        ensures exact { result ≡ (length self.now, Some (length self.now)) }
+        ensures { IsExact result (length self.now) }
     {
         let len = self.arena.len();
         (len, Some(len))

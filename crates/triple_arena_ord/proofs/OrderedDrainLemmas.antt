@@ -6,7 +6,7 @@ use Rattle.triple_arena_ptr.specs.Generation.{next_generation, next_wraps}
 use Rattle.triple_arena_ptr.specs.InvalidationOption.{value_of, overflowed}
 use Rattle.triple_arena_ptr.specs.declared.invalidation.InvalidationOption.{InvalidationOption}
 use Rattle.triple_arena.specs.Drains.{removals}
-use Rattle.triple_arena.proofs.DrainLemmas.{length-removals}
+use Rattle.triple_arena.specs.DrainLaws.{removals-length}
 use Rattle.triple_arena.specs.Entries.{without}
 use Rattle.triple_arena_chain.specs.Chains.{Off, On, Apart, first_or}
 use Rattle.triple_arena_chain.specs.ChainLaws.{Off-not_on, On-cons}
@@ -111,7 +111,7 @@ module _ {I T : Type 0} (number : I → ℕ) (o : Ordered I T) (is : IsOrdered n
 
   -- and so many are left to remove
   pub removals_left : (last : Option ℕ) → length (removals last (counter_in o) (ordered_entries number o)) ≡ size_in o
-  removals_left last = length-removals last (counter_in o) (ordered_entries number o) ∙ all_listed
+  removals_left last = removals-length last (counter_in o) (ordered_entries number o) ∙ all_listed
 
 module _ {P T S Inx Gen Alloc : Type 0} (last : Option ℕ) (number : Inx → ℕ) (index generation : P → ℕ) where
   -- the first entry leaves: a drain gives its removal, and is on by one

@@ -5,7 +5,7 @@ ghost use Rattle.triple_arena.specs.ArenaRoom.{room_of};
 ghost use Rattle.triple_arena.specs.Content.{some_counter, entry_at as entry_of_index, live_count as live_count_of, empty as empty_of, reallocated as reallocated_of, removed as removed_of, invalidated as invalidated_of, cleared as cleared_of, with_value as with_value_of, IsWellFormed};
 ghost use Rattle.triple_arena.specs.ContentLaws.{entry-with_value, live-with_value, some_counter-with_value, room-with_value};
 ghost use Rattle.triple_arena.specs.Drains.{drained as drained_of};
-ghost use Rattle.triple_arena.specs.DrainLaws.{drained-gives_up, drained-removed};
+ghost use Rattle.triple_arena.specs.DrainLaws.{drained-leaves};
 ghost use Rattle.triple_arena.specs.LiveEntries.{live_entries as live_entries_of, entry-listed, live_entries-increase, live_entries-length};
 ghost use Rattle.triple_arena.specs.Compression.{renewed, compacted};
 
@@ -78,9 +78,7 @@ impl<P: PtrCore, T: Drop, S: ArenaSlots<P, T>> ArenaTrait<P, T> for Arena<P, T, 
 
     ghost room_with_value = { room-with_value };
 
-    ghost drained_gives_up = { drained-gives_up P.Gen.last };
-
-    ghost drained_removed = { drained-removed P.Gen.last };
+    ghost drains = { drained-leaves _ P.Gen.last };
 
     ghost entry_listed = { entry-listed };
 

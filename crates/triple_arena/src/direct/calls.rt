@@ -3,7 +3,7 @@ ghost use Rattle.std.specs.Prelude.{◌≡◌, false, [], Some, None, IsSome, re
 ghost use Rattle.triple_arena.specs.ArenaRoom.{room_of};
 ghost use Rattle.triple_arena.specs.DirectContent.{as_content, no_counter, entry_at as entry_of_index, live_count as live_count_of, live_entries as live_entries_of, empty as empty_of, reallocated as reallocated_of, removed as removed_of, invalidated as invalidated_of, cleared as cleared_of, compressed as compressed_of, with_value as with_value_of, IsWellFormed as IsFormed};
 ghost use Rattle.triple_arena.specs.DirectLaws.{entry-with_value, live-with_value, room-with_value};
-ghost use Rattle.triple_arena.specs.DrainLaws.{directly_drained-gives_up, directly_drained-removed};
+ghost use Rattle.triple_arena.specs.DrainLaws.{directly_drained-leaves};
 ghost use Rattle.triple_arena.specs.LiveEntries.{entry-listed, live_entries-increase, live_entries-length};
 
 use crate::advancer::{LivePointers, PtrAdvancer};
@@ -72,9 +72,7 @@ impl<P: PtrCore, T: Drop, S: DirectSlots<P, T>> ArenaTrait<P, T> for DirectArena
 
     ghost room_with_value = { room-with_value };
 
-    ghost drained_gives_up = { directly_drained-gives_up P.Gen.last };
-
-    ghost drained_removed = { directly_drained-removed P.Gen.last };
+    ghost drains = { directly_drained-leaves _ P.Gen.last };
 
     ghost entry_listed = { λ d. entry-listed (as_content d) };
 

@@ -4,7 +4,7 @@ ghost use Rattle.triple_arena_ptr.specs.Generation.{second_generation};
 ghost use Rattle.triple_arena.specs.ArenaRoom.{room_of};
 ghost use Rattle.triple_arena.specs.Content.{some_counter, live_count as live_count_of, empty as empty_of, reallocated as reallocated_of, invalidated as invalidated_of, cleared as cleared_of};
 ghost use Rattle.triple_arena.specs.Drains.{drained as drained_of};
-ghost use Rattle.triple_arena_chain.specs.EmptiedLaws.{drained-gives_up, drained-removed};
+ghost use Rattle.triple_arena_chain.specs.EmptiedLaws.{drained-leaves};
 ghost use Rattle.triple_arena_chain.specs.Links.{values_in, with_value_in, link_removed, IsChained};
 ghost use Rattle.triple_arena_chain.specs.LinkLaws.{values-with_value_in, live-with_value_in, counter-with_value_in, room-with_value_in};
 ghost use Rattle.triple_arena_chain.specs.Listed.{listed_values};
@@ -75,9 +75,7 @@ impl<P: PtrCore, T: Drop, S: ChainSlots<P, T>> ArenaTrait<P, T> for ChainArena<P
 
     ghost room_with_value = { room-with_value_in };
 
-    ghost drained_gives_up = { drained-gives_up P.Gen.last };
-
-    ghost drained_removed = { drained-removed P.Gen.last };
+    ghost drains = { drained-leaves _ _ P.Gen.last };
 
     ghost entry_listed = { value-listed };
 

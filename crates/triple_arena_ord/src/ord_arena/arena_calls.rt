@@ -8,7 +8,7 @@ ghost use Rattle.std.specs.Prelude.{true, refl};
 ghost use Rattle.triple_arena_ptr.specs.Generation.{second_generation};
 ghost use Rattle.triple_arena.specs.ArenaRoom.{room_of};
 ghost use Rattle.triple_arena_ord.specs.Compressed.{IsCompressedInOrder};
-ghost use Rattle.triple_arena_ord.specs.EmptiedLaws.{drained-gives_up, drained-removed};
+ghost use Rattle.triple_arena_ord.specs.EmptiedLaws.{drained-leaves};
 ghost use Rattle.triple_arena_ord.specs.Formed.{IsFormed};
 ghost use Rattle.triple_arena_ord.specs.Indexed.{indexed};
 ghost use Rattle.triple_arena_ord.specs.IndexedLaws.{entry-indexed, indexed-increase, indexed-length};
@@ -99,9 +99,7 @@ impl<P: PtrCore, T: Drop, S: OrdSlots<P, T>> ArenaTrait<P, T> for SimpleOrdArena
 
     ghost room_with_value = { room-with_item };
 
-    ghost drained_gives_up = { drained-gives_up P.Gen.last };
-
-    ghost drained_removed = { drained-removed P.Gen.last };
+    ghost drains = { drained-leaves _ _ P.Gen.last };
 
     fn new(alloc: S::Alloc) -> Self {
         SimpleOrdArena {

@@ -4,7 +4,7 @@ use Rattle.ticket_book.proofs.WalkLemmas.{step_is, end_all, all_before, cast_ahe
 use Rattle.triple_arena_chain.specs.Renaming.{live_below}
 use Rattle.route_book.specs.Packing.{recast_mark}
 use Rattle.route_book.proofs.PassedLemmas.{below_passed, counted_below}
-use Rattle.triple_arena.proofs.DrainLemmas.{live_value}
+use Rattle.triple_arena.specs.ContentLaws.{live_value}
 use Rattle.route_book.proofs.recasts.recast_marks.Goals as goal
 
 pub loop-p-preserved-in-Some-get_mut : goal.loop-p-preserved-in-Some-get_mut

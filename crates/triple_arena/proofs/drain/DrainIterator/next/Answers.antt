@@ -1,5 +1,7 @@
 use Rattle.std.proofs.Common.{ap, arith, length, refl, true, false, Some, None}
-use Rattle.triple_arena.proofs.DrainLemmas.{FirstLeft, first_left, removal_made, none_ahead, none_listed, all_gone, live_value, removals_none}
+use Rattle.triple_arena.specs.ContentLaws.{live_value}
+use Rattle.triple_arena.specs.DrainLaws.{left-removed}
+use Rattle.triple_arena.proofs.DrainLemmas.{FirstLeft, first_left, removal_made, none_ahead, none_listed, all_gone, removals_none}
 use Rattle.triple_arena.proofs.drain.DrainIterator.next.Goals as goal
 
 -- what the step took
@@ -25,7 +27,7 @@ pub returns-in-Success-clause-steps : goal.returns-in-Success-clause-steps
 returns-in-Success-clause-steps g c =
     let took = succeeded g c in
     let removed = c.in-Success.ensures.removed in
-    let left = g.met.A.ArenaTrait.drained_removed c.args.self.now.arena.now c.remove.new.self (g.P.PtrCore.index c.in-Some.p) removed in (
+    let left = left-removed _ g.met.A.ArenaTrait.drains c.args.self.now.arena.now c.remove.new.self (g.P.PtrCore.index c.in-Some.p) removed in (
       removal_made g.P.Gen.PtrGenCore.last (g.A.ArenaTrait.counter c.args.self.now.arena.now) took.first c.in-Success.ensures.overflow removed.counter,
       (refl, left),
       took.ahead,
@@ -43,7 +45,7 @@ pub returns-in-GenerationOverflow-clause-steps : goal.returns-in-GenerationOverf
 returns-in-GenerationOverflow-clause-steps g c =
     let took = overflowed g c in
     let removed = c.in-GenerationOverflow.ensures.removed in
-    let left = g.met.A.ArenaTrait.drained_removed c.args.self.now.arena.now c.remove.new.self (g.P.PtrCore.index c.in-Some.p) removed in (
+    let left = left-removed _ g.met.A.ArenaTrait.drains c.args.self.now.arena.now c.remove.new.self (g.P.PtrCore.index c.in-Some.p) removed in (
       removal_made g.P.Gen.PtrGenCore.last (g.A.ArenaTrait.counter c.args.self.now.arena.now) took.first c.in-GenerationOverflow.ensures.overflow removed.counter,
       (refl, left),
       took.ahead,
