@@ -1,3 +1,2 @@
-mod AheadLemmas
 pub mod MirrorLemmas
 pub mod ReuseLemmas

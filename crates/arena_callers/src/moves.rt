@@ -9,7 +9,7 @@ ghost use Rattle.triple_arena.specs.Compression.{generation_of, IsCompact};
 ghost use Rattle.triple_arena.specs.Content.{entry_at, live_count, last_index, with_limit};
 ghost use Rattle.triple_arena.specs.DirectContent.{entry_at as direct_entry_at, live_count as direct_live_count, cleared};
 ghost use Rattle.triple_arena.specs.Drains.{drained};
-ghost use Rattle.triple_arena.specs.Transfer.{IsTransferred};
+ghost use Rattle.triple_arena.specs.Transfer.{IsGivenUp, IsTransferred};
 
 use triple_arena::{
     Arena, ArenaSlot, ArenaSlots, ArenaTrait, ArenaTransferSource, ArenaTransferTrait, DirectArena,
@@ -36,6 +36,17 @@ pub fn take_first<P: PtrCore, T: Drop, S: ArenaSlots<P, T>>(
     arena: &mut Arena<P, T, S>,
 ) -> Option<InvalidationOption<(P, T)>>
     ensures { arena.new ≡ drained P.Gen.last arena.old }
+{
+    let mut drain = arena.drain();
+    drain.next()
+}
+
+/// The same of any arena.
+pub fn take_first_of_any<P: PtrCore, T: Drop, A: ArenaTrait<P, T>>(
+    arena: &mut A,
+) -> Option<InvalidationOption<(P, T)>>
+    ensures exact { arena.new ≡ A.drained arena.old }
+    ensures left { IsGivenUp A.entry_at A.live_count A.counter A.room P.Gen.last arena.old arena.new }
 {
     let mut drain = arena.drain();
     drain.next()

@@ -59,14 +59,17 @@ fn drops<'a, P: PtrCore, S: ArenaSlots<P, Counted<'a>>>(
 ) {
     let mut arena = Arena::<P, Counted<'a>, S>::new(alloc);
     three_counted(rt, &mut arena, dropped);
-    arena.clear();
+    drop(arena.drain());
     assert!(rt; dropped.get() == 321);
     three_counted(rt, &mut arena, dropped);
-    drop(arena);
+    arena.clear();
     assert!(rt; dropped.get() == 642);
+    three_counted(rt, &mut arena, dropped);
+    drop(arena);
+    assert!(rt; dropped.get() == 963);
 }
 
-// Each value is dropped once: by a clearing, and with its arena.
+// Each value is dropped once: by a drain that is let go, by a clearing, and with its arena.
 #[test]
 fn values_are_dropped_once(rt: HostRuntime) {
     let dropped = Cell::new(0);
