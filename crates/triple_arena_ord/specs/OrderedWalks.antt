@@ -5,7 +5,7 @@ use Rattle.std.specs.Option.{option_map}
 use Rattle.triple_arena.specs.Entries.{generation_at}
 use Rattle.triple_arena_chain.specs.Chains.{first_or}
 use Rattle.triple_arena_chain.specs.declared.link.IndexLink.{IndexLink}
-use Rattle.triple_arena_ord.specs.Ordered.{Ordered, order_in, entry_in, size_in}
+use Rattle.triple_arena_ord.specs.Ordered.{Ordered, order_in, entry_in, entries_at, size_in}
 
 -- the index that a walk gives next, if there is one, and whether it goes backward
 pub record OrderedWalk : Type 0 where
@@ -52,6 +52,10 @@ module _ {I T : Type 0} where
     -- the indexes that are left to a walk over an arena that stays: a loop over them is measured by their number
     abbrev pub left_over : Ordered I T → OrderedWalk → List ℕ
     left_over o w = from_where (along w.back (order_in number o)) w.at
+
+    -- the entries that are left to it
+    abbrev pub entries_left : Ordered I T → OrderedWalk → List (ℕ × (ℕ × T))
+    entries_left o w = entries_at o (left_over o w)
 
     -- a step gives the entry where the walk is, and notes the index that comes next
     pub record IsGiven (i g : ℕ) (o : Ordered I T) (before after : OrderedWalk) : Type 0 where

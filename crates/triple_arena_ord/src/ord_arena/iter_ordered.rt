@@ -1,15 +1,17 @@
 //! Going over the entries of an arena that is lent for reading, along the list.
-ghost use Rattle.std.specs.Prelude.{◌≡◌};
+ghost use Rattle.std.specs.Prelude.{◌≡◌, length};
 ghost use Rattle.std.specs.Iterator.{YieldsFirstBy, item_count};
+ghost use Rattle.triple_arena.specs.Iterators.{IsExact};
 ghost use Rattle.triple_arena_ord.specs.Ordered.{ordered_entries};
 
 use crate::ord_arena::walk::OrderedPtrAdvancer;
 use crate::{OrdSlots, SimpleOrdArena};
+use std::iter::FusedIterator;
 use std::marker::Model;
-use triple_arena::PtrCore;
+use triple_arena::{ArenaTrait, PtrCore};
 
 /// The pointers and the items of the entries, from the first of the list to the last, seen as the list of the entries that
-/// are left.
+/// are left. It tells how many these are.
 #[derive(Drop)]
 pub struct Iter<'a, P: PtrCore, T: Drop, S: OrdSlots<P, T>>
 where
@@ -17,19 +19,22 @@ where
 {
     arena: &'a SimpleOrdArena<P, T, S>,
     advancer: OrderedPtrAdvancer<P>,
+    // How many entries are left.
+    left: usize,
 }
 
 impl<'a, P: PtrCore, T: Drop, S: OrdSlots<P, T>> Model for Iter<'a, P, T, S>
 where
     P::Inx: 'a,
 {
-    ghost use Rattle.std.specs.Prelude.{ℕ, List};
-    ghost use Rattle.triple_arena_ord.specs.OrderedWalks.{left_over};
-    ghost use Rattle.triple_arena_ord.specs.Ordered.{entries_at};
+    ghost use Rattle.std.specs.Prelude.{◌≡◌, ℕ, List, length};
+    ghost use Rattle.triple_arena_ord.specs.OrderedWalks.{entries_left};
 
     ghost Value = { List (ℕ × (ℕ × T)) };
 
-    ghost view = { λ it. entries_at it.arena.now (left_over P.Inx.number it.arena.now it.advancer) };
+    ghost view = { λ it. entries_left P.Inx.number it.arena.now it.advancer };
+
+    ghost invariant = { λ it. it.left ≡ length (entries_left P.Inx.number it.arena.now it.advancer) };
 }
 
 impl<'a, P: PtrCore, T: Drop, S: OrdSlots<P, T>> Iterator for Iter<'a, P, T, S>
@@ -44,9 +49,30 @@ where
 
     fn next(&mut self) -> Option<(P, &'a T)> {
         let (p, item) = self.advancer.step(self.arena)?;
+        self.left -= 1;
         Some((p, item))
     }
+
+    fn size_hint(&self) -> (usize, Option<usize>)
+        ensures { IsExact result (length self.now) }
+    {
+        (self.left, Some(self.left))
+    }
 }
+
+impl<'a, P: PtrCore, T: Drop, S: OrdSlots<P, T>> ExactSizeIterator for Iter<'a, P, T, S>
+where
+    P::Inx: 'a,
+{
+    fn len(&self) -> usize {
+        self.left
+    }
+}
+
+impl<'a, P: PtrCore, T: Drop, S: OrdSlots<P, T>> FusedIterator for Iter<'a, P, T, S>
+where
+    P::Inx: 'a,
+{}
 
 impl<P: PtrCore, T: Drop, S: OrdSlots<P, T>> SimpleOrdArena<P, T, S> {
     /// The pointers and the items of the entries, from the first of the list to the last.
@@ -55,6 +81,7 @@ impl<P: PtrCore, T: Drop, S: OrdSlots<P, T>> SimpleOrdArena<P, T, S> {
     {
         Iter {
             advancer: OrderedPtrAdvancer::from(self.first_index(), false),
+            left: self.len(),
             arena: self,
         }
     }
