@@ -14,7 +14,7 @@ use triple_arena_ptr::{Advancer, InvalidationOption, InvalidationResult, PtrCore
 /// started the generations again. Dropped, at whatever item, it takes those that are left in the same way, and leaves no
 /// slot.
 ///
-/// A drain that is let go by an explicit `drop` tells a caller nothing of what it left.
+/// A caller is told nothing of what it leaves if the values hold references.
 pub struct Drain<'a, P: PtrCore, T: Drop, A: ArenaTrait<P, T>> {
     pub(crate) arena: &'a mut A,
     pub(crate) walk: A::PtrAdvancer,
