@@ -11,14 +11,17 @@ ghost use Rattle.triple_arena_ptr.specs.Generation.{next_generation};
 ghost use Rattle.triple_arena_ptr.specs.InvalidationOption.{value_of, overflowed};
 ghost use Rattle.triple_arena_ptr.specs.InvalidationResult.{answer_of};
 ghost use Rattle.triple_arena_stack.specs.Room.{capacity as capacity_of};
+ghost use Rattle.triple_arena.specs.ArenaRoom.{room_with};
 ghost use Rattle.triple_arena.specs.Changes.{IsInserted, IsRemoved};
 ghost use Rattle.triple_arena.specs.Content.{entry_at, live_count, arena_capacity, next_index, inserted};
 ghost use Rattle.triple_arena.specs.Drains.{drained};
 ghost use Rattle.triple_arena.specs.Entries.{value_if, counter_wraps, generation_at};
+ghost use Rattle.triple_arena.specs.Transfer.{IsTransferred, IsGivenUp, IsFilled};
 
 use triple_arena::{
-    Arena, ArenaCloneFromWith, ArenaInsertTrait, ArenaSlots, ArenaTrait, InvalidationOption,
-    InvalidationResult, NotWithinCapacityError, PtrCore, ReallocationError,
+    Arena, ArenaCloneFromWith, ArenaInsertTrait, ArenaSlots, ArenaTrait, ArenaTransferSource,
+    ArenaTransferTrait, InvalidationOption, InvalidationResult, NotWithinCapacityError, PtrCore,
+    ReallocationError,
 };
 
 /// Stores a value exactly where there is room, under a pointer that finds it.
@@ -102,4 +105,32 @@ pub fn copy<P: PtrCore, S: ArenaSlots<P, u64>, R: ArenaSlots<P, u64>>(
 {
     let copied = arena.clone_from_with(source, |_, value| Ok(*value));
     copied
+}
+
+/// Moves the entries of one arena to another, each under the generation that is given, with what `map` makes of its value.
+pub fn transfer<P, Q, A, B, F>(
+    arena: &mut A,
+    generation: P::Gen,
+    source: &mut B,
+    map: F,
+) -> Result<(), ReallocationError>
+where
+    P: PtrCore,
+    Q: PtrCore,
+    A: ArenaTransferTrait<P, u64>,
+    B: ArenaTransferSource<Q, u64>,
+    F: FnMut(Q, InvalidationOption<u64>, P) -> u64,
+    requires { F.IsAlwaysCallable map }
+    ensures mapped { OnOk result (IsTransferred Q.index Q.generation P.index P.generation F.step
+        map Q.Gen.last (B.counter source.old) (B.live_entries source.old) (A.live_entries arena.new)) }
+    ensures filled { OnOk result (IsFilled A.entry_at A.live_count A.counter A.room A.live_entries
+        (B.live_count source.old) (P.Gen.number generation)
+        (room_with (B.live_count source.old) (A.room arena.old)) arena.old arena.new) }
+    ensures given_up { OnOk result (IsGivenUp B.entry_at B.live_count B.counter B.room Q.Gen.last
+        source.old source.new) }
+    ensures err { OnErr result (arena.new ≡ arena.old) }
+    ensures source_err { OnErr result (source.new ≡ source.old) }
+{
+    let moved = arena.transfer_reallocating(generation, source, map);
+    moved
 }
