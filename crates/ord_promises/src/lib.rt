@@ -5,11 +5,13 @@
 //! of other calls, and must be refused. Wrong bodies that lie inside the library stand in its own `wrong-bodies`.
 #![tactic(auto)]
 
+mod copies;
 mod insertions;
 mod layout;
 mod removals;
 mod searches;
 
+pub use copies::clone_from;
 pub use insertions::{entry_insert_within_capacity, insert_inx_manual, insert_within_capacity};
 pub use layout::compress_canonical;
 pub use removals::remove;
