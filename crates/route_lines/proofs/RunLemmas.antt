@@ -8,7 +8,7 @@ use Rattle.std.proofs.lemmas.List.Splits.{slice_split_at, slice_split_none, leng
 use Rattle.route_lines.specs.State.{State}
 use Rattle.route_lines.specs.Reply.{ended, reply, next}
 use Rattle.route_lines.specs.Text.{Line, whole, command_in, replies, after_lines, front, last, lines, whole_lines, rest_of, unended_line}
-use Rattle.route_lines.specs.Searches.{ComparesWithin, CountsWithin, CountsFor, most_keys, most_tickets}
+use Rattle.route_lines.specs.Searches.{ComparesWithin, CountsWithin, CountsFor, most_keys, most_firsts, most_seconds}
 use Rattle.route_lines.specs.Run.{Carries, BreaksOff, most_comparisons_over}
 use Rattle.route_lines.specs.Unfinished.{Cuts, HasNoLineEnd}
 use Rattle.route_lines.specs.Written.{AppendsBeginning}
@@ -89,7 +89,7 @@ Carries-trans s t u xs ys a b c before between later first second =
       state = moved.state ∙ sym (after_lines-append s xs ys);
       replied = subst (Appends a c) (sym (replies-append s xs ys)) (Appends-trans a b c _ _ first.replied moved.replied);
       counts = ComparesWithin-trans before between later _ _ _ _ _ _ _ _ _ first.counts moved.counts (most_comparisons_over-append most_keys s xs ys)
-          (most_comparisons_over-append most_tickets s xs ys) (most_comparisons_over-append most_tickets s xs ys);
+          (most_comparisons_over-append most_firsts s xs ys) (most_comparisons_over-append most_seconds s xs ys);
     }
 
 -- one line
@@ -127,9 +127,9 @@ BreaksOff-after s t u xs ys line a b c before between later first second =
       state = moved.state ∙ sym (after_lines-append s xs (ys ++ line ∷ [])) ∙ ap (after_lines s) more;
       replied = subst (Appends a c) (sym (append_assoc (replies s xs) (replies m ys) moved.part) ∙ ap (λ text. text ++ moved.part) (sym (replies-append s xs ys)))
           (Appends-trans a b c _ _ first.replied moved.replied);
-      counts = subst (λ ls. ComparesWithin before later (most_comparisons_over most_keys s ls) (most_comparisons_over most_tickets s ls) (most_comparisons_over most_tickets s ls)) more
+      counts = subst (λ ls. ComparesWithin before later (most_comparisons_over most_keys s ls) (most_comparisons_over most_firsts s ls) (most_comparisons_over most_seconds s ls)) more
           (ComparesWithin-trans before between later _ _ _ _ _ _ _ _ _ first.counts moved.counts (most_comparisons_over-append most_keys s xs (ys ++ line ∷ []))
-          (most_comparisons_over-append most_tickets s xs (ys ++ line ∷ [])) (most_comparisons_over-append most_tickets s xs (ys ++ line ∷ [])));
+          (most_comparisons_over-append most_firsts s xs (ys ++ line ∷ [])) (most_comparisons_over-append most_seconds s xs (ys ++ line ∷ [])));
     }
 
 -- ---- an input cut into lines

@@ -4,7 +4,7 @@ use Rattle.std.specs.Io.KnownBytes.{Appends, IsAtEnd}
 use Rattle.route_lines.specs.State.{State}
 use Rattle.route_lines.specs.Reply.{reply, next}
 use Rattle.route_lines.specs.Text.{Line, whole, unended, command_in, replies, after_lines, lines}
-use Rattle.route_lines.specs.Searches.{ComparesWithin, most_keys, most_tickets}
+use Rattle.route_lines.specs.Searches.{ComparesWithin, most_keys, most_firsts, most_seconds}
 use Rattle.route_lines.specs.declared.command.Command.{Command}
 use Rattle.route_lines.specs.declared.counts.Counts.{Counts}
 use Rattle.route_lines.specs.declared.fault.RunFault.{RunFault}
@@ -19,7 +19,7 @@ most_comparisons_over most s (line ∷ lines) = most s (command_in line) + most_
 pub record Carries (old : State) (lines : List Line) (new : State) (held written : Option (List ℕ)) (before later : Counts) : Type 0 where
   pub state : new ≡ after_lines old lines
   pub replied : Appends held written (replies old lines)
-  pub counts : ComparesWithin before later (most_comparisons_over most_keys old lines) (most_comparisons_over most_tickets old lines) (most_comparisons_over most_tickets old lines)
+  pub counts : ComparesWithin before later (most_comparisons_over most_keys old lines) (most_comparisons_over most_firsts old lines) (most_comparisons_over most_seconds old lines)
 
 -- the lines are carried out, and one more; of its reply a beginning is written, at least a byte short
 pub record BreaksOff (old : State) (lines : List Line) (line : Line) (new : State) (held written : Option (List ℕ)) (before later : Counts) : Type 0 where
@@ -29,8 +29,8 @@ pub record BreaksOff (old : State) (lines : List Line) (line : Line) (new : Stat
   pub short : 0 < length missing
   pub state : new ≡ after_lines old (lines ++ line ∷ [])
   pub replied : Appends held written (replies old lines ++ part)
-  pub counts : ComparesWithin before later (most_comparisons_over most_keys old (lines ++ line ∷ [])) (most_comparisons_over most_tickets old (lines ++ line ∷ []))
-      (most_comparisons_over most_tickets old (lines ++ line ∷ []))
+  pub counts : ComparesWithin before later (most_comparisons_over most_keys old (lines ++ line ∷ [])) (most_comparisons_over most_firsts old (lines ++ line ∷ []))
+      (most_comparisons_over most_seconds old (lines ++ line ∷ []))
 
 -- a line without LF comes at the end of the input alone
 abbrev pub ComesIn : Line → Option (List ℕ) → Type 0
