@@ -37,10 +37,7 @@ where
     ensures indexes { OnOk result (order_in P.Inx.number book.new ≡ range_with_len 1 (size_in source.old)) }
     ensures filled { OnOk result (IsFilled entry_in size_in counter_in room_in indexed (size_in source.old)
         (P.Gen.number generation) (room_with (size_in source.old) (room_in book.old)) book.old book.new) }
-    ensures count { OnOk result (size_in book.new ≡ size_in source.old) }
-    ensures counter { OnOk result (book.new.chains.counter ≡ P.Gen.number generation) }
     ensures source_exact { OnOk result (source.new ≡ drained_in Q.Gen.last source.old) }
-    ensures emptied { OnOk result (size_in source.new ≡ 0) }
     ensures succeeds { size_in source.old ≤ capacity_of (room_in book.old) → IsOk result }
     ensures beyond { IsErrOf result ReallocationError.BeyondMaxCapacity
         ↔ IsBeyond (room_in book.old).limit (size_in source.old) }
