@@ -1,5 +1,5 @@
 //! What callers know of an arena whose entries are taken out, by a drain or by a transfer, and of one with a limit.
-ghost use Rattle.std.specs.Prelude.{◌≡◌, ℕ, ◌≤◌, ◌↔◌, [], None, IsOk, OnOk, OnErr, IsErrOf, map as list_map, replicate};
+ghost use Rattle.std.specs.Prelude.{◌≡◌, ℕ, ◌≤◌, ◌↔◌, [], None, IsOk, OnOk, OnErr, IsErrOf, map as list_map, replicate, slice_get};
 ghost use Rattle.std.specs.Fn.{iterate};
 ghost use Rattle.std.specs.Option.{option_map};
 ghost use Rattle.triple_arena_ptr.specs.Generation.{next_generation};
@@ -8,7 +8,7 @@ ghost use Rattle.triple_arena.specs.ArenaRoom.{room_with};
 ghost use Rattle.triple_arena.specs.Compression.{generation_of, IsCompact};
 ghost use Rattle.triple_arena.specs.Content.{entry_at, live_count, last_index, with_limit};
 ghost use Rattle.triple_arena.specs.DirectContent.{entry_at as direct_entry_at, live_count as direct_live_count, cleared};
-ghost use Rattle.triple_arena.specs.Drains.{drained};
+ghost use Rattle.triple_arena.specs.Drains.{drained, removals, removal_of};
 ghost use Rattle.triple_arena.specs.Transfer.{IsGivenUp, IsTransferred};
 
 use triple_arena::{
@@ -41,15 +41,17 @@ pub fn take_first<P: PtrCore, T: Drop, S: ArenaSlots<P, T>>(
     drain.next()
 }
 
-/// The same of any arena.
+/// The same of any arena. The item is the first removal of all.
 pub fn take_first_of_any<P: PtrCore, T: Drop, A: ArenaTrait<P, T>>(
     arena: &mut A,
 ) -> Option<InvalidationOption<(P, T)>>
+    ensures first { option_map (removal_of P.index P.generation) result
+        ≡ slice_get (removals P.Gen.last (A.counter arena.old) (A.live_entries arena.old)) 0 }
     ensures exact { arena.new ≡ A.drained arena.old }
     ensures left { IsGivenUp A.entry_at A.live_count A.counter A.room P.Gen.last arena.old arena.new }
 {
-    let mut drain = arena.drain();
-    drain.next()
+    let mut items = arena.drain();
+    items.next()
 }
 
 /// A drain of an arena to which the caller gives the pointers.

@@ -4,13 +4,13 @@
 //! `wrong-bodies.txt`.
 #![tactic(auto)]
 
-ghost use Rattle.std.specs.Prelude.{◌≡◌, ℕ, ◌<◌, ◌↔◌, None, Some, IsOk, IfOk, IfSome, IfNone, OnOk, OnSome, OnErr, option_copied};
+ghost use Rattle.std.specs.Prelude.{◌≡◌, ℕ, ◌<◌, ◌↔◌, None, Some, IsOk, IfOk, IfSome, IfNone, OnOk, OnSome, OnErr, option_copied, ◌≤◌, IsErrOf, IsTrue};
 ghost use Rattle.std.specs.Fn.{iterate};
 ghost use Rattle.std.specs.Option.{option_map};
 ghost use Rattle.triple_arena_ptr.specs.Generation.{next_generation};
 ghost use Rattle.triple_arena_ptr.specs.InvalidationOption.{value_of, overflowed};
 ghost use Rattle.triple_arena_ptr.specs.InvalidationResult.{answer_of};
-ghost use Rattle.triple_arena_stack.specs.Room.{capacity as capacity_of};
+ghost use Rattle.triple_arena_stack.specs.Room.{capacity as capacity_of, IsBeyond};
 ghost use Rattle.triple_arena.specs.ArenaRoom.{room_with};
 ghost use Rattle.triple_arena.specs.Changes.{IsInserted, IsRemoved};
 ghost use Rattle.triple_arena.specs.Content.{entry_at, live_count, arena_capacity, next_index, inserted};
@@ -108,6 +108,7 @@ pub fn copy<P: PtrCore, S: ArenaSlots<P, u64>, R: ArenaSlots<P, u64>>(
 }
 
 /// Moves the entries of one arena to another, each under the generation that is given, with what `map` makes of its value.
+/// It is refused exactly where that must be, and then both stay as they were.
 pub fn transfer<P, Q, A, B, F>(
     arena: &mut A,
     generation: P::Gen,
@@ -128,6 +129,10 @@ where
         (room_with (B.live_count source.old) (A.room arena.old)) arena.old arena.new) }
     ensures given_up { OnOk result (IsGivenUp B.entry_at B.live_count B.counter B.room Q.Gen.last
         source.old source.new) }
+    ensures succeeds { B.live_count source.old ≤ capacity_of (A.room arena.old) → IsOk result }
+    ensures beyond { IsErrOf result ReallocationError.BeyondMaxCapacity
+        ↔ IsBeyond (A.room arena.old).limit (B.live_count source.old) }
+    ensures memory { IsErrOf result ReallocationError.AllocError → IsTrue A.takes_memory }
     ensures err { OnErr result (arena.new ≡ arena.old) }
     ensures source_err { OnErr result (source.new ≡ source.old) }
 {
