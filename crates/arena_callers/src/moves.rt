@@ -1,5 +1,5 @@
 //! What callers know of an arena whose entries are taken out, by a drain or by a transfer, and of one with a limit.
-ghost use Rattle.std.specs.Prelude.{◌≡◌, ℕ, ◌≤◌, ◌↔◌, [], None, IsOk, OnOk, OnErr, IsErrOf, map as list_map, replicate, slice_get};
+ghost use Rattle.std.specs.Prelude.{◌≡◌, ℕ, ◌≤◌, ◌↔◌, [], None, Some, IsOk, OnOk, OnErr, IsErrOf, map as list_map, replicate, slice_get};
 ghost use Rattle.std.specs.Fn.{iterate};
 ghost use Rattle.std.specs.Option.{option_map};
 ghost use Rattle.triple_arena_ptr.specs.Generation.{next_generation};
@@ -9,6 +9,7 @@ ghost use Rattle.triple_arena.specs.Compression.{generation_of, IsCompact};
 ghost use Rattle.triple_arena.specs.Content.{entry_at, live_count, last_index, with_limit};
 ghost use Rattle.triple_arena.specs.DirectContent.{entry_at as direct_entry_at, live_count as direct_live_count, cleared};
 ghost use Rattle.triple_arena.specs.Drains.{drained, removals, removal_of};
+ghost use Rattle.triple_arena.specs.LiveEntries.{live_entries};
 ghost use Rattle.triple_arena.specs.Transfer.{IsGivenUp, IsTransferred};
 
 use triple_arena::{
@@ -35,7 +36,9 @@ pub fn drain<P: PtrCore, T: Drop, S: ArenaSlots<P, T>>(arena: &mut Arena<P, T, S
 pub fn take_first<P: PtrCore, T: Drop, S: ArenaSlots<P, T>>(
     arena: &mut Arena<P, T, S>,
 ) -> Option<InvalidationOption<(P, T)>>
-    ensures { arena.new ≡ drained P.Gen.last arena.old }
+    ensures first { option_map (removal_of P.index P.generation) result
+        ≡ slice_get (removals P.Gen.last (Some arena.old.counter) (live_entries arena.old)) 0 }
+    ensures left { arena.new ≡ drained P.Gen.last arena.old }
 {
     let mut drain = arena.drain();
     drain.next()
