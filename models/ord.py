@@ -455,11 +455,12 @@ class Arena:
     def walks(self, verb, i, g, x, y, z, u, w):
         rising = sorted(self.e)
         step = -1 if z == 1 else 1
-        if verb in ('advancer', 'advancer_inx'):
-            if verb == 'advancer_inx':
-                rising = [n for n in reversed(rising) if n <= i] if y == 1 else [n for n in rising if n >= i]
-            return [self.name(n) for n in rising] + ['None']
-        if verb in ('advancer_ordered', 'walk_and_remove', 'walk_over_a_change'):
+        way = {'walk': rising, 'walk_from': [n for n in rising if n >= i], 'walk_back_from': [n for n in reversed(rising) if n <= i], 'walk_nowhere': []}.get(verb)
+        if way is not None:
+            return [self.name(n) for n in way] + ['None']
+        if verb == 'walk_and_remove':
+            return [self.step('({}, {})'.format(*self.take(n)[1:])) for n in rising]
+        if verb in ('advancer_ordered', 'walk_ordered_and_remove', 'walk_over_a_change'):
             if not self.live(i, g):
                 return ['"no walk"']
             if verb == 'walk_over_a_change':
@@ -478,7 +479,7 @@ class Arena:
 
     def reads(self, verb, i, g, x, y, z, u, w):
         rising, order = sorted(self.e), self.order
-        if verb in ('get_inx_link_no_gen', 'get_inx_node', 'rank', 'get_inx_unwrap') and i not in self.e:
+        if verb in ('get_inx_link_no_gen', 'get_inx_node', 'rank') and i not in self.e:
             return ['"not live"']
         if verb in ('get_inx_link_no_gen', 'get_inx_node'):
             ends = f'({option(self.neighbor(i, -1))}, {option(self.neighbor(i, 1))})'
@@ -499,7 +500,7 @@ class Arena:
             'get': lambda: at,
             'index': lambda: at[5:-1] if at != 'None' else '"not live"',
             'get_inx': lambda: option(f'({self.gen(self.e[i][0])}, {self.item(i)})' if i in self.e else None),
-            'get_inx_unwrap': lambda: self.item(i),
+            'get_inx_unwrap': lambda: option(self.item(i) if i in self.e else None),
             'len': lambda: str(len(order)),
             'is_empty': lambda: str(not order).lower(),
             'capacity': lambda: str(self.capacity()),
@@ -598,12 +599,13 @@ ARENAS = {
 COPIED = [(kind, f'copying-{stack}') for kind in ('P0', 'P5', 'N3') for stack in ('heap', 'limited')] + [('P1', 'copying-array')]
 COMMON = {
     'lists': ['insert', 'insert', 'insert', 'insert', 'remove', 'remove_inx', 'find_key', 'invalidate', 'advancer_ordered', 'walk_over_a_change', 'get',
-              'get_inx_link_no_gen', 'show', 'first', 'last', 'set_value', 'advancer_inx', 'compare', 'repair'],
+              'get_inx_link_no_gen', 'show', 'first', 'last', 'set_value', 'walk_from', 'walk_back_from', 'compare', 'repair'],
     'searches': ['insert', 'insert', 'insert_within_capacity', 'insert_reallocating', 'entry', 'entry', 'entry', 'remove', 'remove_inx', 'search', 'search',
                  'search', 'search', 'invalidate', 'show', 'check', 'repair'],
 }
 RARE = {
-    'lists': ['clear', 'drain', 'drain_ordered', 'walk_and_remove', 'iter', 'vals', 'ptrs', 'iter_ordered', 'into_iter', 'advancer', 'set_key', 'generation',
+    'lists': ['clear', 'drain', 'drain_ordered', 'walk_and_remove', 'walk_ordered_and_remove', 'iter', 'vals', 'ptrs', 'iter_ordered', 'into_iter', 'walk',
+              'walk_nowhere', 'set_key', 'generation', 'capacity', 'max_capacity',
               'singular_generation', 'inc_generation', 'set_generation', 'len', 'is_empty', 'find_first_inx_ptr', 'find_last_inx_ptr', 'contains', 'index',
               'get_inx', 'get_inx_unwrap', 'index_set', 'set_inx', 'set_inx_unwrap'],
     'searches': ['clear', 'manual', 'generation', 'len', 'capacity', 'max_capacity', 'reallocate_min_capacity', '_check_invariants', 'empty',
@@ -644,7 +646,7 @@ def a_line(r, script, s, most):
     return {
         'set_key': ('set', [i, g, k, v]), 'index_set': (verb, [i, g, k, v]), 'set_inx': (verb, [i, k, v]), 'set_inx_unwrap': (verb, [i, k, v]),
         'set_value': (verb, [i, g, v]), 'walk_over_a_change': (verb, [i, g, r.randrange(2), r.choice(s.order) if s.order else 1, k]),
-        'advancer_ordered': (verb, [i, g, r.randrange(2)]), 'walk_and_remove': (verb, [i, g, r.randrange(2)]), 'advancer_inx': (verb, [i, r.randrange(2)]),
+        'advancer_ordered': (verb, [i, g, r.randrange(2)]), 'walk_ordered_and_remove': (verb, [i, g, r.randrange(2)]), 'walk_from': (verb, [i]), 'walk_back_from': (verb, [i]),
         'each': (f'each:{r.choice(SEARCHES)}', [0, most, num, i, g]), 'grow': (f'grow:{r.choice(KINDS + ("insert",))}', [r.choice([1, 1008, 389]), most, 7, i]),
         'drain': (verb, [r.randrange(6)]), 'drain_ordered': (verb, [r.randrange(6)]), 'reallocate_min_capacity': (verb, [r.randrange(20)]),
         'set_generation': (verb, [r.randrange(1, 6)]), 'compress_canonical': (verb, [r.randrange(2)]), 'remove_odd': (verb, [r.randrange(most)]),

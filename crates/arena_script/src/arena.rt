@@ -94,7 +94,6 @@ fn changes<P: PtrCore + Debug, S: ArenaSlots<P, u64>>(
             arena.remove_free_end_slots();
             transcript.line(line);
         }
-        "drain" => drain(arena, transcript, call),
         _ => return false,
     }
     true
@@ -148,19 +147,6 @@ fn enter<P: PtrCore + Debug, E: ArenaInsertEntryTrait<P, u64> + Drop, Refusal: D
         }
         Err(refusal) => transcript.answer(call.line, &refusal),
     }
-}
-
-// Takes so many items of a drain, and tells how many are left when it is let go.
-fn drain<P: PtrCore + Debug, S: ArenaSlots<P, u64>>(
-    arena: &mut Arena<P, u64, S>,
-    transcript: &mut Transcript,
-    call: &Call<'_>,
-) {
-    let mut drain = arena.drain();
-    for _ in 0..call.first {
-        transcript.answer(call.line, &drain.next());
-    }
-    transcript.answer(call.line, &drain.len());
 }
 
 /// Goes over an arena by value.

@@ -82,7 +82,6 @@ fn changes<P: PtrCore + Debug, S: DirectSlots<P, u64>>(
             arena.pop_free_end_slots();
             transcript.line(line);
         }
-        "drain" => drain(arena, transcript, call),
         _ => return false,
     }
     true
@@ -103,19 +102,6 @@ fn direct_insert<P: PtrCore, S: DirectSlots<P, u64>>(
         }
         Err(refusal) => transcript.answer(call.line, &refusal),
     }
-}
-
-// Takes so many items of a drain, and tells how many are left when it is let go.
-fn drain<P: PtrCore + Debug, S: DirectSlots<P, u64>>(
-    arena: &mut DirectArena<P, u64, S>,
-    transcript: &mut Transcript,
-    call: &Call<'_>,
-) {
-    let mut drain = arena.drain();
-    for _ in 0..call.first {
-        transcript.answer(call.line, &drain.next());
-    }
-    transcript.answer(call.line, &drain.len());
 }
 
 /// Goes over a direct arena by value.

@@ -142,7 +142,6 @@ fn changes<P: ShownPtr, S: ChainSlots<P, u64>>(
             line,
             &chains.compress_canonical(call.first == 1),
         ),
-        "drain" => drain(chains, transcript, call),
         "drain_chain" => drain_chain(chains, transcript, call),
         _ => return false,
     }
@@ -162,19 +161,6 @@ fn put<P: ShownPtr, S: ChainSlots<P, u64>>(
     } else {
         transcript.answer(call.line, &"not live");
     }
-}
-
-// Takes so many items of a drain, and tells how many are left when it is let go.
-fn drain<P: ShownPtr, S: ChainSlots<P, u64>>(
-    chains: &mut ChainArena<P, u64, S>,
-    transcript: &mut Transcript,
-    call: &Call<'_>,
-) {
-    let mut drain = chains.drain();
-    for _ in 0..call.first {
-        transcript.answer(call.line, &drain.next());
-    }
-    transcript.answer(call.line, &drain.len());
 }
 
 // Takes so many items of the drain of a chain, and lets it go.

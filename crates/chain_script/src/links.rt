@@ -1,6 +1,5 @@
 //! The calls of every arena of chains, on its links.
 use crate::kind::kind;
-use crate::values;
 use script::{Call, ShownPtr, Transcript, index, pointer};
 use triple_arena::Advancer;
 use triple_arena_chain::{ChainArenaTrait, LinkInsertKind};
@@ -12,8 +11,8 @@ pub fn call<P: ShownPtr, A: ChainArenaTrait<P, u64>>(
     transcript: &mut Transcript,
     call: &Call<'_>,
 ) -> bool {
-    values::reads(chains, transcript, call)
-        || values::changes(chains, transcript, call)
+    arena_calls::read(chains, transcript, call)
+        || arena_calls::change_numbers(chains, transcript, call)
         || reads(chains, transcript, call)
         || changes(chains, transcript, call)
         || inserts(chains, transcript, call)

@@ -26,7 +26,6 @@ mod links;
 mod renaming;
 mod several;
 mod stacks;
-mod values;
 
 use script::{Call, Transcript};
 use stacks::{Heap, over_array, over_stack};

@@ -24,7 +24,7 @@ use std::alloc::Global;
 use std::io;
 use test_kit::N3;
 use triple_arena::{ArenaTrait, NonZeroInxArray, NonZeroInxVec, P0, P1, P3, P5, Ptr};
-use triple_arena_ord::OrdSlots;
+use triple_arena_ord::{OrdPair, OrdSlots};
 
 type InArray<P> = NonZeroInxArray<Slot<P>, 8>;
 
@@ -44,14 +44,29 @@ fn play(heap: Global, transcript: &mut Transcript, section: &str) {
     let (header, lines) = section.split_once('\n').unwrap_or((section, ""));
     transcript.line(header);
     match header {
-        "P0 heap" => over::<P0, P1, OnHeap<P0>, OnHeap<P1>>(heap, heap, transcript, lines),
-        "P3 heap" => over::<P3, P1, OnHeap<P3>, OnHeap<P1>>(heap, heap, transcript, lines),
-        "N3 heap" => over::<N3, P1, OnHeap<N3>, OnHeap<P1>>(heap, heap, transcript, lines),
-        "P0 array" => over::<P0, P1, InArray<P0>, OnHeap<P1>>((), heap, transcript, lines),
-        "P1 array" => over::<P1, P1, InArray<P1>, OnHeap<P1>>((), heap, transcript, lines),
-        "P5 array" => over::<P5, P1, InArray<P5>, OnHeap<P1>>((), heap, transcript, lines),
+        "P0 heap" => on_heap::<P0>(heap, transcript, lines),
+        "P3 heap" => on_heap::<P3>(heap, transcript, lines),
+        "N3 heap" => on_heap::<N3>(heap, transcript, lines),
+        "P0 array" => beside::<P0, InArray<P0>>((), heap, transcript, lines),
+        "P1 array" => beside::<P1, InArray<P1>>((), heap, transcript, lines),
+        "P5 array" => beside::<P5, InArray<P5>>((), heap, transcript, lines),
         _ => copies::play(heap, transcript, header, lines),
     }
+}
+
+// Over vectors. What a stack owes its arena is proved here once for all pointers, and below once for the vector of `b`.
+fn on_heap<P: Ptr>(heap: Global, transcript: &mut Transcript, lines: &str) {
+    beside::<P, OnHeap<P>>(heap, heap, transcript, lines);
+}
+
+// Over a stack for `a`, and a vector for `b`.
+fn beside<P: Ptr, S: OrdSlots<P, Item>>(
+    alloc: S::Alloc,
+    heap: Global,
+    transcript: &mut Transcript,
+    lines: &str,
+) {
+    over::<P, P1, S, OnHeap<P1>>(alloc, heap, transcript, lines);
 }
 
 // Makes the calls of a section at two new arenas.
@@ -102,11 +117,23 @@ fn play_at<P: ShownPtr, S: OrdSlots<P, Item>>(
     transcript: &mut Transcript,
     call: &Call<'_>,
 ) {
-    if !(reads::reads(arena, transcript, call)
-        || reads::asks(arena, transcript, call)
+    if !(play_at_any(arena, transcript, call)
+        || reads::reads(arena, transcript, call)
         || walks::walks(arena, transcript, call)
         || changes::changes(arena, transcript, call))
     {
         transcript.answer(call.line, &"no such call");
     }
+}
+
+// Makes a call that every arena has, and says whether there is one of that name.
+fn play_at_any<P: ShownPtr, A: ArenaTrait<P, Item>>(
+    arena: &mut A,
+    transcript: &mut Transcript,
+    call: &Call<'_>,
+) -> bool {
+    let at_pointer = OrdPair::new(call.third, call.fourth);
+    let at_index = OrdPair::new(call.second, call.third);
+    arena_calls::read(arena, transcript, call)
+        || arena_calls::change(arena, transcript, call, at_pointer, at_index)
 }

@@ -1,4 +1,4 @@
-//! Walks by indexes and along the list, by advancers and by iterators.
+//! Walks along the list, by advancers and by iterators, and iterators by index.
 use crate::items::{Item, Pairs};
 use script::{Call, ShownPtr, Transcript};
 use triple_arena::{Advancer, ArenaTrait};
@@ -16,13 +16,6 @@ pub fn walks<P: ShownPtr, S: OrdSlots<P, Item>>(
 ) -> bool {
     let line = call.line;
     match call.verb {
-        "advancer" => walk(arena, transcript, line, arena.advancer()),
-        "advancer_inx" => walk(
-            arena,
-            transcript,
-            line,
-            arena.advancer_inx(call.index(), call.second == 1),
-        ),
         "advancer_ordered" => ordered(arena, transcript, call),
         "ptrs" => ptrs(arena, transcript, line),
         "vals" => vals(arena, transcript, line),
