@@ -7,6 +7,7 @@ ghost use Rattle.triple_arena.specs.DrainLaws.{directly_drained-leaves};
 ghost use Rattle.triple_arena.specs.LiveEntries.{entry-listed, live_entries-increase, live_entries-length};
 
 use crate::advancer::{LivePointers, PtrAdvancer};
+use crate::answers::{answer, valid};
 use crate::arena::{ValueAtMut, compact, equal_uncounted, max_index};
 use crate::direct::DirectArena;
 use crate::slot::ValueIfMut;
@@ -207,11 +208,7 @@ impl<P: PtrCore, T: Drop, S: DirectSlots<P, T>> ArenaTrait<P, T> for DirectArena
                 equal_uncounted(renewed, p);
                 // And after.
                 self.recall_formed();
-                if wrapped {
-                    InvalidationResult::GenerationOverflow(renewed)
-                } else {
-                    InvalidationResult::Success(renewed)
-                }
+                valid(answer(wrapped, renewed))
             }
             None => InvalidationResult::InvalidPtr,
         }
@@ -238,11 +235,7 @@ impl<P: PtrCore, T: Drop, S: DirectSlots<P, T>> ArenaTrait<P, T> for DirectArena
         let wrapped = compact(&mut self.slots, None, reset, map);
         // The arena is well-formed after.
         self.recall_formed();
-        if wrapped {
-            InvalidationOption::GenerationOverflow(())
-        } else {
-            InvalidationOption::Success(())
-        }
+        answer(wrapped, ())
     }
 }
 

@@ -49,6 +49,16 @@ impl<P: PtrCore, T: Drop, S: DirectSlots<P, T>> DirectArena<P, T, S> {
         }
     }
 
+    // Stores `t` under `p`, if there is a place for it.
+    pub(crate) fn note(&mut self, p: P, t: T)
+        ensures { IsPlace self.old (P.index p)
+            → self.new ≡ inserted self.old (P.index p) (P.generation p) t }
+    {
+        if let Ok(i) = self.place(p) {
+            self.put_at(i, p.generation(), t);
+        }
+    }
+
     // Stores `t` with this generation at `i`, which is a place for it.
     fn put_at(&mut self, i: NonZeroUsize, generation: P::Gen, t: T)
         requires { IsPlace self.old (non_zero_usize_get i) }
