@@ -12,7 +12,7 @@ use Rattle.triple_arena.specs.Drains.{drained, removals, LeavesGivenUp}
 use Rattle.triple_arena.specs.Transfer.{IsGivenUp}
 
 -- a step of a repetition, taken first
-iterate_first : {A : Type 0} (h : A → A) (n : ℕ) (x : A) → 0 < n → iterate h (n - 1) (h x) ≡ iterate h n x
+pub iterate_first : {A : Type 0} (h : A → A) (n : ℕ) (x : A) → 0 < n → iterate h (n - 1) (h x) ≡ iterate h n x
 iterate_first h zero x some = absurd (omega arith)
 iterate_first h (suc n) x some = let less : suc n - 1 ≡ n = omega arith in rw less refl
 
