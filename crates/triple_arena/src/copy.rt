@@ -129,14 +129,11 @@ where
     Ok(live)
 }
 
-// Appends a slot, for which there is room.
+// Appends a slot to slots that have room for it.
 fn append<L: Drop, S: NonZeroInxGenericStack<Item = L>>(slots: &mut S, slot: L)
-    requires { length (S.items slots.old) < capacity_of (S.room slots.old) }
-    ensures items { S.items slots.new ≡ S.items slots.old ++ slot ∷ [] }
+    ensures items { length (S.items slots.old) < capacity_of (S.room slots.old)
+        → S.items slots.new ≡ S.items slots.old ++ slot ∷ [] }
     ensures room { S.room slots.new ≡ S.room slots.old }
 {
-    match slots.push_within_capacity(slot) {
-        Ok(_) => {}
-        Err(_) => unreachable!(),
-    }
+    let _ = slots.push_within_capacity(slot);
 }
