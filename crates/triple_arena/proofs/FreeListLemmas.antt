@@ -19,15 +19,6 @@ pub the_some : {X : Type 0} (o : Option X) → IsSome o → (x : X) × (o ≡ So
 the_some None some = absurd (true≢false (sym some))
 the_some (Some x) some = (x, refl)
 
--- a reference is there where its value is
-pub copied_some : {X : Type 0} (o : Option (Bor X)) → is_some o ≡ true → IsSome (option_copied o)
-copied_some None some = absurd (true≢false (sym some))
-copied_some (Some x) some = refl
-
-pub copied_none : {X : Type 0} (o : Option (Bor X)) → is_some o ≡ false → IsSome (option_copied o) → ⊥
-copied_none None none some = true≢false (sym some)
-copied_none (Some x) none some = true≢false none
-
 module _ {T : Type 0} where
   pub slot_absent : (es : List (Slot T)) (k : ℕ) → slice_get es k ≡ None → get_or (map entry_of es) k None ≡ None
   slot_absent [] k e = refl
@@ -390,24 +381,6 @@ module _ {T : Type 0} where
         entry_is = refl;
       }
 
-  -- a slot is written as it was
-  pub unchanged : {es es' : List (Slot T)} {len : ℕ} (i : ℕ) {head : Option ℕ} {room room' : Room} {g : ℕ} {old : Slot T} {c : Content T}
-      → IsSound es len head room → content_of es room g head ≡ c → slice_get es (i - 1) ≡ Some old → es' ≡ set es (i - 1) old → room' ≡ room
-      → Becomes es' len head room' g c
-  unchanged {es} i {old} sound seen was change kept =
-      let same : set es (i - 1) old ≡ es = ap (set es (i - 1)) (sym (get_or_from_slice_get es (i - 1) _ old was)) ∙ set-get_or es (i - 1) old in
-      rw (change, same, kept) record { sound = sound; content = seen }
-
-  -- a slot has another value, if it is live
-  pub written : {es es' : List (Slot T)} {len : ℕ} (i : ℕ) {head : Option ℕ} {room room' : Room} {g : ℕ} (w : T) {old : Slot T} {c : Content T}
-      → IsSound es len head room → content_of es room g head ≡ c → 0 < i → slice_get es (i - 1) ≡ Some old → es' ≡ set es (i - 1) (with_slot_value old w)
-      → room' ≡ room → Becomes es' len head room' g (with_value c i w)
-  written i w {old = free next} sound seen positive was change kept =
-      rw (entry_of_slot _ _ seen positive was) (unchanged i sound seen was change kept)
-  written i w {old = used h t} sound seen positive was change kept =
-      let live = rewritten i w sound seen (entry_of_slot _ _ seen positive was) was change kept in
-      record { sound = live.sound; content = live.content }
-
   -- a live slot has another generation
   pub renewed : {es es' : List (Slot T)} {len : ℕ} (i : ℕ) {head : Option ℕ} {room room' : Room} {g : ℕ} (h : ℕ) {old new : Slot T} {e : ℕ × T} {c : Content T}
       → IsSound es len head room → content_of es room g head ≡ c → entry_at c i ≡ Some e → Some old ≡ slice_get es (i - 1)
@@ -497,7 +470,3 @@ module _ {T : Type 0} where
       → content_of es room g head ≡ c → o ≡ Some slot → o ≡ slice_get es (i - 1) → 0 < i → i ≡ j → entry_at c j ≡ entry_of slot
   entry_of_some es head {c} seen some read positive same =
       ap (entry_at c) (sym same) ∙ entry_of_slot es head seen positive (sym read ∙ some)
-
-  pub entry_some : (s : Slot T) → IsSome (value_of s) → IsSome (entry_of s)
-  entry_some (free next) some = some
-  entry_some (used g t) some = refl

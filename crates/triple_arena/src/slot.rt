@@ -1,8 +1,8 @@
 //! A slot of an arena.
 ghost use Rattle.std.specs.Prelude.{◌≡◌, ◌≢◌, ◌≤◌, ℕ, length, Option, Some, None, option_copied, IsTrue, ◌↔◌, IsSome, IsNone};
-ghost use Rattle.std.specs.Borrow.{Lends, LendsIf, sem};
+ghost use Rattle.std.specs.Borrow.{Lends, sem};
 ghost use Rattle.std.specs.Int.NonZero.{non_zero_usize_get};
-ghost use Rattle.std.specs.Option.{option_map, option_copied_mut};
+ghost use Rattle.std.specs.Option.{option_map};
 ghost use Rattle.triple_arena.specs.Slot.{Slot, entry_of, free, used, value_of, link_of, with_link, with_slot_value, with_slot_generation};
 ghost use Rattle.triple_arena_stack.specs.Stack.{item_at, with_item};
 ghost use Rattle.triple_arena.specs.Entries.{value_if};
@@ -68,18 +68,6 @@ pub(crate) trait EntrySlot<P: PtrCore, T> {
         ensures { option_map (λ e. (P.Gen.number e.0, e.1)) result ≡ entry self };
 }
 
-// What keeps one value, if any, and lends it where a generation is its own.
-pub(crate) trait ValueIfMut<G, T> {
-    ghost found: { Self → G → Option T };
-
-    ghost with_found: { Self → T → Self };
-
-    fn get_mut(&mut self, generation: G) -> Option<&mut T>
-        ensures* lends { sem 𝓛 (LendsIf Self.row T.row self.entry result (with_found self.old)
-            self.old) }
-        ensures value { option_copied_mut result ≡ found self.old generation };
-}
-
 impl<P: PtrCore, T> Model for ArenaSlot<P, T> {
     ghost use Rattle.triple_arena.specs.Slot.{Slot};
     ghost use Rattle.triple_arena.specs.SlotState.{slot_of};
@@ -123,16 +111,6 @@ impl<P: PtrCore, T> ArenaSlot<P, T> {
         match &mut self.state {
             SlotState::Used(own, _) => *own = generation,
             SlotState::Free(_) => {}
-        }
-    }
-
-    // The value, if the slot is allocated.
-    pub(crate) fn value(&self) -> Option<&T>
-        ensures { option_copied result ≡ value_of self.now }
-    {
-        match &self.state {
-            SlotState::Used(_, value) => Some(value),
-            SlotState::Free(_) => None,
         }
     }
 
@@ -229,20 +207,6 @@ impl<P: PtrCore, T> ValueMut<T> for ArenaSlot<P, T> {
 
     fn value_mut(&mut self) -> &mut T {
         self.state.value_mut()
-    }
-}
-
-impl<P: PtrCore, T> ValueIfMut<P::Gen, T> for ArenaSlot<P, T> {
-    ghost found = { λ s g. value_if (P.Gen.number g) (entry_of s) };
-
-    ghost with_found = { with_slot_value };
-
-    fn get_mut(&mut self, generation: P::Gen) -> Option<&mut T> {
-        if self.get(generation).is_some() {
-            Some(self.value_mut())
-        } else {
-            None
-        }
     }
 }
 

@@ -15,7 +15,6 @@ use crate::arena::compression::{compact, renewal};
 use crate::arena::reading::ValueAtMut;
 use crate::arena::removal::equal_uncounted;
 use crate::arena::{Arena, max_index};
-use crate::slot::ValueIfMut;
 use crate::{ArenaSlot, ArenaSlots, ArenaTrait, CompactArenaTrait};
 use triple_arena_ptr::{
     InvalidationOption, InvalidationResult, PtrCore, PtrGenCore, PtrInxCore, ReallocationError,
@@ -159,13 +158,8 @@ impl<P: PtrCore, T: Drop, S: ArenaSlots<P, T>> ArenaTrait<P, T> for Arena<P, T, 
     }
 
     fn get_mut(&mut self, p: P) -> Option<&mut T> {
-        // The number of slots is a `usize`, so no index past that is live.
-        let _ = self.slots.len();
-        match p.inx().try_into_usize() {
-            Some(i) => match self.slots.get_mut(i) {
-                Some(slot) => slot.get_mut(p.generation()),
-                None => None,
-            },
+        match self.live_index(p) {
+            Some(i) => Some(self.value_at_mut(i)),
             None => None,
         }
     }

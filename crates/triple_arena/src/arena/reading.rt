@@ -6,9 +6,9 @@ ghost use Rattle.std.specs.Option.{option_map};
 ghost use Rattle.triple_arena.specs.Entries.{pointer_at as pointer_of_entry};
 ghost use Rattle.triple_arena.specs.Content.{get, entry_at, with_value};
 
-use crate::ArenaSlots;
 use crate::arena::{Arena, pointer_at};
 use crate::slot::ValueMut;
+use crate::{ArenaSlots, ArenaTrait};
 use std::num::NonZeroUsize;
 use triple_arena_ptr::{PtrCore, PtrInxCore};
 
@@ -21,17 +21,8 @@ impl<P: PtrCore, T: Drop, S: ArenaSlots<P, T>> Arena<P, T, S> {
         // The number of slots is a `usize`, so no index past that is live.
         let _ = self.slots.len();
         match p.inx().try_into_usize() {
-            Some(i) => match self.slots.get(i) {
-                Some(slot) => {
-                    if slot.get(p.generation()).is_some() {
-                        Some(i)
-                    } else {
-                        None
-                    }
-                }
-                None => None,
-            },
-            None => None,
+            Some(i) if self.get(p).is_some() => Some(i),
+            _ => None,
         }
     }
 
@@ -43,17 +34,8 @@ impl<P: PtrCore, T: Drop, S: ArenaSlots<P, T>> Arena<P, T, S> {
         // The number of slots is a `usize`, so no index past that is live.
         let _ = self.slots.len();
         match inx.try_into_usize() {
-            Some(i) => match self.slots.get(i) {
-                Some(slot) => {
-                    if slot.value().is_some() {
-                        Some(i)
-                    } else {
-                        None
-                    }
-                }
-                None => None,
-            },
-            None => None,
+            Some(i) if self.get_inx(inx).is_some() => Some(i),
+            _ => None,
         }
     }
 

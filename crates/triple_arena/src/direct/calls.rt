@@ -10,7 +10,6 @@ use crate::advancer::{LivePointers, PtrAdvancer};
 use crate::answers::{answer, valid};
 use crate::arena::{ValueAtMut, compact, equal_uncounted, max_index};
 use crate::direct::DirectArena;
-use crate::slot::ValueIfMut;
 use crate::{ArenaTrait, CompactArenaTrait, DirectSlot, DirectSlots};
 use triple_arena_ptr::{
     InvalidationOption, InvalidationResult, PtrCore, PtrGenCore, PtrInxCore, ReallocationError,
@@ -153,13 +152,8 @@ impl<P: PtrCore, T: Drop, S: DirectSlots<P, T>> ArenaTrait<P, T> for DirectArena
     }
 
     fn get_mut(&mut self, p: P) -> Option<&mut T> {
-        // The number of slots is a `usize`, so no index past that is live.
-        let _ = self.slots.len();
-        match p.inx().try_into_usize() {
-            Some(i) => match self.slots.get_mut(i) {
-                Some(slot) => slot.get_mut(p.generation()),
-                None => None,
-            },
+        match self.live_index(p) {
+            Some(i) => Some(self.value_at_mut(i)),
             None => None,
         }
     }
