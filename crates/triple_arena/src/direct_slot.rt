@@ -1,9 +1,8 @@
 //! A slot of a `DirectArena`.
-ghost use Rattle.std.specs.Prelude.{◌≡◌, ℕ, Option, Some, None, IsSome, IsTrue, ◌↔◌, option_copied};
+ghost use Rattle.std.specs.Prelude.{◌≡◌, ℕ, Option, Some, None, IsSome, IsTrue, ◌↔◌};
 ghost use Rattle.std.specs.Borrow.{Lends, sem};
 ghost use Rattle.std.specs.Option.{option_map};
 ghost use Rattle.triple_arena.specs.DirectSlot.{value_of, with_slot_value, with_slot_generation};
-ghost use Rattle.triple_arena.specs.Entries.{value_if};
 
 use crate::slot::{EntrySlot, ValueMut};
 use std::marker::Model;
@@ -90,22 +89,6 @@ impl<P: PtrCore, T> DirectSlot<P, T> {
         match &mut self.state {
             DirectState::Used(own, _) => *own = generation,
             DirectState::Free => {}
-        }
-    }
-
-    // The value, if the slot is allocated with this generation.
-    pub(crate) fn get(&self, generation: P::Gen) -> Option<&T>
-        ensures { option_copied result ≡ value_if (P.Gen.number generation) self.now }
-    {
-        match &self.state {
-            DirectState::Used(own, value) => {
-                if *own == generation {
-                    Some(value)
-                } else {
-                    None
-                }
-            }
-            DirectState::Free => None,
         }
     }
 

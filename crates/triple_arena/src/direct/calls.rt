@@ -119,14 +119,9 @@ impl<P: PtrCore, T: Drop, S: DirectSlots<P, T>> ArenaTrait<P, T> for DirectArena
     }
 
     fn get(&self, p: P) -> Option<&T> {
-        // The number of slots is a `usize`, so no index past that is live.
-        let _ = self.slots.len();
-        match p.inx().try_into_usize() {
-            Some(i) => match self.slots.get(i) {
-                Some(slot) => slot.get(p.generation()),
-                None => None,
-            },
-            None => None,
+        match self.get_inx(p.inx()) {
+            Some((generation, value)) if generation == p.generation() => Some(value),
+            _ => None,
         }
     }
 

@@ -1,4 +1,4 @@
-use Rattle.std.proofs.Common.{◌≡◌, ◌+◌, ◌<◌, map, length, is_some, ap, sym, refl, ◌∙◌, subst, arith, of_calls}
+use Rattle.std.proofs.Common.{◌≡◌, ◌+◌, ◌<◌, map, length, is_some, ap, refl, ◌∙◌, arith, of_calls}
 use Rattle.std.proofs.lemmas.List.{length-map}
 use Rattle.std.proofs.lemmas.List.Sums.{count_by-le-length}
 use Rattle.std.specs.Int.NonZero.{non_zero_usize_get}

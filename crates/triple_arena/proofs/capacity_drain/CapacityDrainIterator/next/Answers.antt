@@ -1,9 +1,7 @@
 use Rattle.std.proofs.Common.{◌≡◌, Some, None, rules, sym, ap, length, ◌∙◌, arith}
-use Rattle.triple_arena_ptr.specs.InvalidationResult.{answer_of}
-use Rattle.triple_arena_ptr.specs.InvalidationOption.{overflowed}
 use Rattle.triple_arena.specs.Changes.{IsRemoved}
 use Rattle.triple_arena.specs.ContentLaws.{live_value}
-use Rattle.triple_arena.specs.Entries.{value_if, counter_wraps}
+use Rattle.triple_arena.specs.Entries.{value_if}
 use Rattle.triple_arena.proofs.DrainLemmas.{first_left, FirstLeft, none_ahead, none_listed}
 use Rattle.triple_arena.proofs.capacity_drain.CapacityDrainIterator.next.Goals as goal
 
