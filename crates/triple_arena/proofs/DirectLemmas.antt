@@ -1,25 +1,16 @@
 -- The slots of a direct arena, and how each change of them keeps it sound.
-use Rattle.std.proofs.Common.{◌≡◌, ℕ, zero, suc, ◌+◌, ◌-◌, ◌<◌, ◌≤◌, List, [], ◌∷◌, ◌++◌, length, get_or, set, take, replicate, append_assoc, cond, Option, Some, None, IsSome, is_some, slice_get, refl, sym, ap, ◌∙◌, arith, length-set, ◌^◌, rules}
+use Rattle.std.proofs.Common.{◌≡◌, ℕ, zero, suc, ◌+◌, ◌-◌, ◌<◌, ◌≤◌, List, [], ◌∷◌, ◌++◌, length, get_or, set, take, replicate, append_assoc, cond, Option, Some, None, IsSome, is_some, slice_get, refl, sym, ap, ◌∙◌, arith, length-set}
 use Rattle.std.specs.Option.{option_map}
 use Rattle.std.proofs.lemmas.List.{length_push, set-get_or, replicate_more}
 use Rattle.std.proofs.lemmas.Option.{get_or_from_slice_get}
 use Rattle.std.proofs.lemmas.List.Sums.{sum_by-set, count_by-le-length}
 use Rattle.triple_arena_stack.specs.Room.{Room, capacity}
-use Rattle.triple_arena.specs.ArenaRoom.{room_of}
 use Rattle.triple_arena.specs.Changes.{IsInvalidated, IsRemoved}
 use Rattle.triple_arena.specs.ContentLaws.{entry_at_slot, live_entry}
 use Rattle.triple_arena.specs.DirectContent.{DirectContent, as_content, entry_at, arena_capacity, live_count, no_counter, reaching, with_value, with_generation, inserted, removed, last_index, IsPlace}
 use Rattle.triple_arena.specs.DirectLaws.{live-inserted, formed-inserted, entry-removed, live-removed, formed-removed, live-without_free_end, formed-without_free_end, entry-with_generation, live-with_generation, room-with_generation}
 use Rattle.triple_arena.specs.DirectSlot.{with_slot_value, with_slot_generation}
 use Rattle.triple_arena.specs.DirectLayout.{direct_of, IsSound}
-
--- a place within the capacity of an arena is one of the pointers' indexes
-pub index_within : (greatest : ℕ) (room : Room) (i : ℕ) {n : ℕ} → i < 2 ^ 64 → i - 1 < n → n ≤ capacity (room_of greatest room) → i ≤ greatest
-index_within greatest room i {n} number within fits = by_limit room.limit fits
-  where
-    by_limit : (limit : Option ℕ) → n ≤ capacity (room_of greatest (record { reserved = room.reserved; limit = limit })) → i ≤ greatest
-    by_limit (Some l) fits = Prim.search rules
-    by_limit None fits = Prim.search rules
 
 module _ {T : Type 0} where
   absent : (xs : List (Option (ℕ × T))) (k : ℕ) → slice_get xs k ≡ None → get_or xs k None ≡ None

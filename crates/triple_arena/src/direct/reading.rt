@@ -5,7 +5,7 @@ ghost use Rattle.std.specs.Option.{option_map};
 ghost use Rattle.triple_arena.specs.Entries.{pointer_at as pointer_of_entry};
 ghost use Rattle.triple_arena.specs.DirectContent.{get, entry_at, with_value};
 
-use crate::arena::{ValueAtMut, pointer_at};
+use crate::arena::ValueAtMut;
 use crate::direct::DirectArena;
 use crate::slot::ValueMut;
 use crate::{ArenaTrait, DirectSlots};
@@ -61,13 +61,11 @@ impl<P: PtrCore, T: Drop, S: DirectSlots<P, T>> DirectArena<P, T, S> {
         ensures { option_map (λ p. (P.index p, P.generation p)) result
             ≡ pointer_of_entry (entry_at self.now) (non_zero_usize_get i) }
     {
-        match self.slots.get(i) {
-            Some(slot) => match slot.entry() {
-                Some(entry) => Some(pointer_at(i, entry.0)),
-                None => None,
-            },
-            None => None,
-        }
+        // Each slot has an index of the pointer type.
+        let _ = self.own_capacity();
+        let inx = P::Inx::try_from_usize(i)?;
+        let (generation, _) = self.get_inx(inx)?;
+        Some(P::_from_raw(inx, generation))
     }
 }
 
