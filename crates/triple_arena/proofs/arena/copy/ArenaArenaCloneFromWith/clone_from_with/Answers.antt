@@ -3,12 +3,6 @@ use Rattle.triple_arena.specs.Copy.{last_listed}
 use Rattle.triple_arena.proofs.CopyLemmas.{grown_copy, emptied, refused_same}
 use Rattle.triple_arena.proofs.arena.copy.ArenaArenaCloneFromWith.clone_from_with.Goals as goal
 
-pub returns-in-Ok-clause-mapped : goal.returns-in-Ok-clause-mapped
-returns-in-Ok-clause-mapped g c = rw (c.up_to_last-slots.ensures.entries ∙ c.lent_slots.ensures.entries) at c.in-Ok.ensures.mapped
-
-pub returns-in-Ok-clause-beyond : goal.returns-in-Ok-clause-beyond
-returns-in-Ok-clause-beyond g c = rw (c.up_to_last-slots.ensures.last ∙ ap last_listed c.lent_slots.ensures.entries) at c.in_ok-reallocate.ensures.beyond
-
 pub returns-in-Ok-clause-copied : goal.returns-in-Ok-clause-copied
 returns-in-Ok-clause-copied g c =
     (grown_copy _ _ _ c.args.self.now c.in-Ok.ensures.mapped (c.up_to_last-slots.ensures.entries ∙ c.lent_slots.ensures.entries)
