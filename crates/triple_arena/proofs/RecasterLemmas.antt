@@ -95,6 +95,12 @@ exact_map {P} c d d' from ends kept fits =
     let shape : List (Option (ℕ × P)) → Room → DirectContent P = λ slots room. record { slots = slots; room = room } in
     ap (λ slots. shape slots d'.room) (sym (spread_listed d'.slots ends)) ∙ ap (shape (spread 1 (live_entries d'))) (kept ∙ sym stays)
 
+-- a new pointer is noted under an old one
+pub noted_one : {P T : Type 0} (index generation : P → ℕ) (l : List (ℕ × (ℕ × P))) {l' : List (ℕ × (ℕ × P))} (from to : P) {t : T} {i g : ℕ}
+    → l' ≡ l ++ (i, (g, to)) ∷ [] → index from ≡ i → g ≡ generation from → notes index generation l from t to t l'
+noted_one index generation l from to {g} more place own =
+    (refl, more ∙ ap (λ k. l ++ (k, (g, to)) ∷ []) (sym place) ∙ ap (λ k. l ++ (index from, (k, to)) ∷ []) own)
+
 module _ {P T : Type 0} (index generation : P → ℕ) where
   -- what was noted
   abbrev noted : Move P T → ℕ × (ℕ × P)

@@ -1,5 +1,5 @@
 //! A slot of a `DirectArena`.
-ghost use Rattle.std.specs.Prelude.{◌≡◌, ℕ, Option, Some, None, IsSome, IsTrue, ◌↔◌};
+ghost use Rattle.std.specs.Prelude.{◌≡◌, ℕ, Option, Some, None, IsSome, IsTrue, ◌↔◌, ⊤};
 ghost use Rattle.std.specs.Borrow.{Lends, sem};
 ghost use Rattle.std.specs.Option.{option_map};
 ghost use Rattle.triple_arena.specs.DirectSlot.{value_of, with_slot_value, with_slot_generation};
@@ -94,7 +94,8 @@ impl<P: PtrCore, T> DirectSlot<P, T> {
 
     // The generation and the value. The slot must be allocated.
     pub(crate) fn into_entry(self) -> (P::Gen, T)
-        requires { IsSome self }
+        requires used { IsSome self }
+        requires no_more { ⊤ }
         ensures { Some (P.Gen.number result.0, result.1) ≡ self }
     {
         let DirectSlot { state } = self;

@@ -1,5 +1,5 @@
 //! A slot of an arena.
-ghost use Rattle.std.specs.Prelude.{◌≡◌, ◌≢◌, ◌≤◌, ℕ, length, Option, Some, None, IsTrue, ◌↔◌, IsSome, IsNone};
+ghost use Rattle.std.specs.Prelude.{◌≡◌, ◌≢◌, ◌≤◌, ℕ, length, Option, Some, None, IsTrue, ◌↔◌, IsSome, IsNone, ⊤};
 ghost use Rattle.std.specs.Borrow.{Lends, sem};
 ghost use Rattle.std.specs.Int.NonZero.{non_zero_usize_get};
 ghost use Rattle.std.specs.Option.{option_map};
@@ -32,7 +32,8 @@ pub(crate) trait ValueMut<T> {
     ghost with_held: { Self → T → Self };
 
     fn value_mut(&mut self) -> &mut T
-        requires { IsSome (held self.old) }
+        requires used { IsSome (held self.old) }
+        requires no_more { ⊤ }
         ensures* lends { sem 𝓛 (Lends Self.row T.row self.entry result (with_held self.old)) }
         ensures value { held self.old ≡ Some result.now };
 }
@@ -152,7 +153,8 @@ impl<P: PtrCore, T> ArenaSlot<P, T> {
 
     // The generation and the value. The slot must be allocated.
     pub(crate) fn into_entry(self) -> (P::Gen, T)
-        requires { IsSome (entry_of self) }
+        requires used { IsSome (entry_of self) }
+        requires no_more { ⊤ }
         ensures { Some (P.Gen.number result.0, result.1) ≡ entry_of self }
     {
         let ArenaSlot { state } = self;

@@ -1,5 +1,5 @@
 //! What is found in an arena, and the lend of a value.
-ghost use Rattle.std.specs.Prelude.{◌≡◌, ◌↔◌, ℕ, IsSome, IfSome, Option, Some};
+ghost use Rattle.std.specs.Prelude.{◌≡◌, ◌↔◌, ℕ, IsSome, IfSome, Option, Some, ⊤};
 ghost use Rattle.std.specs.Borrow.{sem, Lends};
 ghost use Rattle.std.specs.Int.NonZero.{non_zero_usize_get};
 ghost use Rattle.std.specs.Option.{option_map};
@@ -62,7 +62,8 @@ pub(crate) trait ValueAtMut<T> {
 
     // The value at an index that is live, for writing.
     fn value_at_mut(&mut self, i: NonZeroUsize) -> &mut T
-        requires { has_value self.old (non_zero_usize_get i) }
+        requires used { has_value self.old (non_zero_usize_get i) }
+        requires no_more { ⊤ }
         ensures* writes_back { sem 𝓛 (Lends Self.row T.row self.entry result
             (with_value_at self.old (non_zero_usize_get i))) }
         ensures value { value_at self.old (non_zero_usize_get i) ≡ Some result.now };

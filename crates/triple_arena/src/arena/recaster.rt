@@ -116,7 +116,7 @@ where
             let new = NonZeroUsize::MIN.saturating_add(live);
             let from = pointer_at::<P>(old, entry.0);
             let to = pointer_at::<P>(new, generation);
-            map.note(from, to);
+            map.insert_at(old, from.generation(), to);
             put_entry(slots, new, generation, entry.1);
             live += 1;
         }

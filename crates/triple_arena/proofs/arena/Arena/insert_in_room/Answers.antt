@@ -9,14 +9,14 @@ use Rattle.triple_arena.proofs.arena.Arena.insert_in_room.Goals as goal
 pub item_mut-requires : goal.item_mut-requires
 item_mut-requires g c = head_within (ap (option_map non_zero_usize_get) c.in-Some.is) c.self.invariant
 
-pub pointer_at-requires : goal.pointer_at-requires
-pointer_at-requires g c =
+pub pointer_at-requires-clause-fits : goal.pointer_at-requires-clause-fits
+pointer_at-requires-clause-fits g c =
     let within = head_within (ap (option_map non_zero_usize_get) c.in-Some.is) c.self.invariant in
     let fits = c.self.invariant.fits in
     Prim.search rules
 
-pub pointer_at-requires-in-Ok : goal.pointer_at-requires-in-Ok
-pointer_at-requires-in-Ok g c =
+pub pointer_at-requires-in-Ok-clause-fits : goal.pointer_at-requires-in-Ok-clause-fits
+pointer_at-requires-in-Ok-clause-fits g c =
     let room = room_behind (ap (option_map non_zero_usize_get) c.in-None.is) c.self.invariant c.self.view_is c.requires in
     Prim.search rules
 
