@@ -16,6 +16,11 @@ use Rattle.triple_arena.specs.Copy.{last_listed, spread, directly_copied, IsMapp
 use Rattle.triple_arena.proofs.CopyLemmas.{spread_listed, room_enough, last_copied, mirrors}
 
 module _ {P U T A F : Type 0} (index generation : P → ℕ) (step : F → P → Bor U → Result T A → F → Type 0) where
+  -- a slot is what it holds
+  pub mapped_direct : {f : F} {old : List (ℕ × (ℕ × U))} (slots : List (Option (ℕ × T)))
+      → IsMappedCopy index generation step f old (listed_from 1 (map (λ s. s) slots)) → IsMappedCopy index generation step f old (listed_from 1 slots)
+  mapped_direct slots moved = rw (map-id slots) at moved
+
   -- its slots are copies
   pub copied_direct : {E : Type 0} (shown : E → Option (ℕ × U)) (source : List E) {f : F} (d : DirectContent T) (slots : List (Option (ℕ × T)))
       {room : Room}
@@ -24,7 +29,7 @@ module _ {P U T A F : Type 0} (index generation : P → ℕ) (step : F → P →
       → length source ≤ capacity d.room → room ≡ d.room
       → direct_of slots room ≡ directly_copied d (live_entries (direct_of slots room))
   copied_direct shown source {f} d slots {room} moved whole last fits room_is =
-      let m = rw (map-id slots) at moved in
+      let m = mapped_direct slots moved in
       let ends : length slots ≡ last_listed (listed_from 1 slots) = omega (arith, whole, last, last_copied index generation step m) in
       let spreads = spread_listed slots ends in
       let enough : last_listed (listed_from 1 slots) ≤ capacity d.room = omega (arith, ends, whole, fits) in

@@ -1,31 +1,32 @@
 -- The slots of a direct arena, and how each change of them keeps it sound.
-use Rattle.std.proofs.Common.{◌≡◌, ℕ, zero, suc, ◌+◌, ◌-◌, ◌<◌, ◌≤◌, List, [], ◌∷◌, get_or, set, take, cond, Option, Some, None, IsSome, is_some, slice_get, refl, sym, ap, ◌∙◌, arith, length-set, ◌^◌, rules}
+use Rattle.std.proofs.Common.{◌≡◌, ℕ, zero, suc, ◌+◌, ◌-◌, ◌<◌, ◌≤◌, List, [], ◌∷◌, ◌++◌, length, get_or, set, take, replicate, append_assoc, cond, Option, Some, None, IsSome, is_some, slice_get, refl, sym, ap, ◌∙◌, arith, length-set}
 use Rattle.std.specs.Option.{option_map}
-use Rattle.std.proofs.lemmas.List.{set-get_or}
+use Rattle.std.proofs.lemmas.List.{length_push, set-get_or, replicate_more}
 use Rattle.std.proofs.lemmas.Option.{get_or_from_slice_get}
 use Rattle.std.proofs.lemmas.List.Sums.{sum_by-set, count_by-le-length}
 use Rattle.triple_arena_stack.specs.Room.{Room, capacity}
-use Rattle.triple_arena.specs.ArenaRoom.{room_of}
-use Rattle.triple_arena.specs.Changes.{IsInvalidated}
+use Rattle.triple_arena.specs.Changes.{IsInvalidated, IsRemoved}
 use Rattle.triple_arena.specs.ContentLaws.{entry_at_slot, live_entry}
 use Rattle.triple_arena.specs.DirectContent.{DirectContent, as_content, entry_at, arena_capacity, live_count, no_counter, reaching, with_value, with_generation, inserted, removed, last_index, IsPlace}
-use Rattle.triple_arena.specs.DirectLaws.{live-inserted, formed-inserted, live-removed, formed-removed, live-without_free_end, formed-without_free_end, entry-with_generation, live-with_generation, room-with_generation}
+use Rattle.triple_arena.specs.DirectLaws.{live-inserted, formed-inserted, entry-removed, live-removed, formed-removed, live-without_free_end, formed-without_free_end, entry-with_generation, live-with_generation, room-with_generation}
 use Rattle.triple_arena.specs.DirectSlot.{with_slot_value, with_slot_generation}
 use Rattle.triple_arena.specs.DirectLayout.{direct_of, IsSound}
-
--- a place within the capacity of an arena is one of the pointers' indexes
-pub index_within : (greatest : ℕ) (room : Room) (i : ℕ) {n : ℕ} → i < 2 ^ 64 → i - 1 < n → n ≤ capacity (room_of greatest room) → i ≤ greatest
-index_within greatest room i {n} number within fits = by_limit room.limit fits
-  where
-    by_limit : (limit : Option ℕ) → n ≤ capacity (room_of greatest (record { reserved = room.reserved; limit = limit })) → i ≤ greatest
-    by_limit (Some l) fits = Prim.search rules
-    by_limit None fits = Prim.search rules
 
 module _ {T : Type 0} where
   absent : (xs : List (Option (ℕ × T))) (k : ℕ) → slice_get xs k ≡ None → get_or xs k None ≡ None
   absent [] k none = refl
   absent (x ∷ xs) zero none = absurd (cc)
   absent (x ∷ xs) (suc k) none = absent xs k none
+
+  -- one more free slot at the end
+  pub reaching_more : {xs ys : List (Option (ℕ × T))} (old : List (Option (ℕ × T))) {new : Option (ℕ × T)} → xs ≡ reaching (length xs) old
+      → length old ≤ length xs → ys ≡ xs ++ new ∷ [] → new ≡ None → ys ≡ reaching (length ys) old
+  reaching_more {xs} {ys} old {new} reached less more free =
+      let longer = ap length more ∙ length_push xs new in
+      let next : length ys - length old ≡ (length xs - length old) + 1 = omega (arith, less, longer) in
+      more ∙ ap (λ x. xs ++ x ∷ []) free ∙ ap (λ l. l ++ None ∷ []) reached
+      ∙ append_assoc old (replicate (length xs - length old) None) (None ∷ [])
+      ∙ ap (λ l. old ++ l) (replicate_more (length xs - length old) None ∙ ap (λ n. replicate n None) (sym next))
 
   -- where there is no slot there is no entry
   pub nothing_at : {xs : List (Option (ℕ × T))} {room : Room} {d : DirectContent T} {o : Option (Option (ℕ × T))} {i : ℕ} (j : ℕ)
@@ -136,6 +137,12 @@ module _ {T : Type 0} where
       let old = direct_of xs room in
       rw (kept, last ∙ ap last_index (sym seen), same)
       (record { counted = sound.counted ∙ sym (live-without_free_end old); fits = formed-without_free_end old sound.fits })
+
+  -- what a removal leaves
+  pub is_removed : {last : Option ℕ} {d d' : DirectContent T} {i : ℕ} → d' ≡ removed d i → IsSome (entry_at d i)
+      → IsRemoved entry_at live_count no_counter (λ x. x.room) last i d d'
+  is_removed {d} {i} is some =
+      rw is record { entries = entry-removed d i some; live = live-removed d i some; counter = refl; room = refl }
 
   -- what the end of a pointer leaves
   pub is_invalidated : {last : Option ℕ} {d d' : DirectContent T} {i j g h : ℕ} → d' ≡ with_generation d i g → i ≡ j → h ≡ g

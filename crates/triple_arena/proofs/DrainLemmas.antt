@@ -1,5 +1,5 @@
 -- What a removal at the first live index does to the entries that are left, and to the removals that are still to come, in any arena.
-use Rattle.std.proofs.Common.{◌≡◌, ◌≢◌, ◌⊎◌, ℕ, ◌+◌, ◌<◌, ◌≤◌, List, [], ◌∷◌, length, map, slice_index, Bool, true, false, true≢false, Option, Some, None, IsSome, is_some, inl, inr, refl, sym, ap, subst, ◌∙◌, arith}
+use Rattle.std.proofs.Common.{◌≡◌, ◌≢◌, ℕ, ◌+◌, ◌<◌, ◌≤◌, List, [], ◌∷◌, length, map, slice_index, Bool, false, true≢false, Option, Some, None, IsSome, is_some, inl, inr, refl, sym, ap, subst, ◌∙◌, arith}
 use Rattle.std.proofs.lemmas.Bool.{eq-eqb, ne_eqb, cases_order}
 use Rattle.std.proofs.lemmas.Bool.Decides.{eqb_tells}
 use Rattle.std.specs.List.Sorted.{IsStrictlyIncreasing}
@@ -7,7 +7,7 @@ use Rattle.std.specs.Option.{option_map}
 use Rattle.triple_arena_ptr.specs.Generation.{next_generation}
 use Rattle.triple_arena.specs.Compression.{index_of}
 use Rattle.triple_arena.specs.Drains.{removals, DrainKeeps, DrainKeepsAlong, IsAllAhead}
-use Rattle.triple_arena.specs.Entries.{counter_wraps, generation_at, look_up, value_if, without}
+use Rattle.triple_arena.specs.Entries.{counter_wraps, look_up, value_if, without}
 use Rattle.triple_arena.specs.Walk.{Walk, IsAhead, ComesBefore, IsFirstLive, past}
 use Rattle.triple_arena.specs.declared.drain.Drain.{Drain}
 use Rattle.triple_arena.proofs.AdvancerLemmas.{RiseFrom, rise_from, first_stands}

@@ -1,11 +1,15 @@
--- What an arena is after it took over the entries of another.
-use Rattle.std.proofs.Common.{◌≡◌, ℕ, ◌+◌, ◌-◌, ◌≤◌, List, [], map, get_or, Option, None, refl, ap, ◌∙◌, arith}
+-- What an arena is after it took over the entries of another, and after it gave its own away.
+use Rattle.std.proofs.Common.{◌≡◌, ℕ, ◌+◌, ◌-◌, ◌≤◌, List, [], map, get_or, Option, Some, None, is_some, count_by, refl, ap, ◌∙◌, arith}
 use Rattle.std.proofs.lemmas.List.{length-map, map-id}
+use Rattle.std.specs.Fn.{iterate}
+use Rattle.std.specs.Option.{option_map}
+use Rattle.triple_arena_ptr.specs.Generation.{next_generation}
 use Rattle.triple_arena_stack.specs.Room.{Room, capacity}
 use Rattle.triple_arena.specs.Slot.{Slot, entry_of}
 use Rattle.triple_arena.specs.Content.{Content, entry_at, live_count, some_counter}
 use Rattle.triple_arena.specs.ContentLaws.{entry_at_slot}
 use Rattle.triple_arena.specs.Layout.{content_of, IsSound}
+use Rattle.triple_arena.specs.Drains.{drained}
 use Rattle.triple_arena.specs.LiveEntries.{live_entries}
 use Rattle.triple_arena.specs.Compression.{value_of, compacted}
 use Rattle.triple_arena.specs.Transfer.{IsFilled}
@@ -77,3 +81,11 @@ module _ {T : Type 0} where
         };
         exact = ap (λ x. direct_of xs x) kept ∙ ap (λ l. direct_of l d.room) r.values;
       }
+
+-- what a transfer leaves of an arena
+pub given_up : {T : Type 0} (last head : Option ℕ) (es : List (Slot T)) {es' : List (Slot T)} {room room' : Room} {g g' : ℕ} {c : Content T} → content_of es room g head ≡ c
+    → es' ≡ [] → room' ≡ room → Some g' ≡ option_map (iterate (next_generation last) (count_by is_some (map entry_of es))) (Some g)
+    → content_of es' room' g' None ≡ drained last c
+given_up last head es {g} {g'} seen none kept stepped =
+    let same : g' ≡ iterate (next_generation last) (count_by is_some (map entry_of es)) g = cc in
+    rw (none, kept, same, ← seen) refl

@@ -4,7 +4,7 @@ use Rattle.std.specs.Fn.{iterate}
 use Rattle.std.specs.List.{FoldsTo}
 use Rattle.std.specs.Option.{option_map}
 use Rattle.std.proofs.lemmas.Fn.{FoldsTo-push}
-use Rattle.std.proofs.lemmas.List.{map_push, length-map, length_push}
+use Rattle.std.proofs.lemmas.List.{map-id, map_push, length-map, length_push}
 use Rattle.triple_arena_ptr.specs.declared.invalidation.InvalidationOption.{InvalidationOption}
 use Rattle.triple_arena_ptr.specs.Generation.{next_generation}
 use Rattle.triple_arena_ptr.specs.InvalidationOption.{value_of as value_in, overflowed}
@@ -325,3 +325,9 @@ module _ {Q U P T F : Type 0} {old_index old_generation : Q → ℕ} {index gene
       → MovesOut old_index old_generation index generation step f last counter g old new
       → IsTransferred old_index old_generation index generation step f last counter old (listed_from 1 new)
   out_mapped m = record { moves = m.moves; last = m.last; calls = m.calls; before = m.before; told = m.told; after = m.after }
+
+  -- where a slot is what it holds
+  pub out_mapped_direct : {f : F} {last counter : Option ℕ} {g : ℕ} {old : List (ℕ × (ℕ × U))} (new : List (Option (ℕ × T)))
+      → MovesOut old_index old_generation index generation step f last counter g old (map (λ slot. slot) new)
+      → IsTransferred old_index old_generation index generation step f last counter old (listed_from 1 new)
+  out_mapped_direct new m = rw (map-id new) at (out_mapped m)

@@ -3,7 +3,6 @@ use Rattle.std.proofs.Common.{◌≡◌, ℕ, zero, suc, ◌<◌, ◌≤◌, Lis
 use Rattle.std.proofs.lemmas.Bool.Decides.{leb_tells}
 use Rattle.std.specs.Option.{option_map}
 use Rattle.triple_arena.specs.Content.{Content, entry_at}
-use Rattle.triple_arena.specs.Entries.{pointer_at}
 use Rattle.triple_arena.specs.Walk.{Finds}
 
 module _ {T : Type 0} where
@@ -16,12 +15,6 @@ module _ {T : Type 0} where
       absent [] k beyond = refl
       absent (x ∷ xs) zero beyond = absurd (omega arith)
       absent (x ∷ xs) (suc k) beyond = absent xs k (omega arith)
-
-  pub pointer_some : (entries : ℕ → Option (ℕ × T)) {i a b g : ℕ} {t : T} → entries i ≡ Some (g, t) → a ≡ i → b ≡ g → Some (a, b) ≡ pointer_at entries i
-  pointer_some entries live index generation = rw (live, index, generation) refl
-
-  pub pointer_none : (entries : ℕ → Option (ℕ × T)) (i : ℕ) → entries i ≡ None → None ≡ pointer_at entries i
-  pointer_none entries i none = rw none refl
 
   -- nothing found among all slots: nothing is live
   pub none_at_all : {P : Type 0} (c : Content T) (number : P → ℕ × ℕ) (n : ℕ) (falls : Bool) (given : Option P) → n ≡ length c.slots

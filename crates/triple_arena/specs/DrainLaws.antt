@@ -5,14 +5,14 @@ use Rattle.std.specs.Option.{option_map}
 use Rattle.triple_arena_ptr.specs.Generation.{next_generation}
 use Rattle.triple_arena_stack.specs.Room.{Room}
 use Rattle.triple_arena.specs.Changes.{IsRemoved}
-use Rattle.triple_arena.specs.Content.{Content, entry_at, live_count, some_counter, emptied}
+use Rattle.triple_arena.specs.Content.{Content, entry_at, live_count, some_counter}
 use Rattle.triple_arena.specs.ContentLaws.{entry-no_slots}
 use Rattle.triple_arena.specs.DirectContent.{DirectContent, as_content, entry_at as direct_entry_at, live_count as direct_live_count, no_counter, cleared}
 use Rattle.triple_arena.specs.Drains.{drained, removals, LeavesGivenUp}
 use Rattle.triple_arena.specs.Transfer.{IsGivenUp}
 
 -- a step of a repetition, taken first
-iterate_first : {A : Type 0} (h : A → A) (n : ℕ) (x : A) → 0 < n → iterate h (n - 1) (h x) ≡ iterate h n x
+pub iterate_first : {A : Type 0} (h : A → A) (n : ℕ) (x : A) → 0 < n → iterate h (n - 1) (h x) ≡ iterate h n x
 iterate_first h zero x some = absurd (omega arith)
 iterate_first h (suc n) x some = let less : suc n - 1 ≡ n = omega arith in rw less refl
 

@@ -28,7 +28,8 @@ module _ {T : Type 0} where
   IsAllAhead entries w = (j : ℕ) → IsSome (entries j) → (w.falls ≡ false) × IsAhead w j
 
 module _ {S T : Type 0} (entry_of : S → ℕ → Option (ℕ × T)) (live_of : S → ℕ) (counter_of : S → Option ℕ) (room_of : S → Room) where
-  -- what a drain leaves is the arena given up, and a removal does not change it; a search does not look into this word, so that it costs the loops over an arena nothing
+  -- What a drain leaves is the arena given up, and a removal does not change that. A search does not look into this
+  -- word, so that it costs the loops over an arena nothing.
   unfoldable pub LeavesGivenUp : Option ℕ → (S → S) → Type 0
   LeavesGivenUp last left = ((s : S) → IsGivenUp entry_of live_of counter_of room_of last s (left s))
       × ((old new : S) (i : ℕ) → IsRemoved entry_of live_of counter_of room_of last i old new → left new ≡ left old)

@@ -1,9 +1,8 @@
 -- What the map of a compression says of the pointers: each that was valid is renamed to one that finds the same value, and
 -- each that is valid afterwards is the new name of one, and of no other. The laws take the clause `recaster` first.
-use Rattle.std.proofs.Common.{◌≡◌, ℕ, zero, suc, ◌+◌, List, [], ◌∷◌, map, get_or, Option, Some, None, IsSome, slice_get, is_some, true≢false, inl, inr, refl, sym, ap, ◌∙◌, arith, add-zero}
+use Rattle.std.proofs.Common.{◌≡◌, ℕ, zero, suc, ◌+◌, List, [], ◌∷◌, map, get_or, Option, Some, None, IsSome, slice_get, is_some, true≢false, refl, sym, ap, ◌∙◌, arith, add-zero}
 use Rattle.std.specs.Option.{option_map}
 use Rattle.std.proofs.lemmas.Bool.{eq-eqb}
-use Rattle.std.proofs.lemmas.Bool.Decides.{eqb_tells}
 use Rattle.std.proofs.lemmas.Option.{slice_get-map}
 use Rattle.triple_arena.specs.Content.{Content, entry_at, get}
 use Rattle.triple_arena.specs.ContentLaws.{entry_seen}

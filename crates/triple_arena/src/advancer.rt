@@ -1,5 +1,5 @@
 //! Going over the pointers of an arena, by their indexes.
-ghost use Rattle.std.specs.Prelude.{◌≡◌, ℕ, ◌+◌, ◌-◌, ◌^◌, ◌<◌, min, if◌then◌else◌, true, false, length, Option, Some, None, IfSome, IfNone, refl};
+ghost use Rattle.std.specs.Prelude.{◌≡◌, ℕ, ◌+◌, ◌-◌, ◌^◌, ◌<◌, min, if◌then◌else◌, true, false, length, Option, Some, None, IfSome, IfNone, refl, ⊤};
 ghost use Rattle.std.specs.Int.NonZero.{non_zero_usize_get};
 ghost use Rattle.std.specs.Option.{option_map};
 ghost use Rattle.triple_arena.specs.Entries.{pointer_at, generation_at};
@@ -10,7 +10,7 @@ ghost use Rattle.triple_arena.specs.Walk.{past, to_come, Finds, IsOver, Steps};
 use crate::{Arena, ArenaSlots, DirectArena, DirectSlots};
 use std::marker::{Model, PhantomData};
 use std::num::NonZeroUsize;
-use triple_arena_ptr::{Advancer, PtrCore, PtrInxCore};
+use triple_arena_ptr::{Advancer, AllocError, PtrCore, PtrInxCore};
 use unreached::unreached;
 
 /// Gives the pointers to the entries of an arena, one a call, by rising or by falling index. The arena is free
@@ -18,7 +18,7 @@ use unreached::unreached;
 ///
 /// A call gives the pointer at the first index that is live then, of those that no call has passed. Once there is
 /// none, no call gives one.
-#[derive(Clone, Copy, Drop)]
+#[derive(Drop)]
 pub struct PtrAdvancer<P: PtrCore> {
     // The indexes that are left are those after `start`, up to `end`.
     start: usize,
@@ -37,6 +37,18 @@ impl<P: PtrCore> Model for PtrAdvancer<P> {
 
     ghost inverse = { λ w. record { start = w.low - 1; end = w.high; rev = w.falls; pointers = record {} } };
 }
+
+impl<P: PtrCore> Clone for PtrAdvancer<P> {
+    ghost is_clone = { λ x y. y ≡ x };
+
+    ghost is_infallible = { λ _. ⊤ };
+
+    fn clone(&self) -> Result<Self, AllocError> {
+        Ok(*self)
+    }
+}
+
+impl<P: PtrCore> Copy for PtrAdvancer<P> {}
 
 impl<P: PtrCore> PtrAdvancer<P> {
     // Over the indexes after `start`, up to `end`.

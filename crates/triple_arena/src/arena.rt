@@ -1,5 +1,5 @@
 //! The generational arena.
-ghost use Rattle.std.specs.Prelude.{◌≡◌, ◌≤◌, [], length, map};
+ghost use Rattle.std.specs.Prelude.{◌≡◌, ◌≤◌, [], length, map, ⊤};
 ghost use Rattle.std.specs.Int.NonZero.{non_zero_usize_get};
 ghost use Rattle.triple_arena_ptr.specs.Generation.{second_generation};
 ghost use Rattle.triple_arena_ptr.specs.Index.{max_index_of};
@@ -104,7 +104,8 @@ pub(crate) fn max_index<P: PtrCore>() -> usize
 
 // The pointer with this index and generation.
 pub(crate) fn pointer_at<P: PtrCore>(index: NonZeroUsize, generation: P::Gen) -> P
-    requires { non_zero_usize_get index ≤ P.Inx.greatest }
+    requires fits { non_zero_usize_get index ≤ P.Inx.greatest }
+    requires no_more { ⊤ }
     ensures has_index { P.index result ≡ non_zero_usize_get index }
     ensures has_generation { P.generation result ≡ P.Gen.number generation }
 {

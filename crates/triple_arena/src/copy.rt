@@ -1,5 +1,5 @@
 //! Copies of arenas: the same pointers, with the values that a map gives.
-ghost use Rattle.std.specs.Prelude.{◌≡◌, ◌<◌, ◌≤◌, ◌↔◌, ℕ, ◌∷◌, ◌++◌, Option, [], IsOk, IsErr, IfOk, OnOk, IsErrOf, List, length, is_some, count_by, map as list_map};
+ghost use Rattle.std.specs.Prelude.{◌≡◌, ◌<◌, ◌≤◌, ◌↔◌, ℕ, ◌∷◌, ◌++◌, Option, [], IsOk, IsErr, IfOk, OnOk, IsErrOf, List, length, is_some, count_by, map as list_map, ⊤};
 ghost use Rattle.triple_arena_ptr.specs.Index.{max_index_of};
 ghost use Rattle.triple_arena_stack.specs.Room.{capacity as capacity_of, IsBeyond};
 ghost use Rattle.triple_arena.specs.LiveEntries.{listed_from};
@@ -131,7 +131,8 @@ where
 
 // Appends a slot, for which there is room.
 fn append<L: Drop, S: NonZeroInxGenericStack<Item = L>>(slots: &mut S, slot: L)
-    requires { length (S.items slots.old) < capacity_of (S.room slots.old) }
+    requires room { length (S.items slots.old) < capacity_of (S.room slots.old) }
+    requires no_more { ⊤ }
     ensures items { S.items slots.new ≡ S.items slots.old ++ slot ∷ [] }
     ensures room { S.room slots.new ≡ S.room slots.old }
 {

@@ -1,11 +1,10 @@
 //! A slot of a `DirectArena`.
-ghost use Rattle.std.specs.Prelude.{◌≡◌, ℕ, Option, Some, None, IsSome, IsTrue, ◌↔◌, option_copied};
-ghost use Rattle.std.specs.Borrow.{Lends, LendsIf, sem};
-ghost use Rattle.std.specs.Option.{option_map, option_copied_mut};
+ghost use Rattle.std.specs.Prelude.{◌≡◌, ℕ, Option, Some, None, IsSome, IsTrue, ◌↔◌, ⊤};
+ghost use Rattle.std.specs.Borrow.{Lends, sem};
+ghost use Rattle.std.specs.Option.{option_map};
 ghost use Rattle.triple_arena.specs.DirectSlot.{value_of, with_slot_value, with_slot_generation};
-ghost use Rattle.triple_arena.specs.Entries.{value_if};
 
-use crate::slot::{EntrySlot, ValueIfMut, ValueMut};
+use crate::slot::{EntrySlot, ValueMut};
 use std::marker::Model;
 use triple_arena_ptr::PtrCore;
 use unreached::unreached;
@@ -93,25 +92,10 @@ impl<P: PtrCore, T> DirectSlot<P, T> {
         }
     }
 
-    // The value, if the slot is allocated with this generation.
-    pub(crate) fn get(&self, generation: P::Gen) -> Option<&T>
-        ensures { option_copied result ≡ value_if (P.Gen.number generation) self.now }
-    {
-        match &self.state {
-            DirectState::Used(own, value) => {
-                if *own == generation {
-                    Some(value)
-                } else {
-                    None
-                }
-            }
-            DirectState::Free => None,
-        }
-    }
-
     // The generation and the value. The slot must be allocated.
     pub(crate) fn into_entry(self) -> (P::Gen, T)
-        requires { IsSome self }
+        requires used { IsSome self }
+        requires no_more { ⊤ }
         ensures { Some (P.Gen.number result.0, result.1) ≡ self }
     {
         let DirectSlot { state } = self;
@@ -149,20 +133,6 @@ impl<P: PtrCore, T> ValueMut<T> for DirectSlot<P, T> {
 
     fn value_mut(&mut self) -> &mut T {
         self.state.value_mut()
-    }
-}
-
-impl<P: PtrCore, T> ValueIfMut<P::Gen, T> for DirectSlot<P, T> {
-    ghost found = { λ s g. value_if (P.Gen.number g) s };
-
-    ghost with_found = { with_slot_value };
-
-    fn get_mut(&mut self, generation: P::Gen) -> Option<&mut T> {
-        if self.get(generation).is_some() {
-            Some(self.value_mut())
-        } else {
-            None
-        }
     }
 }
 

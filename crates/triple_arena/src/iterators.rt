@@ -1,5 +1,5 @@
 //! Going over the live entries of an arena that is lent for reading, in the order of the indexes.
-ghost use Rattle.std.specs.Prelude.{◌≡◌, ◌≤◌, ℕ, Option, length, map as list_map};
+ghost use Rattle.std.specs.Prelude.{◌≡◌, ◌≤◌, ℕ, Option, length, map as list_map, ⊤};
 ghost use Rattle.std.specs.Iterator.{YieldsFirstBy, item_count};
 ghost use Rattle.std.specs.Option.{option_map};
 ghost use Rattle.triple_arena_ptr.specs.Index.{max_index_of};
@@ -70,7 +70,8 @@ impl<'a, P: PtrCore, V, T, E: LentEntry<P, V>, M: Part<V, T>> Model for Iter<'a,
 impl<'a, P: PtrCore, T, E: LentEntry<P, T>> Iter<'a, P, T, T, E, Whole> {
     // Over the slots from index 1 on, so many of which are allocated.
     pub(crate) fn over(slots: &'a [E], left: usize) -> Self
-        requires { IsCursor E.shown slots.now 0 left (max_index_of P.Inx.greatest) }
+        requires cursor { IsCursor E.shown slots.now 0 left (max_index_of P.Inx.greatest) }
+        requires no_more { ⊤ }
         ensures { result ≡ listed_from 1 (list_map E.shown slots.now) }
     {
         Iter {

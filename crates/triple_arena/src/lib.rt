@@ -37,6 +37,7 @@
 #![tactic(auto)]
 
 mod advancer;
+mod answers;
 mod arena;
 mod arena_trait;
 mod capacity_drain;

@@ -1,11 +1,10 @@
 //! A slot of an arena.
-ghost use Rattle.std.specs.Prelude.{◌≡◌, ◌≢◌, ◌≤◌, ℕ, length, Option, Some, None, option_copied, IsTrue, ◌↔◌, IsSome, IsNone};
-ghost use Rattle.std.specs.Borrow.{Lends, LendsIf, sem};
+ghost use Rattle.std.specs.Prelude.{◌≡◌, ◌≢◌, ◌≤◌, ℕ, length, Option, Some, None, IsTrue, ◌↔◌, IsSome, IsNone, ⊤};
+ghost use Rattle.std.specs.Borrow.{Lends, sem};
 ghost use Rattle.std.specs.Int.NonZero.{non_zero_usize_get};
-ghost use Rattle.std.specs.Option.{option_map, option_copied_mut};
+ghost use Rattle.std.specs.Option.{option_map};
 ghost use Rattle.triple_arena.specs.Slot.{Slot, entry_of, free, used, value_of, link_of, with_link, with_slot_value, with_slot_generation};
 ghost use Rattle.triple_arena_stack.specs.Stack.{item_at, with_item};
-ghost use Rattle.triple_arena.specs.Entries.{value_if};
 
 use std::marker::Model;
 use std::mem;
@@ -33,7 +32,8 @@ pub(crate) trait ValueMut<T> {
     ghost with_held: { Self → T → Self };
 
     fn value_mut(&mut self) -> &mut T
-        requires { IsSome (held self.old) }
+        requires used { IsSome (held self.old) }
+        requires no_more { ⊤ }
         ensures* lends { sem 𝓛 (Lends Self.row T.row self.entry result (with_held self.old)) }
         ensures value { held self.old ≡ Some result.now };
 }
@@ -66,18 +66,6 @@ pub(crate) trait EntrySlot<P: PtrCore, T> {
 
     fn into_live(self) -> Option<(P::Gen, T)>
         ensures { option_map (λ e. (P.Gen.number e.0, e.1)) result ≡ entry self };
-}
-
-// What keeps one value, if any, and lends it where a generation is its own.
-pub(crate) trait ValueIfMut<G, T> {
-    ghost found: { Self → G → Option T };
-
-    ghost with_found: { Self → T → Self };
-
-    fn get_mut(&mut self, generation: G) -> Option<&mut T>
-        ensures* lends { sem 𝓛 (LendsIf Self.row T.row self.entry result (with_found self.old)
-            self.old) }
-        ensures value { option_copied_mut result ≡ found self.old generation };
 }
 
 impl<P: PtrCore, T> Model for ArenaSlot<P, T> {
@@ -126,32 +114,6 @@ impl<P: PtrCore, T> ArenaSlot<P, T> {
         }
     }
 
-    // The value, if the slot is allocated.
-    pub(crate) fn value(&self) -> Option<&T>
-        ensures { option_copied result ≡ value_of self.now }
-    {
-        match &self.state {
-            SlotState::Used(_, value) => Some(value),
-            SlotState::Free(_) => None,
-        }
-    }
-
-    // The value, if the slot is allocated with this generation.
-    pub(crate) fn get(&self, generation: P::Gen) -> Option<&T>
-        ensures { option_copied result ≡ value_if (P.Gen.number generation) (entry_of self.now) }
-    {
-        match &self.state {
-            SlotState::Used(own, value) => {
-                if *own == generation {
-                    Some(value)
-                } else {
-                    None
-                }
-            }
-            SlotState::Free(_) => None,
-        }
-    }
-
     // The link, if the slot is free.
     pub(crate) fn next(&self) -> Option<NonZeroUsize>
         ensures { option_map non_zero_usize_get result ≡ link_of self.now }
@@ -191,7 +153,8 @@ impl<P: PtrCore, T> ArenaSlot<P, T> {
 
     // The generation and the value. The slot must be allocated.
     pub(crate) fn into_entry(self) -> (P::Gen, T)
-        requires { IsSome (entry_of self) }
+        requires used { IsSome (entry_of self) }
+        requires no_more { ⊤ }
         ensures { Some (P.Gen.number result.0, result.1) ≡ entry_of self }
     {
         let ArenaSlot { state } = self;
@@ -229,20 +192,6 @@ impl<P: PtrCore, T> ValueMut<T> for ArenaSlot<P, T> {
 
     fn value_mut(&mut self) -> &mut T {
         self.state.value_mut()
-    }
-}
-
-impl<P: PtrCore, T> ValueIfMut<P::Gen, T> for ArenaSlot<P, T> {
-    ghost found = { λ s g. value_if (P.Gen.number g) (entry_of s) };
-
-    ghost with_found = { with_slot_value };
-
-    fn get_mut(&mut self, generation: P::Gen) -> Option<&mut T> {
-        if self.get(generation).is_some() {
-            Some(self.value_mut())
-        } else {
-            None
-        }
     }
 }
 

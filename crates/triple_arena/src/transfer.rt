@@ -13,6 +13,7 @@ ghost use Rattle.triple_arena.specs.SlotTransfer.{MovesOut};
 ghost use Rattle.triple_arena.specs.Transfer.{IsTransferred, IsGivenUp, IsFilled};
 
 use crate::ArenaTrait;
+use crate::answers::answer;
 use crate::arena::{pointer_at, take_entry};
 use crate::slot::EntrySlot;
 use std::num::NonZeroUsize;
@@ -112,11 +113,7 @@ fn removal<G: PtrGenCore, U>(counter: Option<G>, value: U) -> (Option<G>, Invali
     match counter {
         Some(generation) => {
             let (next, wrapped) = generation.generational_inc();
-            if wrapped {
-                (Some(next), InvalidationOption::GenerationOverflow(value))
-            } else {
-                (Some(next), InvalidationOption::Success(value))
-            }
+            (Some(next), answer(wrapped, value))
         }
         None => (None, InvalidationOption::Success(value)),
     }

@@ -10,11 +10,11 @@ ghost use Rattle.triple_arena.specs.LiveEntries.{live_entries as live_entries_of
 ghost use Rattle.triple_arena.specs.Compression.{renewed, compacted};
 
 use crate::advancer::{LivePointers, PtrAdvancer};
+use crate::answers::{answer, valid};
 use crate::arena::compression::{compact, renewal};
 use crate::arena::reading::ValueAtMut;
 use crate::arena::removal::equal_uncounted;
 use crate::arena::{Arena, max_index};
-use crate::slot::ValueIfMut;
 use crate::{ArenaSlot, ArenaSlots, ArenaTrait, CompactArenaTrait};
 use triple_arena_ptr::{
     InvalidationOption, InvalidationResult, PtrCore, PtrGenCore, PtrInxCore, ReallocationError,
@@ -125,14 +125,9 @@ impl<P: PtrCore, T: Drop, S: ArenaSlots<P, T>> ArenaTrait<P, T> for Arena<P, T, 
     }
 
     fn get(&self, p: P) -> Option<&T> {
-        // The number of slots is a `usize`, so no index past that is live.
-        let _ = self.slots.len();
-        match p.inx().try_into_usize() {
-            Some(i) => match self.slots.get(i) {
-                Some(slot) => slot.get(p.generation()),
-                None => None,
-            },
-            None => None,
+        match self.get_inx(p.inx()) {
+            Some((generation, value)) if generation == p.generation() => Some(value),
+            _ => None,
         }
     }
 
@@ -158,13 +153,8 @@ impl<P: PtrCore, T: Drop, S: ArenaSlots<P, T>> ArenaTrait<P, T> for Arena<P, T, 
     }
 
     fn get_mut(&mut self, p: P) -> Option<&mut T> {
-        // The number of slots is a `usize`, so no index past that is live.
-        let _ = self.slots.len();
-        match p.inx().try_into_usize() {
-            Some(i) => match self.slots.get_mut(i) {
-                Some(slot) => slot.get_mut(p.generation()),
-                None => None,
-            },
+        match self.live_index(p) {
+            Some(i) => Some(self.value_at_mut(i)),
             None => None,
         }
     }
@@ -189,12 +179,10 @@ impl<P: PtrCore, T: Drop, S: ArenaSlots<P, T>> ArenaTrait<P, T> for Arena<P, T, 
         // The arena is well-formed before.
         self.recall_formed();
         match self.live_index(p) {
-            Some(i) => match self.remove_at(i) {
-                InvalidationOption::Success((_, t)) => InvalidationResult::Success(t),
-                InvalidationOption::GenerationOverflow((_, t)) => {
-                    InvalidationResult::GenerationOverflow(t)
-                }
-            },
+            Some(i) => {
+                let ((_, t), wrapped) = self.remove_at(i);
+                valid(answer(wrapped, t))
+            }
             None => InvalidationResult::InvalidPtr,
         }
     }
@@ -203,12 +191,10 @@ impl<P: PtrCore, T: Drop, S: ArenaSlots<P, T>> ArenaTrait<P, T> for Arena<P, T, 
         // The arena is well-formed before.
         self.recall_formed();
         match self.live_inx(i) {
-            Some(i) => match self.remove_at(i) {
-                InvalidationOption::Success(entry) => InvalidationResult::Success(entry),
-                InvalidationOption::GenerationOverflow(entry) => {
-                    InvalidationResult::GenerationOverflow(entry)
-                }
-            },
+            Some(i) => {
+                let (entry, wrapped) = self.remove_at(i);
+                valid(answer(wrapped, entry))
+            }
             None => InvalidationResult::InvalidPtr,
         }
     }
@@ -223,11 +209,7 @@ impl<P: PtrCore, T: Drop, S: ArenaSlots<P, T>> ArenaTrait<P, T> for Arena<P, T, 
                 equal_uncounted(renewed, p);
                 // And after.
                 self.recall_formed();
-                if wrapped {
-                    InvalidationResult::GenerationOverflow(renewed)
-                } else {
-                    InvalidationResult::Success(renewed)
-                }
+                valid(answer(wrapped, renewed))
             }
             None => InvalidationResult::InvalidPtr,
         }
@@ -238,11 +220,7 @@ impl<P: PtrCore, T: Drop, S: ArenaSlots<P, T>> ArenaTrait<P, T> for Arena<P, T, 
         let wrapped = self.step();
         // The arena is well-formed after.
         self.recall_formed();
-        if wrapped {
-            InvalidationOption::GenerationOverflow(())
-        } else {
-            InvalidationOption::Success(())
-        }
+        answer(wrapped, ())
     }
 
     fn take_all(&mut self) {
@@ -269,11 +247,7 @@ impl<P: PtrCore, T: Drop, S: ArenaSlots<P, T>> ArenaTrait<P, T> for Arena<P, T, 
         self.head = None;
         // The arena is well-formed after.
         self.recall_formed();
-        if wrapped {
-            InvalidationOption::GenerationOverflow(())
-        } else {
-            InvalidationOption::Success(())
-        }
+        answer(wrapped, ())
     }
 }
 

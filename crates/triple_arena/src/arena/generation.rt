@@ -6,6 +6,7 @@ ghost use Rattle.triple_arena.specs.Changes.{IsStepped};
 ghost use Rattle.triple_arena.specs.Content.{entry_at, live_count, some_counter, with_counter, stepped, IsWellFormed};
 
 use crate::ArenaSlots;
+use crate::answers::answer;
 use crate::arena::Arena;
 use triple_arena_ptr::{InvalidationOption, PtrCore, PtrGenCore};
 
@@ -38,11 +39,7 @@ impl<P: PtrCore, T: Drop, S: ArenaSlots<P, T>> Arena<P, T, S> {
         let wrapped = self.step();
         // The arena is well-formed after.
         self.recall_formed();
-        if wrapped {
-            InvalidationOption::GenerationOverflow(())
-        } else {
-            InvalidationOption::Success(())
-        }
+        answer(wrapped, ())
     }
 
     // Steps the counter, and says whether the generations started again.

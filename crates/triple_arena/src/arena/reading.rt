@@ -1,14 +1,14 @@
 //! What is found in an arena, and the lend of a value.
-ghost use Rattle.std.specs.Prelude.{◌≡◌, ◌↔◌, ℕ, IsSome, IfSome, Option, Some};
+ghost use Rattle.std.specs.Prelude.{◌≡◌, ◌↔◌, ℕ, IsSome, IfSome, Option, Some, ⊤};
 ghost use Rattle.std.specs.Borrow.{sem, Lends};
 ghost use Rattle.std.specs.Int.NonZero.{non_zero_usize_get};
 ghost use Rattle.std.specs.Option.{option_map};
 ghost use Rattle.triple_arena.specs.Entries.{pointer_at as pointer_of_entry};
 ghost use Rattle.triple_arena.specs.Content.{get, entry_at, with_value};
 
-use crate::ArenaSlots;
-use crate::arena::{Arena, pointer_at};
+use crate::arena::Arena;
 use crate::slot::ValueMut;
+use crate::{ArenaSlots, ArenaTrait};
 use std::num::NonZeroUsize;
 use triple_arena_ptr::{PtrCore, PtrInxCore};
 
@@ -21,17 +21,8 @@ impl<P: PtrCore, T: Drop, S: ArenaSlots<P, T>> Arena<P, T, S> {
         // The number of slots is a `usize`, so no index past that is live.
         let _ = self.slots.len();
         match p.inx().try_into_usize() {
-            Some(i) => match self.slots.get(i) {
-                Some(slot) => {
-                    if slot.get(p.generation()).is_some() {
-                        Some(i)
-                    } else {
-                        None
-                    }
-                }
-                None => None,
-            },
-            None => None,
+            Some(i) if self.get(p).is_some() => Some(i),
+            _ => None,
         }
     }
 
@@ -43,17 +34,8 @@ impl<P: PtrCore, T: Drop, S: ArenaSlots<P, T>> Arena<P, T, S> {
         // The number of slots is a `usize`, so no index past that is live.
         let _ = self.slots.len();
         match inx.try_into_usize() {
-            Some(i) => match self.slots.get(i) {
-                Some(slot) => {
-                    if slot.value().is_some() {
-                        Some(i)
-                    } else {
-                        None
-                    }
-                }
-                None => None,
-            },
-            None => None,
+            Some(i) if self.get_inx(inx).is_some() => Some(i),
+            _ => None,
         }
     }
 
@@ -62,13 +44,11 @@ impl<P: PtrCore, T: Drop, S: ArenaSlots<P, T>> Arena<P, T, S> {
         ensures { option_map (λ p. (P.index p, P.generation p)) result
             ≡ pointer_of_entry (entry_at self.now) (non_zero_usize_get i) }
     {
-        match self.slots.get(i) {
-            Some(slot) => match slot.entry() {
-                Some(entry) => Some(pointer_at(i, entry.0)),
-                None => None,
-            },
-            None => None,
-        }
+        // Each slot has an index of the pointer type.
+        let _ = self.own_capacity();
+        let inx = P::Inx::try_from_usize(i)?;
+        let (generation, _) = self.get_inx(inx)?;
+        Some(P::_from_raw(inx, generation))
     }
 }
 
@@ -82,7 +62,8 @@ pub(crate) trait ValueAtMut<T> {
 
     // The value at an index that is live, for writing.
     fn value_at_mut(&mut self, i: NonZeroUsize) -> &mut T
-        requires { has_value self.old (non_zero_usize_get i) }
+        requires used { has_value self.old (non_zero_usize_get i) }
+        requires no_more { ⊤ }
         ensures* writes_back { sem 𝓛 (Lends Self.row T.row self.entry result
             (with_value_at self.old (non_zero_usize_get i))) }
         ensures value { value_at self.old (non_zero_usize_get i) ≡ Some result.now };

@@ -2,7 +2,6 @@
 ghost use Rattle.std.specs.Prelude.{◌≡◌, Some, None, IsSome};
 ghost use Rattle.std.specs.Int.NonZero.{non_zero_usize_get};
 ghost use Rattle.triple_arena_ptr.specs.Generation.{next_wraps};
-ghost use Rattle.triple_arena_ptr.specs.InvalidationOption.{value_of, overflowed};
 ghost use Rattle.triple_arena.specs.Changes.{IsRemoved};
 ghost use Rattle.triple_arena.specs.Content.{entry_at, some_counter, live_count, with_generation, vacated, removed, emptied, IsWellFormed};
 
@@ -10,18 +9,18 @@ use crate::arena::{Arena, pointer_at};
 use crate::{ArenaSlot, ArenaSlots};
 use std::mem;
 use std::num::NonZeroUsize;
-use triple_arena_ptr::{InvalidationOption, PtrCore, PtrGenCore};
+use triple_arena_ptr::{PtrCore, PtrGenCore};
 use unreached::unreached;
 
 impl<P: PtrCore, T: Drop, S: ArenaSlots<P, T>> Arena<P, T, S> {
-    // Removes the entry at `i`, which is live, and steps the counter.
+    // Removes the entry at `i`, which is live, steps the counter, and says whether the generations started again.
     #[inline]
-    pub(crate) fn remove_at(&mut self, i: NonZeroUsize) -> InvalidationOption<(P::Gen, T)>
+    pub(crate) fn remove_at(&mut self, i: NonZeroUsize) -> ((P::Gen, T), bool)
         requires { IsSome (entry_at self.old (non_zero_usize_get i)) }
         ensures value { self.new ≡ removed P.Gen.last self.old (non_zero_usize_get i) }
-        ensures entry { Some (P.Gen.number (value_of result).0, (value_of result).1)
+        ensures entry { Some (P.Gen.number result.0.0, result.0.1)
             ≡ entry_at self.old (non_zero_usize_get i) }
-        ensures overflow { overflowed result ≡ next_wraps P.Gen.last self.old.counter }
+        ensures overflow { result.1 ≡ next_wraps P.Gen.last self.old.counter }
         ensures removed { IsRemoved entry_at live_count some_counter (λ c. c.room) P.Gen.last
             (non_zero_usize_get i) self.old self.new }
         ensures formed { IsWellFormed self.new }
@@ -32,11 +31,7 @@ impl<P: PtrCore, T: Drop, S: ArenaSlots<P, T>> Arena<P, T, S> {
         let wrapped = self.step();
         // And after.
         self.recall_formed();
-        if wrapped {
-            InvalidationOption::GenerationOverflow(entry)
-        } else {
-            InvalidationOption::Success(entry)
-        }
+        (entry, wrapped)
     }
 
     // Takes the entry at `i`, which is live, and leaves the counter.

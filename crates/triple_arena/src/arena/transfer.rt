@@ -53,9 +53,13 @@ impl<P: PtrCore, T: Drop, S: ArenaSlots<P, T>> ArenaTransferTrait<P, T> for Aren
         F: FnMut(Q, InvalidationOption<U>, P) -> T,
     {
         let len = source.len();
-        self.reallocate_min_capacity(len)?;
-        self.take_over(new_generation, source, len, map);
-        Ok(())
+        match self.reallocate_min_capacity(len) {
+            Ok(()) => {
+                self.take_over(new_generation, source, len, map);
+                Ok(())
+            }
+            Err(refused) => Err(refused),
+        }
     }
 }
 

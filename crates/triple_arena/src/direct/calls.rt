@@ -7,9 +7,9 @@ ghost use Rattle.triple_arena.specs.DrainLaws.{directly_drained-leaves};
 ghost use Rattle.triple_arena.specs.LiveEntries.{entry-listed, live_entries-increase, live_entries-length};
 
 use crate::advancer::{LivePointers, PtrAdvancer};
+use crate::answers::{answer, valid};
 use crate::arena::{ValueAtMut, compact, equal_uncounted, max_index};
 use crate::direct::DirectArena;
-use crate::slot::ValueIfMut;
 use crate::{ArenaTrait, CompactArenaTrait, DirectSlot, DirectSlots};
 use triple_arena_ptr::{
     InvalidationOption, InvalidationResult, PtrCore, PtrGenCore, PtrInxCore, ReallocationError,
@@ -119,14 +119,9 @@ impl<P: PtrCore, T: Drop, S: DirectSlots<P, T>> ArenaTrait<P, T> for DirectArena
     }
 
     fn get(&self, p: P) -> Option<&T> {
-        // The number of slots is a `usize`, so no index past that is live.
-        let _ = self.slots.len();
-        match p.inx().try_into_usize() {
-            Some(i) => match self.slots.get(i) {
-                Some(slot) => slot.get(p.generation()),
-                None => None,
-            },
-            None => None,
+        match self.get_inx(p.inx()) {
+            Some((generation, value)) if generation == p.generation() => Some(value),
+            _ => None,
         }
     }
 
@@ -152,13 +147,8 @@ impl<P: PtrCore, T: Drop, S: DirectSlots<P, T>> ArenaTrait<P, T> for DirectArena
     }
 
     fn get_mut(&mut self, p: P) -> Option<&mut T> {
-        // The number of slots is a `usize`, so no index past that is live.
-        let _ = self.slots.len();
-        match p.inx().try_into_usize() {
-            Some(i) => match self.slots.get_mut(i) {
-                Some(slot) => slot.get_mut(p.generation()),
-                None => None,
-            },
+        match self.live_index(p) {
+            Some(i) => Some(self.value_at_mut(i)),
             None => None,
         }
     }
@@ -207,11 +197,7 @@ impl<P: PtrCore, T: Drop, S: DirectSlots<P, T>> ArenaTrait<P, T> for DirectArena
                 equal_uncounted(renewed, p);
                 // And after.
                 self.recall_formed();
-                if wrapped {
-                    InvalidationResult::GenerationOverflow(renewed)
-                } else {
-                    InvalidationResult::Success(renewed)
-                }
+                valid(answer(wrapped, renewed))
             }
             None => InvalidationResult::InvalidPtr,
         }
@@ -238,11 +224,7 @@ impl<P: PtrCore, T: Drop, S: DirectSlots<P, T>> ArenaTrait<P, T> for DirectArena
         let wrapped = compact(&mut self.slots, None, reset, map);
         // The arena is well-formed after.
         self.recall_formed();
-        if wrapped {
-            InvalidationOption::GenerationOverflow(())
-        } else {
-            InvalidationOption::Success(())
-        }
+        answer(wrapped, ())
     }
 }
 

@@ -1,5 +1,5 @@
 //! Insertion at a pointer of the caller's choice.
-ghost use Rattle.std.specs.Prelude.{◌≡◌, ◌<◌, ◌≤◌, ◌↔◌, IsOk, IfOk, IsErrOf, IsSome};
+ghost use Rattle.std.specs.Prelude.{◌≡◌, ◌<◌, ◌≤◌, ◌↔◌, IsOk, IfOk, IsErrOf, IsSome, ⊤};
 ghost use Rattle.std.specs.Int.NonZero.{non_zero_usize_get};
 ghost use Rattle.triple_arena.specs.Changes.{IsDirectlyInserted};
 ghost use Rattle.triple_arena.specs.DirectContent.{entry_at, live_count, no_counter, arena_capacity, reaching, inserted, IsPlace, IsWellFormed};
@@ -64,7 +64,8 @@ impl<P: PtrCore, T: Drop, S: DirectSlots<P, T>> DirectArena<P, T, S> {
 
     // Stores `t` as `put_at` does, and says what is at each index then.
     pub(crate) fn insert_at(&mut self, i: NonZeroUsize, generation: P::Gen, t: T)
-        requires { IsPlace self.old (non_zero_usize_get i) }
+        requires place { IsPlace self.old (non_zero_usize_get i) }
+        requires no_more { ⊤ }
         ensures value { self.new ≡ inserted self.old (non_zero_usize_get i)
             (P.Gen.number generation) t }
         ensures inserted { IsDirectlyInserted entry_at live_count no_counter (λ d. d.room)

@@ -5,10 +5,10 @@ ghost use Rattle.std.specs.Option.{option_map};
 ghost use Rattle.triple_arena.specs.Entries.{pointer_at as pointer_of_entry};
 ghost use Rattle.triple_arena.specs.DirectContent.{get, entry_at, with_value};
 
-use crate::DirectSlots;
-use crate::arena::{ValueAtMut, pointer_at};
+use crate::arena::ValueAtMut;
 use crate::direct::DirectArena;
 use crate::slot::ValueMut;
+use crate::{ArenaTrait, DirectSlots};
 use std::num::NonZeroUsize;
 use triple_arena_ptr::{PtrCore, PtrInxCore};
 
@@ -21,17 +21,8 @@ impl<P: PtrCore, T: Drop, S: DirectSlots<P, T>> DirectArena<P, T, S> {
         // The number of slots is a `usize`, so no index past that is live.
         let _ = self.slots.len();
         match p.inx().try_into_usize() {
-            Some(i) => match self.slots.get(i) {
-                Some(slot) => {
-                    if slot.get(p.generation()).is_some() {
-                        Some(i)
-                    } else {
-                        None
-                    }
-                }
-                None => None,
-            },
-            None => None,
+            Some(i) if self.get(p).is_some() => Some(i),
+            _ => None,
         }
     }
 
@@ -70,13 +61,11 @@ impl<P: PtrCore, T: Drop, S: DirectSlots<P, T>> DirectArena<P, T, S> {
         ensures { option_map (λ p. (P.index p, P.generation p)) result
             ≡ pointer_of_entry (entry_at self.now) (non_zero_usize_get i) }
     {
-        match self.slots.get(i) {
-            Some(slot) => match slot.entry() {
-                Some(entry) => Some(pointer_at(i, entry.0)),
-                None => None,
-            },
-            None => None,
-        }
+        // Each slot has an index of the pointer type.
+        let _ = self.own_capacity();
+        let inx = P::Inx::try_from_usize(i)?;
+        let (generation, _) = self.get_inx(inx)?;
+        Some(P::_from_raw(inx, generation))
     }
 }
 

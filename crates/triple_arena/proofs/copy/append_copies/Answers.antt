@@ -63,8 +63,8 @@ returns-clause-slots g c =
 pub returns-clause-room : goal.returns-clause-room
 returns-clause-room g c = c.loop-slot.invariant.2
 
-pub pointer_at-requires : goal.pointer_at-requires
-pointer_at-requires g c =
+pub pointer_at-requires-clause-fits : goal.pointer_at-requires-clause-fits
+pointer_at-requires-clause-fits g c =
     let counted = length-map (g.S.NonZeroInxGenericStack.items c.loop-slot.slots) g.L.EntrySlot.entry in
     let passed = length-map c.loop-slot.left.now g.E.LentEntry.shown in
     let all = length-map c.args.source.now g.E.LentEntry.shown in
@@ -73,8 +73,8 @@ pointer_at-requires g c =
     let split = c.in-Some.ensures.cases.1 in
     omega (arith, c.saturating_add-index.ensures, c.len.ensures.value)
 
-pub append-requires : goal.append-requires
-append-requires g c =
+pub append-requires-clause-room : goal.append-requires-clause-room
+append-requires-clause-room g c =
     let counted = length-map (g.S.NonZeroInxGenericStack.items c.loop-slot.slots) g.L.EntrySlot.entry in
     let passed = length-map c.loop-slot.left.now g.E.LentEntry.shown in
     let all = length-map c.args.source.now g.E.LentEntry.shown in
@@ -82,8 +82,8 @@ append-requires g c =
     let split = c.in-Some.ensures.cases.1 in
     rw c.loop-slot.invariant.2 (omega (arith, c.requires.fits))
 
-pub append-requires-in-None : goal.append-requires-in-None
-append-requires-in-None g c =
+pub append-requires-in-None-clause-room : goal.append-requires-in-None-clause-room
+append-requires-in-None-clause-room g c =
     let counted = length-map (g.S.NonZeroInxGenericStack.items c.loop-slot.slots) g.L.EntrySlot.entry in
     let passed = length-map c.loop-slot.left.now g.E.LentEntry.shown in
     let all = length-map c.args.source.now g.E.LentEntry.shown in

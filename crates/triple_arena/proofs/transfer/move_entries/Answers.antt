@@ -1,4 +1,4 @@
-use Rattle.std.proofs.Common.{◌≡◌, ◌+◌, ◌<◌, map, length, is_some, ap, sym, refl, ◌∙◌, subst, arith, of_calls}
+use Rattle.std.proofs.Common.{◌≡◌, ◌+◌, ◌<◌, map, length, is_some, ap, refl, ◌∙◌, arith, of_calls}
 use Rattle.std.proofs.lemmas.List.{length-map}
 use Rattle.std.proofs.lemmas.List.Sums.{count_by-le-length}
 use Rattle.std.specs.Int.NonZero.{non_zero_usize_get}
@@ -10,8 +10,8 @@ use Rattle.triple_arena.proofs.transfer.move_entries.Goals as goal
 pub loop-at-init : goal.loop-at-init
 loop-at-init g c = (search of_calls, partly_none _ _ _ _ _ (ap (map g.L.EntrySlot.entry) c.requires.empty), refl, refl)
 
-pub pointer_at-after-requires : goal.pointer_at-after-requires
-pointer_at-after-requires g c =
+pub pointer_at-after-requires-clause-fits : goal.pointer_at-after-requires-clause-fits
+pointer_at-after-requires-clause-fits g c =
     let at = c.loop-at in
     let p = at.invariant.1 in
     let whole = p.whole in

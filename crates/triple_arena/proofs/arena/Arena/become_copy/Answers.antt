@@ -15,6 +15,9 @@ invariant_of-self g c =
     (ap g.P.Gen.PtrGenCore.number c.unwrap_or-counter.ensures ∙ number_or g.P.Gen.PtrGenCore.number c.args.counter c.self.inside.counter
     ∙ ap (λ x. unwrap_or (option_map g.P.Gen.PtrGenCore.number c.args.counter) x.counter) c.self.view_is)).sound
 
+pub returns-in-Ok-clause-mapped : goal.returns-in-Ok-clause-mapped
+returns-in-Ok-clause-mapped g c = rw c.link_free-self-inside.ensures.entries c.in-Ok.ensures.mapped
+
 pub returns-in-Ok-clause-exact : goal.returns-in-Ok-clause-exact
 returns-in-Ok-clause-exact g c =
     (copied_arena _ _ _ g.E.LentEntry.shown c.args.source.now c.args.self.now (option_map g.P.Gen.PtrGenCore.number c.args.counter) _ _

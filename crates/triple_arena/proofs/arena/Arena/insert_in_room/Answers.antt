@@ -1,10 +1,24 @@
-use Rattle.std.proofs.Common.{Some, sym, ap, ◌∙◌}
+use Rattle.std.proofs.Common.{Some, sym, ap, ◌∙◌, rules}
 use Rattle.std.specs.Int.NonZero.{non_zero_usize_get}
 use Rattle.std.specs.Option.{option_map}
 use Rattle.triple_arena_stack.specs.Stack.{with_item}
 use Rattle.triple_arena.specs.ArenaRoom.{room_of}
-use Rattle.triple_arena.proofs.FreeListLemmas.{filled, pushed}
+use Rattle.triple_arena.proofs.FreeListLemmas.{filled, head_within, pushed, room_behind}
 use Rattle.triple_arena.proofs.arena.Arena.insert_in_room.Goals as goal
+
+pub item_mut-requires : goal.item_mut-requires
+item_mut-requires g c = head_within (ap (option_map non_zero_usize_get) c.in-Some.is) c.self.invariant
+
+pub pointer_at-requires-clause-fits : goal.pointer_at-requires-clause-fits
+pointer_at-requires-clause-fits g c =
+    let within = head_within (ap (option_map non_zero_usize_get) c.in-Some.is) c.self.invariant in
+    let fits = c.self.invariant.fits in
+    Prim.search rules
+
+pub pointer_at-requires-in-Ok-clause-fits : goal.pointer_at-requires-in-Ok-clause-fits
+pointer_at-requires-in-Ok-clause-fits g c =
+    let room = room_behind (ap (option_map non_zero_usize_get) c.in-None.is) c.self.invariant c.self.view_is c.requires in
+    Prim.search rules
 
 pub invariant_of-self : goal.invariant_of-self
 invariant_of-self g c =

@@ -4,8 +4,8 @@ use Rattle.std.specs.Option.{option_map}
 use Rattle.triple_arena.proofs.FreeListLemmas.{head_within, room_behind}
 use Rattle.triple_arena.proofs.arena.Arena.next_ptr.Goals as goal
 
-pub pointer_at-requires : goal.pointer_at-requires
-pointer_at-requires g c =
+pub pointer_at-requires-clause-fits : goal.pointer_at-requires-clause-fits
+pointer_at-requires-clause-fits g c =
     let within = head_within (ap (option_map non_zero_usize_get) c.in-Some.is) c.self.invariant in
     let fits = c.self.invariant.fits in
     Prim.search rules

@@ -11,8 +11,8 @@ invariant_of-self g c =
     (popped c.self.invariant (sym c.get.ensures.value ∙ c.if-get-len.true ∙ c.len.ensures.value) c.self.view_is live.1
     c.in-Some.ensures.items (ap (room_of g.P.Inx.PtrInxCore.greatest) c.pop.ensures.room)).sound
 
-pub into_entry-requires-else-get-len : goal.into_entry-requires-else-get-len
-into_entry-requires-else-get-len g c =
+pub into_entry-requires-else-get-len-clause-used : goal.into_entry-requires-else-get-len-clause-used
+into_entry-requires-else-get-len-clause-used g c =
     rw (← entry_of_slot _ _ c.self.view_is c.args.i.ok (sym c.item_mut.ensures.value ∙ ap Some (sym c.replace-slot.ensures.value))) c.requires
 
 pub invariant_of-self-else-get-len : goal.invariant_of-self-else-get-len

@@ -7,8 +7,8 @@ use Rattle.triple_arena.proofs.RecastingLemmas.{partly_none, partly_free, partly
 use Rattle.triple_arena.proofs.arena.recast.recast_values.Goals.{then-is_live_at+in_ok-recast, else-is_live_at}
 use Rattle.triple_arena.proofs.arena.recast.recast_values.Goals as goal
 
-pub value_at_mut-requires : goal.value_at_mut-requires
-value_at_mut-requires g c = g.met.A.RecastByIndex.has_its_value _ _ (c.is_live_at.ensures.0 c.if-is_live_at.true)
+pub value_at_mut-requires-clause-used : goal.value_at_mut-requires-clause-used
+value_at_mut-requires-clause-used g c = g.met.A.RecastByIndex.has_its_value _ _ (c.is_live_at.ensures.0 c.if-is_live_at.true)
 
 pub loop-before-init : goal.loop-before-init
 loop-before-init g c = (partly_none (g.A.RecastByIndex.content c.args.arena.now), refl)

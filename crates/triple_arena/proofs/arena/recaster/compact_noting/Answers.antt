@@ -22,8 +22,8 @@ loop-at-init g c =
       ends_none c.requires.empty,
     )
 
-pub insert_at-requires : goal.insert_at-requires
-insert_at-requires g c =
+pub insert_at-requires-clause-place : goal.insert_at-requires-clause-place
+insert_at-requires-clause-place g c =
     let at = c.loop-at in
     let p = at.invariant.0 in
     let whole = p.whole in

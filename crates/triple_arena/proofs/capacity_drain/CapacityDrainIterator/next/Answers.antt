@@ -1,8 +1,7 @@
 use Rattle.std.proofs.Common.{◌≡◌, Some, None, rules, sym, ap, length, ◌∙◌, arith}
-use Rattle.triple_arena_ptr.specs.InvalidationResult.{answer_of}
-use Rattle.triple_arena_ptr.specs.InvalidationOption.{overflowed}
 use Rattle.triple_arena.specs.Changes.{IsRemoved}
-use Rattle.triple_arena.specs.Entries.{value_if, counter_wraps}
+use Rattle.triple_arena.specs.ContentLaws.{live_value}
+use Rattle.triple_arena.specs.Entries.{value_if}
 use Rattle.triple_arena.proofs.DrainLemmas.{first_left, FirstLeft, none_ahead, none_listed}
 use Rattle.triple_arena.proofs.capacity_drain.CapacityDrainIterator.next.Goals as goal
 
@@ -13,6 +12,13 @@ returns-in_err-p-clause-steps g c =
     let none = none_ahead (g.A.ArenaTrait.entry_at old) (g.A.ArenaTrait.walk c.self.inside.walk) c.self.invariant step.0 in
     let over = none_listed (g.A.ArenaTrait.entry_at old) (g.A.ArenaTrait.live_entries old) (g.met.A.ArenaTrait.entry_listed old) none in
     rw c.from_residual.ensures (sym c.self.view_is ∙ over, over)
+
+pub returns-in_err-value : goal.returns-in_err-value
+returns-in_err-value g c =
+    let old = c.self.inside.arena in
+    let step = g.met.A.ArenaTrait.advances c.self.inside.walk old (Some c.in_ok-p.p) c.advance.new.self c.in_ok-p.ensures.given in
+    let none = sym c.in_err-value.was ∙ c.allow.ensures ∙ c.remove.ensures.value in
+    absurd (live_value (g.A.ArenaTrait.entry_at old) (g.P.PtrCore.index c.in_ok-p.p) (g.P.PtrCore.generation c.in_ok-p.p) step.0.live none)
 
 -- what the step took
 taken : (g : _) (c : goal.In_ok-value g) → FirstLeft g.A.ArenaTrait.entry_at g.A.ArenaTrait.live_entries c.self.inside.arena c.remove.new.self

@@ -1,7 +1,10 @@
 use Rattle.std.proofs.Common.{ap, ◌∙◌}
 use Rattle.triple_arena.specs.ArenaRoom.{room_of}
-use Rattle.triple_arena.proofs.DirectCopyLemmas.{copied_direct}
+use Rattle.triple_arena.proofs.DirectCopyLemmas.{copied_direct, mapped_direct}
 use Rattle.triple_arena.proofs.direct.DirectArena.become_copy.Goals as goal
+
+pub returns-in-Ok-clause-mapped : goal.returns-in-Ok-clause-mapped
+returns-in-Ok-clause-mapped g c = mapped_direct _ _ _ (g.S.NonZeroInxGenericStack.items c.append_copies.new.slots) c.in-Ok.ensures.mapped
 
 pub returns-in-Ok-clause-exact : goal.returns-in-Ok-clause-exact
 returns-in-Ok-clause-exact g c =

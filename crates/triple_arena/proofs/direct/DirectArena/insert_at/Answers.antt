@@ -7,9 +7,9 @@ pub returns-clause-inserted : goal.returns-clause-inserted
 returns-clause-inserted g c =
     let is = c.put_at.ensures.value in
     record {
-      vacant = c.requires.vacant;
-      entries = λ j. ap (λ d. entry_at d j) is ∙ entry-inserted _ _ _ _ c.requires j;
-      live = ap live_count is ∙ live-inserted _ _ _ _ c.requires;
+      vacant = c.requires.place.vacant;
+      entries = λ j. ap (λ d. entry_at d j) is ∙ entry-inserted _ _ _ _ c.requires.place j;
+      live = ap live_count is ∙ live-inserted _ _ _ _ c.requires.place;
       counter = refl;
       room = ap (λ d. d.room) is;
     }

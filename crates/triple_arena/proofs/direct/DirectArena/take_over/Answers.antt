@@ -1,6 +1,6 @@
 use Rattle.std.proofs.Common.{ap, sym, ◌∙◌}
 use Rattle.triple_arena.specs.ArenaRoom.{room_of}
-use Rattle.triple_arena.proofs.TransferLemmas.{out_rowed}
+use Rattle.triple_arena.proofs.TransferLemmas.{out_rowed, out_mapped_direct}
 use Rattle.triple_arena.proofs.TakeOverLemmas.{takes_over_direct}
 use Rattle.triple_arena.proofs.direct.DirectArena.take_over.Goals as goal
 
@@ -9,6 +9,9 @@ invariant_of-self g c =
     let many = c.requires.counted ∙ sym (g.met.Source.ArenaTrait.live_entries_counted c.args.source.now) in
     let room = ap (room_of g.P.Inx.PtrInxCore.greatest) (c.give_up.ensures.room ∙ c.clear.ensures.room) ∙ ap (λ x. x.room) c.self.view_is in
     (takes_over_direct c.args.self.now (out_rowed c.give_up.ensures.moved) room many c.requires.fits).sound
+
+pub returns-clause-mapped : goal.returns-clause-mapped
+returns-clause-mapped g c = out_mapped_direct _ c.give_up.ensures.moved
 
 pub returns-clause-filled : goal.returns-clause-filled
 returns-clause-filled g c =

@@ -1,4 +1,4 @@
-use Rattle.std.proofs.Common.{ap, arith, length, refl, true, false, Some, None}
+use Rattle.std.proofs.Common.{ap, arith, length, refl, Some, None}
 use Rattle.triple_arena.specs.ContentLaws.{live_value}
 use Rattle.triple_arena.specs.DrainLaws.{left-removed}
 use Rattle.triple_arena.proofs.DrainLemmas.{FirstLeft, first_left, removal_made, none_ahead, none_listed, all_gone, removals_none}

@@ -8,22 +8,12 @@ invariant_of-self g c =
     (compressed_arena c.compact.ensures.moved c.self.invariant c.self.view_is (ap (room_of g.P.Inx.PtrInxCore.greatest) c.compact.ensures.room)
     c.renewal-generation.ensures.next).sound
 
-pub returns-then-wrapped-clause-compressed : goal.returns-then-wrapped-clause-compressed
-returns-then-wrapped-clause-compressed g c =
+pub returns-clause-compressed : goal.returns-clause-compressed
+returns-clause-compressed g c =
     (compressed_arena c.compact.ensures.moved c.self.invariant c.self.view_is (ap (room_of g.P.Inx.PtrInxCore.greatest) c.compact.ensures.room)
     c.renewal-generation.ensures.next).compressed
 
-pub returns-then-wrapped-clause-exact : goal.returns-then-wrapped-clause-exact
-returns-then-wrapped-clause-exact g c =
-    (compressed_arena c.compact.ensures.moved c.self.invariant c.self.view_is (ap (room_of g.P.Inx.PtrInxCore.greatest) c.compact.ensures.room)
-    c.renewal-generation.ensures.next).exact
-
-pub returns-else-wrapped-clause-compressed : goal.returns-else-wrapped-clause-compressed
-returns-else-wrapped-clause-compressed g c =
-    (compressed_arena c.compact.ensures.moved c.self.invariant c.self.view_is (ap (room_of g.P.Inx.PtrInxCore.greatest) c.compact.ensures.room)
-    c.renewal-generation.ensures.next).compressed
-
-pub returns-else-wrapped-clause-exact : goal.returns-else-wrapped-clause-exact
-returns-else-wrapped-clause-exact g c =
+pub returns-clause-exact : goal.returns-clause-exact
+returns-clause-exact g c =
     (compressed_arena c.compact.ensures.moved c.self.invariant c.self.view_is (ap (room_of g.P.Inx.PtrInxCore.greatest) c.compact.ensures.room)
     c.renewal-generation.ensures.next).exact

@@ -7,13 +7,13 @@ use Rattle.triple_arena.specs.Slot.{with_slot_value}
 use Rattle.triple_arena.proofs.FreeListLemmas.{rewritten, the_some, entry_of_slot, value_some, value_of_entry}
 use Rattle.triple_arena.proofs.arena.reading.ArenaValueAtMut.value_at_mut.Goals as goal
 
-pub value_mut-requires : goal.value_mut-requires
-value_mut-requires g c =
-    value_some _ (rw (entry_of_slot _ _ c.self.view_is c.args.i.ok (sym c.item_mut.ensures.value)) at c.requires)
+pub value_mut-requires-clause-used : goal.value_mut-requires-clause-used
+value_mut-requires-clause-used g c =
+    value_some _ (rw (entry_of_slot _ _ c.self.view_is c.args.i.ok (sym c.item_mut.ensures.value)) at c.requires.used)
 
 pub invariant_of-self-lent : goal.invariant_of-self-lent
 invariant_of-self-lent g c w =
-    let live = the_some _ c.requires in
+    let live = the_some _ c.requires.used in
     (rewritten _ w c.self.invariant c.self.view_is live.1 (sym c.item_mut.ensures.value)
     (g.met.S.NonZeroInxGenericStack.items_with_items c.self.inside.slots
     (with_item (g.S.NonZeroInxGenericStack.items c.self.inside.slots) (non_zero_usize_get c.args.i) (with_slot_value c.item_mut.result.now w)))
@@ -23,7 +23,7 @@ invariant_of-self-lent g c w =
 
 pub returns : goal.returns
 returns g c =
-    let live = the_some _ c.requires in (
+    let live = the_some _ c.requires.used in (
       (
         refl,
         λ w.

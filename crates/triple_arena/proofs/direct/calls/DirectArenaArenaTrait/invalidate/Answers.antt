@@ -1,10 +1,7 @@
 use Rattle.triple_arena.proofs.DirectLemmas.{is_invalidated}
 use Rattle.triple_arena.proofs.direct.calls.DirectArenaArenaTrait.invalidate.Goals as goal
 
-pub returns-then-wrapped-clause-invalidated : goal.returns-then-wrapped-clause-invalidated
-returns-then-wrapped-clause-invalidated g c =
-    is_invalidated c.renew_at-renewed.ensures.value c.in-Some.ensures.value c.renew_at-renewed.ensures.has_generation
-
-pub returns-else-wrapped-clause-invalidated : goal.returns-else-wrapped-clause-invalidated
-returns-else-wrapped-clause-invalidated g c =
-    is_invalidated c.renew_at-renewed.ensures.value c.in-Some.ensures.value c.renew_at-renewed.ensures.has_generation
+pub returns-in-Some-clause-invalidated : goal.returns-in-Some-clause-invalidated
+returns-in-Some-clause-invalidated g c =
+    rw (c.valid.ensures, c.answer.ensures.value)
+    (is_invalidated c.renew_at-renewed.ensures.value c.in-Some.ensures.value c.renew_at-renewed.ensures.has_generation)

@@ -4,6 +4,12 @@ use Rattle.triple_arena.proofs.CopyLemmas.{refused_same}
 use Rattle.triple_arena.proofs.DirectCopyLemmas.{grown_direct, emptied_direct}
 use Rattle.triple_arena.proofs.direct.copy.DirectArenaArenaCloneFromWith.clone_from_with.Goals as goal
 
+pub returns-in-Ok-clause-mapped : goal.returns-in-Ok-clause-mapped
+returns-in-Ok-clause-mapped g c = rw (c.up_to_last-slots.ensures.entries ∙ c.lent_slots.ensures.entries) at c.in-Ok.ensures.mapped
+
+pub returns-in-Ok-clause-beyond : goal.returns-in-Ok-clause-beyond
+returns-in-Ok-clause-beyond g c = rw (c.up_to_last-slots.ensures.last ∙ ap last_listed c.lent_slots.ensures.entries) at c.in_ok-reallocate.ensures.beyond
+
 pub returns-in-Ok-clause-copied : goal.returns-in-Ok-clause-copied
 returns-in-Ok-clause-copied g c =
     (grown_direct _ _ _ (g.A.ArenaTrait.counter c.args.source.now) c.args.self.now c.in-Ok.ensures.mapped

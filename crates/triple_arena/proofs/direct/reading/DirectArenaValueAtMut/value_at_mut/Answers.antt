@@ -7,9 +7,9 @@ use Rattle.triple_arena.specs.DirectSlot.{with_slot_value}
 use Rattle.triple_arena.proofs.DirectLemmas.{written, held_at, value_some}
 use Rattle.triple_arena.proofs.direct.reading.DirectArenaValueAtMut.value_at_mut.Goals as goal
 
-pub value_mut-requires : goal.value_mut-requires
-value_mut-requires g c =
-    value_some _ (rw (held_at _ c.self.view_is c.args.i.ok c.item_mut.ensures.value) at c.requires)
+pub value_mut-requires-clause-used : goal.value_mut-requires-clause-used
+value_mut-requires-clause-used g c =
+    value_some _ (rw (held_at _ c.self.view_is c.args.i.ok c.item_mut.ensures.value) at c.requires.used)
 
 pub invariant_of-self-lent : goal.invariant_of-self-lent
 invariant_of-self-lent g c w =
