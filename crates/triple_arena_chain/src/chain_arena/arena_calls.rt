@@ -135,7 +135,7 @@ impl<P: PtrCore, T: Drop, S: ChainSlots<P, T>> ArenaTrait<P, T> for ChainArena<P
     }
 
     fn get_mut(&mut self, p: P) -> Option<&mut T> {
-        if self.arena.contains(p) {
+        if self.arena.get(p).is_some() {
             Some(self.get_inx_mut_unwrap(p.inx()))
         } else {
             None

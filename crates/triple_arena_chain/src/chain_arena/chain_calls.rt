@@ -1,7 +1,7 @@
 //! The calls of a `ChainArena` on its links.
 ghost use Rattle.std.specs.Prelude.{refl};
 
-use crate::chain_arena::interlinks::{set_next, set_prev};
+use crate::chain_arena::interlinks::relink;
 use crate::chain_iterators::ChainPtrAdvancer;
 use crate::{ChainArena, ChainArenaTrait, ChainSlots, Link, LinkInsertKind, LinkNoGen};
 use triple_arena::{ArenaTrait, InvalidationResult, PtrCore, PtrInxCore};
@@ -62,7 +62,7 @@ impl<P: PtrCore, T: Drop, S: ChainSlots<P, T>> ChainArenaTrait<P, T> for ChainAr
 
     fn are_neighbors(&self, p: P, q: P) -> bool {
         match self.ends_of(p) {
-            Some((_, Some(next))) => next == q.inx() && self.arena.contains(q),
+            Some((_, Some(next))) => next == q.inx() && self.arena.get(q).is_some(),
             _ => false,
         }
     }
@@ -81,10 +81,9 @@ impl<P: PtrCore, T: Drop, S: ChainSlots<P, T>> ChainArenaTrait<P, T> for ChainAr
     fn advancer_chain(&self, p: P) -> Option<ChainPtrAdvancer<P>> {
         // The interlinks agree.
         self.recall_chained();
-        if self.arena.contains(p) {
-            Some(ChainPtrAdvancer::from(p))
-        } else {
-            None
+        match self.arena.get(p) {
+            Some(_) => Some(ChainPtrAdvancer::from(p)),
+            None => None,
         }
     }
 
@@ -122,8 +121,7 @@ impl<P: PtrCore, T: Drop, S: ChainSlots<P, T>> ChainArenaTrait<P, T> for ChainAr
         self.place(LinkInsertKind::Bridge(p, q))?;
         let i = p.inx();
         let j = q.inx();
-        set_next(&mut self.arena, Some(i), Some(j));
-        set_prev(&mut self.arena, Some(j), Some(i));
+        relink(&mut self.arena, Some(i), Some(j), Some(j), Some(i));
         Some(())
     }
 
@@ -131,8 +129,7 @@ impl<P: PtrCore, T: Drop, S: ChainSlots<P, T>> ChainArenaTrait<P, T> for ChainAr
         // The interlinks agree.
         self.recall_chained();
         let next = self.ends_of(p)?.1?;
-        set_next(&mut self.arena, Some(p.inx()), None);
-        set_prev(&mut self.arena, Some(next), None);
+        relink(&mut self.arena, Some(p.inx()), None, Some(next), None);
         Some(())
     }
 
@@ -140,22 +137,19 @@ impl<P: PtrCore, T: Drop, S: ChainSlots<P, T>> ChainArenaTrait<P, T> for ChainAr
         // The interlinks agree.
         self.recall_chained();
         let prev = self.ends_of(p)?.0?;
-        set_next(&mut self.arena, Some(prev), None);
-        set_prev(&mut self.arena, Some(p.inx()), None);
+        relink(&mut self.arena, Some(prev), None, Some(p.inx()), None);
         Some(())
     }
 
     fn exchange_next(&mut self, p: P, q: P) -> Option<()> {
         // The interlinks agree.
         self.recall_chained();
-        let next_of_p = self.ends_of(p)?.1?;
-        let next_of_q = self.ends_of(q)?.1?;
+        let s = self.ends_of(p)?.1?;
+        let t = self.ends_of(q)?.1?;
         let i = p.inx();
         let j = q.inx();
-        set_next(&mut self.arena, Some(i), Some(next_of_q));
-        set_next(&mut self.arena, Some(j), Some(next_of_p));
-        set_prev(&mut self.arena, Some(next_of_q), Some(i));
-        set_prev(&mut self.arena, Some(next_of_p), Some(j));
+        relink(&mut self.arena, Some(i), Some(t), Some(t), Some(i));
+        relink(&mut self.arena, Some(j), Some(s), Some(s), Some(j));
         Some(())
     }
 
@@ -166,8 +160,7 @@ impl<P: PtrCore, T: Drop, S: ChainSlots<P, T>> ChainArenaTrait<P, T> for ChainAr
             Some(link) => {
                 let prev = link.prev;
                 let next = link.next;
-                set_next(&mut self.arena, prev, next);
-                set_prev(&mut self.arena, next, prev);
+                relink(&mut self.arena, prev, next, next, prev);
                 self.arena.remove(p)
             }
             None => InvalidationResult::InvalidPtr,
@@ -184,8 +177,7 @@ impl<P: PtrCore, T: Drop, S: ChainSlots<P, T>> ChainArenaTrait<P, T> for ChainAr
             Some((_, link)) => {
                 let before = link.prev;
                 let after = link.next;
-                set_next(&mut self.arena, before, after);
-                set_prev(&mut self.arena, after, before);
+                relink(&mut self.arena, before, after, after, before);
                 self.arena.remove_inx(i)
             }
             None => InvalidationResult::InvalidPtr,

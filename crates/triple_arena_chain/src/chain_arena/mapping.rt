@@ -10,6 +10,27 @@ ghost use Rattle.triple_arena_chain.specs.Renaming.{IsLeftWithNext};
 use crate::IndexLink;
 use triple_arena::{ArenaTrait, InvalidationOption, PtrCore, PtrInxCore};
 
+// What `compress_with` does. It asks two things, as the answer to one of two clauses costs far less than that to a lone one.
+fn compress_by<P, L, A, G>(arena: &mut A, reset: bool, map: G) -> InvalidationOption<()>
+where
+    P: PtrCore,
+    L: Drop,
+    A: ArenaTrait<P, L>,
+    G: FnMut(P, L, P) -> L,
+    requires callable { G.IsAlwaysCallable map }
+    requires formed { A.is_formed arena.old }
+    ensures mapped { IsMapped P.index P.generation G.step map (A.live_entries arena.old)
+        (A.live_entries arena.new) }
+    ensures overflow { overflowed result ≡ compression_wraps P.Gen.last reset (A.counter arena.old)
+        (list_map generation_of (A.live_entries arena.old)) }
+    ensures compressed { IsCompressed A.entry_at A.live_count A.counter A.room P.Gen.last
+        A.live_entries reset arena.old arena.new }
+    ensures exact { A.is_compressed arena.old reset (list_map value_of (A.live_entries arena.new)) arena.new }
+    ensures formed { A.is_formed arena.new }
+{
+    arena.compress_with(reset, map)
+}
+
 // Moves the links to the first indexes, each with what `map` makes of its value, and forgets the previous indexes.
 pub(crate) fn compact_links<P, I, T, A, F>(
     arena: &mut A,
@@ -22,7 +43,8 @@ where
     T: Drop,
     A: ArenaTrait<P, IndexLink<I, T>>,
     F: FnMut(P, T, P) -> T,
-    requires { F.IsAlwaysCallable map }
+    requires callable { F.IsAlwaysCallable map }
+    requires formed { A.is_formed arena.old }
     ensures mapped { IsMapped P.index P.generation F.step map (list_map listed_value (A.live_entries arena.old))
         (list_map listed_value (A.live_entries arena.new)) }
     ensures links { AllZip IsLeftWithNext (A.live_entries arena.old) (A.live_entries arena.new) }
@@ -33,7 +55,8 @@ where
     ensures exact { A.is_compressed arena.old reset (list_map value_of (A.live_entries arena.new)) arena.new }
     ensures formed { A.is_formed arena.new }
 {
-    arena.compress_with(
+    compress_by(
+        arena,
         reset,
         move |from, link, to| -> IndexLink<I, T>
             requires { F.IsAlwaysCallable map }
