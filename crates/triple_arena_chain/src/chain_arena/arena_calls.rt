@@ -103,8 +103,6 @@ impl<P: PtrCore, T: Drop, S: ChainSlots<P, T>> ArenaTrait<P, T> for ChainArena<P
     }
 
     fn reallocate_min_capacity(&mut self, min: usize) -> Result<(), ReallocationError> {
-        // The interlinks agree.
-        self.recall_chained();
         self.arena.reallocate_min_capacity(min)
     }
 

@@ -182,7 +182,6 @@ impl<P: PtrCore, T: Drop, S: ChainSlots<P, T>> ChainArena<P, T, S> {
     {
         self.recall_chained();
         let answer = self.compress(reset);
-        self.recall_chained();
         gather_chains(&mut self.arena);
         answer
     }

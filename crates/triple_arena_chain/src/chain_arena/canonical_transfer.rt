@@ -243,10 +243,7 @@ impl<P: PtrCore, T: Drop, S: ChainSlots<P, T>> ChainArena<P, T, S> {
         ensures err { OnErr result (self.new ≡ self.old) }
         ensures source_err { OnErr result (source.new ≡ source.old) }
     {
-        // The interlinks agree.
-        self.recall_chained();
-        source.recall_chained();
-        self.arena.reallocate_min_capacity(source.len())?;
+        self.arena.reallocate_min_capacity(source.arena.len())?;
         let _ = self.arena.clear();
         self.arena.set_generation(new_generation);
         move_chains(&mut source.arena, &mut self.arena, new_generation, map);

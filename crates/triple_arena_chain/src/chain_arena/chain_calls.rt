@@ -49,8 +49,6 @@ impl<P: PtrCore, T: Drop, S: ChainSlots<P, T>> ChainArenaTrait<P, T> for ChainAr
     }
 
     fn get_link(&self, p: P) -> Option<Link<P, &T>> {
-        // The interlinks agree.
-        self.recall_chained();
         match self.arena.get(p) {
             Some(link) => Some(Link::new(
                 (self.ptr_at(link.prev), self.ptr_at(link.next)),
@@ -79,8 +77,6 @@ impl<P: PtrCore, T: Drop, S: ChainSlots<P, T>> ChainArenaTrait<P, T> for ChainAr
     }
 
     fn advancer_chain(&self, p: P) -> Option<ChainPtrAdvancer<P>> {
-        // The interlinks agree.
-        self.recall_chained();
         match self.arena.get(p) {
             Some(_) => Some(ChainPtrAdvancer::from(p)),
             None => None,
@@ -154,8 +150,6 @@ impl<P: PtrCore, T: Drop, S: ChainSlots<P, T>> ChainArenaTrait<P, T> for ChainAr
     }
 
     fn remove_link_no_gen(&mut self, p: P) -> InvalidationResult<LinkNoGen<P, T>> {
-        // The interlinks agree.
-        self.recall_chained();
         match self.arena.get(p) {
             Some(link) => {
                 let prev = link.prev;
@@ -171,8 +165,6 @@ impl<P: PtrCore, T: Drop, S: ChainSlots<P, T>> ChainArenaTrait<P, T> for ChainAr
         &mut self,
         i: P::Inx,
     ) -> InvalidationResult<(P::Gen, LinkNoGen<P, T>)> {
-        // The interlinks agree.
-        self.recall_chained();
         match self.arena.get_inx(i) {
             Some((_, link)) => {
                 let before = link.prev;
