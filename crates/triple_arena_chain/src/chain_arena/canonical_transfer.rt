@@ -248,7 +248,7 @@ impl<P: PtrCore, T: Drop, S: ChainSlots<P, T>> ChainArena<P, T, S> {
         self.arena.set_generation(new_generation);
         move_chains(&mut source.arena, &mut self.arena, new_generation, map);
         // Only free slots are left.
-        source.take_all();
+        source.arena.take_all();
         Ok(())
     }
 }
