@@ -124,7 +124,9 @@ impl<P: PtrCore, T: Drop, S: ChainSlots<P, T>> ChainArenaTrait<P, T> for ChainAr
     fn break_next(&mut self, p: P) -> Option<()> {
         // The interlinks agree.
         self.recall_chained();
-        let next = self.ends_of(p)?.1?;
+        let Some((_, Some(next))) = self.ends_of(p) else {
+            return None;
+        };
         relink(&mut self.arena, Some(p.inx()), None, Some(next), None);
         Some(())
     }
@@ -132,7 +134,9 @@ impl<P: PtrCore, T: Drop, S: ChainSlots<P, T>> ChainArenaTrait<P, T> for ChainAr
     fn break_prev(&mut self, p: P) -> Option<()> {
         // The interlinks agree.
         self.recall_chained();
-        let prev = self.ends_of(p)?.0?;
+        let Some((Some(prev), _)) = self.ends_of(p) else {
+            return None;
+        };
         relink(&mut self.arena, Some(prev), None, Some(p.inx()), None);
         Some(())
     }
@@ -140,8 +144,12 @@ impl<P: PtrCore, T: Drop, S: ChainSlots<P, T>> ChainArenaTrait<P, T> for ChainAr
     fn exchange_next(&mut self, p: P, q: P) -> Option<()> {
         // The interlinks agree.
         self.recall_chained();
-        let s = self.ends_of(p)?.1?;
-        let t = self.ends_of(q)?.1?;
+        let Some((_, Some(s))) = self.ends_of(p) else {
+            return None;
+        };
+        let Some((_, Some(t))) = self.ends_of(q) else {
+            return None;
+        };
         let i = p.inx();
         let j = q.inx();
         relink(&mut self.arena, Some(i), Some(t), Some(t), Some(i));

@@ -10,31 +10,31 @@ use Rattle.triple_arena_chain.proofs.chain_arena.chain_calls.ChainArenaChainAren
 pub relink-requires-clause-after : goal.relink-requires-clause-after
 relink-requires-clause-after g c =
     let number = g.P.Inx.PtrInxCore.number in
-    let is = next_read number (ends_found number c.args.self.now (g.P.PtrCore.index c.args.p) (g.P.PtrCore.generation c.args.p)) c.in_ok-ends_of.field-0.0
-    c.in_ok-ends_of.field-0.1 c.in_ok-next.next c.in_ok-ends_of.ensures.numbers c.in_ok-next.was in
-    let live : IsSome (entry_at c.args.self.now (number c.in_ok-next.next)) =
-    next_live number c.args.self.now (g.P.PtrCore.index c.args.p) (g.P.PtrCore.generation c.args.p) (number c.in_ok-next.next)
-    (option_map number c.in_ok-ends_of.field-0.0) c.recall_chained.ensures is in
+    let is = next_read number (ends_found number c.args.self.now (g.P.PtrCore.index c.args.p) (g.P.PtrCore.generation c.args.p)) c.in-Some-default-Some.field-0-0
+    c.in-Some-default-Some.field-0-1 c.in-Some-default-Some.next (c.in-Some-default-Some.ensures).numbers c.in-Some-default-Some.field-0-1-is in
+    let live : IsSome (entry_at c.args.self.now (number c.in-Some-default-Some.next)) =
+    next_live number c.args.self.now (g.P.PtrCore.index c.args.p) (g.P.PtrCore.generation c.args.p) (number c.in-Some-default-Some.next)
+    (option_map number c.in-Some-default-Some.field-0-0) c.recall_chained.ensures is in
     search rules
 
 done : (g : Over) (c : goal.After-relink g) (q : ℕ) → next_at (ends_in g.P.Inx.PtrInxCore.number c.args.self.now) (g.P.PtrCore.index c.args.p) ≡ Some q
     → Relinked g.P.Inx.PtrInxCore.number (unlinked (ends_in g.P.Inx.PtrInxCore.number c.args.self.now) (g.P.PtrCore.index c.args.p) q) c.args.self.now c.relink.new.arena
 done g c =
     let number = g.P.Inx.PtrInxCore.number in
-    let is = next_read number (ends_found number c.args.self.now (g.P.PtrCore.index c.args.p) (g.P.PtrCore.generation c.args.p)) c.in_ok-ends_of.field-0.0
-    c.in_ok-ends_of.field-0.1 c.in_ok-next.next c.in_ok-ends_of.ensures.numbers c.in_ok-next.was in
-    let made : c.relink.new.arena ≡ with_prev_of number (with_next_of number c.args.self.now (Some c.inx.result) None) (Some c.in_ok-next.next) None =
+    let is = next_read number (ends_found number c.args.self.now (g.P.PtrCore.index c.args.p) (g.P.PtrCore.generation c.args.p)) c.in-Some-default-Some.field-0-0
+    c.in-Some-default-Some.field-0-1 c.in-Some-default-Some.next (c.in-Some-default-Some.ensures).numbers c.in-Some-default-Some.field-0-1-is in
+    let made : c.relink.new.arena ≡ with_prev_of number (with_next_of number c.args.self.now (Some c.inx.result) None) (Some c.in-Some-default-Some.next) None =
     search rules in
-    parted_next number c.args.self.now c.relink.new.arena c.inx.result c.in_ok-next.next (g.P.PtrCore.index c.args.p) (g.P.PtrCore.generation c.args.p)
-    (option_map number c.in_ok-ends_of.field-0.0) c.recall_chained.ensures c.inx.ensures is made
+    parted_next number c.args.self.now c.relink.new.arena c.inx.result c.in-Some-default-Some.next (g.P.PtrCore.index c.args.p) (g.P.PtrCore.generation c.args.p)
+    (option_map number c.in-Some-default-Some.field-0-0) c.recall_chained.ensures c.inx.ensures is made
 
 chained : (g : Over) (c : goal.After-relink g) → IsChained g.P.Inx.PtrInxCore.number c.relink.new.arena
 chained g c =
     let number = g.P.Inx.PtrInxCore.number in
-    let is = next_read number (ends_found number c.args.self.now (g.P.PtrCore.index c.args.p) (g.P.PtrCore.generation c.args.p)) c.in_ok-ends_of.field-0.0
-    c.in_ok-ends_of.field-0.1 c.in_ok-next.next c.in_ok-ends_of.ensures.numbers c.in_ok-next.was in
-    (done g c (number c.in_ok-next.next) (next_found number c.args.self.now (g.P.PtrCore.index c.args.p) (g.P.PtrCore.generation c.args.p) (number c.in_ok-next.next)
-    (option_map number c.in_ok-ends_of.field-0.0) is)).chained
+    let is = next_read number (ends_found number c.args.self.now (g.P.PtrCore.index c.args.p) (g.P.PtrCore.generation c.args.p)) c.in-Some-default-Some.field-0-0
+    c.in-Some-default-Some.field-0-1 c.in-Some-default-Some.next (c.in-Some-default-Some.ensures).numbers c.in-Some-default-Some.field-0-1-is in
+    (done g c (number c.in-Some-default-Some.next) (next_found number c.args.self.now (g.P.PtrCore.index c.args.p) (g.P.PtrCore.generation c.args.p) (number c.in-Some-default-Some.next)
+    (option_map number c.in-Some-default-Some.field-0-0) is)).chained
 
 pub invariant_of-self : goal.invariant_of-self
 invariant_of-self g c = chained g c
