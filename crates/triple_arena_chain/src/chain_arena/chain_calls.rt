@@ -114,7 +114,9 @@ impl<P: PtrCore, T: Drop, S: ChainSlots<P, T>> ChainArenaTrait<P, T> for ChainAr
     fn connect(&mut self, p: P, q: P) -> Option<()> {
         // The interlinks agree.
         self.recall_chained();
-        self.place(LinkInsertKind::Bridge(p, q))?;
+        let Some(_) = self.place(LinkInsertKind::Bridge(p, q)) else {
+            return None;
+        };
         let i = p.inx();
         let j = q.inx();
         relink(&mut self.arena, Some(i), Some(j), Some(j), Some(i));

@@ -17,7 +17,7 @@ done g c =
     let q = g.P.PtrCore.index c.args.q in
     let gp = g.P.PtrCore.generation c.args.p in
     let gq = g.P.PtrCore.generation c.args.q in
-    let place = place_by number c.in_ok-place.field-0 in
+    let place = place_by number c.in-Some.field-0 in
     let bridge : at_bridge p q (ends_found number old p gp) (ends_found number old q gq) ≡ Some place = search rules in
     let made : c.relink.new.arena ≡ with_prev_of number (with_next_of number old (Some c.inx-i.result) (Some c.inx-j.result)) (Some c.inx-j.result) (Some c.inx-i.result) =
     search rules in
