@@ -118,7 +118,7 @@ where
     while let Some(p) = advancer.advance(arena) {
         let i = p.inx();
         let next = next_there(arena, i);
-        // `relink` asks by clauses: a lone premise that an answer gives is dear.
+        // `relink` asks two things, which is cheaper to answer than what `set_prev` asks.
         relink(arena, None, None, next, Some(i));
     }
 }

@@ -20,7 +20,7 @@ use triple_arena::{
 
 // What becomes a copy of a source of the type `A`. It stands between the base's trait and `copy_links`, so that the closure
 // there is in a function that knows nothing of pointers and arenas: the check of its call grows with what is known.
-// `copy_from` asks two things, as the answer to one of two clauses costs far less than that to a lone one.
+// `copy_from` asks two things, as the answer to one of two clauses costs far less to state than that to a lone one.
 pub(crate) trait CopiesFrom<P: Copy, L: Drop, M: Drop, A> {
     ghost index: { P → ℕ };
 

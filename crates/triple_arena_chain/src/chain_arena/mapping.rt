@@ -10,7 +10,8 @@ ghost use Rattle.triple_arena_chain.specs.Renaming.{IsLeftWithNext};
 use crate::IndexLink;
 use triple_arena::{ArenaTrait, InvalidationOption, PtrCore, PtrInxCore};
 
-// What `compress_with` does. It asks two things, as the answer to one of two clauses costs far less than that to a lone one.
+// What `compress_with` does. It asks two things, as the answer to one of two clauses costs far less to state than that
+// to a lone one.
 fn compress_by<P, L, A, G>(arena: &mut A, reset: bool, map: G) -> InvalidationOption<()>
 where
     P: PtrCore,
