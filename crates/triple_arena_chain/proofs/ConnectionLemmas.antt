@@ -8,7 +8,8 @@ use Rattle.triple_arena_chain.specs.declared.place.Place.{Place}
 use Rattle.triple_arena_chain.specs.Kinds.{at_bridge}
 use Rattle.triple_arena_chain.specs.KindLaws.{found}
 use Rattle.triple_arena_chain.specs.Links.{entry_ends, ends_in, ends_found, with_next_of, with_prev_of, IsChained, IsRelinked}
-use Rattle.triple_arena_chain.specs.LinkLaws.{ends-with_next_of, ends-with_prev_of, values-with_next_of, values-with_prev_of, kept-with_next_of, kept-with_prev_of, kept_on, formed-with_next_of, formed-with_prev_of}
+use Rattle.triple_arena_chain.specs.LinkLaws.{ends-with_next_of, ends-with_prev_of, values-with_next_of, values-with_prev_of}
+use Rattle.triple_arena_chain.specs.LinkLaws.{kept-with_next_of, kept-with_prev_of, kept_on, formed-with_next_of, formed-with_prev_of}
 use Rattle.triple_arena_chain.proofs.AgreedLemmas.{IsAgreed-linked, IsAgreed-unlinked, valid_next, valid_prev}
 use Rattle.triple_arena_chain.proofs.ExchangeLemmas.{exchanged_is, exchanged_self, linked_twice, IsAgreed-exchanged}
 use Rattle.triple_arena_chain.specs.ChainLaws.{IsAgreed-same}

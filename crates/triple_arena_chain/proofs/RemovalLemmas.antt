@@ -1,5 +1,6 @@
 -- A link that is taken out of its chain.
-use Rattle.std.proofs.Common.{◌≡◌, ◌==◌, if◌then◌else◌, ℕ, ◌-◌, ◌∷◌, length, Option, Some, None, IsSome, IfSome, IfNone, OnSome, is_some, option_map, refl, sym, ap, ◌∙◌, inl, inr}
+use Rattle.std.proofs.Common.{◌≡◌, ◌==◌, if◌then◌else◌, ℕ, ◌-◌, ◌∷◌, length, Option, Some, None, IsSome}
+use Rattle.std.proofs.Common.{IfSome, IfNone, OnSome, is_some, option_map, refl, sym, ap, ◌∙◌, inl, inr}
 use Rattle.std.proofs.lemmas.Bool.{eq-eqb}
 use Rattle.std.proofs.lemmas.Bool.Decides.{eqb_tells}
 use Rattle.triple_arena_ptr.specs.Generation.{next_generation}
