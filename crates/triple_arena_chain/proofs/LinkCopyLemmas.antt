@@ -44,7 +44,7 @@ module _ {I T : Type 0} where
 
 module _ {I T : Type 0} (number : I → ℕ) where
   -- no link is live, so the interlinks agree
-  pub chained-none : (c : Content (IndexLink I T)) → IsWellFormed c → ((j : ℕ) → entry_at c j ≡ None) → IsChained number c
+  chained-none : (c : Content (IndexLink I T)) → IsWellFormed c → ((j : ℕ) → entry_at c j ≡ None) → IsChained number c
   chained-none c formed none =
       record {
         formed = formed;

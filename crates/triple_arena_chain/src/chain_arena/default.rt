@@ -5,7 +5,7 @@ ghost use Rattle.triple_arena.specs.ArenaRoom.{room_of};
 ghost use Rattle.triple_arena.specs.Content.{empty};
 
 use crate::{ChainArena, LinkNoGen};
-use triple_arena::{Arena, ArenaSlot, ArenaTrait, NonZeroInxArray, PtrCore};
+use triple_arena::{ArenaSlot, ArenaTrait, NonZeroInxArray, PtrCore};
 
 impl<P: PtrCore, T: Drop, const LIMIT: usize> Default
     for ChainArena<P, T, NonZeroInxArray<ArenaSlot<P, LinkNoGen<P, T>>, LIMIT>> {
@@ -14,8 +14,6 @@ impl<P: PtrCore, T: Drop, const LIMIT: usize> Default
 
     /// An arena without a link, in an array.
     fn default() -> Self {
-        ChainArena {
-            arena: Arena::new(()),
-        }
+        ChainArena::new(())
     }
 }
