@@ -1,5 +1,5 @@
 //! Links that a map makes of other ones, where the map sees values alone.
-ghost use Rattle.std.specs.Prelude.{◌≡◌, None, map as list_map};
+ghost use Rattle.std.specs.Prelude.{◌≡◌, None, map as list_map, ⊤};
 ghost use Rattle.std.specs.List.{AllZip};
 ghost use Rattle.triple_arena_ptr.specs.InvalidationOption.{overflowed};
 ghost use Rattle.triple_arena.specs.Changes.{IsCompressed};
@@ -10,8 +10,7 @@ ghost use Rattle.triple_arena_chain.specs.Renaming.{IsLeftWithNext};
 use crate::IndexLink;
 use triple_arena::{ArenaTrait, InvalidationOption, PtrCore, PtrInxCore};
 
-// What `compress_with` does. It asks two things, as the answer to one of two clauses costs far less to state than that
-// to a lone one.
+// What `compress_with` does, with a clause that asks no more: the answer to a lone one would cost far more to state.
 fn compress_by<P, L, A, G>(arena: &mut A, reset: bool, map: G) -> InvalidationOption<()>
 where
     P: PtrCore,
@@ -19,7 +18,7 @@ where
     A: ArenaTrait<P, L>,
     G: FnMut(P, L, P) -> L,
     requires callable { G.IsAlwaysCallable map }
-    requires formed { A.is_formed arena.old }
+    requires no_more { ⊤ }
     ensures mapped { IsMapped P.index P.generation G.step map (A.live_entries arena.old)
         (A.live_entries arena.new) }
     ensures overflow { overflowed result ≡ compression_wraps P.Gen.last reset (A.counter arena.old)
@@ -45,7 +44,7 @@ where
     A: ArenaTrait<P, IndexLink<I, T>>,
     F: FnMut(P, T, P) -> T,
     requires callable { F.IsAlwaysCallable map }
-    requires formed { A.is_formed arena.old }
+    requires no_more { ⊤ }
     ensures mapped { IsMapped P.index P.generation F.step map (list_map listed_value (A.live_entries arena.old))
         (list_map listed_value (A.live_entries arena.new)) }
     ensures links { AllZip IsLeftWithNext (A.live_entries arena.old) (A.live_entries arena.new) }
