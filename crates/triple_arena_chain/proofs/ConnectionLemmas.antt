@@ -3,16 +3,18 @@ use Rattle.std.proofs.Common.{◌≡◌, ℕ, Option, Some, None, IsSome, option
 use Rattle.std.proofs.lemmas.Bool.Decides.{eqb_tells}
 use Rattle.triple_arena.specs.Content.{Content, entry_at, IsWellFormed}
 use Rattle.triple_arena_chain.specs.declared.link.IndexLink.{IndexLink}
-use Rattle.triple_arena_chain.specs.Chains.{Ends, with_next, with_prev, with_next_if, with_prev_if, linked, unlinked, exchanged, IsAgreed, next_at, prev_at, next_in, prev_in}
+use Rattle.triple_arena_chain.specs.Chains.{Ends, with_next, with_next_if, with_prev_if, linked, unlinked, exchanged, IsAgreed, next_at, prev_at, next_in, prev_in}
 use Rattle.triple_arena_chain.specs.declared.place.Place.{Place}
 use Rattle.triple_arena_chain.specs.Kinds.{at_bridge}
 use Rattle.triple_arena_chain.specs.KindLaws.{found}
 use Rattle.triple_arena_chain.specs.Links.{entry_ends, ends_in, ends_found, with_next_of, with_prev_of, IsChained, IsRelinked}
-use Rattle.triple_arena_chain.specs.LinkLaws.{live-with_link, live-with_next_of, ends-with_next_of, ends-with_prev_of, values-with_next_of, values-with_prev_of, kept-with_next_of, kept-with_prev_of, kept_on, formed-with_next_of, formed-with_prev_of}
+use Rattle.triple_arena_chain.specs.LinkLaws.{ends-with_next_of, ends-with_prev_of, values-with_next_of, values-with_prev_of}
+use Rattle.triple_arena_chain.specs.LinkLaws.{kept-with_next_of, kept-with_prev_of, kept_on, formed-with_next_of, formed-with_prev_of}
 use Rattle.triple_arena_chain.proofs.AgreedLemmas.{IsAgreed-linked, IsAgreed-unlinked, valid_next, valid_prev}
-use Rattle.triple_arena_chain.proofs.ExchangeLemmas.{exchanged_is, exchanged_self, IsAgreed-exchanged}
+use Rattle.triple_arena_chain.proofs.ExchangeLemmas.{exchanged_is, exchanged_self, linked_twice, IsAgreed-exchanged}
 use Rattle.triple_arena_chain.specs.ChainLaws.{IsAgreed-same}
 use Rattle.triple_arena_chain.proofs.InsertionLemmas.{with_next_if-same, with_prev_if-same}
+use Rattle.triple_arena_chain.proofs.PassLemmas.{live_as}
 
 -- an exchange of nexts keeps the two ways agreed, also of an index with itself
 agreed-exchanged : (e : ℕ → Option Ends) (p q s t : ℕ) → next_at e p ≡ Some s → next_at e q ≡ Some t → IsAgreed e → IsAgreed (exchanged e p q s t)
@@ -58,121 +60,95 @@ module _ {I T : Type 0} (number : I → ℕ) where
     pub chained : IsChained number d
 
   -- a write of a next and one of a previous one
-  pub two_writes : (c d1 d2 : Content (IndexLink I T)) (b n a p : Option I) → IsWellFormed c → d1 ≡ with_next_of number c b n
-      → d2 ≡ with_prev_of number d1 a p
-      → IsAgreed (with_prev_if (with_next_if (ends_in number c) (option_map number b) (option_map number n)) (option_map number a) (option_map number p))
-      → Relinked (with_prev_if (with_next_if (ends_in number c) (option_map number b) (option_map number n)) (option_map number a) (option_map number p)) c d2
-  two_writes c d1 d2 b n a p formed first second agreed =
-      let e1 = with_next_of number c b n in
-      let e2 = with_prev_of number e1 a p in
-      let is : d2 ≡ e2 = second ∙ ap (λ d. with_prev_of number d a p) first in
-      let wanted = with_prev_if (with_next_if (ends_in number c) (option_map number b) (option_map number n)) (option_map number a) (option_map number p) in
-      let ends : (k : ℕ) → ends_in number e2 k ≡ wanted k =
-      λ k. ends-with_prev_of number e1 a p k
-      ∙ with_prev_if-same (with_next_if (ends_in number c) (option_map number b) (option_map number n)) (ends_in number e1) (option_map number a)
-      (option_map number p)
-      (ends-with_next_of number c b n)
-      k in
+  pub both_written : (c d : Content (IndexLink I T)) (b n a p : Option I) → d ≡ with_prev_of number (with_next_of number c b n) a p
+      → IsRelinked number
+      (with_prev_if (with_next_if (ends_in number c) (option_map number b) (option_map number n)) (option_map number a) (option_map number p)) c d
+  both_written c d b n a p is =
+      let one = with_next_of number c b n in
       rw is
       (record {
-        relinked = record {
-          ends = ends;
-          values = λ k. values-with_prev_of number e1 a p k ∙ values-with_next_of number c b n k;
-          kept = kept_on c e1 e2 (kept-with_next_of number c b n) (kept-with_prev_of number e1 a p);
-        };
-        chained = record {
-          formed = formed-with_prev_of number e1 a p (formed-with_next_of number c b n formed);
-          agreed = IsAgreed-same wanted (ends_in number e2) ends agreed;
-        };
+        ends = λ k.
+            ends-with_prev_of number one a p k
+            ∙ with_prev_if-same (with_next_if (ends_in number c) (option_map number b) (option_map number n)) (ends_in number one) (option_map number a)
+            (option_map number p)
+            (ends-with_next_of number c b n)
+            k;
+        values = λ k. values-with_prev_of number one a p k ∙ values-with_next_of number c b n k;
+        kept = kept_on c one (with_prev_of number one a p) (kept-with_next_of number c b n) (kept-with_prev_of number one a p);
       })
 
-  pub linked_by : (c d1 d2 : Content (IndexLink I T)) (i j : I) (v w : Ends) → IsChained number c → ends_in number c (number i) ≡ Some v → v.1 ≡ None
-      → ends_in number c (number j) ≡ Some w → w.0 ≡ None → d1 ≡ with_next_of number c (Some i) (Some j) → d2 ≡ with_prev_of number d1 (Some j) (Some i)
-      → Relinked (linked (ends_in number c) (number i) (number j)) c d2
-  linked_by c d1 d2 i j v w chained at_i end at_j start first second =
-      two_writes c d1 d2 (Some i) (Some j) (Some j) (Some i) chained.formed first second
+  pub both_formed : (c d : Content (IndexLink I T)) (b n a p : Option I) → d ≡ with_prev_of number (with_next_of number c b n) a p → IsWellFormed c
+      → IsWellFormed d
+  both_formed c d b n a p is formed = rw is (formed-with_prev_of number (with_next_of number c b n) a p (formed-with_next_of number c b n formed))
+
+  relinked_agreed : (wanted : ℕ → Option Ends) (c d : Content (IndexLink I T)) → IsRelinked number wanted c d → IsWellFormed d → IsAgreed wanted
+      → Relinked wanted c d
+  relinked_agreed wanted c d relinked formed agreed =
+      record { relinked = relinked; chained = record { formed = formed; agreed = IsAgreed-same wanted (ends_in number d) relinked.ends agreed } }
+
+  pub linked_by : (c d : Content (IndexLink I T)) (i j : I) (v w : Ends) → IsChained number c → ends_in number c (number i) ≡ Some v → v.1 ≡ None
+      → ends_in number c (number j) ≡ Some w → w.0 ≡ None → d ≡ with_prev_of number (with_next_of number c (Some i) (Some j)) (Some j) (Some i)
+      → Relinked (linked (ends_in number c) (number i) (number j)) c d
+  linked_by c d i j v w chained at_i end at_j start is =
+      relinked_agreed (linked (ends_in number c) (number i) (number j)) c d (both_written c d (Some i) (Some j) (Some j) (Some i) is)
+      (both_formed c d (Some i) (Some j) (Some j) (Some i) is chained.formed)
       (IsAgreed-linked (ends_in number c) (number i) (number j) v w at_i end at_j start chained.agreed)
 
-  pub parted_by : (c d1 d2 : Content (IndexLink I T)) (i j : I) → IsChained number c → next_at (ends_in number c) (number i) ≡ Some (number j)
-      → d1 ≡ with_next_of number c (Some i) None → d2 ≡ with_prev_of number d1 (Some j) None
-      → Relinked (unlinked (ends_in number c) (number i) (number j)) c d2
-  parted_by c d1 d2 i j chained out first second =
+  pub parted_by : (c d : Content (IndexLink I T)) (i j : I) → IsChained number c → next_at (ends_in number c) (number i) ≡ Some (number j)
+      → d ≡ with_prev_of number (with_next_of number c (Some i) None) (Some j) None → Relinked (unlinked (ends_in number c) (number i) (number j)) c d
+  parted_by c d i j chained out is =
       let e = ends_in number c in
       let v = valid_next (e (number i)) (number j) out in
       let w = valid_prev (e (number j)) (number i) (chained.agreed.forward (number i) (number j) out) in
-      two_writes c d1 d2 (Some i) None (Some j) None chained.formed first second
+      relinked_agreed (unlinked e (number i) (number j)) c d (both_written c d (Some i) None (Some j) None is)
+      (both_formed c d (Some i) None (Some j) None is chained.formed)
       (IsAgreed-unlinked e (number i) (number j) v.0 w.0 v.1 (sym (ap next_in v.1) ∙ out) w.1 chained.agreed)
 
-  pub exchanged_by : (c d1 d2 d3 d4 : Content (IndexLink I T)) (i j s t : I) → IsChained number c
-      → next_at (ends_in number c) (number i) ≡ Some (number s) → next_at (ends_in number c) (number j) ≡ Some (number t)
-      → d1 ≡ with_next_of number c (Some i) (Some t) → d2 ≡ with_next_of number d1 (Some j) (Some s) → d3 ≡ with_prev_of number d2 (Some t) (Some i)
-      → d4 ≡ with_prev_of number d3 (Some s) (Some j) → Relinked (exchanged (ends_in number c) (number i) (number j) (number s) (number t)) c d4
-  exchanged_by c d1 d2 d3 d4 i j s t chained out_i out_j first second third fourth =
+  pub exchanged_by : (c d1 d2 : Content (IndexLink I T)) (i j s t : I) → IsChained number c → next_at (ends_in number c) (number i) ≡ Some (number s)
+      → next_at (ends_in number c) (number j) ≡ Some (number t) → d1 ≡ with_prev_of number (with_next_of number c (Some i) (Some t)) (Some t) (Some i)
+      → d2 ≡ with_prev_of number (with_next_of number d1 (Some j) (Some s)) (Some s) (Some j)
+      → Relinked (exchanged (ends_in number c) (number i) (number j) (number s) (number t)) c d2
+  exchanged_by c d1 d2 i j s t chained out_i out_j first second =
       let e = ends_in number c in
-      let e1 = with_next_of number c (Some i) (Some t) in
-      let e2 = with_next_of number e1 (Some j) (Some s) in
-      let e3 = with_prev_of number e2 (Some t) (Some i) in
-      let e4 = with_prev_of number e3 (Some s) (Some j) in
-      let is2 : d2 ≡ e2 = second ∙ ap (λ d. with_next_of number d (Some j) (Some s)) first in
-      let is3 : d3 ≡ e3 = third ∙ ap (λ d. with_prev_of number d (Some t) (Some i)) is2 in
-      let is : d4 ≡ e4 = fourth ∙ ap (λ d. with_prev_of number d (Some s) (Some j)) is3 in
-      let w1 = with_next e (number i) (Some (number t)) in
-      let w2 = with_next w1 (number j) (Some (number s)) in
-      let w3 = with_prev w2 (number t) (Some (number i)) in
-      let same2 : (k : ℕ) → ends_in number e2 k ≡ w2 k =
-      λ k. ends-with_next_of number e1 (Some j) (Some s) k
-      ∙ with_next_if-same w1 (ends_in number e1) (Some (number j)) (Some (number s)) (ends-with_next_of number c (Some i) (Some t)) k in
-      let same3 : (k : ℕ) → ends_in number e3 k ≡ w3 k =
-      λ k. ends-with_prev_of number e2 (Some t) (Some i) k
-      ∙ with_prev_if-same w2 (ends_in number e2) (Some (number t)) (Some (number i)) same2 k in
-      let ends : (k : ℕ) → ends_in number e4 k ≡ exchanged e (number i) (number j) (number s) (number t) k =
-      λ k. ends-with_prev_of number e3 (Some s) (Some j) k
-      ∙ with_prev_if-same w3 (ends_in number e3) (Some (number s)) (Some (number j)) same3 k in
-      let kept2 = kept_on c e1 e2 (kept-with_next_of number c (Some i) (Some t)) (kept-with_next_of number e1 (Some j) (Some s)) in
-      let kept3 = kept_on c e2 e3 kept2 (kept-with_prev_of number e2 (Some t) (Some i)) in
-      rw is
+      let one = both_written c d1 (Some i) (Some t) (Some t) (Some i) first in
+      let two = both_written d1 d2 (Some j) (Some s) (Some s) (Some j) second in
+      let half = linked e (number i) (number t) in
+      relinked_agreed (exchanged e (number i) (number j) (number s) (number t)) c d2
       (record {
-        relinked = record {
-          ends = ends;
-          values = λ k.
-              values-with_prev_of number e3 (Some s) (Some j) k
-              ∙ values-with_prev_of number e2 (Some t) (Some i) k
-              ∙ values-with_next_of number e1 (Some j) (Some s) k
-              ∙ values-with_next_of number c (Some i) (Some t) k;
-          kept = kept_on c e3 e4 kept3 (kept-with_prev_of number e3 (Some s) (Some j));
-        };
-        chained = record {
-          formed =
-              formed-with_prev_of number e3 (Some s) (Some j)
-              (formed-with_prev_of number e2 (Some t) (Some i)
-              (formed-with_next_of number e1 (Some j) (Some s) (formed-with_next_of number c (Some i) (Some t) chained.formed)));
-          agreed =
-              IsAgreed-same (exchanged e (number i) (number j) (number s) (number t)) (ends_in number e4) ends
-              (agreed-exchanged e (number i) (number j) (number s) (number t) out_i out_j chained.agreed);
-        };
+        ends = λ k.
+            two.ends k
+            ∙ with_prev_if-same (with_next half (number j) (Some (number s))) (with_next (ends_in number d1) (number j) (Some (number s))) (Some (number s))
+            (Some (number j))
+            (with_next_if-same half (ends_in number d1) (Some (number j)) (Some (number s)) one.ends)
+            k
+            ∙ linked_twice e (number i) (number j) (number s) (number t) k;
+        values = λ k. two.values k ∙ one.values k;
+        kept = kept_on c d1 d2 one.kept two.kept;
       })
+      (both_formed d1 d2 (Some j) (Some s) (Some s) (Some j) second (both_formed c d1 (Some i) (Some t) (Some t) (Some i) first chained.formed))
+      (agreed-exchanged e (number i) (number j) (number s) (number t) out_i out_j chained.agreed)
 
   -- the same where the numbers are those of pointers
-  pub connected : (c d1 d2 : Content (IndexLink I T)) (i j : I) (p gp q gq : ℕ) (place : Place ℕ) → IsChained number c → number i ≡ p → number j ≡ q
-      → at_bridge p q (ends_found number c p gp) (ends_found number c q gq) ≡ Some place → d1 ≡ with_next_of number c (Some i) (Some j)
-      → d2 ≡ with_prev_of number d1 (Some j) (Some i) → Relinked (linked (ends_in number c) p q) c d2
-  connected c d1 d2 i j p gp q gq place chained is_p is_q bridge first second =
+  pub connected : (c d : Content (IndexLink I T)) (i j : I) (p gp q gq : ℕ) (place : Place ℕ) → IsChained number c → number i ≡ p → number j ≡ q
+      → at_bridge p q (ends_found number c p gp) (ends_found number c q gq) ≡ Some place
+      → d ≡ with_prev_of number (with_next_of number c (Some i) (Some j)) (Some j) (Some i) → Relinked (linked (ends_in number c) p q) c d
+  connected c d i j p gp q gq place chained is_p is_q bridge is =
       by (ends_found number c p gp) (ends_found number c q gq) refl refl bridge
     where
       by : (o o' : Option Ends) → ends_found number c p gp ≡ o → ends_found number c q gq ≡ o' → at_bridge p q o o' ≡ Some place
-          → Relinked (linked (ends_in number c) p q) c d2
+          → Relinked (linked (ends_in number c) p q) c d
       by None o' at at' h = absurd (let no : None ≡ Some place = h in cc)
       by (Some v) None at at' h = absurd (let no : None ≡ Some place = h in cc)
       by (Some v) (Some w) at at' h = by_ends v.1 w.0 refl refl h
         where
           by_ends : (n m : Option ℕ) → v.1 ≡ n → w.0 ≡ m → at_bridge p q (Some (v.0, n)) (Some (m, w.1)) ≡ Some place
-              → Relinked (linked (ends_in number c) p q) c d2
+              → Relinked (linked (ends_in number c) p q) c d
           by_ends None None end start h =
               let at_i : ends_in number c (number i) ≡ Some v = ap (ends_in number c) is_p ∙ found number c p gp v at in
               let at_j : ends_in number c (number j) ≡ Some w = ap (ends_in number c) is_q ∙ found number c q gq w at' in
-              let done = linked_by c d1 d2 i j v w chained at_i end at_j start first second in
-              subst (λ n. Relinked (linked (ends_in number c) p n) c d2) is_q
-              (subst (λ n. Relinked (linked (ends_in number c) n (number j)) c d2) is_p done)
+              let done = linked_by c d i j v w chained at_i end at_j start is in
+              subst (λ n. Relinked (linked (ends_in number c) p n) c d) is_q
+              (subst (λ n. Relinked (linked (ends_in number c) n (number j)) c d) is_p done)
           by_ends None (Some m) end start h = absurd (let no : None ≡ Some place = h in cc)
           by_ends (Some n) m end start h = absurd (let no : None ≡ Some place = h in cc)
 
@@ -185,71 +161,53 @@ module _ {I T : Type 0} (number : I → ℕ) where
       → prev_at (ends_in number c) p ≡ Some n
   prev_found c p gp n a is = ap prev_in (found number c p gp (Some n, a) is)
 
-  -- the next of a link is live, also once an interlink was written
-  pub next_live_after : (c d : Content (IndexLink I T)) (at next : Option I) (p gp n : ℕ) (b : Option ℕ) → IsChained number c
-      → ends_found number c p gp ≡ Some (b, Some n) → d ≡ with_next_of number c at next → IsSome (entry_at d n)
-  next_live_after c d at next p gp n b chained is written =
-      subst (λ x. IsSome (entry_at x n)) (sym written) (live-with_next_of number c at next n (live_next c p n chained (next_found c p gp n b is)))
+  -- what the interlinks of a pointer's link name is live
+  pub next_live : (c : Content (IndexLink I T)) (p gp n : ℕ) (b : Option ℕ) → IsChained number c → ends_found number c p gp ≡ Some (b, Some n)
+      → IsSome (entry_at c n)
+  next_live c p gp n b chained is = live_next c p n chained (next_found c p gp n b is)
 
   pub prev_live : (c : Content (IndexLink I T)) (p gp n : ℕ) (a : Option ℕ) → IsChained number c → ends_found number c p gp ≡ Some (Some n, a)
       → IsSome (entry_at c n)
   prev_live c p gp n a chained is = live_prev c p n chained (prev_found c p gp n a is)
 
-  pub found_live : (c : Content (IndexLink I T)) (p gp : ℕ) (v : Ends) → ends_found number c p gp ≡ Some v → IsSome (entry_at c p)
-  found_live c p gp v is = live_ends c p v (found number c p gp v is)
+  -- what a pointer finds is live
+  pub found_live : (c : Content (IndexLink I T)) (i : I) (p gp : ℕ) (v : Ends) → number i ≡ p → ends_found number c p gp ≡ Some v
+      → IsSome (entry_at c (number i))
+  found_live c i p gp v is_p is = subst (λ n. IsSome (entry_at c n)) (sym is_p) (live_ends c p v (found number c p gp v is))
 
-  pub parted_next : (c d1 d2 : Content (IndexLink I T)) (i j : I) (p gp : ℕ) (b : Option ℕ) → IsChained number c → number i ≡ p
-      → ends_found number c p gp ≡ Some (b, Some (number j)) → d1 ≡ with_next_of number c (Some i) None → d2 ≡ with_prev_of number d1 (Some j) None
-      → (q : ℕ) → next_at (ends_in number c) p ≡ Some q → Relinked (unlinked (ends_in number c) p q) c d2
-  parted_next c d1 d2 i j p gp b chained is_p is first second q next =
+  pub parted_next : (c d : Content (IndexLink I T)) (i j : I) (p gp : ℕ) (b : Option ℕ) → IsChained number c → number i ≡ p
+      → ends_found number c p gp ≡ Some (b, Some (number j)) → d ≡ with_prev_of number (with_next_of number c (Some i) None) (Some j) None
+      → (q : ℕ) → next_at (ends_in number c) p ≡ Some q → Relinked (unlinked (ends_in number c) p q) c d
+  parted_next c d i j p gp b chained is_p is made q next =
       let out = next_found c p gp (number j) b is in
       let both : Some (number j) ≡ Some q = sym out ∙ next in
       let same : number j ≡ q = cc in
-      subst (λ n. Relinked (unlinked (ends_in number c) p n) c d2) same
-      (subst (λ n. Relinked (unlinked (ends_in number c) n (number j)) c d2) is_p
-      (parted_by c d1 d2 i j chained (ap (next_at (ends_in number c)) is_p ∙ out) first second))
+      subst (λ n. Relinked (unlinked (ends_in number c) p n) c d) same
+      (subst (λ n. Relinked (unlinked (ends_in number c) n (number j)) c d) is_p
+      (parted_by c d i j chained (ap (next_at (ends_in number c)) is_p ∙ out) made))
 
-  pub parted_prev : (c d1 d2 : Content (IndexLink I T)) (i j : I) (p gp : ℕ) (a : Option ℕ) → IsChained number c → number j ≡ p
-      → ends_found number c p gp ≡ Some (Some (number i), a) → d1 ≡ with_next_of number c (Some i) None → d2 ≡ with_prev_of number d1 (Some j) None
-      → (q : ℕ) → prev_at (ends_in number c) p ≡ Some q → Relinked (unlinked (ends_in number c) q p) c d2
-  parted_prev c d1 d2 i j p gp a chained is_p is first second q prev =
+  pub parted_prev : (c d : Content (IndexLink I T)) (i j : I) (p gp : ℕ) (a : Option ℕ) → IsChained number c → number j ≡ p
+      → ends_found number c p gp ≡ Some (Some (number i), a) → d ≡ with_prev_of number (with_next_of number c (Some i) None) (Some j) None
+      → (q : ℕ) → prev_at (ends_in number c) p ≡ Some q → Relinked (unlinked (ends_in number c) q p) c d
+  parted_prev c d i j p gp a chained is_p is made q prev =
       let into = prev_found c p gp (number i) a is in
       let both : Some (number i) ≡ Some q = sym into ∙ prev in
       let same : number i ≡ q = cc in
       let out = chained.agreed.backward (number i) (number j) (ap (prev_at (ends_in number c)) is_p ∙ into) in
-      subst (λ n. Relinked (unlinked (ends_in number c) n p) c d2) same
-      (subst (λ n. Relinked (unlinked (ends_in number c) (number i) n) c d2) is_p (parted_by c d1 d2 i j chained out first second))
+      subst (λ n. Relinked (unlinked (ends_in number c) n p) c d) same
+      (subst (λ n. Relinked (unlinked (ends_in number c) (number i) n) c d) is_p (parted_by c d i j chained out made))
 
-  -- what a pointer finds is live, also once an interlink was written
-  pub found_live_after : (c d : Content (IndexLink I T)) (at next : Option I) (i : I) (p gp : ℕ) (v : Ends) → number i ≡ p
-      → ends_found number c p gp ≡ Some v → d ≡ with_next_of number c at next → IsSome (entry_at d (number i))
-  found_live_after c d at next i p gp v is_p is written =
-      subst (λ n. IsSome (entry_at d n)) (sym is_p)
-      (subst (λ x. IsSome (entry_at x p)) (sym written) (live-with_next_of number c at next p (found_live c p gp v is)))
+  -- what is live stays live where both are written
+  pub live_written : (c d : Content (IndexLink I T)) (b n a p : Option I) (k : ℕ) → d ≡ with_prev_of number (with_next_of number c b n) a p
+      → IsSome (entry_at c k) → IsSome (entry_at d k)
+  live_written c d b n a p k is some = live_as c d (both_written c d b n a p is).values k ∙ some
 
-  -- the next of what a pointer finds is live, once both nexts were written
-  pub next_live_after_two : (c d1 d2 : Content (IndexLink I T)) (at1 next1 at2 next2 : Option I) (p gp n : ℕ) (b : Option ℕ) → IsChained number c
-      → ends_found number c p gp ≡ Some (b, Some n) → d1 ≡ with_next_of number c at1 next1 → d2 ≡ with_next_of number d1 at2 next2
-      → IsSome (entry_at d2 n)
-  next_live_after_two c d1 d2 at1 next1 at2 next2 p gp n b chained is first second =
-      subst (λ x. IsSome (entry_at x n)) (sym second)
-      (live-with_next_of number d1 at2 next2 n (next_live_after c d1 at1 next1 p gp n b chained is first))
-
-  -- and once a previous one was written after them
-  pub next_live_after_three : (c d1 d2 d3 : Content (IndexLink I T)) (at1 next1 at2 next2 prev3 : Option I) (at3 : I) (p gp n : ℕ) (b : Option ℕ)
-      → IsChained number c → ends_found number c p gp ≡ Some (b, Some n) → d1 ≡ with_next_of number c at1 next1
-      → d2 ≡ with_next_of number d1 at2 next2 → d3 ≡ with_prev_of number d2 (Some at3) prev3 → IsSome (entry_at d3 n)
-  next_live_after_three c d1 d2 d3 at1 next1 at2 next2 prev3 at3 p gp n b chained is first second third =
-      subst (λ x. IsSome (entry_at x n)) (sym third)
-      (live-with_link number d2 (number at3) (λ link. record link { prev = prev3 }) n
-      (next_live_after_two c d1 d2 at1 next1 at2 next2 p gp n b chained is first second))
-
-  pub exchanged_at : (c d1 d2 d3 d4 : Content (IndexLink I T)) (i j s t : I) (p gp q gq : ℕ) (b b' : Option ℕ) → IsChained number c → number i ≡ p
+  pub exchanged_at : (c d1 d2 : Content (IndexLink I T)) (i j s t : I) (p gp q gq : ℕ) (b b' : Option ℕ) → IsChained number c → number i ≡ p
       → number j ≡ q → ends_found number c p gp ≡ Some (b, Some (number s)) → ends_found number c q gq ≡ Some (b', Some (number t))
-      → d1 ≡ with_next_of number c (Some i) (Some t) → d2 ≡ with_next_of number d1 (Some j) (Some s) → d3 ≡ with_prev_of number d2 (Some t) (Some i)
-      → d4 ≡ with_prev_of number d3 (Some s) (Some j) → (m n : ℕ) → next_at (ends_in number c) p ≡ Some m → next_at (ends_in number c) q ≡ Some n
-      → Relinked (exchanged (ends_in number c) p q m n) c d4
-  exchanged_at c d1 d2 d3 d4 i j s t p gp q gq b b' chained is_p is_q at_p at_q first second third fourth m n next_p next_q =
+      → d1 ≡ with_prev_of number (with_next_of number c (Some i) (Some t)) (Some t) (Some i)
+      → d2 ≡ with_prev_of number (with_next_of number d1 (Some j) (Some s)) (Some s) (Some j) → (m n : ℕ) → next_at (ends_in number c) p ≡ Some m
+      → next_at (ends_in number c) q ≡ Some n → Relinked (exchanged (ends_in number c) p q m n) c d2
+  exchanged_at c d1 d2 i j s t p gp q gq b b' chained is_p is_q at_p at_q first second m n next_p next_q =
       let out_p = next_found c p gp (number s) b at_p in
       let out_q = next_found c q gq (number t) b' at_q in
       let both_p : Some (number s) ≡ Some m = sym out_p ∙ next_p in
@@ -257,9 +215,8 @@ module _ {I T : Type 0} (number : I → ℕ) where
       let m_is : number s ≡ m = cc in
       let n_is : number t ≡ n = cc in
       let e = ends_in number c in
-      let done =
-      exchanged_by c d1 d2 d3 d4 i j s t chained (ap (next_at e) is_p ∙ out_p) (ap (next_at e) is_q ∙ out_q) first second third fourth in
-      subst (λ x. Relinked (exchanged e p q m x) c d4) n_is
-      (subst (λ x. Relinked (exchanged e p q x (number t)) c d4) m_is
-      (subst (λ x. Relinked (exchanged e p x (number s) (number t)) c d4) is_q
-      (subst (λ x. Relinked (exchanged e x (number j) (number s) (number t)) c d4) is_p done)))
+      let done = exchanged_by c d1 d2 i j s t chained (ap (next_at e) is_p ∙ out_p) (ap (next_at e) is_q ∙ out_q) first second in
+      subst (λ x. Relinked (exchanged e p q m x) c d2) n_is
+      (subst (λ x. Relinked (exchanged e p q x (number t)) c d2) m_is
+      (subst (λ x. Relinked (exchanged e p x (number s) (number t)) c d2) is_q
+      (subst (λ x. Relinked (exchanged e x (number j) (number s) (number t)) c d2) is_p done)))

@@ -49,8 +49,19 @@ at_one p q s t false false false true (Some v) = refl
 at_one p q s t false false false false None = refl
 at_one p q s t false false false false (Some v) = refl
 
+-- a write of a next and one of a previous one may change places
+either_first : (a b : Bool) (n m : Option ℕ) (o : Option Ends) → next_where a n (prev_where b m o) ≡ prev_where b m (next_where a n o)
+either_first false b n m o = refl
+either_first true false n m o = refl
+either_first true true n m None = refl
+either_first true true n m (Some v) = refl
+
 module _ (e : ℕ → Option Ends) (p q s t : ℕ) where
-  -- an exchange is two cuts and two joins
+  -- an exchange is two joins
+  pub linked_twice : (i : ℕ) → linked (linked e p t) q s i ≡ exchanged e p q s t i
+  linked_twice i = ap (prev_where (eqb i s) (Some q)) (either_first (eqb i q) (eqb i t) (Some s) (Some p) (next_where (eqb i p) (Some t) (e i)))
+
+  -- it is also two cuts and two joins
   pub exchanged_is : (i : ℕ) → exchanged e p q s t i ≡ linked (linked (unlinked (unlinked e p s) q t) p t) q s i
   exchanged_is i = at_one p q s t (eqb i p) (eqb i q) (eqb i s) (eqb i t) (e i)
 

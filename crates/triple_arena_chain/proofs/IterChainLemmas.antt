@@ -5,7 +5,7 @@ use Rattle.triple_arena_chain.specs.declared.link.IndexLink.{IndexLink}
 use Rattle.triple_arena_chain.specs.IterChains.{link_and, links_along}
 use Rattle.triple_arena_chain.specs.Links.{ends_in, values_in}
 use Rattle.triple_arena_chain.specs.Walks.{ChainWalk, Leaves, ChainSteps, left_over, IsEnding}
-use Rattle.triple_arena_chain.specs.WalkLaws.{steps-left, left-after, left-none}
+use Rattle.triple_arena_chain.specs.WalkLaws.{steps-left, left-after}
 use Rattle.triple_arena.specs.ContentLaws.{entry_seen}
 
 module _ {I T : Type 0} (number : I → ℕ) (c : Content (IndexLink I T)) where
@@ -15,11 +15,6 @@ module _ {I T : Type 0} (number : I → ℕ) (c : Content (IndexLink I T)) where
   link_given w on i g l ends step is =
       let left = (left-after number c w (i, g) on ends step).0 in
       ap (links_along (entry_at c)) left ∙ ap (λ o. link_and i o (links_along (entry_at c) (left_over number c on))) (entry_seen g (entry_at c i) l is)
-
-  -- where none is given none is left
-  pub none_given : (w on : ChainWalk) → IsEnding number c w → ChainSteps (ends_in number c) (values_in c) w None on
-      → links_along (entry_at c) (left_over number c w) ≡ []
-  none_given w on ends step = ap (links_along (entry_at c)) (left-none number c w on ends step)
 
   -- a walk goes on to its end
   pub still_ending : (w on : ChainWalk) (o : Option (ℕ × ℕ)) → IsEnding number c w → ChainSteps (ends_in number c) (values_in c) w o on

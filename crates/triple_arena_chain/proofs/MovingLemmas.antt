@@ -14,7 +14,7 @@ use Rattle.triple_arena.specs.Content.{AllVacant, Content, entry_at, live_count,
 use Rattle.triple_arena_chain.specs.declared.link.IndexLink.{IndexLink}
 use Rattle.triple_arena_chain.specs.Chains.{Ends, next_in, prev_in, next_at, prev_at, IsAgreed, first_or, last_or, Off, On, Apart, reprev, with_prev}
 use Rattle.triple_arena_chain.specs.ChainLaws.{off_or_on, last_or-append}
-use Rattle.triple_arena_chain.specs.ListLaws.{On-first, On-back, On-split, Apart-split, Apart-append, on_differs, off_or_not, of_live, holds_next}
+use Rattle.triple_arena_chain.specs.ListLaws.{On-back, On-split, Apart-split, Apart-append, on_differs, off_or_not, of_live, holds_next}
 use Rattle.triple_arena_chain.specs.Lists.{Chain, members, all_members, IsChainOf}
 use Rattle.triple_arena_chain.specs.LinkLaws.{values-with_prev_of}
 use Rattle.triple_arena_chain.specs.Links.{valued, values_in, entry_ends, ends_in, with_prev_of, IsChained}
@@ -94,7 +94,6 @@ module _ {Q U P T J I F : Type 0} (old_index old_generation : Q → ℕ) (index 
     pub further : (j : ℕ) (into' : Content (IndexLink I T)) → (next ≡ Some j) × (j ≢ start) × (into' ≡ into) → IsOnWay k start j first (Some place) f' from into'
     pub over : (into' : Content (IndexLink I T)) (x y : I) → number x ≡ first → number y ≡ place
         → ((next ≡ None) × (into' ≡ into)) ⊎ ((next ≡ Some start) × (into' ≡ with_prev_of number into (Some x) (Some y))) → AreChainsMoved (k + 1) f' from into'
-    pub first_live : IsSome (entry_at into first)
 
   -- the same links under other names that are the same for them
   moved_as : (order order' : List ℕ) (to to' : ℕ → ℕ) (wanted wanted' : ℕ → Option Ends) (f' : F) (from : Content (IndexLink J U)) (into : Content (IndexLink I T))
@@ -541,27 +540,4 @@ module _ {Q U P T J I F : Type 0} (old_index old_generation : Q → ℕ) (index 
                   | inl t ↦ subst (AreChainsMoved (k + 1) f'' from') (sym t.1) (chain_ends f'' from' into' (sym same ∙ t.0) moved)
                   | inr t ↦ chain_closes f'' from' into' into'' y z (sym same ∙ t.0) y_is (z_is ∙ count_is) t.1 moved
                 ];
-            first_live = first_there moved;
           }
-        where
-          first_there : AreMoved (order ++ at ∷ []) to (with_prev held start None) f'' from' into' → IsSome (entry_at into' first)
-          first_there moved =
-              let begun = hand_begun held w.done start k w.chain w.hand in
-              let on : On (order ++ at ∷ []) start =
-              subst (λ l. On l start) (sym (append_assoc (all_members w.done) w.front (at ∷ [])))
-              (On-back (all_members w.done) (w.front ++ at ∷ []) start (start_on w.front w.split)) in
-              subst (λ n. IsSome (entry_at into' n)) (sym to_start)
-              (sym (live_ends number into' (to start))
-              ∙ ap is_some
-              (moved.placed.ends start on
-              ∙ ap (option_map (ends_renamed to)) (opened_at held w.done start k w.chain w.hand [] begun.0 start begun.1)))
-            where
-              start_on : (front : List ℕ) → members w.chain ≡ front ++ at ∷ w.back → On (front ++ at ∷ []) start
-              start_on [] split =
-                  let both : Some at ≡ Some start = sym (ap (λ l. first_or l None) split) ∙ w.hand.begins in
-                  let same : at ≡ start = cc in
-                  subst (On (at ∷ [])) same (On-first at [])
-              start_on (x ∷ xs) split =
-                  let both : Some x ≡ Some start = sym (ap (λ l. first_or l None) split) ∙ w.hand.begins in
-                  let same : x ≡ start = cc in
-                  subst (On (x ∷ xs ++ at ∷ [])) same (On-first x (xs ++ at ∷ []))

@@ -1,32 +1,25 @@
 -- A link that is taken out of its chain.
-use Rattle.std.proofs.Common.{◌≡◌, ◌==◌, if◌then◌else◌, ℕ, ◌-◌, ◌∷◌, length, Option, Some, None, IsSome, IfSome, IfNone, OnSome, is_some, option_map, refl, sym, ap, subst, ◌∙◌, inl, inr}
+use Rattle.std.proofs.Common.{◌≡◌, ◌==◌, if◌then◌else◌, ℕ, ◌-◌, ◌∷◌, length, Option, Some, None, IsSome}
+use Rattle.std.proofs.Common.{IfSome, IfNone, OnSome, is_some, option_map, refl, sym, ap, ◌∙◌, inl, inr}
 use Rattle.std.proofs.lemmas.Bool.{eq-eqb}
 use Rattle.std.proofs.lemmas.Bool.Decides.{eqb_tells}
 use Rattle.triple_arena_ptr.specs.Generation.{next_generation}
 use Rattle.triple_arena.specs.Entries.{value_if}
-use Rattle.triple_arena.specs.Content.{Content, entry_at, removed, IsWellFormed}
+use Rattle.triple_arena.specs.Content.{Content, entry_at, removed}
 use Rattle.triple_arena.specs.ContentLaws.{entry_seen}
 use Rattle.triple_arena.specs.RemovalLaws.{entry-removed, live-removed, counter-removed, free-removed, slots-removed, room-removed, formed-removed}
 use Rattle.triple_arena_chain.specs.declared.link.IndexLink.{IndexLink}
-use Rattle.triple_arena_chain.specs.Chains.{Ends, with_next_if, dropped, bridged, taken_from, next_in, prev_in}
+use Rattle.triple_arena_chain.specs.Chains.{dropped, bridged, taken_from, next_in, prev_in}
 use Rattle.triple_arena_chain.specs.declared.place.Place.TheVariants.{Between}
-use Rattle.triple_arena_chain.specs.Links.{valued, values_in, entry_ends, ends_in, with_next_of, with_prev_of, bridged_over, link_removed, link_removed_of, AreNeighborsLive, IsKept, IsChained, IsTakenOut}
-use Rattle.triple_arena_chain.specs.LinkLaws.{neighbor-with_next_of, entry-with_link, ends-with_next_of, ends-with_prev_of, values-with_next_of, values-with_prev_of, kept-with_next_of, kept-with_prev_of, kept_on, formed-with_next_of, formed-with_prev_of}
+use Rattle.triple_arena_chain.specs.Links.{valued, entry_ends, ends_in, with_next_of, with_prev_of, bridged_over, link_removed, link_removed_of, AreNeighborsLive, IsChained, IsTakenOut}
+use Rattle.triple_arena_chain.specs.LinkLaws.{entry-with_link}
 use Rattle.triple_arena_chain.specs.TakenLaws.{is_taken}
 use Rattle.triple_arena_chain.specs.ChainLaws.{IsAgreed-same}
-use Rattle.triple_arena_chain.proofs.InsertionLemmas.{with_prev_if-same}
-use Rattle.triple_arena_chain.proofs.ConnectionLemmas.{live_next, live_prev}
+use Rattle.triple_arena_chain.proofs.ConnectionLemmas.{both_written, both_formed, live_next, live_prev}
 use Rattle.triple_arena_chain.proofs.TakeOutLemmas.{IsAgreed-taken}
 
 some_is : {A : Type 0} {a b : A} → Some a ≡ Some b → a ≡ b
 some_is h = cc
-
-dropped-same : (e f : ℕ → Option Ends) (p k : ℕ) → f k ≡ e k → dropped f p k ≡ dropped e p k
-dropped-same e f p k same =
-    elim (eqb_tells k p) [
-      | inl is ↦ rw is.0 refl
-      | inr differs ↦ rw differs.0 same
-    ]
 
 module _ {I T : Type 0} (number : I → ℕ) where
   -- what a link names is live
@@ -71,29 +64,6 @@ module _ {I T : Type 0} (number : I → ℕ) where
   pub entry-bridged : (c : Content (IndexLink I T)) (p g : ℕ) (l : IndexLink I T) → entry_at c p ≡ Some (g, l) → entry_at (bridged_over number c l) p ≡ Some (g, l)
   entry-bridged c p g l at = prev_again (with_next_of number c l.prev l.next) p g l l.next (next_again c p g l l.prev at)
 
-  ends-bridged : (c : Content (IndexLink I T)) (l : IndexLink I T) (k : ℕ)
-      → ends_in number (bridged_over number c l) k ≡ bridged (ends_in number c) (option_map number l.prev) (option_map number l.next) k
-  ends-bridged c l k =
-      let one = with_next_of number c l.prev l.next in
-      ends-with_prev_of number one l.next l.prev k
-      ∙ with_prev_if-same (with_next_if (ends_in number c) (option_map number l.prev) (option_map number l.next)) (ends_in number one) (option_map number l.next)
-      (option_map number l.prev)
-      (ends-with_next_of number c l.prev l.next)
-      k
-
-  values-bridged : (c : Content (IndexLink I T)) (l : IndexLink I T) (k : ℕ) → values_in (bridged_over number c l) k ≡ values_in c k
-  values-bridged c l k =
-      values-with_prev_of number (with_next_of number c l.prev l.next) l.next l.prev k ∙ values-with_next_of number c l.prev l.next k
-
-  kept-bridged : (c : Content (IndexLink I T)) (l : IndexLink I T) → IsKept c (bridged_over number c l)
-  kept-bridged c l =
-      let one = with_next_of number c l.prev l.next in
-      kept_on c one (bridged_over number c l) (kept-with_next_of number c l.prev l.next) (kept-with_prev_of number one l.next l.prev)
-
-  formed-bridged : (c : Content (IndexLink I T)) (l : IndexLink I T) → IsWellFormed c → IsWellFormed (bridged_over number c l)
-  formed-bridged c l formed =
-      formed-with_prev_of number (with_next_of number c l.prev l.next) l.next l.prev (formed-with_next_of number c l.prev l.next formed)
-
   pub record TakenOut (last : Option ℕ) (p : ℕ) (c new : Content (IndexLink I T)) : Type 0 where
     pub taken : IsTakenOut number last p c new
     pub chained : IsChained number new
@@ -108,13 +78,14 @@ module _ {I T : Type 0} (number : I → ℕ) where
       let n = option_map number l.next in
       let own : e p ≡ Some (b, n) = ap (option_map (entry_ends number)) at in
       let live : IsSome (entry_at d p) = ap is_some (entry-bridged c p g l at) in
-      let kept = kept-bridged c l in
+      let joined_by = both_written number c d l.prev l.next l.next l.prev refl in
+      let kept = joined_by.kept in
       let is : new ≡ removed last d p = remove ∙ ap (λ x. removed last x p) join in
       let dropped_ends : (k : ℕ) → ends_in number (removed last d p) k ≡ dropped (bridged e b n) p k =
       λ k. ap (option_map (entry_ends number)) (entry-removed last d p live k)
       ∙ elim (eqb_tells k p) [
         | inl same ↦ rw same.0 refl
-        | inr differs ↦ rw differs.0 (ends-bridged c l k)
+        | inr differs ↦ rw differs.0 (joined_by.ends k)
       ] in
       let ends : (k : ℕ) → ends_in number (removed last d p) k ≡ taken_from e p (e p) k = λ k. dropped_ends k ∙ ap (λ o. taken_from e p o k) (sym own) in
       rw is
@@ -126,7 +97,7 @@ module _ {I T : Type 0} (number : I → ℕ) where
               ap (option_map valued) (entry-removed last d p live k)
               ∙ elim (eqb_tells k p) [
                 | inl same ↦ rw same.0 refl
-                | inr differs ↦ rw differs.0 (values-bridged c l k)
+                | inr differs ↦ rw differs.0 (joined_by.values k)
               ];
           live = live-removed last d p live ∙ kept.live;
           counter = counter-removed last d p ∙ ap (next_generation last) kept.counter;
@@ -139,17 +110,10 @@ module _ {I T : Type 0} (number : I → ℕ) where
           room = room-removed last d p ∙ kept.room;
         };
         chained = record {
-          formed = formed-removed last d p live (formed-bridged c l chained.formed);
+          formed = formed-removed last d p live (both_formed number c d l.prev l.next l.next l.prev refl chained.formed);
           agreed = IsAgreed-same (dropped (bridged e b n) p) (ends_in number (removed last d p)) dropped_ends (IsAgreed-taken e p b n own chained.agreed);
         };
       })
-
-  -- the neighbors of a link are live, also once a next was written
-  pub neighbor_live_after : (c d : Content (IndexLink I T)) (p g : ℕ) (l : IndexLink I T) → IsChained number c → entry_at c p ≡ Some (g, l)
-      → d ≡ with_next_of number c l.prev l.next → IfSome l.next (λ i. IsSome (entry_at d (number i)))
-  neighbor_live_after c d p g l chained at written =
-      subst (λ x. IfSome l.next (λ i. IsSome (entry_at x (number i)))) (sym written)
-      (neighbor-with_next_of number c l.prev l.next l.next (neighbors_live c p g l chained at).1)
 
   -- a removal, of which the answer tells what is seen of the entry
   pub record Removed {A V : Type 0} (f : A → V) (r : Option A) (link_of : A → IndexLink I T) (seen : Option (ℕ × IndexLink I T) → Option V)
@@ -161,28 +125,24 @@ module _ {I T : Type 0} (number : I → ℕ) where
     pub chained : IsChained number new
 
   pub removed_by : {A V : Type 0} (f : A → V) (r : Option A) (link_of : A → IndexLink I T) (seen : Option (ℕ × IndexLink I T) → Option V) (last : Option ℕ)
-      (c d1 d2 new : Content (IndexLink I T)) (p g : ℕ) (l : IndexLink I T) (v : V) → IsChained number c → entry_at c p ≡ Some (g, l)
-      → seen (Some (g, l)) ≡ Some v → d1 ≡ with_next_of number c l.prev l.next → d2 ≡ with_prev_of number d1 l.next l.prev
-      → option_map f r ≡ seen (entry_at d2 p) → OnSome r (new ≡ removed last d2 p) → ((a : A) → f a ≡ v → link_of a ≡ l)
-      → Removed f r link_of seen last p c new
-  removed_by f r link_of seen last c d1 d2 new p g l v chained at shown first second value remove told = by r value remove
+      (c d new : Content (IndexLink I T)) (p g : ℕ) (l : IndexLink I T) (v : V) → IsChained number c → entry_at c p ≡ Some (g, l)
+      → seen (Some (g, l)) ≡ Some v → d ≡ bridged_over number c l → option_map f r ≡ seen (entry_at d p) → OnSome r (new ≡ removed last d p)
+      → ((a : A) → f a ≡ v → link_of a ≡ l) → Removed f r link_of seen last p c new
+  removed_by f r link_of seen last c d new p g l v chained at shown join value remove told = by r value remove
     where
-      join : d2 ≡ bridged_over number c l
-      join = second ∙ ap (λ d. with_prev_of number d l.next l.prev) first
+      same : entry_at d p ≡ entry_at c p
+      same = ap (λ x. entry_at x p) join ∙ entry-bridged c p g l at ∙ sym at
 
-      same : entry_at d2 p ≡ entry_at c p
-      same = ap (λ d. entry_at d p) join ∙ entry-bridged c p g l at ∙ sym at
-
-      by : (o : Option _) → option_map f o ≡ seen (entry_at d2 p) → OnSome o (new ≡ removed last d2 p) → Removed f o link_of seen last p c new
+      by : (o : Option _) → option_map f o ≡ seen (entry_at d p) → OnSome o (new ≡ removed last d p) → Removed f o link_of seen last p c new
       by None is gone = absurd (let no : None ≡ Some v = is ∙ ap seen (same ∙ at) ∙ shown in cc)
       by (Some a) is gone =
-          let t = taken_out_by last c d2 new p g l chained at join gone in
+          let t = taken_out_by last c d new p g l chained at join gone in
           let given : Some (f a) ≡ Some v = is ∙ ap seen (same ∙ at) ∙ shown in
           let link_is = told a (some_is given) in
           record {
             value = is ∙ ap seen same;
             taken = t.taken;
-            exact = gone ∙ ap (λ d. removed last d p) (join ∙ ap (bridged_over number c) (sym link_is));
+            exact = gone ∙ ap (λ x. removed last x p) (join ∙ ap (bridged_over number c) (sym link_is));
             none = tt;
             chained = t.chained;
           }

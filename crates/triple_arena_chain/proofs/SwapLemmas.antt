@@ -5,7 +5,7 @@ use Rattle.std.proofs.lemmas.Bool.Decides.{eqb_tells}
 use Rattle.triple_arena_chain.specs.Chains.{Ends, renext, reprev, with_next_if, with_prev_if, IsAgreed, next_at, prev_at, next_in, prev_in}
 use Rattle.triple_arena_chain.specs.Renaming.{ends_renamed}
 use Rattle.triple_arena_chain.specs.CanonicalLayout.{swapped_index, under}
-use Rattle.triple_arena_chain.proofs.PlaceLemmas.{is_it, next-with_prev_if, prev-with_next_if, next-hit, next-miss, prev-hit, prev-miss}
+use Rattle.triple_arena_chain.proofs.PlaceLemmas.{is_it, next-with_prev_if, prev-with_next_if, next-hit, next-miss, prev-hit, prev-miss, valid-with_next_if}
 
 pub ends_by_parts : (o r : Option Ends) → is_some o ≡ is_some r → next_in o ≡ next_in r → prev_in o ≡ prev_in r → o ≡ r
 ends_by_parts None None v n p = refl
@@ -68,19 +68,25 @@ module _ (i j : ℕ) where
             ]
       ]
 
--- one write, seen at one index
-next_step : (f g : ℕ → Option Ends) (o n t : Option ℕ) (k : ℕ) (v : Ends) → f k ≡ Some v → g k ≡ with_next_if f o n k → (o ≡ Some k → n ≡ t) → (o ≢ Some k → next_at f k ≡ t) → next_at g k ≡ t
-next_step f g o n t k v found written hits misses =
-    elim (is_it o k) [
-      | inl hit ↦ ap next_in written ∙ next-hit f o n k v hit found ∙ hits hit
-      | inr miss ↦ ap next_in written ∙ next-miss f o n k miss ∙ misses miss
+-- a write of a next and one of a previous one, seen at one index
+next_step : (f g : ℕ → Option Ends) (o n o' m t : Option ℕ) (k : ℕ) (v : Ends) → f k ≡ Some v → g k ≡ with_prev_if (with_next_if f o n) o' m k
+    → (o ≡ Some k → n ≡ t) → (o ≢ Some k → next_at f k ≡ t) → next_at g k ≡ t
+next_step f g o n o' m t k v found written hits misses =
+    ap next_in written
+    ∙ next-with_prev_if (with_next_if f o n) o' m k
+    ∙ elim (is_it o k) [
+      | inl hit ↦ next-hit f o n k v hit found ∙ hits hit
+      | inr miss ↦ next-miss f o n k miss ∙ misses miss
     ]
 
-prev_step : (f g : ℕ → Option Ends) (o n t : Option ℕ) (k : ℕ) (v : Ends) → f k ≡ Some v → g k ≡ with_prev_if f o n k → (o ≡ Some k → n ≡ t) → (o ≢ Some k → prev_at f k ≡ t) → prev_at g k ≡ t
-prev_step f g o n t k v found written hits misses =
-    elim (is_it o k) [
-      | inl hit ↦ ap prev_in written ∙ prev-hit f o n k v hit found ∙ hits hit
-      | inr miss ↦ ap prev_in written ∙ prev-miss f o n k miss ∙ misses miss
+prev_step : (f g : ℕ → Option Ends) (o n o' m t : Option ℕ) (k : ℕ) (v : Ends) → f k ≡ Some v → g k ≡ with_prev_if (with_next_if f o n) o' m k
+    → (o' ≡ Some k → m ≡ t) → (o' ≢ Some k → prev_at f k ≡ t) → prev_at g k ≡ t
+prev_step f g o n o' m t k v found written hits misses =
+    let w = valid-with_next_if f o n k v found in
+    ap prev_in written
+    ∙ elim (is_it o' k) [
+      | inl hit ↦ prev-hit (with_next_if f o n) o' m k w.0 hit w.1 ∙ hits hit
+      | inr miss ↦ prev-miss (with_next_if f o n) o' m k miss ∙ prev-with_next_if f o n k ∙ misses miss
     ]
 
 some_next : (f g : ℕ → Option Ends) (o n : Option ℕ) (k : ℕ) → g k ≡ with_next_if f o n k → is_some (g k) ≡ is_some (f k)
@@ -107,6 +113,9 @@ some_prev f g (Some x) n k written =
     by None = refl
     by (Some v) = refl
 
+some_step : (f g : ℕ → Option Ends) (o n o' m : Option ℕ) (k : ℕ) → g k ≡ with_prev_if (with_next_if f o n) o' m k → is_some (g k) ≡ is_some (f k)
+some_step f g o n o' m k written = some_prev (with_next_if f o n) g o' m k written ∙ some_next f (with_next_if f o n) o n k refl
+
 found_of : (o r : Option Ends) (v : Ends) → is_some o ≡ is_some r → r ≡ Some v → (w : Ends) × (o ≡ Some w)
 found_of None r v same is = absurd (let s = same ∙ ap is_some is in cc)
 found_of (Some w) r v same is = (w, refl)
@@ -115,7 +124,7 @@ none_of : (o r : Option Ends) → is_some o ≡ is_some r → r ≡ None → o �
 none_of None r same is = refl
 none_of (Some w) r same is = absurd (let s = same ∙ ap is_some is in cc)
 
--- the links at `i` and `j` were exchanged as they are, and then eight interlinks were written
+-- the links at `i` and `j` were exchanged as they are, and then four pairs of interlinks were written
 module _ (e : ℕ → Option Ends) (agreed : IsAgreed e) (i j : ℕ) (u v : Ends) (at_i : e i ≡ Some u) (at_j : e j ≡ Some v) where
   abbrev by_name : ℕ → ℕ
   by_name = swapped_index i j
@@ -132,7 +141,7 @@ module _ (e : ℕ → Option Ends) (agreed : IsAgreed e) (i j : ℕ) (u v : Ends
   unnamed : (o : Option ℕ) (k : ℕ) → option_map by_name o ≡ Some k → o ≡ Some (by_name k)
   unnamed = named (swapped_index i j) (swap_twice i j) e
 
-  -- what the eight writes are to leave there
+  -- what the writes are to leave there
   next_at_i : next_at r i ≡ option_map by_name v.1
   next_at_i = next_r i ∙ ap (λ x. option_map by_name (next_at e x)) (swap_i i j) ∙ ap (λ o. option_map by_name (next_in o)) at_j
 
@@ -184,86 +193,56 @@ module _ (e : ℕ → Option Ends) (agreed : IsAgreed e) (i j : ℕ) (u v : Ends
       let to_j : prev_at e k ≢ Some j = λ h. not_v (ap (option_map by_name) (sym (ap next_in at_j) ∙ agreed.backward j k h) ∙ ap Some is) in
       ap (prev_at e) is ∙ sym (prev_r k ∙ ap (λ x. option_map by_name (prev_at e x)) is ∙ other_option (prev_at e k) to_i to_j)
 
-  pub moved : (f0 f1 f2 f3 f4 f5 f6 f7 f8 : ℕ → Option Ends) → ((k : ℕ) → f0 k ≡ e (swapped_index i j k))
-      → ((k : ℕ) → f1 k ≡ with_next_if f0 (Some i) (option_map (swapped_index i j) v.1) k)
-      → ((k : ℕ) → f2 k ≡ with_next_if f1 (Some j) (option_map (swapped_index i j) u.1) k)
-      → ((k : ℕ) → f3 k ≡ with_next_if f2 (option_map (swapped_index i j) v.0) (Some i) k)
-      → ((k : ℕ) → f4 k ≡ with_next_if f3 (option_map (swapped_index i j) u.0) (Some j) k)
-      → ((k : ℕ) → f5 k ≡ with_prev_if f4 (Some i) (option_map (swapped_index i j) v.0) k)
-      → ((k : ℕ) → f6 k ≡ with_prev_if f5 (Some j) (option_map (swapped_index i j) u.0) k)
-      → ((k : ℕ) → f7 k ≡ with_prev_if f6 (option_map (swapped_index i j) v.1) (Some i) k)
-      → ((k : ℕ) → f8 k ≡ with_prev_if f7 (option_map (swapped_index i j) u.1) (Some j) k) → (k : ℕ) → f8 k ≡ under (swapped_index i j) e k
-  moved f0 f1 f2 f3 f4 f5 f6 f7 f8 w0 w1 w2 w3 w4 w5 w6 w7 w8 k = by (e (swapped_index i j k)) refl
+  pub moved : (f0 f1 f2 f3 f4 : ℕ → Option Ends) → ((k : ℕ) → f0 k ≡ e (swapped_index i j k))
+      → ((k : ℕ) → f1 k ≡ with_prev_if (with_next_if f0 (Some i) (option_map (swapped_index i j) v.1)) (Some i) (option_map (swapped_index i j) v.0) k)
+      → ((k : ℕ) → f2 k ≡ with_prev_if (with_next_if f1 (Some j) (option_map (swapped_index i j) u.1)) (Some j) (option_map (swapped_index i j) u.0) k)
+      → ((k : ℕ) → f3 k ≡ with_prev_if (with_next_if f2 (option_map (swapped_index i j) v.0) (Some i)) (option_map (swapped_index i j) v.1) (Some i) k)
+      → ((k : ℕ) → f4 k ≡ with_prev_if (with_next_if f3 (option_map (swapped_index i j) u.0) (Some j)) (option_map (swapped_index i j) u.1) (Some j) k)
+      → (k : ℕ) → f4 k ≡ under (swapped_index i j) e k
+  moved f0 f1 f2 f3 f4 w0 w1 w2 w3 w4 k = by (e (swapped_index i j k)) refl
     where
       s0 : is_some (f0 k) ≡ is_some (e (swapped_index i j k))
       s0 = ap is_some (w0 k)
 
       s1 : is_some (f1 k) ≡ is_some (e (swapped_index i j k))
-      s1 = some_next f0 f1 (Some i) (option_map (swapped_index i j) v.1) k (w1 k) ∙ s0
+      s1 = some_step f0 f1 (Some i) (option_map by_name v.1) (Some i) (option_map by_name v.0) k (w1 k) ∙ s0
 
       s2 : is_some (f2 k) ≡ is_some (e (swapped_index i j k))
-      s2 = some_next f1 f2 (Some j) (option_map (swapped_index i j) u.1) k (w2 k) ∙ s1
+      s2 = some_step f1 f2 (Some j) (option_map by_name u.1) (Some j) (option_map by_name u.0) k (w2 k) ∙ s1
 
       s3 : is_some (f3 k) ≡ is_some (e (swapped_index i j k))
-      s3 = some_next f2 f3 (option_map (swapped_index i j) v.0) (Some i) k (w3 k) ∙ s2
+      s3 = some_step f2 f3 (option_map by_name v.0) (Some i) (option_map by_name v.1) (Some i) k (w3 k) ∙ s2
 
       s4 : is_some (f4 k) ≡ is_some (e (swapped_index i j k))
-      s4 = some_next f3 f4 (option_map (swapped_index i j) u.0) (Some j) k (w4 k) ∙ s3
-
-      s5 : is_some (f5 k) ≡ is_some (e (swapped_index i j k))
-      s5 = some_prev f4 f5 (Some i) (option_map (swapped_index i j) v.0) k (w5 k) ∙ s4
-
-      s6 : is_some (f6 k) ≡ is_some (e (swapped_index i j k))
-      s6 = some_prev f5 f6 (Some j) (option_map (swapped_index i j) u.0) k (w6 k) ∙ s5
-
-      s7 : is_some (f7 k) ≡ is_some (e (swapped_index i j k))
-      s7 = some_prev f6 f7 (option_map (swapped_index i j) v.1) (Some i) k (w7 k) ∙ s6
-
-      s8 : is_some (f8 k) ≡ is_some (e (swapped_index i j k))
-      s8 = some_prev f7 f8 (option_map (swapped_index i j) u.1) (Some j) k (w8 k) ∙ s7
+      s4 = some_step f3 f4 (option_map by_name u.0) (Some j) (option_map by_name u.1) (Some j) k (w4 k) ∙ s3
 
       some_r : (o : Option Ends) → is_some (option_map (ends_renamed (swapped_index i j)) o) ≡ is_some o
       some_r None = refl
       some_r (Some w) = refl
 
-      by : (o : Option Ends) → e (swapped_index i j k) ≡ o → f8 k ≡ under (swapped_index i j) e k
-      by None is = none_of (f8 k) (e (swapped_index i j k)) s8 is ∙ sym (ap (option_map (ends_renamed (swapped_index i j))) is)
+      by : (o : Option Ends) → e (swapped_index i j k) ≡ o → f4 k ≡ under (swapped_index i j) e k
+      by None is = none_of (f4 k) (e (swapped_index i j k)) s4 is ∙ sym (ap (option_map (ends_renamed (swapped_index i j))) is)
       by (Some x) is =
           let x0 = found_of (f0 k) (e (swapped_index i j k)) x s0 is in
           let x1 = found_of (f1 k) (e (swapped_index i j k)) x s1 is in
           let x2 = found_of (f2 k) (e (swapped_index i j k)) x s2 is in
           let x3 = found_of (f3 k) (e (swapped_index i j k)) x s3 is in
-          let x4 = found_of (f4 k) (e (swapped_index i j k)) x s4 is in
-          let x5 = found_of (f5 k) (e (swapped_index i j k)) x s5 is in
-          let x6 = found_of (f6 k) (e (swapped_index i j k)) x s6 is in
-          let x7 = found_of (f7 k) (e (swapped_index i j k)) x s7 is in
           let nexts : next_at f4 k ≡ next_at r k =
-          next_step f3 f4 (option_map (swapped_index i j) u.0) (Some j) (next_at r k) k x3.0 x3.1 (w4 k) (λ h. sym (next_before_i k h))
+          next_step f3 f4 (option_map by_name u.0) (Some j) (option_map by_name u.1) (Some j) (next_at r k) k x3.0 x3.1 (w4 k) (λ h. sym (next_before_i k h))
           (λ not_u.
-          next_step f2 f3 (option_map (swapped_index i j) v.0) (Some i) (next_at r k) k x2.0 x2.1 (w3 k) (λ h. sym (next_before_j k h))
+          next_step f2 f3 (option_map by_name v.0) (Some i) (option_map by_name v.1) (Some i) (next_at r k) k x2.0 x2.1 (w3 k) (λ h. sym (next_before_j k h))
           (λ not_v.
-          next_step f1 f2 (Some j) (option_map (swapped_index i j) u.1) (next_at r k) k x1.0 x1.1 (w2 k) (λ h. let is_j : j ≡ k = cc in sym next_at_j ∙ ap (next_at r) is_j)
+          next_step f1 f2 (Some j) (option_map by_name u.1) (Some j) (option_map by_name u.0) (next_at r k) k x1.0 x1.1 (w2 k) (λ h. let is_j : j ≡ k = cc in sym next_at_j ∙ ap (next_at r) is_j)
           (λ not_j.
-          next_step f0 f1 (Some i) (option_map (swapped_index i j) v.1) (next_at r k) k x0.0 x0.1 (w1 k) (λ h. let is_i : i ≡ k = cc in sym next_at_i ∙ ap (next_at r) is_i)
+          next_step f0 f1 (Some i) (option_map by_name v.1) (Some i) (option_map by_name v.0) (next_at r k) k x0.0 x0.1 (w1 k) (λ h. let is_i : i ≡ k = cc in sym next_at_i ∙ ap (next_at r) is_i)
           (λ not_i. ap next_in (w0 k) ∙ next_stays k (λ same. not_i (ap Some (sym same))) (λ same. not_j (ap Some (sym same))) not_v not_u)))) in
-          let prevs_before : prev_at f4 k ≡ prev_at e (swapped_index i j k) =
-          ap prev_in (w4 k) ∙ prev-with_next_if f3 (option_map (swapped_index i j) u.0) (Some j) k
-          ∙ ap prev_in (w3 k) ∙ prev-with_next_if f2 (option_map (swapped_index i j) v.0) (Some i) k
-          ∙ ap prev_in (w2 k) ∙ prev-with_next_if f1 (Some j) (option_map (swapped_index i j) u.1) k
-          ∙ ap prev_in (w1 k) ∙ prev-with_next_if f0 (Some i) (option_map (swapped_index i j) v.1) k
-          ∙ ap prev_in (w0 k) in
-          let nexts_after : next_at f8 k ≡ next_at f4 k =
-          ap next_in (w8 k) ∙ next-with_prev_if f7 (option_map (swapped_index i j) u.1) (Some j) k
-          ∙ ap next_in (w7 k) ∙ next-with_prev_if f6 (option_map (swapped_index i j) v.1) (Some i) k
-          ∙ ap next_in (w6 k) ∙ next-with_prev_if f5 (Some j) (option_map (swapped_index i j) u.0) k
-          ∙ ap next_in (w5 k) ∙ next-with_prev_if f4 (Some i) (option_map (swapped_index i j) v.0) k in
-          let prevs : prev_at f8 k ≡ prev_at r k =
-          prev_step f7 f8 (option_map (swapped_index i j) u.1) (Some j) (prev_at r k) k x7.0 x7.1 (w8 k) (λ h. sym (prev_after_i k h))
+          let prevs : prev_at f4 k ≡ prev_at r k =
+          prev_step f3 f4 (option_map by_name u.0) (Some j) (option_map by_name u.1) (Some j) (prev_at r k) k x3.0 x3.1 (w4 k) (λ h. sym (prev_after_i k h))
           (λ not_u.
-          prev_step f6 f7 (option_map (swapped_index i j) v.1) (Some i) (prev_at r k) k x6.0 x6.1 (w7 k) (λ h. sym (prev_after_j k h))
+          prev_step f2 f3 (option_map by_name v.0) (Some i) (option_map by_name v.1) (Some i) (prev_at r k) k x2.0 x2.1 (w3 k) (λ h. sym (prev_after_j k h))
           (λ not_v.
-          prev_step f5 f6 (Some j) (option_map (swapped_index i j) u.0) (prev_at r k) k x5.0 x5.1 (w6 k) (λ h. let is_j : j ≡ k = cc in sym prev_at_j ∙ ap (prev_at r) is_j)
+          prev_step f1 f2 (Some j) (option_map by_name u.1) (Some j) (option_map by_name u.0) (prev_at r k) k x1.0 x1.1 (w2 k) (λ h. let is_j : j ≡ k = cc in sym prev_at_j ∙ ap (prev_at r) is_j)
           (λ not_j.
-          prev_step f4 f5 (Some i) (option_map (swapped_index i j) v.0) (prev_at r k) k x4.0 x4.1 (w5 k) (λ h. let is_i : i ≡ k = cc in sym prev_at_i ∙ ap (prev_at r) is_i)
-          (λ not_i. prevs_before ∙ prev_stays k (λ same. not_i (ap Some (sym same))) (λ same. not_j (ap Some (sym same))) not_v not_u)))) in
-          ends_by_parts (f8 k) (under (swapped_index i j) e k) (s8 ∙ sym (some_r (e (swapped_index i j k)))) (nexts_after ∙ nexts) prevs
+          prev_step f0 f1 (Some i) (option_map by_name v.1) (Some i) (option_map by_name v.0) (prev_at r k) k x0.0 x0.1 (w1 k) (λ h. let is_i : i ≡ k = cc in sym prev_at_i ∙ ap (prev_at r) is_i)
+          (λ not_i. ap prev_in (w0 k) ∙ prev_stays k (λ same. not_i (ap Some (sym same))) (λ same. not_j (ap Some (sym same))) not_v not_u)))) in
+          ends_by_parts (f4 k) (under (swapped_index i j) e k) (s4 ∙ sym (some_r (e (swapped_index i j k)))) nexts prevs

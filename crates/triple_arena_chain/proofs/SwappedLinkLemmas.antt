@@ -9,32 +9,15 @@ use Rattle.triple_arena_chain.specs.Chains.{Ends, with_next_if, with_prev_if, ne
 use Rattle.triple_arena_chain.specs.ListLaws.{live_next_in, live_prev_in}
 use Rattle.triple_arena_chain.specs.ChainLaws.{IsAgreed-same}
 use Rattle.triple_arena_chain.specs.Links.{valued, values_in, IsKept, IsChained, IsRelinked, link_ends, entry_ends, ends_in, with_next_of, with_prev_of}
-use Rattle.triple_arena_chain.specs.LinkLaws.{kept_on, ends-with_next_of, ends-with_prev_of, values-with_next_of, values-with_prev_of, kept-with_next_of, kept-with_prev_of, formed-with_next_of, formed-with_prev_of}
+use Rattle.triple_arena_chain.specs.LinkLaws.{kept_on}
 use Rattle.triple_arena_chain.specs.Renaming.{ends_renamed}
 use Rattle.triple_arena_chain.specs.CanonicalLayout.{swapped_index, under, IsAlike, IsMoved}
-use Rattle.triple_arena_chain.proofs.PassLemmas.{live_as, live_ends}
-use Rattle.triple_arena_chain.proofs.SwapLemmas.{moved, next-renamed, swap_i, swap_j, swap_other, swap_twice, IsAgreed-renamed}
+use Rattle.triple_arena_chain.proofs.PassLemmas.{live_ends}
+use Rattle.triple_arena_chain.proofs.ConnectionLemmas.{both_written, both_formed, live_written}
+use Rattle.triple_arena_chain.proofs.SwapLemmas.{moved, next-renamed, swap_j, swap_other, swap_twice, IsAgreed-renamed}
 use Rattle.triple_arena_chain.proofs.RenamingLemmas.{renamed_by}
 
 module _ {I T : Type 0} (number : I → ℕ) where
-  pub next_wrote : (c new : Content (IndexLink I T)) (at next : Option I) → new ≡ with_next_of number c at next
-      → IsRelinked number (with_next_if (ends_in number c) (option_map number at) (option_map number next)) c new
-  next_wrote c new at next made =
-      subst (IsRelinked number (with_next_if (ends_in number c) (option_map number at) (option_map number next)) c) (sym made)
-      (record { ends = ends-with_next_of number c at next; values = values-with_next_of number c at next; kept = kept-with_next_of number c at next })
-
-  pub prev_wrote : (c new : Content (IndexLink I T)) (at prev : Option I) → new ≡ with_prev_of number c at prev
-      → IsRelinked number (with_prev_if (ends_in number c) (option_map number at) (option_map number prev)) c new
-  prev_wrote c new at prev made =
-      subst (IsRelinked number (with_prev_if (ends_in number c) (option_map number at) (option_map number prev)) c) (sym made)
-      (record { ends = ends-with_prev_of number c at prev; values = values-with_prev_of number c at prev; kept = kept-with_prev_of number c at prev })
-
-  pub next_formed : (c new : Content (IndexLink I T)) (at next : Option I) → new ≡ with_next_of number c at next → IsWellFormed c → IsWellFormed new
-  next_formed c new at next made formed = subst IsWellFormed (sym made) (formed-with_next_of number c at next formed)
-
-  pub prev_formed : (c new : Content (IndexLink I T)) (at prev : Option I) → new ≡ with_prev_of number c at prev → IsWellFormed c → IsWellFormed new
-  prev_formed c new at prev made formed = subst IsWellFormed (sym made) (formed-with_prev_of number c at prev formed)
-
   revalued-ends : (o o' : Option (ℕ × IndexLink I T)) → IsSome o → option_map (entry_ends number) (revalued o o') ≡ option_map (entry_ends number) o'
   revalued-ends None o' some = absurd (true≢false (sym some))
   revalued-ends (Some x) None some = refl
@@ -95,15 +78,10 @@ module _ {I T : Type 0} (number : I → ℕ) where
   abbrev pub IfLive : Content (IndexLink I T) → Option I → Type 0
   IfLive c at = IfSome at (λ i. IsSome (entry_at c (number i)))
 
-  live_same : (c new : Content (IndexLink I T)) (other : Option I) → ((k : ℕ) → values_in new k ≡ values_in c k) → IfLive c other → IfLive new other
-  live_same c new None same live = tt
-  live_same c new (Some i) same live = live_as c new same (number i) ∙ live
-
-  pub next_keeps : (c new : Content (IndexLink I T)) (at next other : Option I) → new ≡ with_next_of number c at next → IfLive c other → IfLive new other
-  next_keeps c new at next other made = live_same c new other (next_wrote c new at next made).values
-
-  pub prev_keeps : (c new : Content (IndexLink I T)) (at prev other : Option I) → new ≡ with_prev_of number c at prev → IfLive c other → IfLive new other
-  prev_keeps c new at prev other made = live_same c new other (prev_wrote c new at prev made).values
+  pub both_keep : (c new : Content (IndexLink I T)) (b n a p other : Option I) → new ≡ with_prev_of number (with_next_of number c b n) a p → IfLive c other
+      → IfLive new other
+  both_keep c new b n a p None made live = tt
+  both_keep c new b n a p (Some i) made live = live_written number c new b n a p (number i) made live
 
   module _ (c d0 : Content (IndexLink I T)) (i j : I) (chained : IsChained number c) (live_i : IsSome (entry_at c (number i))) (live_j : IsSome (entry_at c (number j)))
       (swapped : (k : ℕ) → entry_at d0 k ≡ with_values_exchanged (entry_at c) (number i) (number j) k) where
@@ -111,9 +89,6 @@ module _ {I T : Type 0} (number : I → ℕ) where
     there k some =
         sym (live_ends number d0 k) ∙ ap is_some (ap (option_map (entry_ends number)) (swapped k) ∙ ends-swapped c (number i) (number j) live_i live_j k)
         ∙ live_ends number c (swapped_index (number i) (number j) k) ∙ some
-
-    pub first_there : IfLive d0 (Some i)
-    first_there = there (number i) (subst (λ n. IsSome (entry_at c n)) (sym (swap_i (number i) (number j))) live_j)
 
     pub second_there : IfLive d0 (Some j)
     second_there = there (number j) (subst (λ n. IsSome (entry_at c n)) (sym (swap_j (number i) (number j))) live_i)
@@ -141,7 +116,7 @@ module _ {I T : Type 0} (number : I → ℕ) where
         (λ p goes. sym (live_ends number c p) ∙ live_prev_in (ends_in number c p) k (chained.agreed.forward k p (ap next_in (found_ends c k x here) ∙ goes)))
 
   -- the places are exchanged
-  module _ (c d0 d1 d2 d3 d4 d5 d6 d7 d8 : Content (IndexLink I T)) (i j : I) (x y : IndexLink I T) (xp xn yp yn : Option I)
+  module _ (c d0 d1 d2 d3 d4 : Content (IndexLink I T)) (i j : I) (x y : IndexLink I T) (xp xn yp yn : Option I)
       (chained : IsChained number c) (alike : IsAlike c) (live_i : IsSome (entry_at c (number i))) (live_j : IsSome (entry_at c (number j)))
       (at_i : option_map (λ (e : ℕ × IndexLink I T). e.1) (entry_at c (number i)) ≡ Some x)
       (at_j : option_map (λ (e : ℕ × IndexLink I T). e.1) (entry_at c (number j)) ≡ Some y)
@@ -150,74 +125,77 @@ module _ {I T : Type 0} (number : I → ℕ) where
       (yp_is : option_map number yp ≡ option_map (swapped_index (number i) (number j)) (option_map number y.prev))
       (yn_is : option_map number yn ≡ option_map (swapped_index (number i) (number j)) (option_map number y.next))
       (swapped : (k : ℕ) → entry_at d0 k ≡ with_values_exchanged (entry_at c) (number i) (number j) k) (exact : d0 ≡ with_exchange c (number i) (number j))
-      (w1 : d1 ≡ with_next_of number d0 (Some i) yn) (w2 : d2 ≡ with_next_of number d1 (Some j) xn) (w3 : d3 ≡ with_next_of number d2 yp (Some i))
-      (w4 : d4 ≡ with_next_of number d3 xp (Some j)) (w5 : d5 ≡ with_prev_of number d4 (Some i) yp) (w6 : d6 ≡ with_prev_of number d5 (Some j) xp)
-      (w7 : d7 ≡ with_prev_of number d6 yn (Some i)) (w8 : d8 ≡ with_prev_of number d7 xn (Some j)) where
+      (w1 : d1 ≡ with_prev_of number (with_next_of number d0 (Some i) yn) (Some i) yp)
+      (w2 : d2 ≡ with_prev_of number (with_next_of number d1 (Some j) xn) (Some j) xp)
+      (w3 : d3 ≡ with_prev_of number (with_next_of number d2 yp (Some i)) yn (Some i))
+      (w4 : d4 ≡ with_prev_of number (with_next_of number d3 xp (Some j)) xn (Some j)) where
     abbrev name : ℕ → ℕ
     name = swapped_index (number i) (number j)
 
     twice : (k : ℕ) → name (name k) ≡ k
     twice = swap_twice (number i) (number j)
 
-    ends : (k : ℕ) → ends_in number d8 k ≡ under (swapped_index (number i) (number j)) (ends_in number c) k
+    one : IsRelinked number (with_prev_if (with_next_if (ends_in number d0) (Some (number i)) (option_map number yn)) (Some (number i)) (option_map number yp)) d0 d1
+    one = both_written number d0 d1 (Some i) yn (Some i) yp w1
+
+    two : IsRelinked number (with_prev_if (with_next_if (ends_in number d1) (Some (number j)) (option_map number xn)) (Some (number j)) (option_map number xp)) d1 d2
+    two = both_written number d1 d2 (Some j) xn (Some j) xp w2
+
+    three : IsRelinked number (with_prev_if (with_next_if (ends_in number d2) (option_map number yp) (Some (number i))) (option_map number yn) (Some (number i))) d2 d3
+    three = both_written number d2 d3 yp (Some i) yn (Some i) w3
+
+    four : IsRelinked number (with_prev_if (with_next_if (ends_in number d3) (option_map number xp) (Some (number j))) (option_map number xn) (Some (number j))) d3 d4
+    four = both_written number d3 d4 xp (Some j) xn (Some j) w4
+
+    ends : (k : ℕ) → ends_in number d4 k ≡ under (swapped_index (number i) (number j)) (ends_in number c) k
     ends =
         moved (ends_in number c) chained.agreed (number i) (number j) (link_ends number x) (link_ends number y) (found_ends c (number i) x at_i)
-        (found_ends c (number j) y at_j) (ends_in number d0) (ends_in number d1) (ends_in number d2) (ends_in number d3) (ends_in number d4) (ends_in number d5)
-        (ends_in number d6) (ends_in number d7) (ends_in number d8)
+        (found_ends c (number j) y at_j) (ends_in number d0) (ends_in number d1) (ends_in number d2) (ends_in number d3) (ends_in number d4)
         (λ k. ap (option_map (entry_ends number)) (swapped k) ∙ ends-swapped c (number i) (number j) live_i live_j k)
-        (λ k. (next_wrote d0 d1 (Some i) yn w1).ends k ∙ ap (λ o. with_next_if (ends_in number d0) (Some (number i)) o k) yn_is)
-        (λ k. (next_wrote d1 d2 (Some j) xn w2).ends k ∙ ap (λ o. with_next_if (ends_in number d1) (Some (number j)) o k) xn_is)
-        (λ k. (next_wrote d2 d3 yp (Some i) w3).ends k ∙ ap (λ o. with_next_if (ends_in number d2) o (Some (number i)) k) yp_is)
-        (λ k. (next_wrote d3 d4 xp (Some j) w4).ends k ∙ ap (λ o. with_next_if (ends_in number d3) o (Some (number j)) k) xp_is)
-        (λ k. (prev_wrote d4 d5 (Some i) yp w5).ends k ∙ ap (λ o. with_prev_if (ends_in number d4) (Some (number i)) o k) yp_is)
-        (λ k. (prev_wrote d5 d6 (Some j) xp w6).ends k ∙ ap (λ o. with_prev_if (ends_in number d5) (Some (number j)) o k) xp_is)
-        (λ k. (prev_wrote d6 d7 yn (Some i) w7).ends k ∙ ap (λ o. with_prev_if (ends_in number d6) o (Some (number i)) k) yn_is)
-        (λ k. (prev_wrote d7 d8 xn (Some j) w8).ends k ∙ ap (λ o. with_prev_if (ends_in number d7) o (Some (number j)) k) xn_is)
+        (λ k.
+        one.ends k
+        ∙ ap (λ n. with_prev_if (with_next_if (ends_in number d0) (Some (number i)) n) (Some (number i)) (option_map number yp) k) yn_is
+        ∙ ap (λ p. with_prev_if (with_next_if (ends_in number d0) (Some (number i)) (option_map name (option_map number y.next))) (Some (number i)) p k) yp_is)
+        (λ k.
+        two.ends k
+        ∙ ap (λ n. with_prev_if (with_next_if (ends_in number d1) (Some (number j)) n) (Some (number j)) (option_map number xp) k) xn_is
+        ∙ ap (λ p. with_prev_if (with_next_if (ends_in number d1) (Some (number j)) (option_map name (option_map number x.next))) (Some (number j)) p k) xp_is)
+        (λ k.
+        three.ends k
+        ∙ ap (λ b. with_prev_if (with_next_if (ends_in number d2) b (Some (number i))) (option_map number yn) (Some (number i)) k) yp_is
+        ∙ ap (λ a. with_prev_if (with_next_if (ends_in number d2) (option_map name (option_map number y.prev)) (Some (number i))) a (Some (number i)) k) yn_is)
+        (λ k.
+        four.ends k
+        ∙ ap (λ b. with_prev_if (with_next_if (ends_in number d3) b (Some (number j))) (option_map number xn) (Some (number j)) k) xp_is
+        ∙ ap (λ a. with_prev_if (with_next_if (ends_in number d3) (option_map name (option_map number x.prev)) (Some (number j))) a (Some (number j)) k) xn_is)
 
-    values : (k : ℕ) → values_in d8 k ≡ values_in c (swapped_index (number i) (number j) k)
+    values : (k : ℕ) → values_in d4 k ≡ values_in c (swapped_index (number i) (number j) k)
     values k =
-        (prev_wrote d7 d8 xn (Some j) w8).values k ∙ (prev_wrote d6 d7 yn (Some i) w7).values k ∙ (prev_wrote d5 d6 (Some j) xp w6).values k
-        ∙ (prev_wrote d4 d5 (Some i) yp w5).values k ∙ (next_wrote d3 d4 xp (Some j) w4).values k ∙ (next_wrote d2 d3 yp (Some i) w3).values k
-        ∙ (next_wrote d1 d2 (Some j) xn w2).values k ∙ (next_wrote d0 d1 (Some i) yn w1).values k ∙ ap (option_map valued) (swapped k)
+        four.values k ∙ three.values k ∙ two.values k ∙ one.values k ∙ ap (option_map valued) (swapped k)
         ∙ values-swapped c (number i) (number j) live_i live_j alike k
 
-    kept : IsKept c d8
+    kept : IsKept c d4
     kept =
-        kept_on c d7 d8
-        (kept_on c d6 d7
-        (kept_on c d5 d6
-        (kept_on c d4 d5
-        (kept_on c d3 d4
-        (kept_on c d2 d3
-        (kept_on c d1 d2 (kept_on c d0 d1 (kept-swapped c d0 (number i) (number j) exact) (next_wrote d0 d1 (Some i) yn w1).kept) (next_wrote d1 d2 (Some j) xn w2).kept)
-        (next_wrote d2 d3 yp (Some i) w3).kept)
-        (next_wrote d3 d4 xp (Some j) w4).kept)
-        (prev_wrote d4 d5 (Some i) yp w5).kept)
-        (prev_wrote d5 d6 (Some j) xp w6).kept)
-        (prev_wrote d6 d7 yn (Some i) w7).kept)
-        (prev_wrote d7 d8 xn (Some j) w8).kept
+        kept_on c d3 d4
+        (kept_on c d2 d3 (kept_on c d1 d2 (kept_on c d0 d1 (kept-swapped c d0 (number i) (number j) exact) one.kept) two.kept) three.kept) four.kept
 
-    formed : IsWellFormed d8
+    formed : IsWellFormed d4
     formed =
-        prev_formed d7 d8 xn (Some j) w8
-        (prev_formed d6 d7 yn (Some i) w7
-        (prev_formed d5 d6 (Some j) xp w6
-        (prev_formed d4 d5 (Some i) yp w5
-        (next_formed d3 d4 xp (Some j) w4
-        (next_formed d2 d3 yp (Some i) w3
-        (next_formed d1 d2 (Some j) xn w2
-        (next_formed d0 d1 (Some i) yn w1 (subst IsWellFormed (sym exact) (formed-with_exchange c (number i) (number j) chained.formed)))))))))
+        both_formed number d3 d4 xp (Some j) xn (Some j) w4
+        (both_formed number d2 d3 yp (Some i) yn (Some i) w3
+        (both_formed number d1 d2 (Some j) xn (Some j) xp w2
+        (both_formed number d0 d1 (Some i) yn (Some i) yp w1 (subst IsWellFormed (sym exact) (formed-with_exchange c (number i) (number j) chained.formed)))))
 
-    agreed : IsAgreed (ends_in number d8)
+    agreed : IsAgreed (ends_in number d4)
     agreed =
-        IsAgreed-same (under (swapped_index (number i) (number j)) (ends_in number c)) (ends_in number d8) ends
+        IsAgreed-same (under (swapped_index (number i) (number j)) (ends_in number c)) (ends_in number d4) ends
         (IsAgreed-renamed (swapped_index (number i) (number j)) twice (ends_in number c) chained.agreed)
 
     some_under : (o : Option Ends) → is_some (option_map (ends_renamed (swapped_index (number i) (number j))) o) ≡ is_some o
     some_under None = refl
     some_under (Some v) = refl
 
-    live_at : (k : ℕ) → is_some (ends_in number d8 k) ≡ is_some (ends_in number c (swapped_index (number i) (number j) k))
+    live_at : (k : ℕ) → is_some (ends_in number d4 k) ≡ is_some (ends_in number c (swapped_index (number i) (number j) k))
     live_at k = ap is_some (ends k) ∙ some_under (ends_in number c (swapped_index (number i) (number j) k))
 
     live_ends_at : (k : ℕ) → IsSome (entry_at c k) → IsSome (ends_in number c k)
@@ -234,11 +212,11 @@ module _ {I T : Type 0} (number : I → ℕ) where
               ]
         ]
 
-    pub links_swapped : IsMoved number (swapped_index (number i) (number j)) c d8
+    pub links_swapped : IsMoved number (swapped_index (number i) (number j)) c d4
     links_swapped =
         record {
           renamed =
-              renamed_by (swapped_index (number i) (number j)) (ends_in number c) (ends_in number d8) chained.agreed
+              renamed_by (swapped_index (number i) (number j)) (ends_in number c) (ends_in number d4) chained.agreed
               (record {
                 live = λ k some. live_at (name k) ∙ ap (λ n. is_some (ends_in number c n)) (twice k) ∙ some;
                 nexts = λ k some.
@@ -253,5 +231,5 @@ module _ {I T : Type 0} (number : I → ℕ) where
           chained = record { formed = formed; agreed = agreed };
         }
 
-    pub alike_after : IsAlike d8
+    pub alike_after : IsAlike d4
     alike_after k e at = alike (name k) e (sym (values k) ∙ at) ∙ sym kept.counter

@@ -1,12 +1,11 @@
 //! The place that an insertion's kind asks for.
-ghost use Rattle.std.specs.Prelude.{◌≡◌, Some};
+ghost use Rattle.std.specs.Prelude.{◌≡◌, ⊤};
 ghost use Rattle.std.specs.Option.{option_map};
-ghost use Rattle.triple_arena_chain.specs.Kinds.{at_end, at_start, at_interlink, at_bridge, ends_by, place_by};
+ghost use Rattle.triple_arena_chain.specs.Kinds.{at_end, at_start, after_link, before_link, at_interlink, at_bridge, ends_by, place_by};
 
-use triple_arena::PtrInxCore;
+use triple_arena::{AllocError, PtrInxCore};
 
 /// A place for one link more.
-#[derive(Clone, Copy)]
 pub enum Place<I> {
     /// Between two links, of which either may be missing.
     Between(Option<I>, Option<I>),
@@ -14,64 +13,111 @@ pub enum Place<I> {
     OwnRing,
 }
 
-// After a link with these ends, if it has no next.
-pub(crate) fn after_end<I: PtrInxCore>(i: I, ends: (Option<I>, Option<I>)) -> Option<Place<I>>
-    ensures { option_map (place_by I.number) result
-        ≡ at_end (I.number i) (Some (ends_by I.number ends)) }
-{
-    match ends.1 {
-        Some(_) => None,
-        None => Some(Place::Between(Some(i), None)),
+impl<I: Copy> Clone for Place<I> {
+    ghost is_clone = { λ x y. y ≡ x };
+
+    ghost is_infallible = { λ _. ⊤ };
+
+    fn clone(&self) -> Result<Self, AllocError> {
+        Ok(*self)
     }
 }
 
-// Before a link with these ends, if it has no previous one.
-pub(crate) fn before_start<I: PtrInxCore>(i: I, ends: (Option<I>, Option<I>)) -> Option<Place<I>>
+impl<I: Copy> Copy for Place<I> {}
+
+// After a link with these ends, if it is there and has no next.
+pub(crate) fn after_end<I: PtrInxCore>(
+    i: I,
+    ends: Option<(Option<I>, Option<I>)>,
+) -> Option<Place<I>>
     ensures { option_map (place_by I.number) result
-        ≡ at_start (I.number i) (Some (ends_by I.number ends)) }
+        ≡ at_end (I.number i) (option_map (ends_by I.number) ends) }
 {
-    match ends.0 {
-        Some(_) => None,
-        None => Some(Place::Between(None, Some(i))),
+    match ends {
+        Some((_, None)) => Some(Place::Between(Some(i), None)),
+        Some((_, Some(_))) => None,
+        None => None,
     }
 }
 
-// Between two links with these ends, if the second is the next of the first.
+// Before a link with these ends, if it is there and has no previous one.
+pub(crate) fn before_start<I: PtrInxCore>(
+    i: I,
+    ends: Option<(Option<I>, Option<I>)>,
+) -> Option<Place<I>>
+    ensures { option_map (place_by I.number) result
+        ≡ at_start (I.number i) (option_map (ends_by I.number) ends) }
+{
+    match ends {
+        Some((None, _)) => Some(Place::Between(None, Some(i))),
+        Some((Some(_), _)) => None,
+        None => None,
+    }
+}
+
+// Directly after a link with these ends, if it is there.
+pub(crate) fn next_to<I: PtrInxCore>(i: I, ends: Option<(Option<I>, Option<I>)>) -> Option<Place<I>>
+    ensures { option_map (place_by I.number) result
+        ≡ after_link (I.number i) (option_map (ends_by I.number) ends) }
+{
+    match ends {
+        Some((_, next)) => Some(Place::Between(Some(i), next)),
+        None => None,
+    }
+}
+
+// Directly before a link with these ends, if it is there.
+pub(crate) fn prev_to<I: PtrInxCore>(i: I, ends: Option<(Option<I>, Option<I>)>) -> Option<Place<I>>
+    ensures { option_map (place_by I.number) result
+        ≡ before_link (I.number i) (option_map (ends_by I.number) ends) }
+{
+    match ends {
+        Some((prev, _)) => Some(Place::Between(prev, Some(i))),
+        None => None,
+    }
+}
+
+// Between two links with these ends, if they are there and the second is the next of the first.
 pub(crate) fn inside<I: PtrInxCore>(
     i: I,
     j: I,
-    first: (Option<I>, Option<I>),
-    second: (Option<I>, Option<I>),
+    first: Option<(Option<I>, Option<I>)>,
+    second: Option<(Option<I>, Option<I>)>,
 ) -> Option<Place<I>>
     ensures { option_map (place_by I.number) result
-        ≡ at_interlink (I.number i) (I.number j) (Some (ends_by I.number first))
-        (Some (ends_by I.number second)) }
+        ≡ at_interlink (I.number i) (I.number j) (option_map (ends_by I.number) first)
+        (option_map (ends_by I.number) second) }
 {
-    match first.1 {
-        Some(next) => {
+    match (first, second) {
+        (Some((_, Some(next))), Some(_)) => {
             if next == j {
                 Some(Place::Between(Some(i), Some(j)))
             } else {
                 None
             }
         }
-        None => None,
+        (Some((_, None)), Some(_)) => None,
+        (Some(_), None) => None,
+        (None, _) => None,
     }
 }
 
-// Between two links with these ends, if the first has no next and the second no previous one.
+// Between two links with these ends, if they are there, the first has no next and the second no previous one.
 pub(crate) fn bridging<I: PtrInxCore>(
     i: I,
     j: I,
-    first: (Option<I>, Option<I>),
-    second: (Option<I>, Option<I>),
+    first: Option<(Option<I>, Option<I>)>,
+    second: Option<(Option<I>, Option<I>)>,
 ) -> Option<Place<I>>
     ensures { option_map (place_by I.number) result
-        ≡ at_bridge (I.number i) (I.number j) (Some (ends_by I.number first))
-        (Some (ends_by I.number second)) }
+        ≡ at_bridge (I.number i) (I.number j) (option_map (ends_by I.number) first)
+        (option_map (ends_by I.number) second) }
 {
-    match (first.1, second.0) {
-        (None, None) => Some(Place::Between(Some(i), Some(j))),
-        _ => None,
+    match (first, second) {
+        (Some((_, None)), Some((None, _))) => Some(Place::Between(Some(i), Some(j))),
+        (Some((_, None)), Some((Some(_), _))) => None,
+        (Some((_, Some(_))), Some(_)) => None,
+        (Some(_), None) => None,
+        (None, _) => None,
     }
 }

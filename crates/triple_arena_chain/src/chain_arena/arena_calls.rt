@@ -103,8 +103,6 @@ impl<P: PtrCore, T: Drop, S: ChainSlots<P, T>> ArenaTrait<P, T> for ChainArena<P
     }
 
     fn reallocate_min_capacity(&mut self, min: usize) -> Result<(), ReallocationError> {
-        // The interlinks agree.
-        self.recall_chained();
         self.arena.reallocate_min_capacity(min)
     }
 
@@ -135,7 +133,7 @@ impl<P: PtrCore, T: Drop, S: ChainSlots<P, T>> ArenaTrait<P, T> for ChainArena<P
     }
 
     fn get_mut(&mut self, p: P) -> Option<&mut T> {
-        if self.arena.contains(p) {
+        if self.arena.get(p).is_some() {
             Some(self.get_inx_mut_unwrap(p.inx()))
         } else {
             None

@@ -11,7 +11,7 @@ ghost use Rattle.triple_arena_chain.specs.Lists.{Chain, members, IsChainOf};
 ghost use Rattle.triple_arena_chain.specs.CanonicalLayout.{swapped_index, IsAlike, IsMoved, IsHead, IsClosed, IsGathered, IsAllGathered, IsCanonical};
 
 use crate::chain_arena::compression::{next_there, prev_there};
-use crate::chain_arena::interlinks::{set_next, set_prev};
+use crate::chain_arena::interlinks::relink;
 use crate::{ChainArena, ChainSlots, LinkNoGen};
 use std::num::NonZeroUsize;
 use triple_arena::{
@@ -67,14 +67,10 @@ where
     let second_prev = swapped(second.prev, i, j);
     let second_next = swapped(second.next, i, j);
     arena.swap_inx(i, j);
-    set_next(arena, Some(i), second_next);
-    set_next(arena, Some(j), first_next);
-    set_next(arena, second_prev, Some(i));
-    set_next(arena, first_prev, Some(j));
-    set_prev(arena, Some(i), second_prev);
-    set_prev(arena, Some(j), first_prev);
-    set_prev(arena, second_next, Some(i));
-    set_prev(arena, first_next, Some(j));
+    relink(arena, Some(i), second_next, Some(i), second_prev);
+    relink(arena, Some(j), first_next, Some(j), first_prev);
+    relink(arena, second_prev, Some(i), second_next, Some(i));
+    relink(arena, first_prev, Some(j), first_next, Some(j));
 }
 
 // The index behind so many others.
@@ -186,7 +182,6 @@ impl<P: PtrCore, T: Drop, S: ChainSlots<P, T>> ChainArena<P, T, S> {
     {
         self.recall_chained();
         let answer = self.compress(reset);
-        self.recall_chained();
         gather_chains(&mut self.arena);
         answer
     }

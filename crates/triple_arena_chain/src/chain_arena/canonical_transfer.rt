@@ -18,7 +18,6 @@ ghost use Rattle.triple_arena_chain.specs.Listed.{listed_values};
 ghost use Rattle.triple_arena_chain.specs.Values.{room_in};
 
 use crate::chain_arena::canonical_layout::{behind, chain_start, is_one};
-use crate::chain_arena::interlinks::set_prev;
 use crate::{ChainArena, ChainSlots, IndexLink, LinkNoGen};
 use std::num::NonZeroUsize;
 use triple_arena::{
@@ -114,7 +113,6 @@ where
     P: PtrCore,
     T: Drop,
     S: ChainSlots<P, T>,
-    requires { IsSome (entry_at target.old (P.Inx.number first)) }
     ensures on { IfSome result (λ j. (option_map J.number next ≡ Some (J.number j))
         × (J.number j ≢ J.number start) × (target.new ≡ target.old)) }
     ensures over { IfNone result (((option_map J.number next ≡ None) × (target.new ≡ target.old))
@@ -124,7 +122,9 @@ where
     match next {
         Some(j) => {
             if is_one(j, start) {
-                set_prev(target, Some(first), Some(last));
+                if let Some(link) = target.get_inx_mut(first) {
+                    link.prev = Some(last);
+                }
                 None
             } else {
                 Some(j)
@@ -243,15 +243,12 @@ impl<P: PtrCore, T: Drop, S: ChainSlots<P, T>> ChainArena<P, T, S> {
         ensures err { OnErr result (self.new ≡ self.old) }
         ensures source_err { OnErr result (source.new ≡ source.old) }
     {
-        // The interlinks agree.
-        self.recall_chained();
-        source.recall_chained();
-        self.arena.reallocate_min_capacity(source.len())?;
+        self.arena.reallocate_min_capacity(source.arena.len())?;
         let _ = self.arena.clear();
         self.arena.set_generation(new_generation);
         move_chains(&mut source.arena, &mut self.arena, new_generation, map);
         // Only free slots are left.
-        source.take_all();
+        source.arena.take_all();
         Ok(())
     }
 }

@@ -1,7 +1,7 @@
 //! The calls of a `ChainArena` on its links.
 ghost use Rattle.std.specs.Prelude.{refl};
 
-use crate::chain_arena::interlinks::{set_next, set_prev};
+use crate::chain_arena::interlinks::relink;
 use crate::chain_iterators::ChainPtrAdvancer;
 use crate::{ChainArena, ChainArenaTrait, ChainSlots, Link, LinkInsertKind, LinkNoGen};
 use triple_arena::{ArenaTrait, InvalidationResult, PtrCore, PtrInxCore};
@@ -49,8 +49,6 @@ impl<P: PtrCore, T: Drop, S: ChainSlots<P, T>> ChainArenaTrait<P, T> for ChainAr
     }
 
     fn get_link(&self, p: P) -> Option<Link<P, &T>> {
-        // The interlinks agree.
-        self.recall_chained();
         match self.arena.get(p) {
             Some(link) => Some(Link::new(
                 (self.ptr_at(link.prev), self.ptr_at(link.next)),
@@ -62,7 +60,7 @@ impl<P: PtrCore, T: Drop, S: ChainSlots<P, T>> ChainArenaTrait<P, T> for ChainAr
 
     fn are_neighbors(&self, p: P, q: P) -> bool {
         match self.ends_of(p) {
-            Some((_, Some(next))) => next == q.inx() && self.arena.contains(q),
+            Some((_, Some(next))) => next == q.inx() && self.arena.get(q).is_some(),
             _ => false,
         }
     }
@@ -79,12 +77,9 @@ impl<P: PtrCore, T: Drop, S: ChainSlots<P, T>> ChainArenaTrait<P, T> for ChainAr
     }
 
     fn advancer_chain(&self, p: P) -> Option<ChainPtrAdvancer<P>> {
-        // The interlinks agree.
-        self.recall_chained();
-        if self.arena.contains(p) {
-            Some(ChainPtrAdvancer::from(p))
-        } else {
-            None
+        match self.arena.get(p) {
+            Some(_) => Some(ChainPtrAdvancer::from(p)),
+            None => None,
         }
     }
 
@@ -119,55 +114,57 @@ impl<P: PtrCore, T: Drop, S: ChainSlots<P, T>> ChainArenaTrait<P, T> for ChainAr
     fn connect(&mut self, p: P, q: P) -> Option<()> {
         // The interlinks agree.
         self.recall_chained();
-        self.place(LinkInsertKind::Bridge(p, q))?;
+        let Some(_) = self.place(LinkInsertKind::Bridge(p, q)) else {
+            return None;
+        };
         let i = p.inx();
         let j = q.inx();
-        set_next(&mut self.arena, Some(i), Some(j));
-        set_prev(&mut self.arena, Some(j), Some(i));
+        relink(&mut self.arena, Some(i), Some(j), Some(j), Some(i));
         Some(())
     }
 
     fn break_next(&mut self, p: P) -> Option<()> {
         // The interlinks agree.
         self.recall_chained();
-        let next = self.ends_of(p)?.1?;
-        set_next(&mut self.arena, Some(p.inx()), None);
-        set_prev(&mut self.arena, Some(next), None);
+        let Some((_, Some(next))) = self.ends_of(p) else {
+            return None;
+        };
+        relink(&mut self.arena, Some(p.inx()), None, Some(next), None);
         Some(())
     }
 
     fn break_prev(&mut self, p: P) -> Option<()> {
         // The interlinks agree.
         self.recall_chained();
-        let prev = self.ends_of(p)?.0?;
-        set_next(&mut self.arena, Some(prev), None);
-        set_prev(&mut self.arena, Some(p.inx()), None);
+        let Some((Some(prev), _)) = self.ends_of(p) else {
+            return None;
+        };
+        relink(&mut self.arena, Some(prev), None, Some(p.inx()), None);
         Some(())
     }
 
     fn exchange_next(&mut self, p: P, q: P) -> Option<()> {
         // The interlinks agree.
         self.recall_chained();
-        let next_of_p = self.ends_of(p)?.1?;
-        let next_of_q = self.ends_of(q)?.1?;
+        let Some((_, Some(s))) = self.ends_of(p) else {
+            return None;
+        };
+        let Some((_, Some(t))) = self.ends_of(q) else {
+            return None;
+        };
         let i = p.inx();
         let j = q.inx();
-        set_next(&mut self.arena, Some(i), Some(next_of_q));
-        set_next(&mut self.arena, Some(j), Some(next_of_p));
-        set_prev(&mut self.arena, Some(next_of_q), Some(i));
-        set_prev(&mut self.arena, Some(next_of_p), Some(j));
+        relink(&mut self.arena, Some(i), Some(t), Some(t), Some(i));
+        relink(&mut self.arena, Some(j), Some(s), Some(s), Some(j));
         Some(())
     }
 
     fn remove_link_no_gen(&mut self, p: P) -> InvalidationResult<LinkNoGen<P, T>> {
-        // The interlinks agree.
-        self.recall_chained();
         match self.arena.get(p) {
             Some(link) => {
                 let prev = link.prev;
                 let next = link.next;
-                set_next(&mut self.arena, prev, next);
-                set_prev(&mut self.arena, next, prev);
+                relink(&mut self.arena, prev, next, next, prev);
                 self.arena.remove(p)
             }
             None => InvalidationResult::InvalidPtr,
@@ -178,14 +175,11 @@ impl<P: PtrCore, T: Drop, S: ChainSlots<P, T>> ChainArenaTrait<P, T> for ChainAr
         &mut self,
         i: P::Inx,
     ) -> InvalidationResult<(P::Gen, LinkNoGen<P, T>)> {
-        // The interlinks agree.
-        self.recall_chained();
         match self.arena.get_inx(i) {
             Some((_, link)) => {
                 let before = link.prev;
                 let after = link.next;
-                set_next(&mut self.arena, before, after);
-                set_prev(&mut self.arena, after, before);
+                relink(&mut self.arena, before, after, after, before);
                 self.arena.remove_inx(i)
             }
             None => InvalidationResult::InvalidPtr,

@@ -11,7 +11,7 @@ ghost use Rattle.triple_arena_chain.specs.Listed.{listed_values};
 ghost use Rattle.triple_arena_chain.specs.Renaming.{numbered, prev_of, forwarded, IsCompacted};
 ghost use Rattle.triple_arena_chain.specs.Values.{room_in};
 
-use crate::chain_arena::interlinks::{recall_formed, set_next, set_prev};
+use crate::chain_arena::interlinks::{relink, set_next, set_prev};
 use crate::chain_arena::mapping::compact_links;
 use crate::{ChainSlots, LinkNoGen};
 use std::num::NonZeroUsize;
@@ -23,12 +23,12 @@ where
     P: PtrCore,
     T: Drop,
     S: ChainSlots<P, T>,
+    requires { IsWellFormed arena.old }
     ensures numbered { IsRelinked P.Inx.number (numbered (ends_in P.Inx.number arena.old))
         arena.old arena.new }
     ensures formed { IsWellFormed arena.new }
 {
-    // The arena is well-formed, and each live index is one of the pointers'.
-    recall_formed(arena);
+    // Each live index is one of the pointers'.
     let _ = arena.capacity();
     let mut count = 0;
     let mut advancer = arena.advancer();
@@ -81,12 +81,11 @@ where
     P: PtrCore,
     T: Drop,
     S: ChainSlots<P, T>,
+    requires { IsWellFormed arena.old }
     ensures forwarded { IsRelinked P.Inx.number (forwarded (ends_in P.Inx.number arena.old))
         arena.old arena.new }
     ensures formed { IsWellFormed arena.new }
 {
-    // The arena is well-formed.
-    recall_formed(arena);
     let mut advancer = arena.advancer();
     while let Some(p) = advancer.advance(arena) {
         let i = p.inx();
@@ -102,6 +101,7 @@ where
     P: PtrCore,
     T: Drop,
     S: ChainSlots<P, T>,
+    requires formed { IsWellFormed arena.old }
     requires alone { (k : ℕ) → prev_at (ends_in P.Inx.number arena.old) k ≡ None }
     requires live { (p q : ℕ) → next_at (ends_in P.Inx.number arena.old) p ≡ Some q
         → IsSome (ends_in P.Inx.number arena.old q) }
@@ -114,13 +114,12 @@ where
     ensures kept { IsKept arena.old arena.new }
     ensures formed { IsWellFormed arena.new }
 {
-    // The arena is well-formed.
-    recall_formed(arena);
     let mut advancer = arena.advancer();
     while let Some(p) = advancer.advance(arena) {
         let i = p.inx();
         let next = next_there(arena, i);
-        set_prev(arena, next, Some(i));
+        // `relink` asks two things, which is cheaper to answer than what `set_prev` asks.
+        relink(arena, None, None, next, Some(i));
     }
 }
 

@@ -92,8 +92,7 @@ impl<P: PtrCore, T: Drop, S: ChainSlots<P, T>> ChainArena<P, T, S> {
         ensures some { OnSome result ((self.new ≡ arena.old) × (arena.new ≡ self.old)) }
         ensures none { IfNone result ((self.new ≡ self.old) × (arena.new ≡ arena.old)) }
     {
-        // Both are well-formed.
-        self.recall_chained();
+        // The arena is well-formed.
         recall_formed(arena);
         if !Self::interlinks_agree(arena) {
             return None;

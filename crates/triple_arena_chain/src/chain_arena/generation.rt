@@ -21,8 +21,6 @@ impl<P: PtrCore, T: Drop, S: ChainSlots<P, T>> ChainArena<P, T, S> {
         ensures value { self.new ≡ with_counter self.old (P.Gen.number generation) }
         ensures formed { IsChained P.Inx.number self.new }
     {
-        // The interlinks agree.
-        self.recall_chained();
         self.arena.set_generation(generation);
     }
 
@@ -32,8 +30,6 @@ impl<P: PtrCore, T: Drop, S: ChainSlots<P, T>> ChainArena<P, T, S> {
         ensures overflow { overflowed result ≡ next_wraps P.Gen.last self.old.counter }
         ensures formed { IsChained P.Inx.number self.new }
     {
-        // The interlinks agree.
-        self.recall_chained();
         self.arena.inc_generation()
     }
 }

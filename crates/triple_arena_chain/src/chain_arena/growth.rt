@@ -25,8 +25,6 @@ impl<P: PtrCore, T: Drop, S: ChainSlots<P, T>> ChainArena<P, T, S> {
         ensures refusal { IsRefusal S.takes_memory (live_count self.old) self.old.room result }
         ensures err { OnErr result (self.new ≡ self.old) }
     {
-        // The interlinks agree.
-        self.recall_chained();
         let entry = self.arena.entry_insert_reallocating()?;
         Ok(entry.ptr())
     }

@@ -45,8 +45,25 @@ pub(crate) fn set_prev<P: PtrCore, T: Drop, S: ChainSlots<P, T>>(
     }
 }
 
-// The neighbors at a place, which are live, name what is at `i`.
+// Gives the link at `before` another next, and the one at `after` another previous one. What is an index is live.
 #[tactic(auto, using(crate::specs::LinkLaws::live_links))]
+pub(crate) fn relink<P: PtrCore, T: Drop, S: ChainSlots<P, T>>(
+    arena: &mut Arena<P, LinkNoGen<P, T>, S>,
+    before: Option<P::Inx>,
+    next: Option<P::Inx>,
+    after: Option<P::Inx>,
+    prev: Option<P::Inx>,
+)
+    requires before { IfSome before (λ i. IsSome (entry_at arena.old (P.Inx.number i))) }
+    requires after { IfSome after (λ i. IsSome (entry_at arena.old (P.Inx.number i))) }
+    ensures { arena.new ≡ with_prev_of P.Inx.number
+        (with_next_of P.Inx.number arena.old before next) after prev }
+{
+    set_next(arena, before, next);
+    set_prev(arena, after, prev);
+}
+
+// The neighbors at a place, which are live, name what is at `i`.
 pub(crate) fn join<P: PtrCore, T: Drop, S: ChainSlots<P, T>>(
     arena: &mut Arena<P, LinkNoGen<P, T>, S>,
     place: Place<P::Inx>,
@@ -56,10 +73,7 @@ pub(crate) fn join<P: PtrCore, T: Drop, S: ChainSlots<P, T>>(
     ensures { arena.new ≡ joined_to P.Inx.number arena.old place i }
 {
     match place {
-        Place::Between(prev, next) => {
-            set_next(arena, prev, Some(i));
-            set_prev(arena, next, Some(i));
-        }
+        Place::Between(prev, next) => relink(arena, prev, Some(i), next, Some(i)),
         Place::OwnRing => {}
     }
 }

@@ -50,7 +50,6 @@ where
 
     ghost remaining = { item_count (λ left. left) };
 
-    #[tactic(auto, using(crate::proofs::IterChainLemmas::link_given, crate::proofs::IterChainLemmas::none_given))]
     fn next(&mut self) -> Option<(P, &'a LinkNoGen<P, T>)> {
         let (p, link) = self.advancer.step(self.chains)?;
         Some((p, link))

@@ -1,5 +1,5 @@
 //! Copies of links, where the map sees the links of the source and gives the values alone.
-ghost use Rattle.std.specs.Prelude.{◌≡◌, ◌≤◌, ◌↔◌, ◌⊎◌, ◌<◌, ℕ, Ok, Err, List, IsTrue, IsOk, IfOk, IfErr, OnOk, IsErrOf, map as list_map};
+ghost use Rattle.std.specs.Prelude.{◌≡◌, ◌≤◌, ◌↔◌, ◌⊎◌, ◌<◌, ℕ, Ok, Err, List, IsTrue, IsOk, IfOk, IfErr, OnOk, IsErrOf, map as list_map, ⊤};
 ghost use Rattle.std.specs.Option.{option_map};
 ghost use Rattle.triple_arena_ptr.specs.Generation.{next_generation};
 ghost use Rattle.triple_arena_stack.specs.Room.{capacity as capacity_of, IsBeyond};
@@ -20,6 +20,7 @@ use triple_arena::{
 
 // What becomes a copy of a source of the type `A`. It stands between the base's trait and `copy_links`, so that the closure
 // there is in a function that knows nothing of pointers and arenas: the check of its call grows with what is known.
+// `copy_from` has a clause that asks no more, as the answer to a lone one would cost far more to state.
 pub(crate) trait CopiesFrom<P: Copy, L: Drop, M: Drop, A> {
     ghost index: { P → ℕ };
 
@@ -46,7 +47,8 @@ pub(crate) trait CopiesFrom<P: Copy, L: Drop, M: Drop, A> {
     fn copy_from<G>(&mut self, source: &A, map: G) -> Result<(), ReallocationError>
     where
         G: FnMut(P, &L) -> Result<M, AllocError>,
-        requires { G.IsAlwaysCallable map }
+        requires callable { G.IsAlwaysCallable map }
+        requires no_more { ⊤ }
         ensures mapped { OnOk result (IsMappedCopy index generation G.step map
             (source_entries source.now) (entries self.new)) }
         ensures copied { OnOk result (is_copied source.now self.old self.new) }
@@ -116,7 +118,8 @@ where
     T: Drop,
     B: CopiesFrom<P, IndexLink<I, U>, IndexLink<I, T>, A>,
     F: FnMut(P, &IndexLink<I, U>) -> Result<T, AllocError>,
-    requires { F.IsAlwaysCallable map }
+    requires callable { F.IsAlwaysCallable map }
+    requires no_more { ⊤ }
     ensures mapped { OnOk result (IsMappedCopy B.index B.generation F.step map
         (B.source_entries source.now) (list_map listed_value (B.entries target.new))) }
     ensures linked { OnOk result (IsLinkedCopy (B.source_entries source.now)

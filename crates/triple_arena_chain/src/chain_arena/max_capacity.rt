@@ -20,8 +20,6 @@ impl<
     /// Sets the greatest capacity to `max`, as far as the pointers' indexes reach, or changes nothing where the last
     /// live index is past `max`. Where there are slots past `max`, the free slots at the end are popped first.
     fn set_max_capacity(&mut self, max: usize) -> Result<(), MaxCapacityReductionError> {
-        // The interlinks agree.
-        self.recall_chained();
         let answer = self.arena.set_max_capacity(max);
         // The arena is well-formed after.
         recall_formed(&self.arena);

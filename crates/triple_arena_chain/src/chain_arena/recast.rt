@@ -30,8 +30,6 @@ impl<N, P: PtrCore, T: Recast<N> + Drop, S: ChainSlots<P, T>> Recast<N> for Chai
         (λ link. T.items_recasted f link.t) c };
 
     fn recast<R: Recaster<Item = N>>(&mut self, recaster: &R) -> Result<(), N> {
-        // The interlinks agree.
-        self.recall_chained();
         let answer = self.arena.recast(recaster);
         // The arena is well-formed after.
         recall_formed(&self.arena);

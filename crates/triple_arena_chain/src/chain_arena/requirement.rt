@@ -5,7 +5,7 @@ ghost use Rattle.triple_arena.specs.Content.{get};
 ghost use Rattle.triple_arena_chain.specs.Links.{prev_next_of, ends_in, ends_found, place_among};
 ghost use Rattle.triple_arena_chain.specs.Kinds.{ends_by, place_by};
 
-use crate::place::{Place, after_end, before_start, bridging, inside};
+use crate::place::{Place, after_end, before_start, bridging, inside, next_to, prev_to};
 use crate::{ChainArena, ChainSlots, LinkInsertKind};
 use triple_arena::{ArenaTrait, PtrCore};
 
@@ -43,26 +43,24 @@ impl<P: PtrCore, T: Drop, S: ChainSlots<P, T>> ChainArena<P, T, S> {
         match kind {
             LinkInsertKind::Disconnected => Some(Place::Between(None, None)),
             LinkInsertKind::SingleLinkCyclic => Some(Place::OwnRing),
-            LinkInsertKind::ChainEnd(p) => after_end(p.inx(), self.ends_of(p)?),
-            LinkInsertKind::ChainEndInx(i) => after_end(i, self.ends_at(i)?),
-            LinkInsertKind::ChainStart(p) => before_start(p.inx(), self.ends_of(p)?),
-            LinkInsertKind::ChainStartInx(i) => before_start(i, self.ends_at(i)?),
-            LinkInsertKind::NextTo(p) => Some(Place::Between(Some(p.inx()), self.ends_of(p)?.1)),
-            LinkInsertKind::NextToInx(i) => Some(Place::Between(Some(i), self.ends_at(i)?.1)),
-            LinkInsertKind::PrevTo(p) => Some(Place::Between(self.ends_of(p)?.0, Some(p.inx()))),
-            LinkInsertKind::PrevToInx(i) => Some(Place::Between(self.ends_at(i)?.0, Some(i))),
+            LinkInsertKind::ChainEnd(p) => after_end(p.inx(), self.ends_of(p)),
+            LinkInsertKind::ChainEndInx(i) => after_end(i, self.ends_at(i)),
+            LinkInsertKind::ChainStart(p) => before_start(p.inx(), self.ends_of(p)),
+            LinkInsertKind::ChainStartInx(i) => before_start(i, self.ends_at(i)),
+            LinkInsertKind::NextTo(p) => next_to(p.inx(), self.ends_of(p)),
+            LinkInsertKind::NextToInx(i) => next_to(i, self.ends_at(i)),
+            LinkInsertKind::PrevTo(p) => prev_to(p.inx(), self.ends_of(p)),
+            LinkInsertKind::PrevToInx(i) => prev_to(i, self.ends_at(i)),
             LinkInsertKind::AtInterlink(p, q) => {
-                inside(p.inx(), q.inx(), self.ends_of(p)?, self.ends_of(q)?)
+                inside(p.inx(), q.inx(), self.ends_of(p), self.ends_of(q))
             }
             LinkInsertKind::AtInterlinkInx(i, j) => {
-                inside(i, j, self.ends_at(i)?, self.ends_at(j)?)
+                inside(i, j, self.ends_at(i), self.ends_at(j))
             }
             LinkInsertKind::Bridge(p, q) => {
-                bridging(p.inx(), q.inx(), self.ends_of(p)?, self.ends_of(q)?)
+                bridging(p.inx(), q.inx(), self.ends_of(p), self.ends_of(q))
             }
-            LinkInsertKind::BridgeInx(i, j) => {
-                bridging(i, j, self.ends_at(i)?, self.ends_at(j)?)
-            }
+            LinkInsertKind::BridgeInx(i, j) => { bridging(i, j, self.ends_at(i), self.ends_at(j)) }
         }
     }
 }

@@ -92,7 +92,7 @@ impl<P: PtrCore> ChainPtrAdvancer<P> {
         ensures link { IfSome result (λ e. get chains.now (P.index e.0) (P.generation e.0) ≡ Some e.1.now) }
     {
         let i = self.at?;
-        match chains.get_inx_link_no_gen(i) {
+        match chains.arena.get_inx(i) {
             Some((generation, link)) => {
                 self.go_on(chains, link.prev, link.next);
                 Some((P::_from_raw(i, generation), link))

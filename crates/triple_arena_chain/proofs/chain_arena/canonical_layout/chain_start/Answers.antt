@@ -1,4 +1,4 @@
-use Rattle.std.proofs.Common.{true≢false, ◌≡◌, ◌≢◌, Some, None, option_map, length, refl, sym, ap, ◌∙◌, arith}
+use Rattle.std.proofs.Common.{true≢false, ◌≡◌, ◌≢◌, Some, None, option_map, refl, sym, ap, ◌∙◌, arith}
 use Rattle.triple_arena_chain.specs.Chains.{prev_at}
 use Rattle.triple_arena_chain.specs.Links.{ends_in}
 use Rattle.triple_arena_chain.proofs.PassLemmas.{live_ends}

@@ -10,21 +10,23 @@ chain-init g c =
       within = omega arith;
     }
 
-pub gather_chain-placed-requires : goal.gather_chain-placed-requires
-gather_chain-placed-requires g c =
+pub gather_chain-placed-requires-clause-chained : goal.gather_chain-placed-requires-clause-chained
+gather_chain-placed-requires-clause-chained g c = c.chain.invariant.gathered.moved.chained
+
+pub gather_chain-placed-requires-clause-full : goal.gather_chain-placed-requires-clause-full
+gather_chain-placed-requires-clause-full g c = c.chain.invariant.gathered.moved.kept.free ∙ c.requires.full
+
+pub gather_chain-placed-requires-clause-closed : goal.gather_chain-placed-requires-clause-closed
+gather_chain-placed-requires-clause-closed g c = c.chain.invariant.gathered.closed
+
+pub gather_chain-placed-requires-clause-more : goal.gather_chain-placed-requires-clause-more
+gather_chain-placed-requires-clause-more g c =
     let counted = c.requires.chained.formed.counted in
     let none = ap (λ l. length l) c.requires.full in
-    let kept = c.chain.invariant.gathered.moved.kept in
-    let slots = kept.slots in
+    let slots = c.chain.invariant.gathered.moved.kept.slots in
     let len = c.len-len.ensures.value in
     let less = c.chain-test.true in
-    record {
-      chained = c.chain.invariant.gathered.moved.chained;
-      alike = c.chain.invariant.alike;
-      full = kept.free ∙ c.requires.full;
-      closed = c.chain.invariant.gathered.closed;
-      more = omega (arith, counted, none, slots, len, less);
-    }
+    omega (arith, counted, none, slots, len, less)
 
 pub chain-smaller : goal.chain-smaller
 chain-smaller g c =

@@ -32,20 +32,19 @@ link-init g c =
     let rises = c.chain.invariant.rises in
     let after : c.advance.new.self ≡ past c.chain.advancer (g.Q.PtrCore.index c.in-Some.p) = (c.in-Some.ensures).given.1 in
     let next = passed_by c.chain.advancer c.advance.new.self (g.Q.PtrCore.index c.in-Some.p) rises after in
+    let way =
+    way_taken g.Q.PtrCore.index g.Q.PtrCore.generation g.P.PtrCore.index g.P.PtrCore.generation g.Q.Inx.PtrInxCore.number g.P.Inx.PtrInxCore.number (goal.F-step g) c.args.map
+    g.Q.Gen.PtrGenCore.last c.args.source.now (g.P.Gen.PtrGenCore.number c.args.generation) c.args.target.now.room
+    c.requires.chained c.chain.advancer (g.Q.PtrCore.index c.in-Some.p) (g.Q.PtrCore.generation c.in-Some.p) (g.Q.Inx.PtrInxCore.number c.inx.result)
+    (g.Q.Inx.PtrInxCore.number c.chain_start-start.result) (g.P.Inx.PtrInxCore.number c.behind-first.result) c.chain.map c.chain.source c.chain.target
+    c.chain.invariant.moved (c.in-Some.ensures).given.0 rises c.inx.ensures c.chain_start-start.ensures.same c.chain_start-start.ensures.head
+    c.chain_start-start.ensures.own (c.behind-first.ensures ∙ ap (λ n. n + 1) c.len.ensures.value) in
     record {
       callable = c.chain.invariant.callable;
       rises = next.rises;
       reaches = λ j some. subst (λ h. j ≤ h) (sym next.high) (c.chain.invariant.reaches j some);
-      way = (
-        g.Q.Inx.PtrInxCore.number c.inx.result,
-        next.low ∙ ap (λ n. n + 1) (sym c.inx.ensures),
-        way_taken g.Q.PtrCore.index g.Q.PtrCore.generation g.P.PtrCore.index g.P.PtrCore.generation g.Q.Inx.PtrInxCore.number g.P.Inx.PtrInxCore.number (goal.F-step g) c.args.map
-            g.Q.Gen.PtrGenCore.last c.args.source.now (g.P.Gen.PtrGenCore.number c.args.generation) c.args.target.now.room
-            c.requires.chained c.chain.advancer (g.Q.PtrCore.index c.in-Some.p) (g.Q.PtrCore.generation c.in-Some.p) (g.Q.Inx.PtrInxCore.number c.inx.result)
-            (g.Q.Inx.PtrInxCore.number c.chain_start-start.result) (g.P.Inx.PtrInxCore.number c.behind-first.result) c.chain.map c.chain.source c.chain.target
-            c.chain.invariant.moved (c.in-Some.ensures).given.0 rises c.inx.ensures c.chain_start-start.ensures.same c.chain_start-start.ensures.head
-            c.chain_start-start.ensures.own (c.behind-first.ensures ∙ ap (λ n. n + 1) c.len.ensures.value),
-      );
+      live = at_live _ _ _ _ _ _ _ _ _ _ _ _ c.requires.chained _ _ _ _ _ _ _ _ way;
+      way = (g.Q.Inx.PtrInxCore.number c.inx.result, next.low ∙ ap (λ n. n + 1) (sym c.inx.ensures), way);
     }
 
 -- the link in hand is moved
@@ -79,30 +78,19 @@ behind-place-requires g c =
     (option_map g.P.Inx.PtrInxCore.number c.link.last) c.link.map c.link.source c.link.target c.link.invariant.way.2 in
     omega (arith, fits, c.len-placed.ensures.value, c.requires.fits, c.capacity.ensures.value, c.capacity.ensures.bounded)
 
-pub take_link-taken-requires : goal.take_link-taken-requires
-take_link-taken-requires g c =
-    at_live g.Q.PtrCore.index g.Q.PtrCore.generation g.P.PtrCore.index g.P.PtrCore.generation g.Q.Inx.PtrInxCore.number g.P.Inx.PtrInxCore.number (goal.F-step g) c.args.map
-    g.Q.Gen.PtrGenCore.last c.args.source.now (g.P.Gen.PtrGenCore.number c.args.generation) c.args.target.now.room
-    c.requires.chained c.link.invariant.way.0 (g.Q.Inx.PtrInxCore.number c.chain_start-start.result) (g.Q.Inx.PtrInxCore.number c.link.at) (g.P.Inx.PtrInxCore.number c.behind-first.result)
-    (option_map g.P.Inx.PtrInxCore.number c.link.last) c.link.map c.link.source c.link.target c.link.invariant.way.2
-
-pub go_on-requires : goal.go_on-requires
-go_on-requires g c = (link_done g (goal.at.go_on-requires g c).After-append_link).first_live
-
 pub link-preserved : goal.link-preserved
 link-preserved g c =
+    let way =
+    (link_done g (goal.at.link-preserved g c).After-append_link).further (g.Q.Inx.PtrInxCore.number c.in-Some-go_on.j) c.go_on.new.target
+    c.in-Some-go_on.ensures.on in
     record {
       callable = search of_calls;
       rises = c.link.invariant.rises;
       reaches =
           λ j some. c.link.invariant.reaches j (still_live g.Q.Gen.PtrGenCore.last (g.Q.Inx.PtrInxCore.number c.link.at) c.link.source c.take_link-taken.new.source
           c.take_link-taken.ensures.removed j some);
-      way = (
-        c.link.invariant.way.0,
-        c.link.invariant.way.1,
-        (link_done g (goal.at.link-preserved g c).After-append_link).further (g.Q.Inx.PtrInxCore.number c.in-Some-go_on.j) c.go_on.new.target
-            c.in-Some-go_on.ensures.on,
-      );
+      live = at_live _ _ _ _ _ _ _ _ _ _ _ _ c.requires.chained _ _ _ _ _ _ _ _ way;
+      way = (c.link.invariant.way.0, c.link.invariant.way.1, way);
     }
 
 pub chain-preserved : goal.chain-preserved

@@ -13,7 +13,7 @@ loop-p-init g c =
       reaches = c.advancer-advancer.ensures.high;
       passed =
           begun g.P.Inx.PtrInxCore.number _ c.args.arena.now (free_forwarded g.P.Inx.PtrInxCore.number c.args.arena.now) _ c.advancer-advancer.ensures.low
-          c.recall_formed.ensures;
+          c.requires;
     }
 
 pub loop-p-preserved : goal.loop-p-preserved

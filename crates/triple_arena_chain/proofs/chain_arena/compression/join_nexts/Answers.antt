@@ -10,11 +10,11 @@ loop-p-init g c =
     record {
       rises = c.advancer-advancer.ensures.rises;
       reaches = c.advancer-advancer.ensures.high;
-      joined = joined_none g.P.Inx.PtrInxCore.number c.args.arena.now _ c.advancer-advancer.ensures.low c.requires.alone c.recall_formed.ensures;
+      joined = joined_none g.P.Inx.PtrInxCore.number c.args.arena.now _ c.advancer-advancer.ensures.low c.requires.alone c.requires.formed;
     }
 
-pub set_prev-requires : goal.set_prev-requires
-set_prev-requires g c =
+pub relink-requires-clause-after : goal.relink-requires-clause-after
+relink-requires-clause-after g c =
     next_live g.P.Inx.PtrInxCore.number c.args.arena.now c.loop-p.advancer.low c.loop-p.arena c.next_there-next.result _ c.loop-p.invariant.joined c.requires.live
     c.next_there-next.ensures
 
@@ -24,19 +24,19 @@ loop-p-preserved g c =
     let rises = c.loop-p.invariant.rises in
     let next = passed_by c.loop-p.advancer c.advance.new.self (g.P.PtrCore.index c.in-Some.p) rises after in
     let same =
-    live_as c.loop-p.arena c.set_prev.new.arena
-    (unchanged g.P.Inx.PtrInxCore.number c.loop-p.arena c.set_prev.new.arena c.next_there-next.result (Some c.inx-i.result) c.set_prev.ensures) in
+    live_as c.loop-p.arena c.relink.new.arena
+    (unchanged g.P.Inx.PtrInxCore.number c.loop-p.arena c.relink.new.arena c.next_there-next.result (Some c.inx-i.result) c.relink.ensures) in
     record {
       rises = next.rises;
       reaches = λ j some. subst (λ h. j ≤ h) (sym next.high) (c.loop-p.invariant.reaches j (sym (same j) ∙ some));
       joined =
-          subst (λ n. IsJoined g.P.Inx.PtrInxCore.number c.args.arena.now n c.set_prev.new.arena) (sym next.low)
-          (joined_one g.P.Inx.PtrInxCore.number c.args.arena.now c.requires.apart c.loop-p.arena c.set_prev.new.arena c.loop-p.advancer
+          subst (λ n. IsJoined g.P.Inx.PtrInxCore.number c.args.arena.now n c.relink.new.arena) (sym next.low)
+          (joined_one g.P.Inx.PtrInxCore.number c.args.arena.now c.requires.apart c.loop-p.arena c.relink.new.arena c.loop-p.advancer
           (g.P.PtrCore.index c.in-Some.p) (g.P.PtrCore.generation c.in-Some.p) c.inx-i.result c.loop-p.invariant.joined rises (c.in-Some.ensures).given.0
           c.inx-i.ensures c.next_there-next.result
           (subst (λ n. option_map g.P.Inx.PtrInxCore.number c.next_there-next.result ≡ next_at (ends_in g.P.Inx.PtrInxCore.number c.loop-p.arena) n) c.inx-i.ensures
           c.next_there-next.ensures)
           (next_live g.P.Inx.PtrInxCore.number c.args.arena.now c.loop-p.advancer.low c.loop-p.arena c.next_there-next.result _ c.loop-p.invariant.joined
           c.requires.live c.next_there-next.ensures)
-          c.set_prev.ensures);
+          c.relink.ensures);
     }

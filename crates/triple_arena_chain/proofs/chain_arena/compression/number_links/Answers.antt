@@ -15,7 +15,7 @@ loop-p-init g c =
       reaches = c.advancer-advancer.ensures.high;
       indexes = λ j some. let within = c.capacity.ensures.indexes j some in let bound = c.capacity.ensures.bounded in omega (arith, within, bound);
       count = ap (live_below (ends_in g.P.Inx.PtrInxCore.number c.args.arena.now)) (sym low);
-      passed = begun g.P.Inx.PtrInxCore.number _ c.args.arena.now (free_numbered g.P.Inx.PtrInxCore.number c.args.arena.now) _ low c.recall_formed.ensures;
+      passed = begun g.P.Inx.PtrInxCore.number _ c.args.arena.now (free_numbered g.P.Inx.PtrInxCore.number c.args.arena.now) _ low c.requires;
     }
 
 is_counted : (g : _) (c : goal.After-set_prev g) → IsCounted g.P.Inx.PtrInxCore.number c.args.arena.now c.loop-p.arena c.loop-p.advancer (g.P.PtrCore.index c.in-Some.p) c.loop-p.count

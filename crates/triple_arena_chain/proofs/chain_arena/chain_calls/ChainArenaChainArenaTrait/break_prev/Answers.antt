@@ -1,45 +1,38 @@
 use Rattle.std.proofs.Common.{rules, ◌≡◌, ℕ, Some, None, IsSome, option_map, sym, ap, ◌∙◌}
 use Rattle.triple_arena.specs.Content.{entry_at}
 use Rattle.triple_arena_chain.specs.Chains.{prev_at, unlinked}
-use Rattle.triple_arena_chain.specs.Links.{ends_in, with_next_of, IsChained}
+use Rattle.triple_arena_chain.specs.Links.{ends_in, with_next_of, with_prev_of, IsChained}
 use Rattle.triple_arena_chain.proofs.ListLemmas.{is_split}
-use Rattle.triple_arena_chain.proofs.ConnectionLemmas.{prev_live, found_live_after, parted_prev, prev_found, Relinked}
+use Rattle.triple_arena_chain.proofs.ConnectionLemmas.{prev_live, parted_prev, prev_found, Relinked}
 use Rattle.triple_arena_chain.proofs.chain_arena.chain_calls.ChainArenaChainArenaTrait.break_prev.Given.{Over}
 use Rattle.triple_arena_chain.proofs.chain_arena.chain_calls.ChainArenaChainArenaTrait.break_prev.Goals as goal
 
-pub set_next-requires : goal.set_next-requires
-set_next-requires g c =
+pub relink-requires-clause-before : goal.relink-requires-clause-before
+relink-requires-clause-before g c =
     let number = g.P.Inx.PtrInxCore.number in
-    let is = sym c.in_ok-ends_of.ensures.numbers ∙ ap (λ o. Some (option_map number o, option_map number c.in_ok-ends_of.field-0.1)) c.in_ok-prev.was in
-    let live : IsSome (entry_at c.args.self.now (number c.in_ok-prev.prev)) =
-    prev_live number c.args.self.now (g.P.PtrCore.index c.args.p) (g.P.PtrCore.generation c.args.p) (number c.in_ok-prev.prev)
-    (option_map number c.in_ok-ends_of.field-0.1) c.recall_chained.ensures is in
+    let is = sym (c.in-Some-Some-default.ensures).numbers ∙ ap (λ o. Some (option_map number o, option_map number c.in-Some-Some-default.field-0-1)) c.in-Some-Some-default.field-0-0-is in
+    let live : IsSome (entry_at c.args.self.now (number c.in-Some-Some-default.prev)) =
+    prev_live number c.args.self.now (g.P.PtrCore.index c.args.p) (g.P.PtrCore.generation c.args.p) (number c.in-Some-Some-default.prev)
+    (option_map number c.in-Some-Some-default.field-0-1) c.recall_chained.ensures is in
     search rules
 
-pub set_prev-requires : goal.set_prev-requires
-set_prev-requires g c =
-    let number = g.P.Inx.PtrInxCore.number in
-    let is = sym c.in_ok-ends_of.ensures.numbers ∙ ap (λ o. Some (option_map number o, option_map number c.in_ok-ends_of.field-0.1)) c.in_ok-prev.was in
-    let first : c.set_next.new.arena ≡ with_next_of number c.args.self.now (Some c.in_ok-prev.prev) None = search rules in
-    found_live_after number c.args.self.now c.set_next.new.arena (Some c.in_ok-prev.prev) None c.inx.result (g.P.PtrCore.index c.args.p)
-    (g.P.PtrCore.generation c.args.p) (Some (number c.in_ok-prev.prev), option_map number c.in_ok-ends_of.field-0.1) c.inx.ensures is first
-
-done : (g : Over) (c : goal.After-set_prev g) (q : ℕ) → prev_at (ends_in g.P.Inx.PtrInxCore.number c.args.self.now) (g.P.PtrCore.index c.args.p) ≡ Some q
-    → Relinked g.P.Inx.PtrInxCore.number (unlinked (ends_in g.P.Inx.PtrInxCore.number c.args.self.now) q (g.P.PtrCore.index c.args.p)) c.args.self.now c.set_prev.new.arena
+done : (g : Over) (c : goal.After-relink g) (q : ℕ) → prev_at (ends_in g.P.Inx.PtrInxCore.number c.args.self.now) (g.P.PtrCore.index c.args.p) ≡ Some q
+    → Relinked g.P.Inx.PtrInxCore.number (unlinked (ends_in g.P.Inx.PtrInxCore.number c.args.self.now) q (g.P.PtrCore.index c.args.p)) c.args.self.now c.relink.new.arena
 done g c =
     let number = g.P.Inx.PtrInxCore.number in
-    let is = sym c.in_ok-ends_of.ensures.numbers ∙ ap (λ o. Some (option_map number o, option_map number c.in_ok-ends_of.field-0.1)) c.in_ok-prev.was in
-    let first : c.set_next.new.arena ≡ with_next_of number c.args.self.now (Some c.in_ok-prev.prev) None = search rules in
-    parted_prev number c.args.self.now c.set_next.new.arena c.set_prev.new.arena c.in_ok-prev.prev c.inx.result (g.P.PtrCore.index c.args.p)
-    (g.P.PtrCore.generation c.args.p) (option_map number c.in_ok-ends_of.field-0.1) c.recall_chained.ensures c.inx.ensures is first c.set_prev.ensures
+    let is = sym (c.in-Some-Some-default.ensures).numbers ∙ ap (λ o. Some (option_map number o, option_map number c.in-Some-Some-default.field-0-1)) c.in-Some-Some-default.field-0-0-is in
+    let made : c.relink.new.arena ≡ with_prev_of number (with_next_of number c.args.self.now (Some c.in-Some-Some-default.prev) None) (Some c.inx.result) None =
+    search rules in
+    parted_prev number c.args.self.now c.relink.new.arena c.in-Some-Some-default.prev c.inx.result (g.P.PtrCore.index c.args.p) (g.P.PtrCore.generation c.args.p)
+    (option_map number c.in-Some-Some-default.field-0-1) c.recall_chained.ensures c.inx.ensures is made
 
-chained : (g : Over) (c : goal.After-set_prev g) → IsChained g.P.Inx.PtrInxCore.number c.set_prev.new.arena
+chained : (g : Over) (c : goal.After-relink g) → IsChained g.P.Inx.PtrInxCore.number c.relink.new.arena
 chained g c =
     let number = g.P.Inx.PtrInxCore.number in
-    let is = sym c.in_ok-ends_of.ensures.numbers ∙ ap (λ o. Some (option_map number o, option_map number c.in_ok-ends_of.field-0.1)) c.in_ok-prev.was in
-    (done g c (number c.in_ok-prev.prev)
-    (prev_found number c.args.self.now (g.P.PtrCore.index c.args.p) (g.P.PtrCore.generation c.args.p) (number c.in_ok-prev.prev)
-    (option_map number c.in_ok-ends_of.field-0.1) is)).chained
+    let is = sym (c.in-Some-Some-default.ensures).numbers ∙ ap (λ o. Some (option_map number o, option_map number c.in-Some-Some-default.field-0-1)) c.in-Some-Some-default.field-0-0-is in
+    (done g c (number c.in-Some-Some-default.prev)
+    (prev_found number c.args.self.now (g.P.PtrCore.index c.args.p) (g.P.PtrCore.generation c.args.p) (number c.in-Some-Some-default.prev)
+    (option_map number c.in-Some-Some-default.field-0-1) is)).chained
 
 pub invariant_of-self : goal.invariant_of-self
 invariant_of-self g c = chained g c
@@ -51,7 +44,7 @@ pub returns-clause-lists : goal.returns-clause-lists
 returns-clause-lists g c q prev =
     let number = g.P.Inx.PtrInxCore.number in
     let agreed = c.recall_chained.ensures.agreed in
-    is_split (ends_in number c.args.self.now) (ends_in number c.set_prev.new.arena) q (g.P.PtrCore.index c.args.p) agreed
+    is_split (ends_in number c.args.self.now) (ends_in number c.relink.new.arena) q (g.P.PtrCore.index c.args.p) agreed
     (chained g c).agreed (agreed.backward q (g.P.PtrCore.index c.args.p) prev) (done g c q prev).relinked.ends
 
 pub returns-clause-relinked : goal.returns-clause-relinked

@@ -1,15 +1,15 @@
 use Rattle.std.proofs.Common.{rules, ◌≡◌, Some}
 use Rattle.triple_arena_chain.specs.Chains.{linked}
 use Rattle.triple_arena_chain.specs.Kinds.{at_bridge, place_by}
-use Rattle.triple_arena_chain.specs.Links.{ends_in, ends_found, with_next_of}
+use Rattle.triple_arena_chain.specs.Links.{ends_in, ends_found, with_next_of, with_prev_of}
 use Rattle.triple_arena_chain.proofs.ListLemmas.{is_appended}
 use Rattle.triple_arena_chain.proofs.ConnectionLemmas.{connected, Relinked}
 use Rattle.triple_arena_chain.proofs.chain_arena.chain_calls.ChainArenaChainArenaTrait.connect.Given.{Over}
 use Rattle.triple_arena_chain.proofs.chain_arena.chain_calls.ChainArenaChainArenaTrait.connect.Goals as goal
 
-done : (g : Over) (c : goal.After-set_prev g)
+done : (g : Over) (c : goal.After-relink g)
     → Relinked g.P.Inx.PtrInxCore.number (linked (ends_in g.P.Inx.PtrInxCore.number c.args.self.now) (g.P.PtrCore.index c.args.p) (g.P.PtrCore.index c.args.q)) c.args.self.now
-    c.set_prev.new.arena
+    c.relink.new.arena
 done g c =
     let number = g.P.Inx.PtrInxCore.number in
     let old = c.args.self.now in
@@ -17,11 +17,11 @@ done g c =
     let q = g.P.PtrCore.index c.args.q in
     let gp = g.P.PtrCore.generation c.args.p in
     let gq = g.P.PtrCore.generation c.args.q in
-    let place = place_by number c.in_ok-place.field-0 in
+    let place = place_by number c.in-Some.field-0 in
     let bridge : at_bridge p q (ends_found number old p gp) (ends_found number old q gq) ≡ Some place = search rules in
-    let first : c.set_next.new.arena ≡ with_next_of number old (Some c.inx-i.result) (Some c.inx-j.result) = search rules in
-    connected number old c.set_next.new.arena c.set_prev.new.arena c.inx-i.result c.inx-j.result p gp q gq place c.recall_chained.ensures c.inx-i.ensures
-    c.inx-j.ensures bridge first c.set_prev.ensures
+    let made : c.relink.new.arena ≡ with_prev_of number (with_next_of number old (Some c.inx-i.result) (Some c.inx-j.result)) (Some c.inx-j.result) (Some c.inx-i.result) =
+    search rules in
+    connected number old c.relink.new.arena c.inx-i.result c.inx-j.result p gp q gq place c.recall_chained.ensures c.inx-i.ensures c.inx-j.ensures bridge made
 
 pub invariant_of-self : goal.invariant_of-self
 invariant_of-self g c = (done g c).chained
@@ -33,7 +33,7 @@ pub returns-clause-lists : goal.returns-clause-lists
 returns-clause-lists g c =
     let number = g.P.Inx.PtrInxCore.number in
     let d = done g c in
-    is_appended (ends_in number c.args.self.now) (ends_in number c.set_prev.new.arena) (g.P.PtrCore.index c.args.p) (g.P.PtrCore.index c.args.q) d.chained.agreed
+    is_appended (ends_in number c.args.self.now) (ends_in number c.relink.new.arena) (g.P.PtrCore.index c.args.p) (g.P.PtrCore.index c.args.q) d.chained.agreed
     d.relinked.ends
 
 pub returns-clause-formed : goal.returns-clause-formed

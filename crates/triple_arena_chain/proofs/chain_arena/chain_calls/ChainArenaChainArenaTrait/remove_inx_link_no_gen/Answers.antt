@@ -1,26 +1,27 @@
-use Rattle.std.proofs.Common.{rules, ◌≡◌, Some, refl, ap}
+use Rattle.std.proofs.Common.{rules, ◌≡◌, Some, refl, ap, subst}
 use Rattle.triple_arena_ptr.specs.InvalidationOption.{value_of}
 use Rattle.triple_arena_ptr.specs.InvalidationResult.{answer_of}
 use Rattle.triple_arena.specs.Content.{entry_at}
-use Rattle.triple_arena_chain.specs.Links.{with_next_of}
-use Rattle.triple_arena_chain.proofs.RemovalLemmas.{neighbors_live, neighbor_live_after, removed_by, Removed}
+use Rattle.triple_arena_chain.specs.Links.{bridged_over, IsChained}
+use Rattle.triple_arena_chain.proofs.RemovalLemmas.{neighbors_live, removed_by, Removed}
 use Rattle.triple_arena_chain.proofs.chain_arena.chain_calls.ChainArenaChainArenaTrait.remove_inx_link_no_gen.Given.{Over}
 use Rattle.triple_arena_chain.proofs.chain_arena.chain_calls.ChainArenaChainArenaTrait.remove_inx_link_no_gen.Goals as goal
 
-pub set_next-requires : goal.set_next-requires
-set_next-requires g c =
+pub relink-requires-clause-before : goal.relink-requires-clause-before
+relink-requires-clause-before g c =
     let number = g.P.Inx.PtrInxCore.number in
     let at : entry_at c.args.self.now (number c.args.i) ≡ Some (g.P.Gen.PtrGenCore.number c.in-Some.field-0-0, c.in-Some.link.now) = search rules in
-    let live = (neighbors_live number c.args.self.now (number c.args.i) (g.P.Gen.PtrGenCore.number c.in-Some.field-0-0) c.in-Some.link.now c.recall_chained.ensures at).0 in
+    let live = (neighbors_live number c.args.self.now (number c.args.i) (g.P.Gen.PtrGenCore.number c.in-Some.field-0-0) c.in-Some.link.now
+    (subst (IsChained g.P.Inx.PtrInxCore.number) c.self.view_is c.self.invariant) at).0 in
     search rules
 
-pub set_prev-requires : goal.set_prev-requires
-set_prev-requires g c =
+pub relink-requires-clause-after : goal.relink-requires-clause-after
+relink-requires-clause-after g c =
     let number = g.P.Inx.PtrInxCore.number in
     let at : entry_at c.args.self.now (number c.args.i) ≡ Some (g.P.Gen.PtrGenCore.number c.in-Some.field-0-0, c.in-Some.link.now) = search rules in
-    let first : c.set_next.new.arena ≡ with_next_of number c.args.self.now c.in-Some.link.now.prev c.in-Some.link.now.next = search rules in
-    neighbor_live_after number c.args.self.now c.set_next.new.arena (number c.args.i) (g.P.Gen.PtrGenCore.number c.in-Some.field-0-0) c.in-Some.link.now
-    c.recall_chained.ensures at first
+    let live = (neighbors_live number c.args.self.now (number c.args.i) (g.P.Gen.PtrGenCore.number c.in-Some.field-0-0) c.in-Some.link.now
+    (subst (IsChained g.P.Inx.PtrInxCore.number) c.self.view_is c.self.invariant) at).1 in
+    search rules
 
 done : (g : Over) (c : goal.After-remove_inx g)
     → Removed g.P.Inx.PtrInxCore.number (λ a. (g.P.Gen.PtrGenCore.number (value_of a).0, (value_of a).1)) (answer_of c.remove_inx.result) (λ a. (value_of a).1) (λ o. o) g.P.Gen.PtrGenCore.last
@@ -28,10 +29,10 @@ done : (g : Over) (c : goal.After-remove_inx g)
 done g c =
     let number = g.P.Inx.PtrInxCore.number in
     let at : entry_at c.args.self.now (number c.args.i) ≡ Some (g.P.Gen.PtrGenCore.number c.in-Some.field-0-0, c.in-Some.link.now) = search rules in
-    let first : c.set_next.new.arena ≡ with_next_of number c.args.self.now c.in-Some.link.now.prev c.in-Some.link.now.next = search rules in
+    let joined : c.relink.new.arena ≡ bridged_over number c.args.self.now c.in-Some.link.now = search rules in
     removed_by number (λ a. (g.P.Gen.PtrGenCore.number (value_of a).0, (value_of a).1)) (answer_of c.remove_inx.result) (λ a. (value_of a).1) (λ o. o) g.P.Gen.PtrGenCore.last c.args.self.now
-    c.set_next.new.arena c.set_prev.new.arena c.remove_inx.new.self (number c.args.i) (g.P.Gen.PtrGenCore.number c.in-Some.field-0-0) c.in-Some.link.now
-    (g.P.Gen.PtrGenCore.number c.in-Some.field-0-0, c.in-Some.link.now) c.recall_chained.ensures at refl first c.set_prev.ensures
+    c.relink.new.arena c.remove_inx.new.self (number c.args.i) (g.P.Gen.PtrGenCore.number c.in-Some.field-0-0) c.in-Some.link.now
+    (g.P.Gen.PtrGenCore.number c.in-Some.field-0-0, c.in-Some.link.now) (subst (IsChained g.P.Inx.PtrInxCore.number) c.self.view_is c.self.invariant) at refl joined
     c.remove_inx.ensures.value c.remove_inx.ensures.exact (λ a is. ap (λ v. v.1) is)
 
 pub invariant_of-self : goal.invariant_of-self

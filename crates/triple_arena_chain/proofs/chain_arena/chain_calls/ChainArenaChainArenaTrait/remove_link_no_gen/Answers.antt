@@ -1,33 +1,31 @@
-use Rattle.std.proofs.Common.{rules, ◌≡◌, Some}
+use Rattle.std.proofs.Common.{rules, ◌≡◌, Some, subst}
 use Rattle.triple_arena_ptr.specs.InvalidationOption.{value_of}
 use Rattle.triple_arena_ptr.specs.InvalidationResult.{answer_of}
 use Rattle.triple_arena.specs.Content.{get, entry_at}
 use Rattle.triple_arena.specs.Entries.{value_if}
-use Rattle.triple_arena_chain.specs.Links.{with_next_of}
+use Rattle.triple_arena_chain.specs.Links.{bridged_over, IsChained}
 use Rattle.triple_arena.specs.ContentLaws.{entry_seen}
-use Rattle.triple_arena_chain.proofs.RemovalLemmas.{entry_shows, neighbors_live, neighbor_live_after, removed_by, Removed}
+use Rattle.triple_arena_chain.proofs.RemovalLemmas.{entry_shows, neighbors_live, removed_by, Removed}
 use Rattle.triple_arena_chain.proofs.chain_arena.chain_calls.ChainArenaChainArenaTrait.remove_link_no_gen.Given.{Over}
 use Rattle.triple_arena_chain.proofs.chain_arena.chain_calls.ChainArenaChainArenaTrait.remove_link_no_gen.Goals as goal
 
-pub set_next-requires : goal.set_next-requires
-set_next-requires g c =
-    let number = g.P.Inx.PtrInxCore.number in
+pub relink-requires-clause-before : goal.relink-requires-clause-before
+relink-requires-clause-before g c =
     let p = g.P.PtrCore.index c.args.p in
     let gp = g.P.PtrCore.generation c.args.p in
     let is : get c.args.self.now p gp ≡ Some c.in-Some.link.now = search rules in
     let at = entry_seen gp (entry_at c.args.self.now p) c.in-Some.link.now is in
-    let live = (neighbors_live number c.args.self.now p gp c.in-Some.link.now c.recall_chained.ensures at).0 in
+    let live = (neighbors_live g.P.Inx.PtrInxCore.number c.args.self.now p gp c.in-Some.link.now (subst (IsChained g.P.Inx.PtrInxCore.number) c.self.view_is c.self.invariant) at).0 in
     search rules
 
-pub set_prev-requires : goal.set_prev-requires
-set_prev-requires g c =
-    let number = g.P.Inx.PtrInxCore.number in
+pub relink-requires-clause-after : goal.relink-requires-clause-after
+relink-requires-clause-after g c =
     let p = g.P.PtrCore.index c.args.p in
     let gp = g.P.PtrCore.generation c.args.p in
     let is : get c.args.self.now p gp ≡ Some c.in-Some.link.now = search rules in
     let at = entry_seen gp (entry_at c.args.self.now p) c.in-Some.link.now is in
-    let first : c.set_next.new.arena ≡ with_next_of number c.args.self.now c.in-Some.link.now.prev c.in-Some.link.now.next = search rules in
-    neighbor_live_after number c.args.self.now c.set_next.new.arena p gp c.in-Some.link.now c.recall_chained.ensures at first
+    let live = (neighbors_live g.P.Inx.PtrInxCore.number c.args.self.now p gp c.in-Some.link.now (subst (IsChained g.P.Inx.PtrInxCore.number) c.self.view_is c.self.invariant) at).1 in
+    search rules
 
 done : (g : Over) (c : goal.After-remove g)
     → Removed g.P.Inx.PtrInxCore.number value_of (answer_of c.remove.result) value_of (value_if (g.P.PtrCore.generation c.args.p)) g.P.Gen.PtrGenCore.last
@@ -38,10 +36,10 @@ done g c =
     let gp = g.P.PtrCore.generation c.args.p in
     let is : get c.args.self.now p gp ≡ Some c.in-Some.link.now = search rules in
     let at = entry_seen gp (entry_at c.args.self.now p) c.in-Some.link.now is in
-    let first : c.set_next.new.arena ≡ with_next_of number c.args.self.now c.in-Some.link.now.prev c.in-Some.link.now.next = search rules in
-    removed_by number value_of (answer_of c.remove.result) value_of (value_if gp) g.P.Gen.PtrGenCore.last c.args.self.now c.set_next.new.arena c.set_prev.new.arena
-    c.remove.new.self p gp c.in-Some.link.now c.in-Some.link.now c.recall_chained.ensures at (entry_shows gp c.in-Some.link.now) first c.set_prev.ensures
-    c.remove.ensures.value c.remove.ensures.exact (λ a is. is)
+    let joined : c.relink.new.arena ≡ bridged_over number c.args.self.now c.in-Some.link.now = search rules in
+    removed_by number value_of (answer_of c.remove.result) value_of (value_if gp) g.P.Gen.PtrGenCore.last c.args.self.now c.relink.new.arena c.remove.new.self p gp
+    c.in-Some.link.now c.in-Some.link.now (subst (IsChained g.P.Inx.PtrInxCore.number) c.self.view_is c.self.invariant) at (entry_shows gp c.in-Some.link.now) joined c.remove.ensures.value c.remove.ensures.exact
+    (λ a is. is)
 
 pub invariant_of-self : goal.invariant_of-self
 invariant_of-self g c = (done g c).chained
