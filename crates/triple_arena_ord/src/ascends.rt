@@ -35,9 +35,8 @@ where
     P: PtrCore,
     T: SimpleOrdItem + Drop,
     A: ChainArenaTrait<P, IndexNode<P::Inx, T>>,
-    requires linear { (w : List ℕ) × IsLinear (ends_in P.Inx.number (A.links arena.now)) w
+    requires { (w : List ℕ) × IsLinear (ends_in P.Inx.number (A.links arena.now)) w
         × (first_or w None ≡ Some (P.Inx.number first)) × (length w ≤ most) }
-    requires no_more { ⊤ }
     ensures { (w : List ℕ) → IsLinear (ends_in P.Inx.number (A.links arena.now)) w → first_or w None ≡ Some (P.Inx.number first)
         → length w ≤ most → IsTrue result ↔ AscendsAlong T.Key.cmp T.key_of (items_in (A.links arena.now)) w }
 {

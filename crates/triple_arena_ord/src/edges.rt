@@ -1,5 +1,5 @@
 //! A leaf that comes below a node, and a node with at most one child that leaves.
-ghost use Rattle.std.specs.Prelude.{◌≡◌, ℕ, Some, None, IsSome, ⊤};
+ghost use Rattle.std.specs.Prelude.{◌≡◌, ℕ, Some, None, IsSome};
 ghost use Rattle.std.specs.Option.{option_map};
 ghost use Rattle.rank_tree.specs.Tree.{walk};
 ghost use Rattle.rank_tree.specs.Shape.{plug};
@@ -46,8 +46,7 @@ pub(crate) fn detach<P: PtrCore, T: Drop, S: OrdSlots<P, T>>(
     root: &mut Option<P::Inx>,
     gone: P::Inx,
 ) -> Option<P::Inx>
-    requires loose { Loose (knots_in P.Inx.number chains.old) (option_map P.Inx.number root.old) (P.Inx.number gone) }
-    requires no_more { ⊤ }
+    requires { Loose (knots_in P.Inx.number chains.old) (option_map P.Inx.number root.old) (P.Inx.number gone) }
     ensures does { (loose : Loose (knots_in P.Inx.number chains.old) (option_map P.Inx.number root.old) (P.Inx.number gone))
         → Pending (knots_in P.Inx.number chains.new) (option_map P.Inx.number root.new) (option_map P.Inx.number result) (walk (plug loose.context loose.sub)) }
     ensures keeps { rest chains.new ≡ rest chains.old }

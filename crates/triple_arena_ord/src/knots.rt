@@ -51,8 +51,7 @@ fn set_parent<P: PtrCore, T: Drop, S: OrdSlots<P, T>>(
     i: P::Inx,
     parent: Option<P::Inx>,
 )
-    requires live { IsSome (knots_in P.Inx.number chains.old (P.Inx.number i)) }
-    requires no_more { ⊤ }
+    requires { IsSome (knots_in P.Inx.number chains.old (P.Inx.number i)) }
     ensures does { (v : Seen) → knots_in P.Inx.number chains.old (P.Inx.number i) ≡ Some v
         → Written (knots_in P.Inx.number chains.old) (knots_in P.Inx.number chains.new) (P.Inx.number i)
         (with_parent (option_map P.Inx.number parent) v) }
@@ -68,8 +67,7 @@ fn set_child<P: PtrCore, T: Drop, S: OrdSlots<P, T>>(
     side: Side,
     child: Option<P::Inx>,
 )
-    requires live { IsSome (knots_in P.Inx.number chains.old (P.Inx.number i)) }
-    requires no_more { ⊤ }
+    requires { IsSome (knots_in P.Inx.number chains.old (P.Inx.number i)) }
     ensures does { (v : Seen) → knots_in P.Inx.number chains.old (P.Inx.number i) ≡ Some v
         → Written (knots_in P.Inx.number chains.old) (knots_in P.Inx.number chains.new) (P.Inx.number i)
         (with_child side (option_map P.Inx.number child) v) }

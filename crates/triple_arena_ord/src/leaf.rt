@@ -1,5 +1,5 @@
 //! A new entry beside another.
-ghost use Rattle.std.specs.Prelude.{◌≡◌, ℕ, ◌<◌, Some, IsSome, ⊤};
+ghost use Rattle.std.specs.Prelude.{◌≡◌, ℕ, ◌<◌, Some, IsSome};
 ghost use Rattle.std.specs.Option.{option_map};
 ghost use Rattle.triple_arena.specs.Content.{entry_at, live_count, arena_capacity};
 ghost use Rattle.rank_tree.specs.Store.{child_of};
@@ -60,8 +60,7 @@ pub(crate) fn neighbors_beside<P: PtrCore, T: Drop, S: OrdSlots<P, T>>(
     holder: P::Inx,
     side: Side,
 ) -> (Option<P::Inx>, Option<P::Inx>)
-    requires live { IsSome (knots_in P.Inx.number chains.now (P.Inx.number holder)) }
-    requires no_more { ⊤ }
+    requires { IsSome (knots_in P.Inx.number chains.now (P.Inx.number holder)) }
     ensures prev { option_map (λ e. prev_for P.Inx.number side e.1 (P.Inx.number holder)) (entry_at chains.now (P.Inx.number holder))
         ≡ Some (option_map P.Inx.number result.0) }
     ensures next { option_map (λ e. next_for P.Inx.number side e.1 (P.Inx.number holder)) (entry_at chains.now (P.Inx.number holder))

@@ -1,5 +1,5 @@
 //! The ordered arena.
-ghost use Rattle.std.specs.Prelude.{◌≡◌, [], ◌∷◌, ◌<◌, ◌↔◌, Some, None, IsSome, IsOk, IfOk, OnErr, ⊤};
+ghost use Rattle.std.specs.Prelude.{◌≡◌, [], ◌∷◌, ◌<◌, ◌↔◌, Some, None, IsSome, IsOk, IfOk, OnErr};
 ghost use Rattle.std.specs.Option.{option_map};
 ghost use Rattle.triple_arena.specs.Content.{live_count, arena_capacity};
 ghost use Rattle.triple_arena_ord.specs.Ordered.{IsOrdered, StandsBeside, order_in};
@@ -139,8 +139,7 @@ impl<P: PtrCore, T: Drop, S: OrdSlots<P, T>> SimpleOrdArena<P, T, S> {
 
     // The first entry, where there is none.
     pub(crate) fn insert_first(&mut self, t: T) -> Result<P, NotWithinCapacityError>
-        requires empty { self.old.root ≡ None }
-        requires no_more { ⊤ }
+        requires { self.old.root ≡ None }
         ensures variant { IsOk result ↔ (live_count self.old.chains < arena_capacity self.old.chains) }
         ensures order { IfOk result (λ p. order_in P.Inx.number self.new ≡ P.index p ∷ []) }
         ensures added { IfOk result (λ p. IsAdded P.Inx.number (P.index p) (P.generation p) t self.old self.new) }

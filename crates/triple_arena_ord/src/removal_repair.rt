@@ -68,8 +68,7 @@ fn mend<P: PtrCore, T: Drop, S: OrdSlots<P, T>>(
     root: &mut Option<P::Inx>,
     high: P::Inx,
 ) -> Option<P::Inx>
-    requires broken { (w : List ℕ) × Broken (knots_in P.Inx.number chains.old) (option_map P.Inx.number root.old) (P.Inx.number high) w }
-    requires no_more { ⊤ }
+    requires { (w : List ℕ) × Broken (knots_in P.Inx.number chains.old) (option_map P.Inx.number root.old) (P.Inx.number high) w }
     ensures pending { (w : List ℕ) → Broken (knots_in P.Inx.number chains.old) (option_map P.Inx.number root.old) (P.Inx.number high) w
         → Pending (knots_in P.Inx.number chains.new) (option_map P.Inx.number root.new) (option_map P.Inx.number result) w }
     ensures rises { IfSome result (λ i. rank_in (knots_in P.Inx.number chains.old) (P.Inx.number high)

@@ -16,8 +16,7 @@ pub(crate) fn ptr_at<P: PtrCore, T: Drop, S: OrdSlots<P, T>>(
     chains: &ChainArena<P, SimpleOrdArenaNode<P, T>, S>,
     i: P::Inx,
 ) -> P
-    requires live { IsSome (items_in chains.now (P.Inx.number i)) }
-    requires no_more { ⊤ }
+    requires { IsSome (items_in chains.now (P.Inx.number i)) }
     ensures index { P.index result ≡ P.Inx.number i }
     ensures live { generation_at (items_in chains.now) (P.index result) ≡ Some (P.generation result) }
 {

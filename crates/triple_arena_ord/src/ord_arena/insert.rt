@@ -1,5 +1,5 @@
 //! Insertions.
-ghost use Rattle.std.specs.Prelude.{◌≡◌, ◌↔◌, None, Ok, Err, IsTrue, IsSome, IfSome, IfOk, ⊤};
+ghost use Rattle.std.specs.Prelude.{◌≡◌, ◌↔◌, None, Ok, Err, IsTrue, IsSome, IfSome, IfOk};
 ghost use Rattle.std.specs.Option.{option_map};
 ghost use Rattle.triple_arena_ord.specs.Node.{knots_in};
 ghost use Rattle.rank_tree.specs.Search.{IsFreeAt};
@@ -21,8 +21,7 @@ fn renew<P: PtrCore, T: Drop, S: OrdSlots<P, T>>(
     i: P::Inx,
     t: T,
 ) -> (P, T)
-    requires live { IsSome (knots_in P.Inx.number chains.old (P.Inx.number i)) }
-    requires no_more { ⊤ }
+    requires { IsSome (knots_in P.Inx.number chains.old (P.Inx.number i)) }
     ensures index { P.index result.0 ≡ P.Inx.number i }
     ensures renewed { IsRenewed P.Inx.number (P.index result.0) (P.generation result.0) t result.1 chains.old chains.new }
 {
@@ -74,8 +73,7 @@ pub(crate) fn replaces<I: PtrInxCore>(place: Option<(I, Ordering)>) -> bool
 impl<P: PtrCore, T: Drop, S: OrdSlots<P, T>> SimpleOrdArena<P, T, S> {
     // Another item at an index, and the one that stood there.
     pub(crate) fn replace_item(&mut self, i: P::Inx, t: T) -> (P, T)
-        requires live { IsSome (knots_in P.Inx.number self.old.chains (P.Inx.number i)) }
-        requires no_more { ⊤ }
+        requires { IsSome (knots_in P.Inx.number self.old.chains (P.Inx.number i)) }
         ensures index { P.index result.0 ≡ P.Inx.number i }
         ensures replaced { IsReplaced P.Inx.number (P.index result.0) (P.generation result.0) t result.1 self.old self.new }
         ensures ordered { IsOrdered P.Inx.number self.new }

@@ -111,8 +111,7 @@ where
     U: Drop,
     B: CopiesLinks<P, SimpleOrdArenaNode<P, T>, U, A>,
     F: FnMut(P, &T) -> Result<U, AllocError>,
-    requires callable { F.IsAlwaysCallable map }
-    requires no_more { ⊤ }
+    requires { F.IsAlwaysCallable map }
     ensures mapped { OnOk result (IsMappedCopy P.index P.generation F.step map
         (listed_items (B.links source.now)) (B.values target.new)) }
     ensures copied { OnOk result (B.is_copied source.now target.old target.new) }

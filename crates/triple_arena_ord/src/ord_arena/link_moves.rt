@@ -194,8 +194,7 @@ where
     T: Drop,
     B: MovesLinks<Q, V, P, W, N, A>,
     F: FnMut(Q, InvalidationOption<U>, P) -> T,
-    requires callable { F.IsAlwaysCallable map }
-    requires no_more { ⊤ }
+    requires { F.IsAlwaysCallable map }
     ensures moved { OnOk result ((order : List (ℕ × (ℕ × V)))
         × (B.is_moved source.old order target.new
         × IsTransferred B.old_index B.old_generation B.index B.generation F.step map B.last

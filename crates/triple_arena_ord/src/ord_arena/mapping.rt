@@ -1,5 +1,5 @@
 //! Nodes that a map makes of other ones, where the map sees items alone.
-ghost use Rattle.std.specs.Prelude.{◌≡◌, map as list_map, ⊤};
+ghost use Rattle.std.specs.Prelude.{◌≡◌, map as list_map};
 ghost use Rattle.triple_arena_ptr.specs.InvalidationOption.{overflowed};
 ghost use Rattle.triple_arena.specs.Changes.{IsCompressed};
 ghost use Rattle.triple_arena.specs.Compression.{compression_wraps, generation_of, value_of, IsMapped};
@@ -20,8 +20,7 @@ where
     T: Drop,
     A: ArenaTrait<P, IndexNode<I, T>>,
     F: FnMut(P, T, P) -> T,
-    requires callable { F.IsAlwaysCallable map }
-    requires no_more { ⊤ }
+    requires { F.IsAlwaysCallable map }
     ensures mapped { IsMapped P.index P.generation F.step map (list_map listed_item (A.live_entries arena.old))
         (list_map listed_item (A.live_entries arena.new)) }
     ensures overflow { overflowed result ≡ compression_wraps P.Gen.last reset (A.counter arena.old)

@@ -22,8 +22,7 @@ pub(crate) fn neighbors<P: PtrCore, T: Drop, S: OrdSlots<P, T>>(
     chains: &ChainArena<P, SimpleOrdArenaNode<P, T>, S>,
     i: P::Inx,
 ) -> (Option<P::Inx>, Option<P::Inx>)
-    requires live { IsSome (knots_in P.Inx.number chains.now (P.Inx.number i)) }
-    requires no_more { ⊤ }
+    requires { IsSome (knots_in P.Inx.number chains.now (P.Inx.number i)) }
     ensures { ends_in P.Inx.number chains.now (P.Inx.number i) ≡ Some (option_map P.Inx.number result.0, option_map P.Inx.number result.1) }
 {
     match chains.get_inx_link_no_gen(i) {

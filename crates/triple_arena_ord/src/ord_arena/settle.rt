@@ -17,8 +17,7 @@ use unreached::unreached;
 impl<P: PtrCore, T: Drop, S: OrdSlots<P, T>> SimpleOrdArena<P, T, S> {
     // Where a new leaf hangs that stands directly before an index: there, or on the right of the previous one.
     fn settle_before(&self, i: P::Inx) -> (P::Inx, Ordering)
-        requires live { IsSome (knots_in P.Inx.number self.now.chains (P.Inx.number i)) }
-        requires no_more { ⊤ }
+        requires { IsSome (knots_in P.Inx.number self.now.chains (P.Inx.number i)) }
         ensures free { IsFreeAt result.1 (knots_in P.Inx.number self.now.chains (P.Inx.number result.0)) }
         ensures new { result.1 ≢ Ordering.Equal }
         ensures same { (w : List ℕ) (n : ℕ) → StandsAt (Some (P.Inx.number result.0, result.1)) (order_in P.Inx.number self.now) w n
@@ -35,8 +34,7 @@ impl<P: PtrCore, T: Drop, S: OrdSlots<P, T>> SimpleOrdArena<P, T, S> {
 
     // The same directly after an index: there, or on the left of the next one.
     fn settle_after(&self, i: P::Inx) -> (P::Inx, Ordering)
-        requires live { IsSome (knots_in P.Inx.number self.now.chains (P.Inx.number i)) }
-        requires no_more { ⊤ }
+        requires { IsSome (knots_in P.Inx.number self.now.chains (P.Inx.number i)) }
         ensures free { IsFreeAt result.1 (knots_in P.Inx.number self.now.chains (P.Inx.number result.0)) }
         ensures new { result.1 ≢ Ordering.Equal }
         ensures same { (w : List ℕ) (n : ℕ) → StandsAt (Some (P.Inx.number result.0, result.1)) (order_in P.Inx.number self.now) w n

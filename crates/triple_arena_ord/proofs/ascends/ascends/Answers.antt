@@ -5,8 +5,8 @@ use Rattle.triple_arena_ord.proofs.ascends.ascends.Goals as goal
 
 pub link_at-link-requires-clause-live : goal.link_at-link-requires-clause-live
 link_at-link-requires-clause-live g c =
-    first_lives g.P.Inx.PtrInxCore.number g.T.Key.Ord.cmp g.T.SimpleOrdItem.key_of g.met.T.Key.Ord.total (g.A.ChainArenaTrait.links c.args.arena.now) c.requires.linear.0
-    (g.P.Inx.PtrInxCore.number c.args.first) c.requires.linear.1 c.requires.linear.2
+    first_lives g.P.Inx.PtrInxCore.number g.T.Key.Ord.cmp g.T.SimpleOrdItem.key_of g.met.T.Key.Ord.total (g.A.ChainArenaTrait.links c.args.arena.now) c.requires.0
+    (g.P.Inx.PtrInxCore.number c.args.first) c.requires.1 c.requires.2
 
 pub along-init : goal.along-init
 along-init g c = λ w linear at most.
@@ -24,8 +24,8 @@ returns-in_default g c = λ w linear at most. (
 
 pub link_at-next-requires-clause-live : goal.link_at-next-requires-clause-live
 link_at-next-requires-clause-live g c =
-    next_lives g.P.Inx.PtrInxCore.number g.T.Key.Ord.cmp g.T.SimpleOrdItem.key_of g.met.T.Key.Ord.total (g.A.ChainArenaTrait.links c.args.arena.now) c.requires.linear.0 c.along.link.now c.along._done
-    (c.along.invariant c.requires.linear.0 c.requires.linear.1 c.requires.linear.2 c.requires.linear.3) c.requires.linear.1 (g.P.Inx.PtrInxCore.number c.in-Some.i)
+    next_lives g.P.Inx.PtrInxCore.number g.T.Key.Ord.cmp g.T.SimpleOrdItem.key_of g.met.T.Key.Ord.total (g.A.ChainArenaTrait.links c.args.arena.now) c.requires.0 c.along.link.now c.along._done
+    (c.along.invariant c.requires.0 c.requires.1 c.requires.2 c.requires.3) c.requires.1 (g.P.Inx.PtrInxCore.number c.in-Some.i)
     (ap (option_map g.P.Inx.PtrInxCore.number) (sym c.next.ensures ∙ c.in-Some.is))
 
 pub returns-in-Greater : goal.returns-in-Greater

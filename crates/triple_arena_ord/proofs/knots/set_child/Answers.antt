@@ -13,7 +13,7 @@ pub returns-in-Left-clause-does : goal.returns-in-Left-clause-does
 returns-in-Left-clause-does g c =
     let number = g.P.Inx.PtrInxCore.number in
     let child = option_map number c.args.child in
-    written_in number c.args.chains.now (number c.args.i) c.get_inx_mut_unwrap.result.now _ (with_child c.args.side child) c.requires.live c.get_inx_mut_unwrap.ensures.value
+    written_in number c.args.chains.now (number c.args.i) c.get_inx_mut_unwrap.result.now _ (with_child c.args.side child) c.requires c.get_inx_mut_unwrap.ensures.value
     (ap (λ side. with_child side child (knot_of number c.get_inx_mut_unwrap.result.now)) (sym c.in-Left.is))
 
 pub returns-in-Right-clause-keeps : goal.returns-in-Right-clause-keeps
@@ -23,5 +23,5 @@ pub returns-in-Right-clause-does : goal.returns-in-Right-clause-does
 returns-in-Right-clause-does g c =
     let number = g.P.Inx.PtrInxCore.number in
     let child = option_map number c.args.child in
-    written_in number c.args.chains.now (number c.args.i) c.get_inx_mut_unwrap-in-Right.result.now _ (with_child c.args.side child) c.requires.live c.get_inx_mut_unwrap-in-Right.ensures.value
+    written_in number c.args.chains.now (number c.args.i) c.get_inx_mut_unwrap-in-Right.result.now _ (with_child c.args.side child) c.requires c.get_inx_mut_unwrap-in-Right.ensures.value
     (ap (λ side. with_child side child (knot_of number c.get_inx_mut_unwrap-in-Right.result.now)) (sym c.in-Right.is))

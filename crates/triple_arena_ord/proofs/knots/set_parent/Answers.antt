@@ -11,4 +11,4 @@ returns-clause-keeps g c = rest-write c.args.chains.now (g.P.Inx.PtrInxCore.numb
 pub returns-clause-does : goal.returns-clause-does
 returns-clause-does g c =
     written_in g.P.Inx.PtrInxCore.number c.args.chains.now (g.P.Inx.PtrInxCore.number c.args.i) c.get_inx_mut_unwrap.result.now _
-    (with_parent (option_map g.P.Inx.PtrInxCore.number c.args.parent)) c.requires.live c.get_inx_mut_unwrap.ensures.value refl
+    (with_parent (option_map g.P.Inx.PtrInxCore.number c.args.parent)) c.requires c.get_inx_mut_unwrap.ensures.value refl

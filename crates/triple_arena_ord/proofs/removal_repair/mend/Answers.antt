@@ -63,25 +63,25 @@ both_fall g c w h =
     (ap (λ z. z - 1) r.low_rank_is) refl c.set_rank-2.ensures.does c.set_rank-3.ensures.does
 
 pub read-above-requires-clause-live : goal.read-above-requires-clause-live
-read-above-requires-clause-live g c = broken_lives _ _ _ _ c.requires.broken.1
+read-above-requires-clause-live g c = broken_lives _ _ _ _ c.requires.1
 
 pub rank_at-left-requires-clause-live : goal.rank_at-left-requires-clause-live
 rank_at-left-requires-clause-live g c =
     if_live_from g.P.Inx.PtrInxCore.number (knots_in g.P.Inx.PtrInxCore.number c.args.chains.now) c.read-above.result.left
-    (broken_reads _ _ _ _ c.read-above.ensures _ c.requires.broken.1).left_lives
+    (broken_reads _ _ _ _ c.read-above.ensures _ c.requires.1).left_lives
 
 pub rank_at-right-requires-clause-live : goal.rank_at-right-requires-clause-live
 rank_at-right-requires-clause-live g c =
     if_live_from g.P.Inx.PtrInxCore.number (knots_in g.P.Inx.PtrInxCore.number c.args.chains.now) c.read-above.result.right
-    (broken_reads _ _ _ _ c.read-above.ensures _ c.requires.broken.1).right_lives
+    (broken_reads _ _ _ _ c.read-above.ensures _ c.requires.1).right_lives
 
 pub is_fit-requires-clause-low_left : goal.is_fit-requires-clause-low_left
 is_fit-requires-clause-low_left g c =
-    omega (arith, read g (goal.at.is_fit-requires-clause-low_left g c).After-rank_at-right _ c.requires.broken.1)
+    omega (arith, read g (goal.at.is_fit-requires-clause-low_left g c).After-rank_at-right _ c.requires.1)
 
 pub is_fit-requires-clause-low_right : goal.is_fit-requires-clause-low_right
 is_fit-requires-clause-low_right g c =
-    omega (arith, read g (goal.at.is_fit-requires-clause-low_right g c).After-rank_at-right _ c.requires.broken.1)
+    omega (arith, read g (goal.at.is_fit-requires-clause-low_right g c).After-rank_at-right _ c.requires.1)
 
 pub returns-then-is_fit-clause-pending : goal.returns-then-is_fit-clause-pending
 returns-then-is_fit-clause-pending g c = λ w h.
@@ -90,7 +90,7 @@ returns-then-is_fit-clause-pending g c = λ w h.
     broken_ends _ _ _ w h (omega arith) (omega arith) (omega arith)
 
 pub overflow_add-max : goal.overflow_add-max
-overflow_add-max g c = omega (arith, read g (goal.at.overflow_add-max g c).After-rank_at-right _ c.requires.broken.1)
+overflow_add-max g c = omega (arith, read g (goal.at.overflow_add-max g c).After-rank_at-right _ c.requires.1)
 
 pub returns-then-max-rank-clause-pending : goal.returns-then-max-rank-clause-pending
 returns-then-max-rank-clause-pending g c = λ w h. (falls g (goal.at.returns-then-max-rank-clause-pending g c).After-set_rank w h).pending
@@ -100,27 +100,27 @@ returns-then-max-rank-clause-rises g c =
     let number = g.P.Inx.PtrInxCore.number in
     let old = knots_in number c.args.chains.now in
     if_named number (λ i. rank_in old (number c.args.high) < rank_in (knots_in number c.set_rank.new.chains) i) c.read-above.result.parent
-    (falls g (goal.at.returns-then-max-rank-clause-rises g c).After-set_rank _ c.requires.broken.1).rises
+    (falls g (goal.at.returns-then-max-rank-clause-rises g c).After-set_rank _ c.requires.1).rises
 
 pub unreached-unreachable-requires : goal.unreached-unreachable-requires
 unreached-unreachable-requires g c =
-    let h = c.requires.broken.1 in
+    let h = c.requires.1 in
     higher_some _ _ _ _ _ _ h (higher g (goal.at.unreached-unreachable-requires g c).After-child _ h)
     (ap (option_map g.P.Inx.PtrInxCore.number) c.in_default.is)
 
 pub look_around-near-requires-clause-spot : goal.look_around-near-requires-clause-spot
 look_around-near-requires-clause-spot g c =
-    (option_map g.P.Inx.PtrInxCore.number c.args.root.now, (sibling g (goal.at.look_around-near-requires-clause-spot g c).In-Some _ c.requires.broken.1).spot)
+    (option_map g.P.Inx.PtrInxCore.number c.args.root.now, (sibling g (goal.at.look_around-near-requires-clause-spot g c).In-Some _ c.requires.1).spot)
 
 pub overflow_add-max-2 : goal.overflow_add-max-2
 overflow_add-max-2 g c =
-    let s = sibling g (goal.at.overflow_add-max-2 g c).In-Some _ c.requires.broken.1 in
+    let s = sibling g (goal.at.overflow_add-max-2 g c).In-Some _ c.requires.1 in
     omega (arith, s, s.fits, c.look_around-near.ensures _ s.spot)
 
 pub shorten-requires-clause-short : goal.shorten-requires-clause-short
 shorten-requires-clause-short g c =
-    let s = sibling g (goal.at.shorten-requires-clause-short g c).In-Some _ c.requires.broken.1 in
-    (c.requires.broken.0, sibling_short _ _ _ _ _ s (omega (arith, s, s.fits, c.look_around-near.ensures _ s.spot)))
+    let s = sibling g (goal.at.shorten-requires-clause-short g c).In-Some _ c.requires.1 in
+    (c.requires.0, sibling_short _ _ _ _ _ s (omega (arith, s, s.fits, c.look_around-near.ensures _ s.spot)))
 
 pub returns-then-near-max-clause-pending : goal.returns-then-near-max-clause-pending
 returns-then-near-max-clause-pending g c = λ w h.
@@ -128,12 +128,12 @@ returns-then-near-max-clause-pending g c = λ w h.
     c.shorten.ensures.does w (sibling_short _ _ _ _ w s (omega (arith, s, s.fits, c.look_around-near.ensures _ s.spot)))
 
 pub set_rank-requires-2-clause-live : goal.set_rank-requires-2-clause-live
-set_rank-requires-2-clause-live g c = spot_low _ _ _ (sibling g (goal.at.set_rank-requires-2-clause-live g c).In-Some _ c.requires.broken.1).spot
+set_rank-requires-2-clause-live g c = spot_low _ _ _ (sibling g (goal.at.set_rank-requires-2-clause-live g c).In-Some _ c.requires.1).spot
 
 pub set_rank-requires-3-clause-live : goal.set_rank-requires-3-clause-live
 set_rank-requires-3-clause-live g c =
-    let s = sibling g (goal.at.set_rank-requires-3-clause-live g c).In-Some _ c.requires.broken.1 in
-    sets_lives _ _ _ _ (spot_low _ _ _ s.spot) c.set_rank-2.ensures.does _ (broken_lives _ _ _ _ c.requires.broken.1)
+    let s = sibling g (goal.at.set_rank-requires-3-clause-live g c).In-Some _ c.requires.1 in
+    sets_lives _ _ _ _ (spot_low _ _ _ s.spot) c.set_rank-2.ensures.does _ (broken_lives _ _ _ _ c.requires.1)
 
 pub returns-clause-pending : goal.returns-clause-pending
 returns-clause-pending g c = λ w h. (both_fall g (goal.at.returns-clause-pending g c).After-set_rank-3 w h).pending
@@ -143,4 +143,4 @@ returns-clause-rises g c =
     let number = g.P.Inx.PtrInxCore.number in
     let old = knots_in number c.args.chains.now in
     if_named number (λ i. rank_in old (number c.args.high) < rank_in (knots_in number c.set_rank-3.new.chains) i) c.read-above.result.parent
-    (both_fall g (goal.at.returns-clause-rises g c).After-set_rank-3 _ c.requires.broken.1).rises
+    (both_fall g (goal.at.returns-clause-rises g c).After-set_rank-3 _ c.requires.1).rises

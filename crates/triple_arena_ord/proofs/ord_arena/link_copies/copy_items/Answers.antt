@@ -6,7 +6,7 @@ use Rattle.triple_arena_ord.proofs.ord_arena.link_copies.copy_items.Goals as goa
 
 pub copy_from-requires-clause-callable : goal.copy_from-requires-clause-callable
 copy_from-requires-clause-callable g c =
-    mut_by _ (λ s. always_mut g.F.FnMut s.0) (λ s a i. search (rules, of_calls)) (λ s a r t i e. search rules) _ c.requires.callable
+    mut_by _ (λ s. always_mut g.F.FnMut s.0) (λ s a i. search (rules, of_calls)) (λ s a r t i e. search rules) _ c.requires
 
 pub returns-clause-mapped : goal.returns-clause-mapped
 returns-clause-mapped g c = on_ok c.copy_from.result (items_mapped (λ s. s.0) (λ h p l r k e. search rules)) c.copy_from.ensures.mapped
