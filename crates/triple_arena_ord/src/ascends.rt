@@ -1,5 +1,5 @@
 //! Whether the keys ascend along the list. It is asked of an arena by its trait alone, so that little is known where it is proved.
-ghost use Rattle.std.specs.Prelude.{◌≡◌, ◌≤◌, ◌↔◌, ℕ, List, Some, None, IsSome, IsTrue, length};
+ghost use Rattle.std.specs.Prelude.{◌≡◌, ◌≤◌, ◌↔◌, ℕ, List, Some, None, IsSome, IsTrue, length, ⊤};
 ghost use Rattle.std.specs.Option.{option_map};
 ghost use Rattle.triple_arena.specs.Content.{entry_at};
 ghost use Rattle.triple_arena_chain.specs.Chains.{IsLinear, first_or};
@@ -19,7 +19,8 @@ where
     P: PtrCore,
     T: Drop,
     A: ChainArenaTrait<P, IndexNode<P::Inx, T>>,
-    requires { IsSome (entry_at (A.links arena.now) (P.Inx.number i)) }
+    requires live { IsSome (entry_at (A.links arena.now) (P.Inx.number i)) }
+    requires no_more { ⊤ }
     ensures { option_map (λ e. e.1) (entry_at (A.links arena.now) (P.Inx.number i)) ≡ Some result.now }
 {
     match arena.get_inx_link_no_gen(i) {

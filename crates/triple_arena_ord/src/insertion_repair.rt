@@ -1,5 +1,5 @@
 //! The rank rules are restored after an insertion.
-ghost use Rattle.std.specs.Prelude.{◌≡◌, ◌≢◌, ℕ, ◌+◌, ◌<◌, ◌≤◌, List, IsSome};
+ghost use Rattle.std.specs.Prelude.{◌≡◌, ◌≢◌, ℕ, ◌+◌, ◌<◌, ◌≤◌, List, IsSome, ⊤};
 ghost use Rattle.std.specs.Option.{option_map};
 ghost use Rattle.rank_tree.specs.Tree.{walk};
 ghost use Rattle.rank_tree.specs.Repair.{Leaning, Grown, Restored, Gap, filled};
@@ -19,7 +19,8 @@ fn lean<P: PtrCore, T: Drop, S: OrdSlots<P, T>>(
     root: &mut Option<P::Inx>,
     low: P::Inx,
 )
-    requires { (w : List ℕ) × Leaning (knots_in P.Inx.number chains.old) (option_map P.Inx.number root.old) (P.Inx.number low) w }
+    requires leaning { (w : List ℕ) × Leaning (knots_in P.Inx.number chains.old) (option_map P.Inx.number root.old) (P.Inx.number low) w }
+    requires no_more { ⊤ }
     ensures does { (w : List ℕ) → Leaning (knots_in P.Inx.number chains.old) (option_map P.Inx.number root.old) (P.Inx.number low) w
         → Restored (knots_in P.Inx.number chains.new) (option_map P.Inx.number root.new) w }
     ensures keeps { rest chains.new ≡ rest chains.old }
@@ -47,7 +48,8 @@ pub(crate) fn repair_inserted<P: PtrCore, T: Drop, S: OrdSlots<P, T>>(
     root: &mut Option<P::Inx>,
     start: P::Inx,
 )
-    requires { (w : List ℕ) × Grown (knots_in P.Inx.number chains.old) (option_map P.Inx.number root.old) (P.Inx.number start) w }
+    requires grown { (w : List ℕ) × Grown (knots_in P.Inx.number chains.old) (option_map P.Inx.number root.old) (P.Inx.number start) w }
+    requires no_more { ⊤ }
     ensures does { (w : List ℕ) → Grown (knots_in P.Inx.number chains.old) (option_map P.Inx.number root.old) (P.Inx.number start) w
         → Restored (knots_in P.Inx.number chains.new) (option_map P.Inx.number root.new) w }
     ensures keeps { rest chains.new ≡ rest chains.old }

@@ -1,5 +1,5 @@
 //! The nodes as the tree sees them, and the single writes.
-ghost use Rattle.std.specs.Prelude.{◌≡◌, ◌≢◌, ℕ, ◌+◌, ◌<◌, ◌≤◌, Some, None, IsSome, IfSome};
+ghost use Rattle.std.specs.Prelude.{◌≡◌, ◌≢◌, ℕ, ◌+◌, ◌<◌, ◌≤◌, Some, None, IsSome, IfSome, ⊤};
 ghost use Rattle.std.specs.Option.{option_map};
 ghost use Rattle.rank_tree.specs.Store.{Written, Reparented, Relinked, child_of, with_child, with_parent, with_rank, other_side};
 ghost use Rattle.rank_tree.specs.Knot.{Knot as Seen};
@@ -15,7 +15,8 @@ pub(crate) fn read<P: PtrCore, T: Drop, S: OrdSlots<P, T>>(
     chains: &ChainArena<P, SimpleOrdArenaNode<P, T>, S>,
     i: P::Inx,
 ) -> TreeLinks<P::Inx>
-    requires { IsSome (knots_in P.Inx.number chains.now (P.Inx.number i)) }
+    requires live { IsSome (knots_in P.Inx.number chains.now (P.Inx.number i)) }
+    requires no_more { ⊤ }
     ensures { knots_in P.Inx.number chains.now (P.Inx.number i) ≡ Some (named P.Inx.number result) }
 {
     let node = chains.get_inx_unwrap(i);
@@ -32,7 +33,8 @@ pub(crate) fn write<P: PtrCore, T: Drop, S: OrdSlots<P, T>>(
     i: P::Inx,
     knot: TreeLinks<P::Inx>,
 )
-    requires { IsSome (knots_in P.Inx.number chains.old (P.Inx.number i)) }
+    requires live { IsSome (knots_in P.Inx.number chains.old (P.Inx.number i)) }
+    requires no_more { ⊤ }
     ensures written { Written (knots_in P.Inx.number chains.old) (knots_in P.Inx.number chains.new) (P.Inx.number i) (named P.Inx.number knot) }
     ensures keeps { rest chains.new ≡ rest chains.old }
 {
@@ -83,7 +85,8 @@ pub(crate) fn reparent<P: PtrCore, T: Drop, S: OrdSlots<P, T>>(
     link: Option<P::Inx>,
     parent: Option<P::Inx>,
 )
-    requires { IfSome link (λ i. IsSome (knots_in P.Inx.number chains.old (P.Inx.number i))) }
+    requires live { IfSome link (λ i. IsSome (knots_in P.Inx.number chains.old (P.Inx.number i))) }
+    requires no_more { ⊤ }
     ensures does { Reparented (knots_in P.Inx.number chains.old) (knots_in P.Inx.number chains.new)
         (option_map P.Inx.number link) (option_map P.Inx.number parent) }
     ensures keeps { rest chains.new ≡ rest chains.old }
@@ -101,7 +104,8 @@ pub(crate) fn relink<P: PtrCore, T: Drop, S: OrdSlots<P, T>>(
     from: P::Inx,
     to: Option<P::Inx>,
 )
-    requires { IfSome holder (λ i. IsSome (knots_in P.Inx.number chains.old (P.Inx.number i))) }
+    requires live { IfSome holder (λ i. IsSome (knots_in P.Inx.number chains.old (P.Inx.number i))) }
+    requires no_more { ⊤ }
     ensures does { Relinked (knots_in P.Inx.number chains.old) (knots_in P.Inx.number chains.new)
         (option_map P.Inx.number root.old) (option_map P.Inx.number root.new) (option_map P.Inx.number holder) (P.Inx.number from) (option_map P.Inx.number to) }
     ensures keeps { rest chains.new ≡ rest chains.old }
@@ -120,7 +124,8 @@ pub(crate) fn rank_at<P: PtrCore, T: Drop, S: OrdSlots<P, T>>(
     chains: &ChainArena<P, SimpleOrdArenaNode<P, T>, S>,
     link: Option<P::Inx>,
 ) -> u8
-    requires { IfSome link (λ i. IsSome (knots_in P.Inx.number chains.now (P.Inx.number i))) }
+    requires live { IfSome link (λ i. IsSome (knots_in P.Inx.number chains.now (P.Inx.number i))) }
+    requires no_more { ⊤ }
     ensures some { (i : ℕ) → option_map P.Inx.number link ≡ Some i → IfSome (knots_in P.Inx.number chains.now i) (λ v. result ≡ v.rank) }
     ensures none { option_map P.Inx.number link ≡ None → result ≡ 0 }
 {
@@ -136,7 +141,8 @@ pub(crate) fn set_rank<P: PtrCore, T: Drop, S: OrdSlots<P, T>>(
     i: P::Inx,
     rank: u8,
 )
-    requires { IsSome (knots_in P.Inx.number chains.old (P.Inx.number i)) }
+    requires live { IsSome (knots_in P.Inx.number chains.old (P.Inx.number i)) }
+    requires no_more { ⊤ }
     ensures does { (v : Seen) → knots_in P.Inx.number chains.old (P.Inx.number i) ≡ Some v
         → Written (knots_in P.Inx.number chains.old) (knots_in P.Inx.number chains.new) (P.Inx.number i) (with_rank rank v) }
     ensures keeps { rest chains.new ≡ rest chains.old }

@@ -1,5 +1,5 @@
 //! Searches along the list. They know an arena by its trait alone, so that little is known where they are proved.
-ghost use Rattle.std.specs.Prelude.{◌≡◌, ◌≢◌, ◌+◌, ◌≤◌, ℕ, List, None, IfSome};
+ghost use Rattle.std.specs.Prelude.{◌≡◌, ◌≢◌, ◌+◌, ◌≤◌, ℕ, List, None, IfSome, ⊤};
 ghost use Rattle.std.specs.Option.{option_map};
 ghost use Rattle.triple_arena_chain.specs.Chains.{IsLinear, On};
 ghost use Rattle.triple_arena_chain.specs.Links.{ends_in, link_ends};
@@ -44,7 +44,8 @@ where
     P: PtrCore,
     T: SimpleOrdItem + Drop,
     A: ChainArenaTrait<P, IndexNode<P::Inx, T>>,
-    requires { (w : List ℕ) × IsLinear (ends_in P.Inx.number (A.links arena.now)) w × On w (P.Inx.number start) }
+    requires place { (w : List ℕ) × IsLinear (ends_in P.Inx.number (A.links arena.now)) w × On w (P.Inx.number start) }
+    requires no_more { ⊤ }
     ensures stops { (w : List ℕ) → IsLinear (ends_in P.Inx.number (A.links arena.now)) w → On w (P.Inx.number start)
         → IfSome result (λ a. IsStop (asked_in T.Key.cmp T.key_of k.now (items_in (A.links arena.now))) w (P.Inx.number a.0) a.1) }
     ensures near { (w : List ℕ) → IsLinear (ends_in P.Inx.number (A.links arena.now)) w → On w (P.Inx.number start)

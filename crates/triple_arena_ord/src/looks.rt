@@ -1,5 +1,5 @@
 //! What the repair after a removal reads round a node and its parent.
-ghost use Rattle.std.specs.Prelude.{◌≡◌, ℕ, ◌+◌, ◌<◌, ◌≤◌, Option};
+ghost use Rattle.std.specs.Prelude.{◌≡◌, ℕ, ◌+◌, ◌<◌, ◌≤◌, Option, ⊤};
 ghost use Rattle.std.specs.Option.{option_map};
 ghost use Rattle.triple_arena_ord.specs.Node.{knots_in};
 ghost use Rattle.rank_tree.specs.Repair.{Spot, IsAround};
@@ -27,7 +27,8 @@ pub(crate) fn look_around<P: PtrCore, T: Drop, S: OrdSlots<P, T>>(
     chains: &ChainArena<P, SimpleOrdArenaNode<P, T>, S>,
     low: P::Inx,
 ) -> Around<P::Inx>
-    requires { (root : Option ℕ) × Spot (knots_in P.Inx.number chains.now) root (P.Inx.number low) }
+    requires spot { (root : Option ℕ) × Spot (knots_in P.Inx.number chains.now) root (P.Inx.number low) }
+    requires no_more { ⊤ }
     ensures { (root : Option ℕ) → (spot : Spot (knots_in P.Inx.number chains.now) root (P.Inx.number low))
         → IsAround (knots_in P.Inx.number chains.now) root (P.Inx.number low) spot (P.Inx.number result.high) (option_map P.Inx.number result.inner)
         result.low_rank result.high_rank result.outer_rank result.inner_rank result.far_rank }

@@ -1,5 +1,5 @@
 //! The rank rules are restored after a removal.
-ghost use Rattle.std.specs.Prelude.{◌≡◌, ◌≢◌, ℕ, ◌+◌, ◌<◌, ◌≤◌, List, IfSome, IsTrue, ◌↔◌};
+ghost use Rattle.std.specs.Prelude.{◌≡◌, ◌≢◌, ℕ, ◌+◌, ◌<◌, ◌≤◌, List, IfSome, IsTrue, ◌↔◌, ⊤};
 ghost use Rattle.std.specs.Option.{option_map};
 ghost use Rattle.rank_tree.specs.Store.{rank_in};
 ghost use Rattle.triple_arena_ord.specs.Node.{knots_in, rest};
@@ -23,7 +23,8 @@ fn shorten<P: PtrCore, T: Drop, S: OrdSlots<P, T>>(
     root: &mut Option<P::Inx>,
     low: P::Inx,
 )
-    requires { (w : List ℕ) × Short (knots_in P.Inx.number chains.old) (option_map P.Inx.number root.old) (P.Inx.number low) w }
+    requires short { (w : List ℕ) × Short (knots_in P.Inx.number chains.old) (option_map P.Inx.number root.old) (P.Inx.number low) w }
+    requires no_more { ⊤ }
     ensures does { (w : List ℕ) → Short (knots_in P.Inx.number chains.old) (option_map P.Inx.number root.old) (P.Inx.number low) w
         → Restored (knots_in P.Inx.number chains.new) (option_map P.Inx.number root.new) w }
     ensures keeps { rest chains.new ≡ rest chains.old }
@@ -104,7 +105,8 @@ pub(crate) fn repair_removed<P: PtrCore, T: Drop, S: OrdSlots<P, T>>(
     root: &mut Option<P::Inx>,
     start: Option<P::Inx>,
 )
-    requires { (w : List ℕ) × Pending (knots_in P.Inx.number chains.old) (option_map P.Inx.number root.old) (option_map P.Inx.number start) w }
+    requires pending { (w : List ℕ) × Pending (knots_in P.Inx.number chains.old) (option_map P.Inx.number root.old) (option_map P.Inx.number start) w }
+    requires no_more { ⊤ }
     ensures does { (w : List ℕ) → Pending (knots_in P.Inx.number chains.old) (option_map P.Inx.number root.old) (option_map P.Inx.number start) w
         → Restored (knots_in P.Inx.number chains.new) (option_map P.Inx.number root.new) w }
     ensures keeps { rest chains.new ≡ rest chains.old }
@@ -121,7 +123,8 @@ pub(crate) fn bring_out<P: PtrCore, T: Drop, S: OrdSlots<P, T>>(
     root: &mut Option<P::Inx>,
     gone: P::Inx,
 )
-    requires { Loose (knots_in P.Inx.number chains.old) (option_map P.Inx.number root.old) (P.Inx.number gone) }
+    requires loose { Loose (knots_in P.Inx.number chains.old) (option_map P.Inx.number root.old) (P.Inx.number gone) }
+    requires no_more { ⊤ }
     ensures does { (loose : Loose (knots_in P.Inx.number chains.old) (option_map P.Inx.number root.old) (P.Inx.number gone))
         → Restored (knots_in P.Inx.number chains.new) (option_map P.Inx.number root.new) (walk (plug loose.context loose.sub)) }
     ensures keeps { rest chains.new ≡ rest chains.old }

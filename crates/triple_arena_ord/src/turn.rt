@@ -1,5 +1,5 @@
 //! A node turns up over its parent.
-ghost use Rattle.std.specs.Prelude.{◌≡◌, ℕ};
+ghost use Rattle.std.specs.Prelude.{◌≡◌, ℕ, ⊤};
 ghost use Rattle.std.specs.Option.{option_map};
 ghost use Rattle.rank_tree.specs.Shape.{Stands};
 ghost use Rattle.rank_tree.specs.Repair.{Spot, turned};
@@ -20,7 +20,8 @@ pub(crate) fn turn<P: PtrCore, T: Drop, S: OrdSlots<P, T>>(
     low_rank: u8,
     high_rank: u8,
 )
-    requires { Spot (knots_in P.Inx.number chains.old) (option_map P.Inx.number root.old) (P.Inx.number low) }
+    requires spot { Spot (knots_in P.Inx.number chains.old) (option_map P.Inx.number root.old) (P.Inx.number low) }
+    requires no_more { ⊤ }
     ensures does { (spot : Spot (knots_in P.Inx.number chains.old) (option_map P.Inx.number root.old) (P.Inx.number low))
         → Stands (knots_in P.Inx.number chains.new) (option_map P.Inx.number root.new) (turned spot low_rank high_rank) }
     ensures keeps { rest chains.new ≡ rest chains.old }

@@ -1,5 +1,5 @@
 //! The ends of the list.
-ghost use Rattle.std.specs.Prelude.{◌≡◌, None, IsSome};
+ghost use Rattle.std.specs.Prelude.{◌≡◌, None, IsSome, ⊤};
 ghost use Rattle.std.specs.Option.{option_map};
 ghost use Rattle.triple_arena.specs.Entries.{generation_at};
 ghost use Rattle.triple_arena_chain.specs.Chains.{first_or, last_or};
@@ -29,7 +29,8 @@ impl<P: PtrCore, T: Drop, S: OrdSlots<P, T>> SimpleOrdArena<P, T, S> {
 
     // The pointer to the entry at an index that is live.
     fn ptr_to(&self, i: P::Inx) -> P
-        requires { IsSome (entry_in self.now (P.Inx.number i)) }
+        requires live { IsSome (entry_in self.now (P.Inx.number i)) }
+        requires no_more { ⊤ }
         ensures index { P.index result ≡ P.Inx.number i }
         ensures live { generation_at (entry_in self.now) (P.index result) ≡ Some (P.generation result) }
     {

@@ -1,5 +1,5 @@
 //! Pointers to where searches end.
-ghost use Rattle.std.specs.Prelude.{◌≡◌, ◌≢◌, ℕ, Some, None, IsSome, IfSome};
+ghost use Rattle.std.specs.Prelude.{◌≡◌, ◌≢◌, ℕ, Some, None, IsSome, IfSome, ⊤};
 ghost use Rattle.std.specs.Option.{option_map};
 ghost use Rattle.std.specs.declared.cmp.Ordering.{Ordering as Way};
 ghost use Rattle.triple_arena.specs.Entries.{generation_at};
@@ -31,7 +31,8 @@ pub(crate) fn similar_at<P: PtrCore, T: Drop, S: OrdSlots<P, T>>(
     chains: &ChainArena<P, SimpleOrdArenaNode<P, T>, S>,
     place: Option<(P::Inx, Ordering)>,
 ) -> Option<(P, Ordering)>
-    requires { IfSome place (λ a. IsSome (items_in chains.now (P.Inx.number a.0))) }
+    requires live { IfSome place (λ a. IsSome (items_in chains.now (P.Inx.number a.0))) }
+    requires no_more { ⊤ }
     ensures same { option_map {U = ℕ × Way} (λ a. (P.index a.0, a.1)) result ≡ option_map (λ a. (P.Inx.number a.0, a.1)) place }
     ensures live { IfSome result (λ a. generation_at (items_in chains.now) (P.index a.0) ≡ Some (P.generation a.0)) }
 {
@@ -46,7 +47,8 @@ pub(crate) fn found_at<P: PtrCore, T: Drop, S: OrdSlots<P, T>>(
     chains: &ChainArena<P, SimpleOrdArenaNode<P, T>, S>,
     place: Option<(P::Inx, Ordering)>,
 ) -> Option<P>
-    requires { IfSome place (λ a. IsSome (items_in chains.now (P.Inx.number a.0))) }
+    requires live { IfSome place (λ a. IsSome (items_in chains.now (P.Inx.number a.0))) }
+    requires no_more { ⊤ }
     ensures some { (p : P) → result ≡ Some p
         → option_map {U = ℕ × Way} (λ a. (P.Inx.number a.0, a.1)) place ≡ Some (P.index p, Way.Equal) }
     ensures none { result ≡ None → (i : ℕ) → option_map {U = ℕ × Way} (λ a. (P.Inx.number a.0, a.1)) place ≢ Some (i, Way.Equal) }

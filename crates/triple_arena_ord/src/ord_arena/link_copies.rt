@@ -1,5 +1,5 @@
 //! Copies to a chain arena, where the map sees the items alone.
-ghost use Rattle.std.specs.Prelude.{◌≡◌, ◌<◌, ◌≤◌, ◌↔◌, ◌⊎◌, ℕ, List, IsTrue, IsOk, OnOk, IsErrOf};
+ghost use Rattle.std.specs.Prelude.{◌≡◌, ◌<◌, ◌≤◌, ◌↔◌, ◌⊎◌, ℕ, List, IsTrue, IsOk, OnOk, IsErrOf, ⊤};
 ghost use Rattle.std.specs.Borrow.{Bor};
 ghost use Rattle.std.specs.Option.{option_map};
 ghost use Rattle.triple_arena_ptr.specs.Generation.{next_generation};
@@ -43,7 +43,8 @@ pub(crate) trait CopiesLinks<P: PtrCore, V: Drop, U: Drop, A> {
     fn copy_from<G>(&mut self, source: &A, map: G) -> Result<(), ReallocationError>
     where
         G: FnMut(P, &LinkNoGen<P, V>) -> Result<U, AllocError>,
-        requires { G.IsAlwaysCallable map }
+        requires callable { G.IsAlwaysCallable map }
+        requires no_more { ⊤ }
         ensures mapped { OnOk result (IsMappedCopy P.index P.generation G.step map
             (links source.now) (values self.new)) }
         ensures copied { OnOk result (is_copied source.now self.old self.new) }

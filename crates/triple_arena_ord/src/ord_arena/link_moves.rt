@@ -1,5 +1,5 @@
 //! Moves of links to a chain arena, where the map sees the items alone.
-ghost use Rattle.std.specs.Prelude.{◌≡◌, ◌≤◌, ◌↔◌, ℕ, List, Option, map as list_map, IsTrue, IsOk, OnOk, OnErr, IsErrOf};
+ghost use Rattle.std.specs.Prelude.{◌≡◌, ◌≤◌, ◌↔◌, ℕ, List, Option, map as list_map, IsTrue, IsOk, OnOk, OnErr, IsErrOf, ⊤};
 ghost use Rattle.triple_arena_ptr.specs.declared.invalidation.InvalidationOption.{InvalidationOption as Removal};
 ghost use Rattle.triple_arena_ptr.specs.InvalidationOption.{value_of, overflowed};
 ghost use Rattle.triple_arena_stack.specs.Room.{IsBeyond};
@@ -63,7 +63,8 @@ pub(crate) trait MovesLinks<Q: Copy, V: Drop, P: Copy, W: Drop, N, A> {
     ) -> Result<(), ReallocationError>
     where
         G: FnMut(Q, InvalidationOption<V>, P) -> W,
-        requires { G.IsAlwaysCallable map }
+        requires callable { G.IsAlwaysCallable map }
+        requires no_more { ⊤ }
         ensures moved { OnOk result ((order : List (ℕ × (ℕ × V))) × (is_moved source.old order self.new
             × IsTransferred old_index old_generation index generation G.step map last
             (counter source.old) order (values self.new))) }

@@ -1,5 +1,5 @@
 //! Removals.
-ghost use Rattle.std.specs.Prelude.{◌≡◌, ℕ, Some, IsSome};
+ghost use Rattle.std.specs.Prelude.{◌≡◌, ℕ, Some, IsSome, ⊤};
 ghost use Rattle.std.specs.Option.{option_map};
 ghost use Rattle.triple_arena_ptr.specs.Generation.{next_wraps};
 ghost use Rattle.triple_arena_ptr.specs.InvalidationOption.{value_of, overflowed};
@@ -65,7 +65,8 @@ impl<P: PtrCore, T: Drop, S: OrdSlots<P, T>> SimpleOrdArena<P, T, S> {
     // The entry at an index that is live leaves.
     #[inline(always)]
     pub(crate) fn remove_live(&mut self, gone: P::Inx) -> InvalidationResult<(P::Gen, T)>
-        requires { IsSome (knots_in P.Inx.number self.old.chains (P.Inx.number gone)) }
+        requires live { IsSome (knots_in P.Inx.number self.old.chains (P.Inx.number gone)) }
+        requires no_more { ⊤ }
         ensures removed { IsEntryRemoved P.Inx.number P.Gen.last (P.Inx.number gone) self.old self.new }
         ensures value { option_map (λ a. (P.Gen.number (value_of a).0, (value_of a).1)) (answer_of result) ≡ entry_in self.old (P.Inx.number gone) }
         ensures overflow { option_map overflowed (answer_of result) ≡ Some (next_wraps P.Gen.last self.old.chains.counter) }

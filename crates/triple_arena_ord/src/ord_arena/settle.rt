@@ -1,5 +1,5 @@
 //! Where a new leaf hangs that stands beside an entry.
-ghost use Rattle.std.specs.Prelude.{◌≡◌, ◌≢◌, ℕ, List, Some, IsSome, IfSome};
+ghost use Rattle.std.specs.Prelude.{◌≡◌, ◌≢◌, ℕ, List, Some, IsSome, IfSome, ⊤};
 ghost use Rattle.std.specs.Option.{option_map};
 ghost use Rattle.triple_arena_ord.specs.Node.{knots_in};
 ghost use Rattle.rank_tree.specs.Search.{IsFreeAt};
@@ -51,7 +51,8 @@ impl<P: PtrCore, T: Drop, S: OrdSlots<P, T>> SimpleOrdArena<P, T, S> {
 
     // The same place, as one where a new leaf can hang.
     pub(crate) fn settle(&self, place: Option<(P::Inx, Ordering)>) -> Option<(P::Inx, Ordering)>
-        requires { IfSome place (λ a. IsSome (knots_in P.Inx.number self.now.chains (P.Inx.number a.0))) }
+        requires live { IfSome place (λ a. IsSome (knots_in P.Inx.number self.now.chains (P.Inx.number a.0))) }
+        requires no_more { ⊤ }
         ensures free { IfSome result (λ a. IsFreeAt a.1 (knots_in P.Inx.number self.now.chains (P.Inx.number a.0))) }
         ensures same { IsSamePlace (order_in P.Inx.number self.now) (option_map (λ a. (P.Inx.number a.0, a.1)) result)
             (option_map (λ a. (P.Inx.number a.0, a.1)) place) }

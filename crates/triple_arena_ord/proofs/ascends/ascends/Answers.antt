@@ -3,8 +3,8 @@ use Rattle.std.specs.Option.{option_map}
 use Rattle.triple_arena_ord.proofs.AlongLemmas.{seen, checking_begins, first_lives, next_lives, checking_step, checking_fails, checking_ends, checking_done}
 use Rattle.triple_arena_ord.proofs.ascends.ascends.Goals as goal
 
-pub link_at-link-requires : goal.link_at-link-requires
-link_at-link-requires g c =
+pub link_at-link-requires-clause-live : goal.link_at-link-requires-clause-live
+link_at-link-requires-clause-live g c =
     first_lives g.P.Inx.PtrInxCore.number g.T.Key.Ord.cmp g.T.SimpleOrdItem.key_of g.met.T.Key.Ord.total (g.A.ChainArenaTrait.links c.args.arena.now) c.requires.0
     (g.P.Inx.PtrInxCore.number c.args.first) c.requires.1 c.requires.2
 
@@ -22,8 +22,8 @@ returns-in_default g c = λ w linear at most. (
   λ _. refl,
 )
 
-pub link_at-next-requires : goal.link_at-next-requires
-link_at-next-requires g c =
+pub link_at-next-requires-clause-live : goal.link_at-next-requires-clause-live
+link_at-next-requires-clause-live g c =
     next_lives g.P.Inx.PtrInxCore.number g.T.Key.Ord.cmp g.T.SimpleOrdItem.key_of g.met.T.Key.Ord.total (g.A.ChainArenaTrait.links c.args.arena.now) c.requires.0 c.along.link.now c.along._done
     (c.along.invariant c.requires.0 c.requires.1 c.requires.2 c.requires.3) c.requires.1 (g.P.Inx.PtrInxCore.number c.in-Some.i)
     (ap (option_map g.P.Inx.PtrInxCore.number) (sym c.next.ensures ∙ c.in-Some.is))

@@ -4,16 +4,16 @@ use Rattle.triple_arena_ord.proofs.NameLemmas.{if_live, if_live_from}
 use Rattle.rank_tree.specs.EdgeLaws.{loose_lives, loose_reads, detach_works}
 use Rattle.triple_arena_ord.proofs.edges.detach.Goals as goal
 
-pub read-knot-requires : goal.read-knot-requires
-read-knot-requires g c = loose_lives _ _ _ c.requires
+pub read-knot-requires-clause-live : goal.read-knot-requires-clause-live
+read-knot-requires-clause-live g c = loose_lives _ _ _ c.requires
 
-pub reparent-requires : goal.reparent-requires
-reparent-requires g c =
+pub reparent-requires-clause-live : goal.reparent-requires-clause-live
+reparent-requires-clause-live g c =
     if_live_from g.P.Inx.PtrInxCore.number (knots_in g.P.Inx.PtrInxCore.number c.args.chains.now) c.first_child-child.result
     ((loose_reads _ _ _ _ _ c.read-knot.ensures c.first_child-child.ensures.left c.first_child-child.ensures.right c.requires).sub_lives)
 
-pub relink-requires : goal.relink-requires
-relink-requires g c =
+pub relink-requires-clause-live : goal.relink-requires-clause-live
+relink-requires-clause-live g c =
     let r = loose_reads _ _ _ _ _ c.read-knot.ensures c.first_child-child.ensures.left c.first_child-child.ensures.right c.requires in
     if_live g.P.Inx.PtrInxCore.number (knots_in g.P.Inx.PtrInxCore.number c.reparent.new.chains) c.read-knot.result.parent
     (λ i e. reparent-lives _ _ _ _ c.reparent.ensures.does i (r.holder_lives i e))

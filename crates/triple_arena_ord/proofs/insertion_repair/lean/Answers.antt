@@ -30,51 +30,51 @@ twice g c w h =
     lean_twice _ _ _ _ _ _ w h (sym r.inner_is ∙ ap (option_map g.P.Inx.PtrInxCore.number) c.in-Some-inner.is) (omega arith) r.rank_is
     (ap (λ z. z - 1) r.rank_is)
 
-pub read-below-requires : goal.read-below-requires
-read-below-requires g c = spot_low _ _ _ (lean_spot _ _ _ _ c.requires.1)
+pub read-below-requires-clause-live : goal.read-below-requires-clause-live
+read-below-requires-clause-live g c = spot_low _ _ _ (lean_spot _ _ _ _ c.requires.leaning.1)
 
 pub unreached-unreachable-requires : goal.unreached-unreachable-requires
 unreached-unreachable-requires g c =
     not_some g.P.Inx.PtrInxCore.number c.read-below.result.parent _
-    (spot_parent _ _ _ _ c.read-below.ensures (lean_spot _ _ _ _ c.requires.1)) c.in_default.not-Some
+    (spot_parent _ _ _ _ c.read-below.ensures (lean_spot _ _ _ _ c.requires.leaning.1)) c.in_default.not-Some
 
-pub read-above-requires : goal.read-above-requires
-read-above-requires g c =
-    spot_high _ _ _ _ _ c.read-below.ensures (ap (option_map g.P.Inx.PtrInxCore.number) c.in-Some.is) (lean_spot _ _ _ _ c.requires.1)
+pub read-above-requires-clause-live : goal.read-above-requires-clause-live
+read-above-requires-clause-live g c =
+    spot_high _ _ _ _ _ c.read-below.ensures (ap (option_map g.P.Inx.PtrInxCore.number) c.in-Some.is) (lean_spot _ _ _ _ c.requires.leaning.1)
 
-pub rank_at-requires : goal.rank_at-requires
-rank_at-requires g c =
-    let spot = lean_spot _ _ _ _ c.requires.1 in
+pub rank_at-requires-clause-live : goal.rank_at-requires-clause-live
+rank_at-requires-clause-live g c =
+    let spot = lean_spot _ _ _ _ c.requires.leaning.1 in
     if_live g.P.Inx.PtrInxCore.number (knots_in g.P.Inx.PtrInxCore.number c.args.chains.now) c.child-inner.result
     (λ i e. spot_child _ _ _ _ _ c.read-below.ensures spot i (sym c.child-inner.ensures ∙ e))
 
 pub overflow_add-rank_at : goal.overflow_add-rank_at
 overflow_add-rank_at g c =
-    let h = c.requires.1 in
+    let h = c.requires.leaning.1 in
     omega (arith, h, h.fits, read g (goal.at.overflow_add-rank_at g c).After-rank_at _ h)
 
 pub unreached-unreachable-requires-in_default-inner : goal.unreached-unreachable-requires-in_default-inner
 unreached-unreachable-requires-in_default-inner g c =
-    let h = c.requires.1 in
+    let h = c.requires.leaning.1 in
     let r = read g (goal.at.unreached-unreachable-requires-in_default-inner g c).After-rank_at _ h in
     root-some h.inner (omega arith) (sym r.inner_is ∙ ap (option_map g.P.Inx.PtrInxCore.number) c.in_default-inner.is)
 
 pub overflow_sub-rank-else-rank_at-rank : goal.overflow_sub-rank-else-rank_at-rank
 overflow_sub-rank-else-rank_at-rank g c =
-    let h = c.requires.1 in
+    let h = c.requires.leaning.1 in
     omega (arith, h, read g (goal.at.overflow_sub-rank-else-rank_at-rank g c).After-rank_at _ h)
 
-pub turn-requires-else-rank_at-rank : goal.turn-requires-else-rank_at-rank
-turn-requires-else-rank_at-rank g c = (twice g (goal.at.turn-requires-else-rank_at-rank g c).In-Some-inner _ c.requires.1).spot
+pub turn-requires-else-rank_at-rank-clause-spot : goal.turn-requires-else-rank_at-rank-clause-spot
+turn-requires-else-rank_at-rank-clause-spot g c = (twice g (goal.at.turn-requires-else-rank_at-rank-clause-spot g c).In-Some-inner _ c.requires.leaning.1).spot
 
 pub overflow_sub-rank-else-rank_at-rank-2 : goal.overflow_sub-rank-else-rank_at-rank-2
 overflow_sub-rank-else-rank_at-rank-2 g c =
-    let h = c.requires.1 in
+    let h = c.requires.leaning.1 in
     omega (arith, h, read g (goal.at.overflow_sub-rank-else-rank_at-rank-2 g c).After-rank_at _ h)
 
-pub turn-requires-else-rank_at-rank-2 : goal.turn-requires-else-rank_at-rank-2
-turn-requires-else-rank_at-rank-2 g c =
-    let one = twice g (goal.at.turn-requires-else-rank_at-rank-2 g c).In-Some-inner _ c.requires.1 in
+pub turn-requires-else-rank_at-rank-2-clause-spot : goal.turn-requires-else-rank_at-rank-2-clause-spot
+turn-requires-else-rank_at-rank-2-clause-spot g c =
+    let one = twice g (goal.at.turn-requires-else-rank_at-rank-2-clause-spot g c).In-Some-inner _ c.requires.leaning.1 in
     (one.after _ _ (c.turn-else-rank_at-rank.ensures.does one.spot)).spot
 
 pub returns-then-rank_at-rank-clause-does : goal.returns-then-rank_at-rank-clause-does

@@ -9,5 +9,5 @@ returns-clause-keeps g c = rest-write c.args.chains.now (g.P.Inx.PtrInxCore.numb
 
 pub returns-clause-does : goal.returns-clause-does
 returns-clause-does g c =
-    written_in g.P.Inx.PtrInxCore.number c.args.chains.now (g.P.Inx.PtrInxCore.number c.args.i) c.get_inx_mut_unwrap.result.now _ (with_rank c.args.rank) c.requires
+    written_in g.P.Inx.PtrInxCore.number c.args.chains.now (g.P.Inx.PtrInxCore.number c.args.i) c.get_inx_mut_unwrap.result.now _ (with_rank c.args.rank) c.requires.live
     c.get_inx_mut_unwrap.ensures.value refl

@@ -7,4 +7,4 @@ pub returns-clause-keeps : goal.returns-clause-keeps
 returns-clause-keeps g c = rest-write c.args.chains.now (g.P.Inx.PtrInxCore.number c.args.i) c.get_inx_mut_unwrap-node.result.now _ c.get_inx_mut_unwrap-node.ensures.value refl
 
 pub returns-clause-written : goal.returns-clause-written
-returns-clause-written g c = written g.P.Inx.PtrInxCore.number c.args.chains.now (g.P.Inx.PtrInxCore.number c.args.i) _ c.requires
+returns-clause-written g c = written g.P.Inx.PtrInxCore.number c.args.chains.now (g.P.Inx.PtrInxCore.number c.args.i) _ c.requires.live

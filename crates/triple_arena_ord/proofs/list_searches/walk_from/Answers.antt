@@ -18,8 +18,8 @@ pub unreached-unreachable-requires : goal.unreached-unreachable-requires
 unreached-unreachable-requires g c =
     let number = g.P.Inx.PtrInxCore.number in
     let links = g.A.ChainArenaTrait.links c.args.arena.now in
-    walk_lives number g.T.Key.Ord.cmp g.T.SimpleOrdItem.key_of c.args.k.now links c.requires.0 (number c.args.start) _ c.requires.1 c.along.way (number c.along.i) c.along._made
-    (c.along.invariant.1 c.requires.0 c.requires.1 c.requires.2)
+    walk_lives number g.T.Key.Ord.cmp g.T.SimpleOrdItem.key_of c.args.k.now links c.requires.place.0 (number c.args.start) _ c.requires.place.1 c.along.way (number c.along.i) c.along._made
+    (c.along.invariant.1 c.requires.place.0 c.requires.place.1 c.requires.place.2)
     (none_seen g.P.Gen.PtrGenCore.number (λ b. b.now) links (number c.along.i) _ c.in-None.is c.get_inx_link_no_gen.ensures)
 
 pub returns-in-None-onward-clause-stops : goal.returns-in-None-onward-clause-stops

@@ -18,33 +18,33 @@ read g c root spot =
     reads _ root _ spot _ _ _ _ c.read-below.ensures (ap (option_map g.P.Inx.PtrInxCore.number) c.in-Some.is) c.read-above.ensures
     c.side_of-side.ensures.left c.side_of-side.ensures.right
 
-pub read-below-requires : goal.read-below-requires
-read-below-requires g c = spot_low _ _ _ c.requires.1
+pub read-below-requires-clause-live : goal.read-below-requires-clause-live
+read-below-requires-clause-live g c = spot_low _ _ _ c.requires.spot.1
 
 pub unreached-unreachable-requires : goal.unreached-unreachable-requires
 unreached-unreachable-requires g c =
     not_some g.P.Inx.PtrInxCore.number c.read-below.result.parent _
-    (spot_parent _ _ _ _ c.read-below.ensures c.requires.1) c.in_default.not-Some
+    (spot_parent _ _ _ _ c.read-below.ensures c.requires.spot.1) c.in_default.not-Some
 
-pub read-above-requires : goal.read-above-requires
-read-above-requires g c = spot_high _ _ _ _ _ c.read-below.ensures (ap (option_map g.P.Inx.PtrInxCore.number) c.in-Some.is) c.requires.1
+pub read-above-requires-clause-live : goal.read-above-requires-clause-live
+read-above-requires-clause-live g c = spot_high _ _ _ _ _ c.read-below.ensures (ap (option_map g.P.Inx.PtrInxCore.number) c.in-Some.is) c.requires.spot.1
 
-pub rank_at-requires : goal.rank_at-requires
-rank_at-requires g c =
+pub rank_at-requires-clause-live : goal.rank_at-requires-clause-live
+rank_at-requires-clause-live g c =
     if_live g.P.Inx.PtrInxCore.number (knots_in g.P.Inx.PtrInxCore.number c.args.chains.now) c.child-outer.result
-    (λ i e. spot_child _ _ _ _ _ c.read-below.ensures c.requires.1 i (sym c.child-outer.ensures ∙ e))
+    (λ i e. spot_child _ _ _ _ _ c.read-below.ensures c.requires.spot.1 i (sym c.child-outer.ensures ∙ e))
 
-pub rank_at-requires-2 : goal.rank_at-requires-2
-rank_at-requires-2 g c =
+pub rank_at-requires-2-clause-live : goal.rank_at-requires-2-clause-live
+rank_at-requires-2-clause-live g c =
     if_live g.P.Inx.PtrInxCore.number (knots_in g.P.Inx.PtrInxCore.number c.args.chains.now) c.child-inner.result
-    (λ i e. spot_child _ _ _ _ _ c.read-below.ensures c.requires.1 i (sym c.child-inner.ensures ∙ e))
+    (λ i e. spot_child _ _ _ _ _ c.read-below.ensures c.requires.spot.1 i (sym c.child-inner.ensures ∙ e))
 
-pub rank_at-requires-3 : goal.rank_at-requires-3
-rank_at-requires-3 g c =
-    let r = read g (goal.at.rank_at-requires-3 g c).After-side_of-side _ c.requires.1 in
+pub rank_at-requires-3-clause-live : goal.rank_at-requires-3-clause-live
+rank_at-requires-3-clause-live g c =
+    let r = read g (goal.at.rank_at-requires-3-clause-live g c).After-side_of-side _ c.requires.spot.1 in
     let away = ap (λ z. child_of z (named g.P.Inx.PtrInxCore.number c.read-above.result)) c.other-away.ensures in
     if_live g.P.Inx.PtrInxCore.number (knots_in g.P.Inx.PtrInxCore.number c.args.chains.now) c.child-far.result
-    (λ i e. spot_far _ _ _ c.requires.1 _ _ _ _ r i (sym away ∙ sym c.child-far.ensures ∙ e))
+    (λ i e. spot_far _ _ _ c.requires.spot.1 _ _ _ _ r i (sym away ∙ sym c.child-far.ensures ∙ e))
 
 pub returns : goal.returns
 returns g c = λ root spot.

@@ -43,8 +43,8 @@ build-right-requires g t c κs within =
     (number c.in-Some.root) c.requires.0 c.requires.1.after c.build-left.ensures.keeps p is c.next_of.ensures in
     (omega arith, (within.0, (within.1.0, (within.1.1.0, (within.1.1.1.0, (within.1.1.1.1.0, (within.1.1.1.1.1, (p.u, r.0))))))))
 
-pub reparent-requires : goal.reparent-requires
-reparent-requires g t c =
+pub reparent-requires-clause-live : goal.reparent-requires-clause-live
+reparent-requires-clause-live g t c =
     let number = g.P.Inx.PtrInxCore.number in
     let some : 1 ≤ c.args.count = omega arith in
     let p = parts (ends_in number c.args.chains.now) (option_map number c.args.cursor.now) c.args.count c.requires.0 c.requires.1 some in
@@ -52,8 +52,8 @@ reparent-requires g t c =
     (λ i root. stays_there number c.build-left.new.chains c.build-right.new.chains i c.build-right.ensures.keeps
     (root_lives _ _ _ _ _ (c.build-left.ensures.built p.v p.left) i root))
 
-pub reparent-requires-2 : goal.reparent-requires-2
-reparent-requires-2 g t c =
+pub reparent-requires-2-clause-live : goal.reparent-requires-2-clause-live
+reparent-requires-2-clause-live g t c =
     let number = g.P.Inx.PtrInxCore.number in
     let some : 1 ≤ c.args.count = omega arith in
     let p = parts (ends_in number c.args.chains.now) (option_map number c.args.cursor.now) c.args.count c.requires.0 c.requires.1 some in
@@ -66,8 +66,8 @@ reparent-requires-2 g t c =
     (λ i root. stays_there number c.build-right.new.chains c.reparent.new.chains i c.reparent.ensures.keeps
     (root_lives _ _ _ _ _ (c.build-right.ensures.built p.u r.0) i root))
 
-pub write-requires : goal.write-requires
-write-requires g t c =
+pub write-requires-clause-live : goal.write-requires-clause-live
+write-requires-clause-live g t c =
     let number = g.P.Inx.PtrInxCore.number in
     let some : 1 ≤ c.args.count = omega arith in
     let p = parts (ends_in number c.args.chains.now) (option_map number c.args.cursor.now) c.args.count c.requires.0 c.requires.1 some in

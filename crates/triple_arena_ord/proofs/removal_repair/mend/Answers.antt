@@ -62,16 +62,16 @@ both_fall g c w h =
     mend_lower _ _ _ _ _ _ _ _ _ w s c.read-above.ensures (omega (arith, s, s.fits, r)) (omega (arith, s, s.fits, r))
     (ap (λ z. z - 1) r.low_rank_is) refl c.set_rank-2.ensures.does c.set_rank-3.ensures.does
 
-pub read-above-requires : goal.read-above-requires
-read-above-requires g c = broken_lives _ _ _ _ c.requires.1
+pub read-above-requires-clause-live : goal.read-above-requires-clause-live
+read-above-requires-clause-live g c = broken_lives _ _ _ _ c.requires.1
 
-pub rank_at-left-requires : goal.rank_at-left-requires
-rank_at-left-requires g c =
+pub rank_at-left-requires-clause-live : goal.rank_at-left-requires-clause-live
+rank_at-left-requires-clause-live g c =
     if_live_from g.P.Inx.PtrInxCore.number (knots_in g.P.Inx.PtrInxCore.number c.args.chains.now) c.read-above.result.left
     (broken_reads _ _ _ _ c.read-above.ensures _ c.requires.1).left_lives
 
-pub rank_at-right-requires : goal.rank_at-right-requires
-rank_at-right-requires g c =
+pub rank_at-right-requires-clause-live : goal.rank_at-right-requires-clause-live
+rank_at-right-requires-clause-live g c =
     if_live_from g.P.Inx.PtrInxCore.number (knots_in g.P.Inx.PtrInxCore.number c.args.chains.now) c.read-above.result.right
     (broken_reads _ _ _ _ c.read-above.ensures _ c.requires.1).right_lives
 
@@ -108,18 +108,18 @@ unreached-unreachable-requires g c =
     higher_some _ _ _ _ _ _ h (higher g (goal.at.unreached-unreachable-requires g c).After-child _ h)
     (ap (option_map g.P.Inx.PtrInxCore.number) c.in_default.is)
 
-pub look_around-near-requires : goal.look_around-near-requires
-look_around-near-requires g c =
-    (option_map g.P.Inx.PtrInxCore.number c.args.root.now, (sibling g (goal.at.look_around-near-requires g c).In-Some _ c.requires.1).spot)
+pub look_around-near-requires-clause-spot : goal.look_around-near-requires-clause-spot
+look_around-near-requires-clause-spot g c =
+    (option_map g.P.Inx.PtrInxCore.number c.args.root.now, (sibling g (goal.at.look_around-near-requires-clause-spot g c).In-Some _ c.requires.1).spot)
 
 pub overflow_add-max-2 : goal.overflow_add-max-2
 overflow_add-max-2 g c =
     let s = sibling g (goal.at.overflow_add-max-2 g c).In-Some _ c.requires.1 in
     omega (arith, s, s.fits, c.look_around-near.ensures _ s.spot)
 
-pub shorten-requires : goal.shorten-requires
-shorten-requires g c =
-    let s = sibling g (goal.at.shorten-requires g c).In-Some _ c.requires.1 in
+pub shorten-requires-clause-short : goal.shorten-requires-clause-short
+shorten-requires-clause-short g c =
+    let s = sibling g (goal.at.shorten-requires-clause-short g c).In-Some _ c.requires.1 in
     (c.requires.0, sibling_short _ _ _ _ _ s (omega (arith, s, s.fits, c.look_around-near.ensures _ s.spot)))
 
 pub returns-then-near-max-clause-pending : goal.returns-then-near-max-clause-pending
@@ -127,12 +127,12 @@ returns-then-near-max-clause-pending g c = λ w h.
     let s = sibling g (goal.at.returns-then-near-max-clause-pending g c).In-Some w h in
     c.shorten.ensures.does w (sibling_short _ _ _ _ w s (omega (arith, s, s.fits, c.look_around-near.ensures _ s.spot)))
 
-pub set_rank-requires-2 : goal.set_rank-requires-2
-set_rank-requires-2 g c = spot_low _ _ _ (sibling g (goal.at.set_rank-requires-2 g c).In-Some _ c.requires.1).spot
+pub set_rank-requires-2-clause-live : goal.set_rank-requires-2-clause-live
+set_rank-requires-2-clause-live g c = spot_low _ _ _ (sibling g (goal.at.set_rank-requires-2-clause-live g c).In-Some _ c.requires.1).spot
 
-pub set_rank-requires-3 : goal.set_rank-requires-3
-set_rank-requires-3 g c =
-    let s = sibling g (goal.at.set_rank-requires-3 g c).In-Some _ c.requires.1 in
+pub set_rank-requires-3-clause-live : goal.set_rank-requires-3-clause-live
+set_rank-requires-3-clause-live g c =
+    let s = sibling g (goal.at.set_rank-requires-3-clause-live g c).In-Some _ c.requires.1 in
     sets_lives _ _ _ _ (spot_low _ _ _ s.spot) c.set_rank-2.ensures.does _ (broken_lives _ _ _ _ c.requires.1)
 
 pub returns-clause-pending : goal.returns-clause-pending

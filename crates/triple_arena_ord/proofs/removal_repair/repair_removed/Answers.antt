@@ -14,6 +14,6 @@ climb-smaller g c =
     let new = knots_in number c.mend-at.new.chains in
     let at_is = ap (option_map number) c.in-Some.is in
     let rises = if_numbered number (λ i. rank_in old (number c.in-Some.high) < rank_in new i) c.mend-at.result c.mend-at.ensures.rises in
-    let broken = subst (λ l. Pending old (option_map number c.climb.root) l c.requires.0) at_is
-    (c.climb.invariant.0 c.requires.0 c.requires.1) in
+    let broken = subst (λ l. Pending old (option_map number c.climb.root) l c.requires.pending.0) at_is
+    (c.climb.invariant.0 c.requires.pending.0 c.requires.pending.1) in
     mend_falls old new _ _ (option_map number c.mend-at.result) at_is rises (broken_small _ (option_map number c.climb.root) _ _ broken)

@@ -20,36 +20,36 @@ twice g c w h =
 
 pub overflow_add-near : goal.overflow_add-near
 overflow_add-near g c =
-    let h = c.requires.1 in
+    let h = c.requires.short.1 in
     omega (arith, h, h.fits, c.look_around-near.ensures _ h.spot, c.look_around-near.type_inv)
 
 pub overflow_add-near-then-near : goal.overflow_add-near-then-near
 overflow_add-near-then-near g c =
-    let h = c.requires.1 in
+    let h = c.requires.short.1 in
     omega (arith, h, h.fits, c.look_around-near.ensures _ h.spot)
 
 pub unreached-unreachable-requires : goal.unreached-unreachable-requires
 unreached-unreachable-requires g c =
-    let h = c.requires.1 in
+    let h = c.requires.short.1 in
     let r = c.look_around-near.ensures _ h.spot in
     root-some h.spot.inner (omega (arith, h, h.fits, r)) (sym r.inner_is ∙ ap (option_map g.P.Inx.PtrInxCore.number) c.in_default.is)
 
 pub overflow_sub-rank : goal.overflow_sub-rank
 overflow_sub-rank g c =
-    let h = c.requires.1 in
+    let h = c.requires.short.1 in
     omega (arith, h, c.look_around-near.ensures _ h.spot)
 
-pub turn-requires-else-near : goal.turn-requires-else-near
-turn-requires-else-near g c = (twice g (goal.at.turn-requires-else-near g c).In-Some _ c.requires.1).spot
+pub turn-requires-else-near-clause-spot : goal.turn-requires-else-near-clause-spot
+turn-requires-else-near-clause-spot g c = (twice g (goal.at.turn-requires-else-near-clause-spot g c).In-Some _ c.requires.short.1).spot
 
 pub overflow_sub-rank-else-near : goal.overflow_sub-rank-else-near
 overflow_sub-rank-else-near g c =
-    let h = c.requires.1 in
+    let h = c.requires.short.1 in
     omega (arith, h, c.look_around-near.ensures _ h.spot)
 
-pub turn-requires-else-near-2 : goal.turn-requires-else-near-2
-turn-requires-else-near-2 g c =
-    let one = twice g (goal.at.turn-requires-else-near-2 g c).In-Some _ c.requires.1 in
+pub turn-requires-else-near-2-clause-spot : goal.turn-requires-else-near-2-clause-spot
+turn-requires-else-near-2-clause-spot g c =
+    let one = twice g (goal.at.turn-requires-else-near-2-clause-spot g c).In-Some _ c.requires.short.1 in
     (one.after _ _ (c.turn-else-near.ensures.does one.spot)).spot
 
 pub returns-then-near-clause-does : goal.returns-then-near-clause-does

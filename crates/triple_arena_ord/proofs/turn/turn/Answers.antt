@@ -6,26 +6,26 @@ use Rattle.triple_arena_ord.proofs.NameLemmas.{not_some, if_live}
 use Rattle.rank_tree.specs.SpotLaws.{spot_low, spot_parent, spot_high, spot_child, spot_holder, write-lives, reparent-lives, turn_works}
 use Rattle.triple_arena_ord.proofs.turn.turn.Goals as goal
 
-pub read-below-requires : goal.read-below-requires
-read-below-requires g c = spot_low _ _ _ c.requires
+pub read-below-requires-clause-live : goal.read-below-requires-clause-live
+read-below-requires-clause-live g c = spot_low _ _ _ c.requires.spot
 
 pub unreached-unreachable-requires : goal.unreached-unreachable-requires
-unreached-unreachable-requires g c = not_some g.P.Inx.PtrInxCore.number c.read-below.result.parent _ (spot_parent _ _ _ _ c.read-below.ensures c.requires) c.in_default.not-Some
+unreached-unreachable-requires g c = not_some g.P.Inx.PtrInxCore.number c.read-below.result.parent _ (spot_parent _ _ _ _ c.read-below.ensures c.requires.spot) c.in_default.not-Some
 
-pub read-above-requires : goal.read-above-requires
-read-above-requires g c = spot_high _ _ _ _ _ c.read-below.ensures (ap (option_map g.P.Inx.PtrInxCore.number) c.in-Some.is) c.requires
+pub read-above-requires-clause-live : goal.read-above-requires-clause-live
+read-above-requires-clause-live g c = spot_high _ _ _ _ _ c.read-below.ensures (ap (option_map g.P.Inx.PtrInxCore.number) c.in-Some.is) c.requires.spot
 
-pub reparent-requires : goal.reparent-requires
-reparent-requires g c = if_live g.P.Inx.PtrInxCore.number (knots_in g.P.Inx.PtrInxCore.number c.write.new.chains) c.child-middle.result (λ i e.
-    write-lives _ _ _ _ c.write.ensures.written i (spot_child _ _ _ _ _ c.read-below.ensures c.requires i (sym c.child-middle.ensures ∙ e)))
+pub reparent-requires-clause-live : goal.reparent-requires-clause-live
+reparent-requires-clause-live g c = if_live g.P.Inx.PtrInxCore.number (knots_in g.P.Inx.PtrInxCore.number c.write.new.chains) c.child-middle.result (λ i e.
+    write-lives _ _ _ _ c.write.ensures.written i (spot_child _ _ _ _ _ c.read-below.ensures c.requires.spot i (sym c.child-middle.ensures ∙ e)))
 
-pub write-requires-2 : goal.write-requires-2
-write-requires-2 g c = reparent-lives _ _ _ _ c.reparent.ensures.does _ (write-lives _ _ _ _ c.write.ensures.written _ (spot_low _ _ _ c.requires))
+pub write-requires-2-clause-live : goal.write-requires-2-clause-live
+write-requires-2-clause-live g c = reparent-lives _ _ _ _ c.reparent.ensures.does _ (write-lives _ _ _ _ c.write.ensures.written _ (spot_low _ _ _ c.requires.spot))
 
-pub relink-requires : goal.relink-requires
-relink-requires g c = if_live g.P.Inx.PtrInxCore.number (knots_in g.P.Inx.PtrInxCore.number c.write-2.new.chains) c.read-above.result.parent (λ i e.
+pub relink-requires-clause-live : goal.relink-requires-clause-live
+relink-requires-clause-live g c = if_live g.P.Inx.PtrInxCore.number (knots_in g.P.Inx.PtrInxCore.number c.write-2.new.chains) c.read-above.result.parent (λ i e.
     write-lives _ _ _ _ c.write-2.ensures.written i (reparent-lives _ _ _ _ c.reparent.ensures.does i (write-lives _ _ _ _ c.write.ensures.written i
-    (spot_holder _ _ _ _ _ _ c.read-below.ensures (ap (option_map g.P.Inx.PtrInxCore.number) c.in-Some.is) c.read-above.ensures c.requires i e))))
+    (spot_holder _ _ _ _ _ _ c.read-below.ensures (ap (option_map g.P.Inx.PtrInxCore.number) c.in-Some.is) c.read-above.ensures c.requires.spot i e))))
 
 pub returns-clause-does : goal.returns-clause-does
 returns-clause-does g c = λ spot.

@@ -4,23 +4,23 @@ use Rattle.triple_arena_ord.proofs.NameLemmas.{if_live}
 use Rattle.rank_tree.specs.ChangeLaws.{exchange_lives, exchange_links, exchange_works}
 use Rattle.triple_arena_ord.proofs.uprooting.exchange.Goals as goal
 
-pub read-knot-requires : goal.read-knot-requires
-read-knot-requires g c = exchange_lives _ _ _ _ c.requires.place
+pub read-knot-requires-clause-live : goal.read-knot-requires-clause-live
+read-knot-requires-clause-live g c = exchange_lives _ _ _ _ c.requires.place
 
-pub reparent-requires : goal.reparent-requires
-reparent-requires g c =
+pub reparent-requires-clause-live : goal.reparent-requires-clause-live
+reparent-requires-clause-live g c =
     let links = exchange_links _ _ _ _ c.requires.place _ c.read-knot.ensures in
     if_live g.P.Inx.PtrInxCore.number (knots_in g.P.Inx.PtrInxCore.number c.write.new.chains) c.read-knot.result.left
     (λ i e. write-lives _ _ _ _ c.write.ensures.written i (links.left i e))
 
-pub reparent-requires-2 : goal.reparent-requires-2
-reparent-requires-2 g c =
+pub reparent-requires-2-clause-live : goal.reparent-requires-2-clause-live
+reparent-requires-2-clause-live g c =
     let links = exchange_links _ _ _ _ c.requires.place _ c.read-knot.ensures in
     if_live g.P.Inx.PtrInxCore.number (knots_in g.P.Inx.PtrInxCore.number c.reparent.new.chains) c.read-knot.result.right
     (λ i e. reparent-lives _ _ _ _ c.reparent.ensures.does i (write-lives _ _ _ _ c.write.ensures.written i (links.right i e)))
 
-pub relink-requires : goal.relink-requires
-relink-requires g c =
+pub relink-requires-clause-live : goal.relink-requires-clause-live
+relink-requires-clause-live g c =
     let links = exchange_links _ _ _ _ c.requires.place _ c.read-knot.ensures in
     if_live g.P.Inx.PtrInxCore.number (knots_in g.P.Inx.PtrInxCore.number c.reparent-2.new.chains) c.read-knot.result.parent
     (λ i e. reparent-lives _ _ _ _ c.reparent-2.ensures.does i

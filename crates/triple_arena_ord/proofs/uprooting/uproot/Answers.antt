@@ -8,8 +8,8 @@ use Rattle.triple_arena_ord.proofs.uprooting.uproot.Goals as goal
 small : (count live : ℕ) → count ≡ live → count < 2 ^ 64 → live < 2 ^ 64
 small count live e h = omega arith
 
-pub bring_out-requires : goal.bring_out-requires
-bring_out-requires g c =
+pub bring_out-requires-clause-loose : goal.bring_out-requires-clause-loose
+bring_out-requires-clause-loose g c =
     let number = g.P.Inx.PtrInxCore.number in
     let o : Ordered g.row.P-Inx.Denot g.row.T.Denot = record { chains = c.args.chains.now; root = option_map number c.args.root.now } in
     (out number o c.requires.ordered (number c.args.gone) (small _ _ c.len-count.ensures.value (search rules)) c.requires.lives
@@ -25,8 +25,8 @@ unreached-unreachable-requires g c =
     let no : Some s.index ≡ None = sym s.next ∙ c.requires.next ∙ ap (option_map number) c.in_default.is in
     absurd (cc)
 
-pub bring_out-requires-in-Some : goal.bring_out-requires-in-Some
-bring_out-requires-in-Some g c =
+pub bring_out-requires-in-Some-clause-loose : goal.bring_out-requires-in-Some-clause-loose
+bring_out-requires-in-Some-clause-loose g c =
     let number = g.P.Inx.PtrInxCore.number in
     let o : Ordered g.row.P-Inx.Denot g.row.T.Denot = record { chains = c.args.chains.now; root = option_map number c.args.root.now } in
     let s = successor number o c.requires.ordered (number c.args.gone) (small _ _ c.len-count.ensures.value (search rules)) c.requires.lives

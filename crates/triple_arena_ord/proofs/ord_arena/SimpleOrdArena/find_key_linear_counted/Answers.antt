@@ -28,15 +28,15 @@ module _ (g : Over) (c : After-inx g) where
   ordered : IsOrdered g.P.Inx.PtrInxCore.number c.args.self.now
   ordered = subst (IsOrdered g.P.Inx.PtrInxCore.number) c.self.view_is c.self.invariant.0
 
-pub walk_from-place-requires : goal.walk_from-place-requires
-walk_from-place-requires g c =
-    let start = (goal.at.walk_from-place-requires g c).After-inx in
+pub walk_from-place-requires-clause-place : goal.walk_from-place-requires-clause-place
+walk_from-place-requires-clause-place g c =
+    let start = (goal.at.walk_from-place-requires-clause-place g c).After-inx in
     on_chain g.P.Inx.PtrInxCore.number (inside g start) c.self.invariant.0 _ (lives g start)
 
-pub found_at-requires : goal.found_at-requires
-found_at-requires g c =
+pub found_at-requires-clause-live : goal.found_at-requires-clause-live
+found_at-requires-clause-live g c =
     stops_live g.P.Inx.PtrInxCore.number g.T.Key.Ord.cmp g.T.SimpleOrdItem.key_of c.args.k.now c.args.self.now _ c.self.view_is
-    c.self.invariant.0 _ (lives g (goal.at.found_at-requires g c).After-inx) c.walk_from-place.result c.walk_from-place.ensures.stops
+    c.self.invariant.0 _ (lives g (goal.at.found_at-requires-clause-live g c).After-inx) c.walk_from-place.result c.walk_from-place.ensures.stops
 
 pub returns-in-Some-clause-found : goal.returns-in-Some-clause-found
 returns-in-Some-clause-found g c =

@@ -17,8 +17,8 @@ returns-clause-similar g c =
     (parts_at number cmp key k g.met.T.Key.Ord.total o c.seek_linear-place.ensures.ordered) _ c.seek_linear-place.ensures.answer c.similar_at.result c.similar_at.ensures.same
     (subst (λ z. IfSome c.similar_at.result (λ x. generation_at (entry_in z) (g.P.PtrCore.index x.0) ≡ Some (g.P.PtrCore.generation x.0))) c.self.view_is c.similar_at.ensures.live)
 
-pub similar_at-requires : goal.similar_at-requires
-similar_at-requires g c =
+pub similar_at-requires-clause-live : goal.similar_at-requires-clause-live
+similar_at-requires-clause-live g c =
     places_live g.P.Inx.PtrInxCore.number c.args.self.now _ c.self.view_is c.seek_linear-place.ensures.ordered c.seek_linear-place.result c.seek_linear-place.ensures.answer
 
 pub returns-clause-bound : goal.returns-clause-bound

@@ -3,8 +3,8 @@ use Rattle.triple_arena_ord.proofs.LiveLemmas.{item-some}
 use Rattle.triple_arena_ord.proofs.SettleLemmas.{numbered_ok, numbered_err}
 use Rattle.triple_arena_ord.proofs.ord_arena.SimpleOrdArena.insert_inx_manual.Goals as goal
 
-pub settle-place-requires : goal.settle-place-requires
-settle-place-requires g c = item-some g.P.Inx.PtrInxCore.number (values_in c.args.self.now.chains (g.P.Inx.PtrInxCore.number c.args.p)) c.requires
+pub settle-place-requires-clause-live : goal.settle-place-requires-clause-live
+settle-place-requires-clause-live g c = item-some g.P.Inx.PtrInxCore.number (values_in c.args.self.now.chains (g.P.Inx.PtrInxCore.number c.args.p)) c.requires
 
 pub returns-in-Ok-clause-inserted : goal.returns-in-Ok-clause-inserted
 returns-in-Ok-clause-inserted g c =

@@ -3,8 +3,8 @@ use Rattle.std.specs.Option.{option_map}
 use Rattle.triple_arena_ord.proofs.OrderedWalkLemmas.{last_lives, last_is_end}
 use Rattle.triple_arena_ord.proofs.ord_arena.SimpleOrdArena.last.Goals as goal
 
-pub ptr_to-requires : goal.ptr_to-requires
-ptr_to-requires g c =
+pub ptr_to-requires-clause-live : goal.ptr_to-requires-clause-live
+ptr_to-requires-clause-live g c =
     let number = g.P.Inx.PtrInxCore.number in
     last_lives number c.args.self.now c.last_index.ensures.ordered (number c.in-Some.i) (sym c.last_index.ensures.at ∙ ap (option_map number) c.in-Some.is)
 

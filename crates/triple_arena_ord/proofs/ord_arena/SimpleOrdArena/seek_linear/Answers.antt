@@ -4,8 +4,8 @@ use Rattle.triple_arena_ord.specs.Ordered.{Ordered}
 use Rattle.triple_arena_ord.proofs.LinearLemmas.{looked_up, on_chain, not_free, linear_answer, linear_near, linear_place_ended, linear_place_passed}
 use Rattle.triple_arena_ord.proofs.ord_arena.SimpleOrdArena.seek_linear.Goals as goal
 
-pub walk_from-requires : goal.walk_from-requires
-walk_from-requires g c =
+pub walk_from-requires-clause-place : goal.walk_from-requires-clause-place
+walk_from-requires-clause-place g c =
     let number = g.P.Inx.PtrInxCore.number in
     let inside : Ordered g.row.P-Inx.Denot g.row.T.Denot = record { chains = c.self.inside.chains; root = option_map number c.self.inside.root } in
     let lives = looked_up number g.P.Gen.PtrGenCore.number (λ b. b.now) inside (number c.args.p_init) c.get_inx.result c.get_inx.ensures (c.is_none.ensures ∙ ap not c.if-is_none.false) in

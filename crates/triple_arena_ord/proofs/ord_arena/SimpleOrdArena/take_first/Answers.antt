@@ -9,8 +9,8 @@ returns-in_err-i g c =
     let number = g.P.Inx.PtrInxCore.number in
     rw c.from_residual.ensures (none_first number c.args.self.now (sym c.in_err-i.ensures.at), refl)
 
-pub remove_live-requires : goal.remove_live-requires
-remove_live-requires g c =
+pub remove_live-requires-clause-live : goal.remove_live-requires-clause-live
+remove_live-requires-clause-live g c =
     let number = g.P.Inx.PtrInxCore.number in
     first_knot number c.args.self.now c.first_index.ensures.ordered (number c.in_ok-i.i) (sym c.in_ok-i.ensures.at)
 

@@ -4,8 +4,8 @@ use Rattle.triple_arena_chain.proofs.LinkCopyLemmas.{on_ok}
 use Rattle.triple_arena_ord.proofs.ItemCopyLemmas.{items_mapped, items_refused}
 use Rattle.triple_arena_ord.proofs.ord_arena.link_copies.copy_items.Goals as goal
 
-pub copy_from-requires : goal.copy_from-requires
-copy_from-requires g c =
+pub copy_from-requires-clause-callable : goal.copy_from-requires-clause-callable
+copy_from-requires-clause-callable g c =
     mut_by _ (λ s. always_mut g.F.FnMut s.0) (λ s a i. search (rules, of_calls)) (λ s a r t i e. search rules) _ c.requires
 
 pub returns-clause-mapped : goal.returns-clause-mapped

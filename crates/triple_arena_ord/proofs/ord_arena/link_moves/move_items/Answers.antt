@@ -4,8 +4,8 @@ use Rattle.triple_arena_chain.proofs.LinkCopyLemmas.{on_ok}
 use Rattle.triple_arena_ord.proofs.LinkMoveLemmas.{items_transferred}
 use Rattle.triple_arena_ord.proofs.ord_arena.link_moves.move_items.Goals as goal
 
-pub move_from-requires : goal.move_from-requires
-move_from-requires g c =
+pub move_from-requires-clause-callable : goal.move_from-requires-clause-callable
+move_from-requires-clause-callable g c =
     mut_by _ (λ s. always_mut g.F.FnMut s.0) (λ s a i. search (rules, of_calls)) (λ s a r t i e. search rules) _ c.requires
 
 pub returns-clause-moved : goal.returns-clause-moved
