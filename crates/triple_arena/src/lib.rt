@@ -36,6 +36,9 @@
 //! concrete one, a clause writes `⟦<P0 as PtrCore>⟧.index p` for what is `P.index p` at a type parameter.
 #![tactic(auto)]
 
+// A private function's clause `no_more` asks nothing. It stands where a `requires` would be alone, whose answers take
+// far longer to state.
+
 mod advancer;
 mod answers;
 mod arena;

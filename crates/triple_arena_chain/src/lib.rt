@@ -23,6 +23,9 @@
 //! ```
 #![tactic(auto)]
 
+// A private function's clause `no_more` asks nothing. It stands where a `requires` would be alone, whose answers take
+// far longer to state.
+
 mod chain_arena;
 mod chain_arena_trait;
 mod kind;

@@ -18,6 +18,9 @@
 //! ```
 #![tactic(auto)]
 
+// A private function's clause `no_more` asks nothing. It stands where a `requires` would be alone, whose answers take
+// far longer to state.
+
 mod ascends;
 mod asks;
 mod edges;
