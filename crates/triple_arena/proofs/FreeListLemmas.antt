@@ -4,12 +4,13 @@ use Rattle.std.proofs.lemmas.List.{map-set, map_push, length-map, length_push, g
 use Rattle.std.proofs.lemmas.List.Sums.{sum_by-set, sum_by_push}
 use Rattle.std.proofs.lemmas.Option.{slice_get_within, slice_get-get_or, get_or_from_slice_get}
 use Rattle.triple_arena.specs.Slot.{Slot, free, used, entry_of, link_of, value_of, with_slot_value, with_slot_generation}
-use Rattle.std.proofs.Common.{IsSome, true, false, true≢false, eqb}
+use Rattle.std.proofs.Common.{IsSome, Bor, option_copied, true, false, true≢false, eqb}
 use Rattle.std.specs.Option.{option_map}
 use Rattle.std.proofs.lemmas.Bool.{eq-eqb, ne_eqb}
 use Rattle.std.proofs.Math.Seq.{take-append_seam}
 use Rattle.triple_arena_stack.specs.Room.{Room, capacity}
-use Rattle.triple_arena.specs.Content.{Content, entry_at, live_count, arena_capacity, inserted, vacated, with_value, with_generation, Lacks, AllVacant, IsWellFormed}
+use Rattle.triple_arena.specs.Content.{Content, entry_at, get, live_count, arena_capacity, inserted, vacated, with_value, with_generation, Lacks, AllVacant, IsWellFormed}
+use Rattle.triple_arena.specs.Entries.{value_if}
 use Rattle.triple_arena.specs.ContentLaws.{entry_at_slot}
 use Rattle.triple_arena.specs.Layout.{links, content_of, IsChain, IsSound}
 
@@ -17,6 +18,15 @@ use Rattle.triple_arena.specs.Layout.{links, content_of, IsChain, IsSound}
 pub the_some : {X : Type 0} (o : Option X) → IsSome o → (x : X) × (o ≡ Some x)
 the_some None some = absurd (true≢false (sym some))
 the_some (Some x) some = (x, refl)
+
+-- a reference is there where its value is
+pub copied_some : {X : Type 0} (o : Option (Bor X)) → is_some o ≡ true → IsSome (option_copied o)
+copied_some None some = absurd (true≢false (sym some))
+copied_some (Some x) some = refl
+
+pub copied_none : {X : Type 0} (o : Option (Bor X)) → is_some o ≡ false → IsSome (option_copied o) → ⊥
+copied_none None none some = true≢false (sym some)
+copied_none (Some x) none some = true≢false none
 
 module _ {T : Type 0} where
   pub slot_absent : (es : List (Slot T)) (k : ℕ) → slice_get es k ≡ None → get_or (map entry_of es) k None ≡ None
@@ -428,6 +438,17 @@ module _ {T : Type 0} where
         fits = omega (arith, sound.fits, length-map es entry_of);
       }
 
+  -- what a pointer finds by the slot at its index
+  pub get_of_none : (es : List (Slot T)) {room : Room} {g : ℕ} (head : Option ℕ) {c : Content T} {o : Option (Slot T)} {i j : ℕ} (gen : ℕ)
+      → content_of es room g head ≡ c → o ≡ None → o ≡ slice_get es (i - 1) → i ≡ j → get c j gen ≡ None
+  get_of_none es head {j} gen seen none read same =
+      ap (value_if gen) (no_entry es head j seen (subst (λ x. slice_get es (x - 1) ≡ None) same (sym read ∙ none)))
+
+  pub get_of_slot : (es : List (Slot T)) {room : Room} {g : ℕ} (head : Option ℕ) {c : Content T} {o : Option (Slot T)} {slot : Slot T} {i j : ℕ} (gen : ℕ)
+      → content_of es room g head ≡ c → o ≡ Some slot → o ≡ slice_get es (i - 1) → 0 < i → i ≡ j → get c j gen ≡ value_if gen (entry_of slot)
+  get_of_slot es head {c} gen seen some read positive same =
+      ap (λ x. get c x gen) (sym same) ∙ ap (value_if gen) (entry_of_slot es head seen positive (sym read ∙ some))
+
   slice_get_past : (es : List (Slot T)) (k : ℕ) → length es ≤ k → slice_get es k ≡ None
   slice_get_past [] k past = refl
   slice_get_past (x ∷ es) zero past = absurd (omega arith)
@@ -458,3 +479,7 @@ module _ {T : Type 0} where
       → content_of es room g head ≡ c → o ≡ Some slot → o ≡ slice_get es (i - 1) → 0 < i → i ≡ j → entry_at c j ≡ entry_of slot
   entry_of_some es head {c} seen some read positive same =
       ap (entry_at c) (sym same) ∙ entry_of_slot es head seen positive (sym read ∙ some)
+
+  pub entry_some : (s : Slot T) → IsSome (value_of s) → IsSome (entry_of s)
+  entry_some (free next) some = some
+  entry_some (used g t) some = refl

@@ -1,10 +1,11 @@
 //! A slot of an arena.
-ghost use Rattle.std.specs.Prelude.{◌≡◌, ◌≢◌, ◌≤◌, ℕ, length, Option, Some, None, IsTrue, ◌↔◌, IsSome, IsNone, ⊤};
+ghost use Rattle.std.specs.Prelude.{◌≡◌, ◌≢◌, ◌≤◌, ℕ, length, Option, Some, None, option_copied, IsTrue, ◌↔◌, IsSome, IsNone, ⊤};
 ghost use Rattle.std.specs.Borrow.{Lends, sem};
 ghost use Rattle.std.specs.Int.NonZero.{non_zero_usize_get};
 ghost use Rattle.std.specs.Option.{option_map};
 ghost use Rattle.triple_arena.specs.Slot.{Slot, entry_of, free, used, value_of, link_of, with_link, with_slot_value, with_slot_generation};
 ghost use Rattle.triple_arena_stack.specs.Stack.{item_at, with_item};
+ghost use Rattle.triple_arena.specs.Entries.{value_if};
 
 use std::marker::Model;
 use std::mem;
@@ -111,6 +112,32 @@ impl<P: PtrCore, T> ArenaSlot<P, T> {
         match &mut self.state {
             SlotState::Used(own, _) => *own = generation,
             SlotState::Free(_) => {}
+        }
+    }
+
+    // The value, if the slot is allocated.
+    pub(crate) fn value(&self) -> Option<&T>
+        ensures { option_copied result ≡ value_of self.now }
+    {
+        match &self.state {
+            SlotState::Used(_, value) => Some(value),
+            SlotState::Free(_) => None,
+        }
+    }
+
+    // The value, if the slot is allocated with this generation.
+    pub(crate) fn get(&self, generation: P::Gen) -> Option<&T>
+        ensures { option_copied result ≡ value_if (P.Gen.number generation) (entry_of self.now) }
+    {
+        match &self.state {
+            SlotState::Used(own, value) => {
+                if *own == generation {
+                    Some(value)
+                } else {
+                    None
+                }
+            }
+            SlotState::Free(_) => None,
         }
     }
 

@@ -21,8 +21,17 @@ impl<P: PtrCore, T: Drop, S: ArenaSlots<P, T>> Arena<P, T, S> {
         // The number of slots is a `usize`, so no index past that is live.
         let _ = self.slots.len();
         match p.inx().try_into_usize() {
-            Some(i) if self.get(p).is_some() => Some(i),
-            _ => None,
+            Some(i) => match self.slots.get(i) {
+                Some(slot) => {
+                    if slot.get(p.generation()).is_some() {
+                        Some(i)
+                    } else {
+                        None
+                    }
+                }
+                None => None,
+            },
+            None => None,
         }
     }
 
@@ -34,8 +43,17 @@ impl<P: PtrCore, T: Drop, S: ArenaSlots<P, T>> Arena<P, T, S> {
         // The number of slots is a `usize`, so no index past that is live.
         let _ = self.slots.len();
         match inx.try_into_usize() {
-            Some(i) if self.get_inx(inx).is_some() => Some(i),
-            _ => None,
+            Some(i) => match self.slots.get(i) {
+                Some(slot) => {
+                    if slot.value().is_some() {
+                        Some(i)
+                    } else {
+                        None
+                    }
+                }
+                None => None,
+            },
+            None => None,
         }
     }
 
