@@ -25,11 +25,10 @@ def function_and_part(module):
     library, *path = module.split(".")
     if library.endswith("-specs"):
         return ".".join(path[1:]) if path[:1] == ["contracts"] else ".".join(path), "contract"
-    part = ""
     for at, word in enumerate(path):
         if word in INNER:
             return ".".join(path[:at]), word
-    return ".".join(path), part
+    return ".".join(path), ""
 
 
 def main(folder, count):
