@@ -19,7 +19,7 @@
 //!
 //! - `run` answers the lines as one input, and tells the calls on its streams;
 //! - `inputs` answers each line as an input of its own, and `answer` answers it alone. Behind each reply they tell how many
-//!   comparisons it took: with keys, with first tickets and with second ones. A line of them is passed over here;
+//!   comparisons it took: with keys, with first tickets and with second ones. An input line that begins with `=` is skipped;
 //! - `sweeps` does as `answer`, and tells the looks at references, and the counters of places and of stops;
 //! - HOW is `plain`; or `broken` if the reader fails at its end; or `stalling` if the writer takes none once it is full,
 //!   and does not fail; or `full` or `idle` if it takes none at all, and fails or does not; or `unflushed` if a flush fails;

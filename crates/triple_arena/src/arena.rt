@@ -45,8 +45,8 @@ use unreached::unreached;
 /// A generational arena, which keeps its slots in the stack `S`.
 ///
 /// Each value that is inserted gets a pointer of type `P`: an index of a slot, and the generation of the arena's
-/// counter. Each removal steps the counter. A pointer finds its own value or nothing, until the generations start
-/// again.
+/// counter. Each removal steps the counter. If generations are counted, a pointer finds its own value or nothing, until
+/// they start again or a call sets, resets or copies the counter.
 #[derive(Drop)]
 pub struct Arena<P: PtrCore, T: Drop, S: ArenaSlots<P, T>> {
     slots: S,

@@ -44,10 +44,10 @@ pub mod chain_iterators {
     pub use crate::chain_arena::walk::ChainPtrAdvancer;
     pub use triple_arena::arena_iterators::PtrAdvancer;
 
-    /// The links, each taken out, in the order of the indexes.
+    /// The pointers and the values of the links, each taken out, in the order of the indexes.
     pub type Drain<'a, P, T, S> = triple_arena::Drain<'a, P, T, ChainArena<P, T, S>>;
 
-    /// The values of the links, by value, in the order of the indexes.
+    /// The pointers and the values of the links, by value, in the order of the indexes.
     pub type CapacityDrain<P, T, S> = triple_arena::CapacityDrain<P, T, ChainArena<P, T, S>>;
 
     /// The pointers and the values of the links, in the order of the indexes.

@@ -16,7 +16,7 @@ impl<P: PtrCore, T: Drop, S: ChainSlots<P, T>> ChainArena<P, T, S> {
         self.arena.generation()
     }
 
-    /// Sets the counter. A pointer that ended long ago may be given again where the counter goes back.
+    /// Sets the counter. A pointer that ended may be given again if the counter goes back.
     pub fn set_generation(&mut self, generation: P::Gen)
         ensures value { self.new ≡ with_counter self.old (P.Gen.number generation) }
         ensures formed { IsChained P.Inx.number self.new }

@@ -16,8 +16,9 @@ use triple_arena::{Advancer, ArenaTrait, PtrCore};
 /// before it, or once round a ring. The links are free between the calls.
 ///
 /// As it gives a link it notes the index that comes next, and later gives what is live there. Where nothing is, it ends.
-/// Over links that stay it ends always. A ring whose first link is removed during the walk is gone round without an end,
-/// and a walk from the middle of a list does not go back if the link where it began is removed.
+/// Over links that stay it ends always. A ring whose first link is removed during the walk is gone round without an end.
+/// A walk from the middle of a list goes back from the index where it began: from the link that lives there by then,
+/// perhaps in another chain, or nowhere if none does.
 #[derive(Drop)]
 pub struct ChainPtrAdvancer<P: PtrCore> {
     // Where the walk began.

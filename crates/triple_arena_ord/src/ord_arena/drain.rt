@@ -13,8 +13,7 @@ use triple_arena::{ArenaTrait, InvalidationOption, PtrCore};
 ///
 /// Each item is one removal, which steps the counter; it is `GenerationOverflow` where that step started the generations
 /// again. Dropped, at whatever item, it clears the arena: the entries that are left go at once, by one step of the counter
-/// more, which is made also where none is left, and no slot stays. What is left when it is never dropped is an arena
-/// without the entries that it gave.
+/// more, which is made also where none is left, and no slot stays.
 pub struct OrderedDrain<'a, P: PtrCore, T: Drop, S: OrdSlots<P, T>> {
     arena: &'a mut SimpleOrdArena<P, T, S>,
 }

@@ -16,7 +16,7 @@ impl<P: PtrCore, T: Drop, S: OrdSlots<P, T>> SimpleOrdArena<P, T, S> {
         self.chains.generation()
     }
 
-    /// Sets the counter. A pointer that ended long ago may be given again where the counter goes back.
+    /// Sets the counter. A pointer that ended may be given again if the counter goes back.
     pub fn set_generation(&mut self, generation: P::Gen)
         ensures exact { self.new ≡ with_counter_in self.old (P.Gen.number generation) }
         ensures ordered { IsOrdered P.Inx.number self.new }
