@@ -30,14 +30,19 @@ module _ {I T : Type 0} (number : I → ℕ) where
   same_chains o d same is =
       same_list number o (with_chains o d) refl (λ k. ap (λ c. knots_in number c k) same) (λ k. ap (λ c. ends_in number c k) same) (ap live_count same) is
 
-  -- a limit that is set, or refused
-  pub limited : {A E : Type 0} (greatest : ℕ) (o : Ordered I T) (d : Content (IndexLink I (IndexNode I T))) (max : ℕ) (r : Result A E)
-      → OnOk r (d ≡ with_limit greatest o.chains max) → OnErr r (d ≡ o.chains) → IsOrdered number o → Reordered number o (with_chains o d)
-  limited greatest o d max (Err e) set refused is = same_chains o d refused is
-  limited greatest o d max (Ok x) set refused is =
+  -- a limit that is set
+  pub limit_kept : (greatest : ℕ) (o : Ordered I T) (max : ℕ) (d : Content (IndexLink I (IndexNode I T))) → d ≡ with_limit greatest o.chains max → IsOrdered number o
+      → Reordered number o (with_chains o d)
+  limit_kept greatest o max d set is =
       same_list number o (with_chains o d) refl (λ k. ap (λ c. knots_in number c k) set ∙ ap entry_knot (entry-with_limit greatest o.chains max k))
       (λ k. ap (λ c. ends_in number c k) set ∙ ends-with_limit number greatest o.chains max k)
       (ap live_count set ∙ live-with_limit greatest o.chains max) is
+
+  -- the same, or refused
+  pub limited : {A E : Type 0} (greatest : ℕ) (o : Ordered I T) (d : Content (IndexLink I (IndexNode I T))) (max : ℕ) (r : Result A E)
+      → OnOk r (d ≡ with_limit greatest o.chains max) → OnErr r (d ≡ o.chains) → IsOrdered number o → Reordered number o (with_chains o d)
+  limited greatest o d max (Err e) set refused is = same_chains o d refused is
+  limited greatest o d max (Ok x) set refused is = limit_kept greatest o max d set is
 
   module _ {N : Type 0} (items : T → List N) (f : N → Option N) (recasted : T → T) where
     abbrev slots_after : List (Option (ℕ × IndexLink I (IndexNode I T))) → List (Option (ℕ × IndexLink I (IndexNode I T)))

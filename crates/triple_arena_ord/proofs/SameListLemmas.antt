@@ -42,6 +42,7 @@ module _ {I T : Type 0} (number : I → ℕ) where
   pub record Reordered (o p : Ordered I T) : Type 0 where
     pub ordered : IsOrdered number p
     pub order : order_in number p ≡ order_in number o
+    pub tree : tree_in number p ≡ tree_in number o
 
   pub same_list : (o p : Ordered I T) → p.root ≡ o.root → ((k : ℕ) → knots_in number p.chains k ≡ knots_in number o.chains k)
       → ((k : ℕ) → ends_in number p.chains k ≡ ends_in number o.chains k) → live_count p.chains ≡ live_count o.chains
@@ -66,4 +67,5 @@ module _ {I T : Type 0} (number : I → ℕ) where
           counted = ap length order ∙ is.counted ∙ sym live;
         };
         order = order;
+        tree = same;
       }

@@ -5,12 +5,14 @@ ghost use Rattle.std.specs.Option.{option_map};
 ghost use Rattle.std.specs.declared.cmp.Ordering.{Ordering as Way};
 ghost use Rattle.triple_arena_ptr.specs.declared.errors.OrdInsertionError.{OrdInsertionError as Refused};
 ghost use Rattle.triple_arena_stack.specs.Room.{Room};
+ghost use Rattle.triple_arena.specs.Content.{with_limit};
 ghost use Rattle.triple_arena.specs.Transfer.{IsFilled};
 ghost use Rattle.triple_arena_chain.specs.Chains.{On};
 ghost use Rattle.triple_arena_ord.specs.Asked.{IsWay};
 ghost use Rattle.triple_arena_ord.specs.AskedLaws.{IsCutAt, last_greater, last_less};
 ghost use Rattle.triple_arena_ord.specs.Indexed.{indexed};
 ghost use Rattle.triple_arena_ord.specs.Inserted.{IsInsertedAt, IsReplaced, either_room};
+ghost use Rattle.triple_arena_ord.specs.ItemRecasting.{recasted_in};
 ghost use Rattle.triple_arena_ord.specs.Ordered.{Ordered, IsOrdered, IsAscending, tree_in, order_in, ordered_entries, entry_in, size_in, counter_in, room_in, asked_at};
 ghost use Rattle.triple_arena_ord.specs.Placing.{IsPlaceByKey, IsPlaceBeforeEqual};
 ghost use Rattle.triple_arena_ord.specs.Removal.{IsEntryRemoved};
@@ -19,7 +21,7 @@ ghost use Rattle.triple_arena_ord.specs.States.{invalidated_in, with_item};
 ghost use Rattle.rank_tree.specs.Tree.{height, rank_of};
 
 use crate::SimpleOrdItem;
-use triple_arena::PtrCore;
+use triple_arena::{PtrCore, Recast};
 
 /// Each live index stands in the list.
 pub fn entries_stand_in_the_list<P: PtrCore, T>()
@@ -80,6 +82,22 @@ pub fn writes_keep_the_list<P: PtrCore, T>()
         → IsReplaced P.Inx.number i g t u o (with_item o i t) }
     ensures ordered { (o : Ordered P.Inx T) (i : ℕ) (t : T) → IsOrdered P.Inx.number o → IsSome (entry_in o i)
         → IsOrdered P.Inx.number (with_item o i t) }
+{}
+
+/// Where what the items hold is recast, the list and the tree stay.
+pub fn recasts_keep_the_list<N, P: PtrCore, T: Recast<N>>()
+    ensures ordered { (f : N → Option N) (o : Ordered P.Inx T) → IsOrdered P.Inx.number o
+        → IsOrdered P.Inx.number (recasted_in T.items f (T.recasted f) o) }
+    ensures tree { (f : N → Option N) (o : Ordered P.Inx T) → IsOrdered P.Inx.number o
+        → tree_in P.Inx.number (recasted_in T.items f (T.recasted f) o) ≡ tree_in P.Inx.number o }
+{}
+
+/// Where a limit is set, the list and the tree stay.
+pub fn limits_keep_the_list<P: PtrCore, T>()
+    ensures ordered { (o : Ordered P.Inx T) (max : ℕ) → IsOrdered P.Inx.number o
+        → IsOrdered P.Inx.number (record o { chains = with_limit P.Inx.greatest o.chains max }) }
+    ensures tree { (o : Ordered P.Inx T) (max : ℕ) → IsOrdered P.Inx.number o
+        → tree_in P.Inx.number (record o { chains = with_limit P.Inx.greatest o.chains max }) ≡ tree_in P.Inx.number o }
 {}
 
 /// A list whose keys ascend still does after an insertion at the place that was found for the item's key, and after one that goes
