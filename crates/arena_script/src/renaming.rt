@@ -5,13 +5,14 @@
 //! (J, H), and `m name J H` gives that name to the pointer that it answers. `h=n recast` renames what `h` holds by `n`.
 //! `h compress_recaster RESET` compresses `h`, and renames by the map of that what `h` and `k` hold. `h| set_generation G`
 //! sets the counter of `h`.
-use crate::stacks::Heap;
 use script::{Call, ShownPtr, Transcript, generation, pointer};
+use std::alloc::Allocator;
 use std::fmt::Debug;
 use triple_arena::{
     Arena, ArenaDirectInsertEntryTrait, ArenaDirectInsertTrait, ArenaInsertTrait, ArenaSlot,
-    ArenaSlots, ArenaTrait, DirectArena, DirectSlot, DirectSlots, NonZeroInxArray, NonZeroInxVec,
-    P0, Ptr, PtrCore, ReallocationError, Recast, Recaster, compress_recaster,
+    ArenaSlots, ArenaTrait, DirectArena, DirectSlot, DirectSlots, NonZeroInxArray,
+    NonZeroInxGenericStack, NonZeroInxVec, P0, Ptr, PtrCore, ReallocationError, Recast, Recaster,
+    compress_recaster,
 };
 
 // A number, and the pointer beside it.
@@ -26,19 +27,19 @@ type Name<P> = DirectSlot<P, P>;
 type OwnName<P> = ArenaSlot<P, P>;
 
 /// Over vectors.
-pub fn over_heap<P: Ptr + Recast<P>>(
-    heap: Heap<'_>,
+pub fn over_heap<P: Ptr + Recast<P>, H: Allocator + Copy + Drop>(
+    heap: H,
     transcript: &mut Transcript,
     header: &Call<'_>,
     calls: &str,
 ) -> Result<(), ReallocationError> {
     over::<
         P,
-        Heap<'_>,
-        NonZeroInxVec<Holding<P>, Heap<'_>>,
-        NonZeroInxVec<DirectHolding<P>, Heap<'_>>,
-        NonZeroInxVec<Name<P>, Heap<'_>>,
-        NonZeroInxVec<OwnName<P>, Heap<'_>>,
+        H,
+        NonZeroInxVec<Holding<P>, H>,
+        NonZeroInxVec<DirectHolding<P>, H>,
+        NonZeroInxVec<Name<P>, H>,
+        NonZeroInxVec<OwnName<P>, H>,
     >(heap, transcript, header, calls)
 }
 
@@ -65,10 +66,10 @@ pub fn over_array(
 fn over<
     P: Ptr + Recast<P>,
     H: Copy + Drop,
-    S: ArenaSlots<P, Held<P>, Alloc = H>,
-    D: DirectSlots<P, Held<P>, Alloc = H>,
-    N: DirectSlots<P, P, Alloc = H>,
-    M: ArenaSlots<P, P, Alloc = H>,
+    S: NonZeroInxGenericStack<Item = Holding<P>, Alloc = H> + Drop,
+    D: NonZeroInxGenericStack<Item = DirectHolding<P>, Alloc = H> + Drop,
+    N: NonZeroInxGenericStack<Item = Name<P>, Alloc = H> + Drop,
+    M: NonZeroInxGenericStack<Item = OwnName<P>, Alloc = H> + Drop,
 >(
     alloc: H,
     transcript: &mut Transcript,
