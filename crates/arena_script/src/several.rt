@@ -29,11 +29,11 @@ impl<P: Ptr, S: ArenaSlots<P, u64>, D: DirectSlots<P, u64>> Partner<DirectArena<
         transcript: &mut Transcript,
         call: &Call<'_>,
     ) {
-        copies(self, b, d, e, transcript, call)
+        among(self, b, d, e, transcript, call)
     }
 }
 
-fn copies<P: PtrCore + Debug, A: Movable<P>, D: Movable<P>>(
+fn among<P: PtrCore + Debug, A: Movable<P>, D: Movable<P>>(
     a: &mut A,
     b: &mut A,
     d: &mut D,
@@ -46,19 +46,6 @@ fn copies<P: PtrCore + Debug, A: Movable<P>, D: Movable<P>>(
         "a=d" => copy(a, d, transcript, call),
         "d=a" => copy(d, a, transcript, call),
         "d=e" => copy(d, e, transcript, call),
-        _ => transfers(a, b, d, e, transcript, call),
-    }
-}
-
-fn transfers<P: PtrCore + Debug, A: Movable<P>, D: Movable<P>>(
-    a: &mut A,
-    b: &mut A,
-    d: &mut D,
-    e: &mut D,
-    transcript: &mut Transcript,
-    call: &Call<'_>,
-) {
-    match call.whom {
         "a<b" => transfer(a, b, transcript, call),
         "a<d" => transfer(a, d, transcript, call),
         "d<a" => transfer(d, a, transcript, call),
