@@ -106,6 +106,7 @@ trait Compressing<K, N: Part> {
     );
 }
 
+// `h`, which chooses where a number stands.
 impl<P: Ptr, S: ArenaSlots<P, Held<P>>> Part for Arena<P, Held<P>, S> {
     type Alloc = S::Alloc;
 
@@ -132,6 +133,7 @@ impl<P: Ptr, S: ArenaSlots<P, Held<P>>> Part for Arena<P, Held<P>, S> {
     }
 }
 
+// `k`, to which the script gives the pointers.
 impl<P: Ptr, D: DirectSlots<P, Held<P>>> Part for DirectArena<P, Held<P>, D> {
     type Alloc = D::Alloc;
 
@@ -151,6 +153,7 @@ impl<P: Ptr, D: DirectSlots<P, Held<P>>> Part for DirectArena<P, Held<P>, D> {
     }
 }
 
+// `n`, whose names the script gives to pointers.
 impl<P: Ptr, N: DirectSlots<P, P>> Part for DirectArena<P, P, N> {
     type Alloc = N::Alloc;
 
@@ -168,6 +171,7 @@ impl<P: Ptr, N: DirectSlots<P, P>> Part for DirectArena<P, P, N> {
     }
 }
 
+// `m`, which chooses the pointer that gets a name.
 impl<P: Ptr, M: ArenaSlots<P, P>> Part for Arena<P, P, M> {
     type Alloc = M::Alloc;
 
