@@ -2,22 +2,51 @@
 ghost use Rattle.std.specs.Prelude.{IfOk};
 
 use crate::any_arena;
+use crate::player::Player;
 use script::{Call, ShownPtr, Transcript, generation};
 use std::fmt::Debug;
 use triple_arena::{
     Arena, ArenaInsertEntries, ArenaInsertEntryTrait, ArenaSlots, ArenaTrait, Ptr, PtrCore,
+    ReallocationError,
 };
 
-/// Makes the call that a line names.
-pub fn call<P: Ptr, S: ArenaSlots<P, u64>>(
+impl<P: Ptr, S: ArenaSlots<P, u64>> Player for Arena<P, u64, S> {
+    type Alloc = S::Alloc;
+
+    fn with_room(alloc: S::Alloc, room: usize) -> Result<Self, ReallocationError> {
+        Self::with_min_capacity(alloc, room)
+    }
+
+    fn call(&mut self, transcript: &mut Transcript, call: &Call<'_>) {
+        // A text asks more of its pointers than the calls do.
+        if call.verb == "show" {
+            transcript.answer(call.line, self);
+        } else {
+            call_without_text(self, transcript, call);
+        }
+    }
+
+    fn become_clone(&mut self, source: &Self, transcript: &mut Transcript, call: &Call<'_>) {
+        transcript.answer(call.line, &self.clone_from(source));
+    }
+
+    fn show_clone(&self, alloc: S::Alloc, transcript: &mut Transcript) {
+        transcript.answer("a clone", &self.clone(alloc));
+    }
+
+    fn go_over(self, transcript: &mut Transcript) {
+        for entry in self {
+            transcript.answer("b into_iter", &entry);
+        }
+    }
+}
+
+fn call_without_text<P: ShownPtr, S: ArenaSlots<P, u64>>(
     arena: &mut Arena<P, u64, S>,
     transcript: &mut Transcript,
     call: &Call<'_>,
 ) {
-    // A text asks more of its pointers than the calls do.
-    if call.verb == "show" {
-        transcript.answer(call.line, arena);
-    } else if !(any_arena::call_or_insert(arena, transcript, call)
+    if !(any_arena::call_or_insert(arena, transcript, call)
         || reads(arena, transcript, call)
         || enters(arena, transcript, call)
         || changes(arena, transcript, call))
@@ -146,15 +175,5 @@ fn enter<P: PtrCore + Debug, E: ArenaInsertEntryTrait<P, u64> + Drop, Refusal: D
             }
         }
         Err(refusal) => transcript.answer(call.line, &refusal),
-    }
-}
-
-/// Goes over an arena by value.
-pub fn into_iter<P: PtrCore + Debug, S: ArenaSlots<P, u64>>(
-    arena: Arena<P, u64, S>,
-    transcript: &mut Transcript,
-) {
-    for entry in arena {
-        transcript.answer("b into_iter", &entry);
     }
 }

@@ -1,22 +1,50 @@
 //! The calls of a `DirectArena`.
 use crate::any_arena;
+use crate::player::Player;
 use script::{Call, ShownPtr, Transcript};
 use std::fmt::Debug;
 use triple_arena::{
     ArenaDirectInsertEntryTrait, ArenaDirectInsertTrait, ArenaTrait, DirectArena, DirectSlots, Ptr,
-    PtrCore,
+    PtrCore, ReallocationError,
 };
 
-/// Makes the call that a line names.
-pub fn call<P: Ptr, S: DirectSlots<P, u64>>(
+impl<P: Ptr, S: DirectSlots<P, u64>> Player for DirectArena<P, u64, S> {
+    type Alloc = S::Alloc;
+
+    fn with_room(alloc: S::Alloc, room: usize) -> Result<Self, ReallocationError> {
+        Self::with_min_capacity(alloc, room)
+    }
+
+    fn call(&mut self, transcript: &mut Transcript, call: &Call<'_>) {
+        // A text asks more of its pointers than the calls do.
+        if call.verb == "show" {
+            transcript.answer(call.line, self);
+        } else {
+            call_without_text(self, transcript, call);
+        }
+    }
+
+    fn become_clone(&mut self, source: &Self, transcript: &mut Transcript, call: &Call<'_>) {
+        transcript.answer(call.line, &self.clone_from(source));
+    }
+
+    fn show_clone(&self, alloc: S::Alloc, transcript: &mut Transcript) {
+        transcript.answer("d clone", &self.clone(alloc));
+    }
+
+    fn go_over(self, transcript: &mut Transcript) {
+        for entry in self {
+            transcript.answer("e into_iter", &entry);
+        }
+    }
+}
+
+fn call_without_text<P: ShownPtr, S: DirectSlots<P, u64>>(
     arena: &mut DirectArena<P, u64, S>,
     transcript: &mut Transcript,
     call: &Call<'_>,
 ) {
-    // A text asks more of its pointers than the calls do.
-    if call.verb == "show" {
-        transcript.answer(call.line, arena);
-    } else if !(any_arena::call(arena, transcript, call)
+    if !(any_arena::call(arena, transcript, call)
         || reads(arena, transcript, call)
         || changes(arena, transcript, call))
     {
@@ -101,15 +129,5 @@ fn direct_insert<P: PtrCore, S: DirectSlots<P, u64>>(
             transcript.answer(call.line, &());
         }
         Err(refusal) => transcript.answer(call.line, &refusal),
-    }
-}
-
-/// Goes over a direct arena by value.
-pub fn into_iter<P: PtrCore + Debug, S: DirectSlots<P, u64>>(
-    arena: DirectArena<P, u64, S>,
-    transcript: &mut Transcript,
-) {
-    for entry in arena {
-        transcript.answer("e into_iter", &entry);
     }
 }

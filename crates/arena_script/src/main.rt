@@ -21,13 +21,15 @@ ghost use Rattle.std.specs.Prelude.{◌<◌};
 mod any_arena;
 mod arena;
 mod direct;
+mod player;
 mod renaming;
+mod section;
 mod several;
 mod stacks;
 
 use script::{Call, Transcript};
-use stacks::{Heap, over_stack};
-use std::alloc::Global;
+use stacks::over_stack;
+use std::alloc::{Allocator, Global};
 use std::io;
 use test_kit::{N3, RefusingAllocator};
 use triple_arena::{P0, P1, P2, P3, P4, P5, Q2, ReallocationError};
@@ -86,8 +88,9 @@ fn refused(nth: u64) -> u64
     if nth == 0 { u64::MAX } else { nth }
 }
 
-fn play_over(
-    heap: Heap<'_>,
+// Generic in the heap: that of a test meets its bounds in one place.
+fn play_over<H: Allocator + Copy + Drop>(
+    heap: H,
     transcript: &mut Transcript,
     run: &Run<'_>,
     header: &Call<'_>,
@@ -99,14 +102,14 @@ fn play_over(
         _ => {}
     }
     match run.kind {
-        "P0" => over_stack::<P0>(heap, run.stack, transcript, header, calls),
-        "P1" => over_stack::<P1>(heap, run.stack, transcript, header, calls),
-        "P2" => over_stack::<P2>(heap, run.stack, transcript, header, calls),
-        "P3" => over_stack::<P3>(heap, run.stack, transcript, header, calls),
-        "P4" => over_stack::<P4>(heap, run.stack, transcript, header, calls),
-        "P5" => over_stack::<P5>(heap, run.stack, transcript, header, calls),
-        "Q2" => over_stack::<Q2>(heap, run.stack, transcript, header, calls),
-        "N3" => over_stack::<N3>(heap, run.stack, transcript, header, calls),
+        "P0" => over_stack::<P0, H>(heap, run.stack, transcript, header, calls),
+        "P1" => over_stack::<P1, H>(heap, run.stack, transcript, header, calls),
+        "P2" => over_stack::<P2, H>(heap, run.stack, transcript, header, calls),
+        "P3" => over_stack::<P3, H>(heap, run.stack, transcript, header, calls),
+        "P4" => over_stack::<P4, H>(heap, run.stack, transcript, header, calls),
+        "P5" => over_stack::<P5, H>(heap, run.stack, transcript, header, calls),
+        "Q2" => over_stack::<Q2, H>(heap, run.stack, transcript, header, calls),
+        "N3" => over_stack::<N3, H>(heap, run.stack, transcript, header, calls),
         _ => Err(ReallocationError::BeyondMaxCapacity),
     }
 }

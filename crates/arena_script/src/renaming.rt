@@ -5,8 +5,8 @@
 //! (J, H), and `m name J H` gives that name to the pointer that it answers. `h=n recast` renames what `h` holds by `n`.
 //! `h compress_recaster RESET` compresses `h`, and renames by the map of that what `h` and `k` hold. `h| set_generation G`
 //! sets the counter of `h`.
-use crate::stacks::Heap;
-use script::{Call, ShownPtr, Transcript, generation, pointer};
+use script::{Call, Transcript, generation, pointer};
+use std::alloc::Allocator;
 use std::fmt::Debug;
 use triple_arena::{
     Arena, ArenaDirectInsertEntryTrait, ArenaDirectInsertTrait, ArenaInsertTrait, ArenaSlot,
@@ -26,19 +26,19 @@ type Name<P> = DirectSlot<P, P>;
 type OwnName<P> = ArenaSlot<P, P>;
 
 /// Over vectors.
-pub fn over_heap<P: Ptr + Recast<P>>(
-    heap: Heap<'_>,
+pub fn over_heap<P: Ptr + Recast<P>, H: Allocator + Copy + Drop>(
+    heap: H,
     transcript: &mut Transcript,
     header: &Call<'_>,
     calls: &str,
 ) -> Result<(), ReallocationError> {
     over::<
         P,
-        Heap<'_>,
-        NonZeroInxVec<Holding<P>, Heap<'_>>,
-        NonZeroInxVec<DirectHolding<P>, Heap<'_>>,
-        NonZeroInxVec<Name<P>, Heap<'_>>,
-        NonZeroInxVec<OwnName<P>, Heap<'_>>,
+        H,
+        NonZeroInxVec<Holding<P>, H>,
+        NonZeroInxVec<DirectHolding<P>, H>,
+        NonZeroInxVec<Name<P>, H>,
+        NonZeroInxVec<OwnName<P>, H>,
     >(heap, transcript, header, calls)
 }
 
@@ -75,15 +75,167 @@ fn over<
     header: &Call<'_>,
     calls: &str,
 ) -> Result<(), ReallocationError> {
+    play::<
+        P,
+        H,
+        Arena<P, Held<P>, S>,
+        DirectArena<P, Held<P>, D>,
+        DirectArena<P, P, N>,
+        Arena<P, P, M>,
+    >(alloc, transcript, header, calls)
+}
+
+// An arena of such a section. As in `player.rt`, it promises nothing, so that what plays the section is proved without the
+// clauses of the arenas' calls.
+trait Part: Drop {
+    type Alloc;
+
+    fn with_room(alloc: Self::Alloc, room: usize) -> Result<Self, ReallocationError>;
+
+    fn call(&mut self, transcript: &mut Transcript, call: &Call<'_>);
+}
+
+// An arena that is compressed, while `K` and it rename what they hold by a map of type `N`.
+trait Compressing<K, N: Part> {
+    fn compress(
+        &mut self,
+        k: &mut K,
+        alloc: N::Alloc,
+        transcript: &mut Transcript,
+        call: &Call<'_>,
+    );
+}
+
+// `h`, which chooses where a number stands.
+impl<P: Ptr, S: ArenaSlots<P, Held<P>>> Part for Arena<P, Held<P>, S> {
+    type Alloc = S::Alloc;
+
+    fn with_room(alloc: S::Alloc, room: usize) -> Result<Self, ReallocationError> {
+        Self::with_min_capacity(alloc, room)
+    }
+
+    fn call(&mut self, transcript: &mut Transcript, call: &Call<'_>) {
+        let line = call.line;
+        match call.verb {
+            "hold" => transcript.answer(line, &self.insert((call.first, None))),
+            "point" => {
+                let held = (call.first, Some(pointer(call.second, call.third)));
+                transcript.answer(line, &self.insert(held))
+            }
+            "remove" => transcript.answer(line, &self.remove(call.pointer())),
+            "generation" => transcript.answer(line, &self.singular_generation()),
+            "set_generation" => {
+                self.set_generation(generation(call.first));
+                transcript.line(line);
+            }
+            _ => transcript.answer(line, self),
+        }
+    }
+}
+
+// `k`, to which the script gives the pointers.
+impl<P: Ptr, D: DirectSlots<P, Held<P>>> Part for DirectArena<P, Held<P>, D> {
+    type Alloc = D::Alloc;
+
+    fn with_room(alloc: D::Alloc, room: usize) -> Result<Self, ReallocationError> {
+        Self::with_min_capacity(alloc, room)
+    }
+
+    fn call(&mut self, transcript: &mut Transcript, call: &Call<'_>) {
+        match call.verb {
+            "hold" => put(self, (call.third, None), transcript, call),
+            "point" => {
+                let held = (call.third, Some(pointer(call.fourth, call.fifth)));
+                put(self, held, transcript, call)
+            }
+            _ => transcript.answer(call.line, self),
+        }
+    }
+}
+
+// `n`, whose names the script gives to pointers.
+impl<P: Ptr, N: DirectSlots<P, P>> Part for DirectArena<P, P, N> {
+    type Alloc = N::Alloc;
+
+    fn with_room(alloc: N::Alloc, room: usize) -> Result<Self, ReallocationError> {
+        Self::with_min_capacity(alloc, room)
+    }
+
+    fn call(&mut self, transcript: &mut Transcript, call: &Call<'_>) {
+        match call.verb {
+            "name" => put(self, pointer(call.third, call.fourth), transcript, call),
+            "remove" => transcript.answer(call.line, &self.remove(call.pointer())),
+            "recast_item" => recast_item(self, transcript, call),
+            _ => transcript.answer(call.line, self),
+        }
+    }
+}
+
+// `m`, which chooses the pointer that gets a name.
+impl<P: Ptr, M: ArenaSlots<P, P>> Part for Arena<P, P, M> {
+    type Alloc = M::Alloc;
+
+    fn with_room(alloc: M::Alloc, room: usize) -> Result<Self, ReallocationError> {
+        Self::with_min_capacity(alloc, room)
+    }
+
+    fn call(&mut self, transcript: &mut Transcript, call: &Call<'_>) {
+        match call.verb {
+            "name" => transcript.answer(call.line, &self.insert(call.pointer())),
+            "remove" => transcript.answer(call.line, &self.remove(call.pointer())),
+            "recast_item" => recast_item(self, transcript, call),
+            _ => transcript.answer(call.line, self),
+        }
+    }
+}
+
+impl<
+    P: Ptr + Recast<P>,
+    S: ArenaSlots<P, Held<P>>,
+    D: DirectSlots<P, Held<P>>,
+    N: DirectSlots<P, P>,
+> Compressing<DirectArena<P, Held<P>, D>, DirectArena<P, P, N>> for Arena<P, Held<P>, S> {
+    fn compress(
+        &mut self,
+        k: &mut DirectArena<P, Held<P>, D>,
+        alloc: N::Alloc,
+        transcript: &mut Transcript,
+        call: &Call<'_>,
+    ) {
+        match compress_recaster::<P, Held<P>, S, N>(self, call.first == 1, alloc) {
+            Ok(map) => {
+                transcript.answer(call.line, &map);
+                transcript.answer(call.line, &map.capacity());
+                transcript.answer(call.line, &recast(self, &map));
+                transcript.answer(call.line, &recast(k, &map));
+            }
+            Err(refused) => transcript.answer(call.line, &refused),
+        }
+    }
+}
+
+fn play<
+    P: PtrCore + Debug,
+    H: Copy + Drop,
+    A: Part<Alloc = H> + Recast<P> + Compressing<K, N>,
+    K: Part<Alloc = H> + Recast<P>,
+    N: Part<Alloc = H> + Recaster<Item = P>,
+    M: Part<Alloc = H> + Recaster<Item = P>,
+>(
+    alloc: H,
+    transcript: &mut Transcript,
+    header: &Call<'_>,
+    calls: &str,
+) -> Result<(), ReallocationError> {
     let room = header.first as usize;
-    let mut h = Arena::<P, Held<P>, S>::with_min_capacity(alloc, room)?;
-    let mut k = DirectArena::<P, Held<P>, D>::with_min_capacity(alloc, room)?;
-    let mut n = DirectArena::<P, P, N>::with_min_capacity(alloc, room)?;
-    let mut m = Arena::<P, P, M>::with_min_capacity(alloc, room)?;
+    let mut h = A::with_room(alloc, room)?;
+    let mut k = K::with_room(alloc, room)?;
+    let mut n = N::with_room(alloc, room)?;
+    let mut m = M::with_room(alloc, room)?;
     for line in calls.lines() {
         let call = Call::new(line);
         if call.verb == "compress_recaster" {
-            compress::<P, S, D, N>(&mut h, &mut k, alloc, transcript, &call);
+            h.compress(&mut k, alloc, transcript, &call);
         } else {
             play_line(&mut h, &mut k, &mut n, &mut m, transcript, &call);
         }
@@ -91,27 +243,21 @@ fn over<
     Ok(())
 }
 
-// Compresses the one arena, and renames by the map of that what both hold.
-fn compress<
-    P: Ptr + Recast<P>,
-    S: ArenaSlots<P, Held<P>>,
-    D: DirectSlots<P, Held<P>>,
-    N: DirectSlots<P, P>,
->(
-    h: &mut Arena<P, Held<P>, S>,
-    k: &mut DirectArena<P, Held<P>, D>,
-    alloc: N::Alloc,
-    transcript: &mut Transcript,
-    call: &Call<'_>,
-) {
-    match compress_recaster::<P, Held<P>, S, N>(h, call.first == 1, alloc) {
-        Ok(map) => {
-            transcript.answer(call.line, &map);
-            transcript.answer(call.line, &map.capacity());
-            transcript.answer(call.line, &recast(h, &map));
-            transcript.answer(call.line, &recast(k, &map));
-        }
-        Err(refused) => transcript.answer(call.line, &refused),
+fn play_line<
+    P: PtrCore + Debug,
+    A: Part + Recast<P>,
+    K: Part + Recast<P>,
+    N: Part + Recaster<Item = P>,
+    M: Part + Recaster<Item = P>,
+>(h: &mut A, k: &mut K, n: &mut N, m: &mut M, transcript: &mut Transcript, call: &Call<'_>) {
+    match call.whom {
+        "h=n" | "h=m" => rename(h, n, m, transcript, call),
+        "k=n" | "k=m" => rename(k, n, m, transcript, call),
+        "h" | "h|" => h.call(transcript, call),
+        "k" => k.call(transcript, call),
+        "n" => n.call(transcript, call),
+        "m" => m.call(transcript, call),
+        _ => transcript.line(call.line),
     }
 }
 
@@ -146,108 +292,6 @@ fn recast_item<P: PtrCore + Debug, R: Recaster<Item = P>>(
     let mut item: P = call.pointer();
     transcript.answer(call.line, &names.recast_item(&mut item));
     transcript.answer(call.line, &item);
-}
-
-fn play_line<
-    P: Ptr + Recast<P>,
-    S: ArenaSlots<P, Held<P>>,
-    D: DirectSlots<P, Held<P>>,
-    N: DirectSlots<P, P>,
-    M: ArenaSlots<P, P>,
->(
-    h: &mut Arena<P, Held<P>, S>,
-    k: &mut DirectArena<P, Held<P>, D>,
-    n: &mut DirectArena<P, P, N>,
-    m: &mut Arena<P, P, M>,
-    transcript: &mut Transcript,
-    call: &Call<'_>,
-) {
-    match call.whom {
-        "h=n" | "h=m" => rename(h, n, m, transcript, call),
-        "k=n" | "k=m" => rename(k, n, m, transcript, call),
-        "h" => of_holder(h, transcript, call),
-        "h|" => set_generation(h, transcript, call),
-        "k" => of_direct_holder(k, transcript, call),
-        "n" => of_names(n, transcript, call),
-        "m" => of_own_names(m, transcript, call),
-        _ => transcript.line(call.line),
-    }
-}
-
-fn set_generation<P: PtrCore, S: ArenaSlots<P, Held<P>>>(
-    h: &mut Arena<P, Held<P>, S>,
-    transcript: &mut Transcript,
-    call: &Call<'_>,
-) {
-    h.set_generation(generation(call.first));
-    transcript.line(call.line);
-}
-
-fn of_holder<P: ShownPtr, A: ArenaInsertTrait<P, Held<P>> + Debug>(
-    h: &mut A,
-    transcript: &mut Transcript,
-    call: &Call<'_>,
-) {
-    let line = call.line;
-    match call.verb {
-        "hold" => transcript.answer(line, &h.insert((call.first, None))),
-        "point" => {
-            let held = (call.first, Some(pointer(call.second, call.third)));
-            transcript.answer(line, &h.insert(held))
-        }
-        "remove" => transcript.answer(line, &h.remove(call.pointer())),
-        "generation" => transcript.answer(line, &h.singular_generation()),
-        _ => transcript.answer(line, h),
-    }
-}
-
-fn of_direct_holder<P: Ptr, D: DirectSlots<P, Held<P>>>(
-    k: &mut DirectArena<P, Held<P>, D>,
-    transcript: &mut Transcript,
-    call: &Call<'_>,
-) {
-    match call.verb {
-        "hold" => put(k, (call.third, None), transcript, call),
-        "point" => {
-            let held = (call.third, Some(pointer(call.fourth, call.fifth)));
-            put(k, held, transcript, call)
-        }
-        _ => transcript.answer(call.line, k),
-    }
-}
-
-fn of_names<P: Ptr, N: DirectSlots<P, P>>(
-    n: &mut DirectArena<P, P, N>,
-    transcript: &mut Transcript,
-    call: &Call<'_>,
-) {
-    match call.verb {
-        "name" => put(n, pointer(call.third, call.fourth), transcript, call),
-        _ => of_any_names(n, transcript, call),
-    }
-}
-
-fn of_own_names<P: PtrCore + Debug, A: ArenaInsertTrait<P, P> + Recaster<Item = P> + Debug>(
-    m: &mut A,
-    transcript: &mut Transcript,
-    call: &Call<'_>,
-) {
-    match call.verb {
-        "name" => transcript.answer(call.line, &m.insert(call.pointer())),
-        _ => of_any_names(m, transcript, call),
-    }
-}
-
-fn of_any_names<P: PtrCore + Debug, A: ArenaTrait<P, P> + Recaster<Item = P> + Debug>(
-    names: &mut A,
-    transcript: &mut Transcript,
-    call: &Call<'_>,
-) {
-    match call.verb {
-        "remove" => transcript.answer(call.line, &names.remove(call.pointer())),
-        "recast_item" => recast_item(names, transcript, call),
-        _ => transcript.answer(call.line, names),
-    }
 }
 
 // Stores what is held under the pointer of the first two numbers.

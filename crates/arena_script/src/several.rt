@@ -1,4 +1,5 @@
 //! Calls among the arenas of a section.
+use crate::player::Partner;
 use script::{Call, Transcript, generation};
 use std::alloc::AllocError;
 use std::fmt::Debug;
@@ -7,39 +8,50 @@ use triple_arena::{
     ArenaTransferTrait, DirectArena, DirectSlots, Ptr, PtrCore,
 };
 
-/// Makes the target a copy of the one or the other arena, or moves to it what that has.
-pub fn into<
-    P: PtrCore + Debug,
-    A: ArenaCloneFromWith<P, u64> + ArenaTransferTrait<P, u64>,
-    B: ArenaCloneSource<P, u64> + ArenaTransferSource<P, u64>,
-    C: ArenaCloneSource<P, u64> + ArenaTransferSource<P, u64>,
->(target: &mut A, one: &mut B, other: &mut C, transcript: &mut Transcript, call: &Call<'_>) {
-    match call.whom {
-        "a=b" | "d=a" => copy(target, one, transcript, call),
-        "a=d" | "d=e" => copy(target, other, transcript, call),
-        "a<b" | "d<a" => transfer(target, one, transcript, call),
-        _ => transfer(target, other, transcript, call),
+/// What is copied and moved, from and to.
+pub trait Movable<P: PtrCore>: ArenaCloneFromWith<P, u64>
+    + ArenaCloneSource<P, u64>
+    + ArenaTransferTrait<P, u64>
+    + ArenaTransferSource<P, u64> {}
+
+// An `impl` for all that keep these bounds would be proved twice as long wherever an arena meets it.
+impl<P: PtrCore, S: ArenaSlots<P, u64>> Movable<P> for Arena<P, u64, S> {}
+
+impl<P: PtrCore, D: DirectSlots<P, u64>> Movable<P> for DirectArena<P, u64, D> {}
+
+impl<P: Ptr, S: ArenaSlots<P, u64>, D: DirectSlots<P, u64>> Partner<DirectArena<P, u64, D>>
+    for Arena<P, u64, S> {
+    fn call_among(
+        &mut self,
+        b: &mut Self,
+        d: &mut DirectArena<P, u64, D>,
+        e: &mut DirectArena<P, u64, D>,
+        transcript: &mut Transcript,
+        call: &Call<'_>,
+    ) {
+        among(self, b, d, e, transcript, call)
     }
 }
 
-/// Makes an arena a clone of another one.
-pub fn clone_arena<P: PtrCore, S: ArenaSlots<P, u64>>(
-    target: &mut Arena<P, u64, S>,
-    source: &Arena<P, u64, S>,
+fn among<P: PtrCore + Debug, A: Movable<P>, D: Movable<P>>(
+    a: &mut A,
+    b: &mut A,
+    d: &mut D,
+    e: &mut D,
     transcript: &mut Transcript,
     call: &Call<'_>,
 ) {
-    transcript.answer(call.line, &target.clone_from(source));
-}
-
-/// Makes a direct arena a clone of another one.
-pub fn clone_direct<P: PtrCore, D: DirectSlots<P, u64>>(
-    target: &mut DirectArena<P, u64, D>,
-    source: &DirectArena<P, u64, D>,
-    transcript: &mut Transcript,
-    call: &Call<'_>,
-) {
-    transcript.answer(call.line, &target.clone_from(source));
+    match call.whom {
+        "a=b" => copy(a, b, transcript, call),
+        "a=d" => copy(a, d, transcript, call),
+        "d=a" => copy(d, a, transcript, call),
+        "d=e" => copy(d, e, transcript, call),
+        "a<b" => transfer(a, b, transcript, call),
+        "a<d" => transfer(a, d, transcript, call),
+        "d<a" => transfer(d, a, transcript, call),
+        "d<e" => transfer(d, e, transcript, call),
+        _ => transcript.line(call.line),
+    }
 }
 
 // Makes the target a copy of the source, by a map that tells what it gets, adds 1, and refuses at this call.
@@ -76,16 +88,4 @@ fn transfer<P: PtrCore + Debug, A: ArenaTransferTrait<P, u64>, S: ArenaTransferS
         item.allow().wrapping_add(1)
     });
     transcript.answer(line, &answer);
-}
-
-/// Clones of the arenas, or the refusals.
-pub fn clones<P: Ptr, S: ArenaSlots<P, u64>, D: DirectSlots<P, u64>>(
-    arena: &Arena<P, u64, S>,
-    direct: &DirectArena<P, u64, D>,
-    alloc: S::Alloc,
-    other: D::Alloc,
-    transcript: &mut Transcript,
-) {
-    transcript.answer("a clone", &arena.clone(alloc));
-    transcript.answer("d clone", &direct.clone(other));
 }

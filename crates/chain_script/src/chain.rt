@@ -3,21 +3,35 @@ ghost use Rattle.std.specs.Prelude.{IfOk};
 
 use crate::kind::kind;
 use crate::links;
+use crate::player::Player;
 use script::{Call, ShownPtr, Transcript, generation};
 use std::fmt::Debug;
-use triple_arena::{ArenaInsertEntryTrait, ArenaTrait, Ptr};
+use triple_arena::{ArenaInsertEntryTrait, ArenaTrait, Ptr, ReallocationError};
 use triple_arena_chain::{ChainArena, ChainArenaTrait, ChainSlots, LinkInsertKind};
 
-/// Makes the call that a line names.
-pub fn call<P: Ptr, S: ChainSlots<P, u64>>(
+impl<P: Ptr, S: ChainSlots<P, u64>> Player for ChainArena<P, u64, S> {
+    type Alloc = S::Alloc;
+
+    fn with_room(alloc: S::Alloc, room: usize) -> Result<Self, ReallocationError> {
+        Self::with_min_capacity(alloc, room)
+    }
+
+    fn call(&mut self, transcript: &mut Transcript, call: &Call<'_>) {
+        // A text asks more of its pointers than the calls do.
+        if call.verb == "show" {
+            transcript.answer(call.line, self);
+        } else {
+            call_without_text(self, transcript, call);
+        }
+    }
+}
+
+fn call_without_text<P: ShownPtr, S: ChainSlots<P, u64>>(
     chains: &mut ChainArena<P, u64, S>,
     transcript: &mut Transcript,
     call: &Call<'_>,
 ) {
-    // A text asks more of its pointers than the calls do.
-    if call.verb == "show" {
-        transcript.answer(call.line, chains);
-    } else if !(links::call(chains, transcript, call)
+    if !(links::call(chains, transcript, call)
         || reads(chains, transcript, call)
         || changes(chains, transcript, call)
         || enters(chains, transcript, call))

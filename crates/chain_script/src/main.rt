@@ -23,13 +23,15 @@ ghost use Rattle.std.specs.Prelude.{◌<◌};
 mod chain;
 mod kind;
 mod links;
+mod player;
 mod renaming;
+mod section;
 mod several;
 mod stacks;
 
 use script::{Call, Transcript};
-use stacks::{Heap, over_array, over_stack};
-use std::alloc::Global;
+use stacks::{over_array, over_stack};
+use std::alloc::{Allocator, Global};
 use std::io;
 use test_kit::{N3, RefusingAllocator};
 use triple_arena::{P0, P1, P3, P5, ReallocationError};
@@ -88,8 +90,9 @@ fn refused(nth: u64) -> u64
     if nth == 0 { u64::MAX } else { nth }
 }
 
-fn play_over(
-    heap: Heap<'_>,
+// Generic in the heap: that of a test meets its bounds in one place.
+fn play_over<H: Allocator + Copy + Drop>(
+    heap: H,
     transcript: &mut Transcript,
     run: &Run<'_>,
     header: &Call<'_>,
@@ -99,11 +102,11 @@ fn play_over(
         return over_array(run.kind, transcript, header, calls);
     }
     match run.kind {
-        "P0" => over_stack::<P0>(heap, run.stack, transcript, header, calls),
-        "P1" => over_stack::<P1>(heap, run.stack, transcript, header, calls),
-        "P3" => over_stack::<P3>(heap, run.stack, transcript, header, calls),
-        "P5" => over_stack::<P5>(heap, run.stack, transcript, header, calls),
-        "N3" => over_stack::<N3>(heap, run.stack, transcript, header, calls),
+        "P0" => over_stack::<P0, H>(heap, run.stack, transcript, header, calls),
+        "P1" => over_stack::<P1, H>(heap, run.stack, transcript, header, calls),
+        "P3" => over_stack::<P3, H>(heap, run.stack, transcript, header, calls),
+        "P5" => over_stack::<P5, H>(heap, run.stack, transcript, header, calls),
+        "N3" => over_stack::<N3, H>(heap, run.stack, transcript, header, calls),
         _ => Err(ReallocationError::BeyondMaxCapacity),
     }
 }

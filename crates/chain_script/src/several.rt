@@ -1,14 +1,89 @@
 //! Calls among several arenas over stacks of one kind: the chain arenas `a` and `b`, the arena `l` of links, which can
 //! become a chain arena, and the arena `v` of values.
+use crate::player::{Partner, Player};
 use script::{Call, ShownPtr, Transcript, generation, index};
 use std::alloc::AllocError;
 use std::mem;
 use std::num::NonZeroUsize;
-use triple_arena::{Arena, ArenaCloneFromWith, ArenaInsertTrait, ArenaTrait, Ptr, PtrInxCore};
+use triple_arena::{
+    Arena, ArenaCloneFromWith, ArenaInsertTrait, ArenaSlots, ArenaTrait, Ptr, PtrInxCore,
+    ReallocationError,
+};
 use triple_arena_chain::{ChainArena, ChainSlots, IndexLink, LinkNoGen};
 
-/// Makes the chain arena `a` a copy of `b`.
-pub fn copies<P: ShownPtr, H: Copy, S: ChainSlots<P, u64, Alloc = H>>(
+impl<
+    P: Ptr,
+    H: Copy + Drop,
+    S: ChainSlots<P, u64, Alloc = H>,
+    V: ArenaSlots<P, u64, Alloc = H>,
+> Partner<Arena<P, LinkNoGen<P, u64>, S>, Arena<P, u64, V>> for ChainArena<P, u64, S> {
+    fn become_copy(
+        &mut self,
+        source: &Self,
+        alloc: H,
+        transcript: &mut Transcript,
+        call: &Call<'_>,
+    ) {
+        copies(self, source, alloc, transcript, call)
+    }
+
+    fn take_chains(&mut self, source: &mut Self, transcript: &mut Transcript, call: &Call<'_>) {
+        transfer(self, source, transcript, call)
+    }
+
+    fn take_links(
+        &mut self,
+        links: &mut Arena<P, LinkNoGen<P, u64>, S>,
+        alloc: H,
+        transcript: &mut Transcript,
+        call: &Call<'_>,
+    ) {
+        becomes(self, links, alloc, transcript, call)
+    }
+
+    fn copy_values(
+        &self,
+        values: &mut Arena<P, u64, V>,
+        transcript: &mut Transcript,
+        call: &Call<'_>,
+    ) {
+        clone_to_arena(values, self, transcript, call)
+    }
+}
+
+impl<P: Ptr, S: ChainSlots<P, u64>> Player for Arena<P, LinkNoGen<P, u64>, S> {
+    type Alloc = S::Alloc;
+
+    fn with_room(alloc: S::Alloc, room: usize) -> Result<Self, ReallocationError> {
+        Self::with_min_capacity(alloc, room)
+    }
+
+    fn call(&mut self, transcript: &mut Transcript, call: &Call<'_>) {
+        match call.verb {
+            "interlinks_agree" => {
+                transcript.answer(call.line, &ChainArena::<P, u64, S>::interlinks_agree(self))
+            }
+            "show" => transcript.answer(call.line, self),
+            _ => link_by_link(self, transcript, call),
+        }
+    }
+}
+
+// The values are shown, whatever the call is.
+impl<P: Ptr, V: ArenaSlots<P, u64>> Player for Arena<P, u64, V> {
+    type Alloc = V::Alloc;
+
+    fn with_room(alloc: V::Alloc, room: usize) -> Result<Self, ReallocationError> {
+        Self::with_min_capacity(alloc, room)
+    }
+
+    fn call(&mut self, transcript: &mut Transcript, call: &Call<'_>) {
+        transcript.answer(call.line, self);
+    }
+}
+
+// Makes the chain arena `a` a copy of `b`.
+fn copies<P: ShownPtr, H: Copy, S: ChainSlots<P, u64, Alloc = H>>(
     a: &mut ChainArena<P, u64, S>,
     b: &ChainArena<P, u64, S>,
     alloc: H,
@@ -70,8 +145,8 @@ fn clone<P: ShownPtr, H: Copy, S: ChainSlots<P, u64, Alloc = H>>(
     }
 }
 
-/// Makes the arena of values a copy of the chain arena, by the same map.
-pub fn clone_to_arena<P: ShownPtr, S: ChainSlots<P, u64>, A: ArenaCloneFromWith<P, u64>>(
+// Makes the arena of values a copy of the chain arena, by the same map.
+fn clone_to_arena<P: ShownPtr, S: ChainSlots<P, u64>, A: ArenaCloneFromWith<P, u64>>(
     target: &mut A,
     source: &ChainArena<P, u64, S>,
     transcript: &mut Transcript,
@@ -91,8 +166,8 @@ pub fn clone_to_arena<P: ShownPtr, S: ChainSlots<P, u64>, A: ArenaCloneFromWith<
     transcript.answer(line, &answer);
 }
 
-/// Moves the chains of the source to the target, by a map that tells what it gets, and adds 1.
-pub fn transfer<P: ShownPtr, S: ChainSlots<P, u64>>(
+// Moves the chains of the source to the target, by a map that tells what it gets, and adds 1.
+fn transfer<P: ShownPtr, S: ChainSlots<P, u64>>(
     target: &mut ChainArena<P, u64, S>,
     source: &mut ChainArena<P, u64, S>,
     transcript: &mut Transcript,
@@ -107,8 +182,8 @@ pub fn transfer<P: ShownPtr, S: ChainSlots<P, u64>>(
     transcript.answer(line, &answer);
 }
 
-/// Makes the links of the arena the chain arena's.
-pub fn becomes<P: ShownPtr, H: Copy, S: ChainSlots<P, u64, Alloc = H>>(
+// Makes the links of the arena the chain arena's.
+fn becomes<P: ShownPtr, H: Copy, S: ChainSlots<P, u64, Alloc = H>>(
     chains: &mut ChainArena<P, u64, S>,
     links: &mut Arena<P, LinkNoGen<P, u64>, S>,
     alloc: H,
@@ -140,22 +215,6 @@ fn from_arena<P: ShownPtr, H: Copy, S: ChainSlots<P, u64, Alloc = H>>(
             *links = back;
             transcript.answer(call.line, &"handed back");
         }
-    }
-}
-
-/// Makes a call at the arena of links.
-pub fn link<P: Ptr, S: ChainSlots<P, u64>>(
-    links: &mut Arena<P, LinkNoGen<P, u64>, S>,
-    transcript: &mut Transcript,
-    call: &Call<'_>,
-) {
-    let line = call.line;
-    match call.verb {
-        "interlinks_agree" => {
-            transcript.answer(line, &ChainArena::<P, u64, S>::interlinks_agree(links))
-        }
-        "show" => transcript.answer(line, links),
-        _ => link_by_link(links, transcript, call),
     }
 }
 
