@@ -13,18 +13,23 @@
 mod changes;
 mod copies;
 mod items;
+mod player;
 mod reads;
 mod renaming;
 mod several;
 mod walks;
 
+use changes::Writes;
 use items::{Item, Pairs, Slot};
+use player::{Compare, Player};
+use reads::Tells;
 use script::{Call, ShownPtr, Transcript};
 use std::alloc::Global;
 use std::io;
 use test_kit::N3;
 use triple_arena::{ArenaTrait, NonZeroInxArray, NonZeroInxVec, P0, P1, P3, P5, Ptr};
 use triple_arena_ord::{OrdPair, OrdSlots};
+use walks::GoesAlong;
 
 type InArray<P> = NonZeroInxArray<Slot<P>, 8>;
 
@@ -54,7 +59,7 @@ fn play(heap: Global, transcript: &mut Transcript, section: &str) {
     }
 }
 
-// Over vectors. What a stack owes its arena is proved here once for all pointers, and below once for the vector of `b`.
+// Over vectors. What a stack owes its arena is proved here once for all pointers.
 fn on_heap<P: Ptr>(heap: Global, transcript: &mut Transcript, lines: &str) {
     beside::<P, OnHeap<P>>(heap, heap, transcript, lines);
 }
@@ -66,7 +71,17 @@ fn beside<P: Ptr, S: OrdSlots<P, Item>>(
     transcript: &mut Transcript,
     lines: &str,
 ) {
-    over::<P, P1, S, OnHeap<P1>>(alloc, heap, transcript, lines);
+    beside_vector::<P, P1, S>(alloc, heap, transcript, lines);
+}
+
+// What the vector owes costs more where its pointers are known.
+fn beside_vector<P: Ptr, Q: Ptr, S: OrdSlots<P, Item>>(
+    alloc: S::Alloc,
+    heap: Global,
+    transcript: &mut Transcript,
+    lines: &str,
+) {
+    over::<P, Q, S, OnHeap<Q>>(alloc, heap, transcript, lines);
 }
 
 // Makes the calls of a section at two new arenas.
@@ -78,62 +93,60 @@ fn over<P: Ptr, Q: Ptr, S: OrdSlots<P, Item>, R: OrdSlots<Q, Item>>(
 ) {
     let mut a = Pairs::<P, S>::new(first);
     let mut b = Pairs::<Q, R>::new(second);
+    play_lines(&mut a, &mut b, transcript, lines);
+}
+
+fn play_lines<A: Player + Compare<B>, B: Player + Compare<A>>(
+    a: &mut A,
+    b: &mut B,
+    transcript: &mut Transcript,
+    lines: &str,
+) {
     for line in lines.lines() {
-        play_line(&mut a, &mut b, transcript, &Call::new(line));
+        play_line(a, b, transcript, &Call::new(line));
     }
 }
 
-fn play_line<P: Ptr, Q: Ptr, S: OrdSlots<P, Item>, R: OrdSlots<Q, Item>>(
-    a: &mut Pairs<P, S>,
-    b: &mut Pairs<Q, R>,
+fn play_line<A: Player + Compare<B>, B: Player + Compare<A>>(
+    a: &mut A,
+    b: &mut B,
     transcript: &mut Transcript,
     call: &Call<'_>,
 ) {
     match call.whom {
-        "a" => show_or_play(a, transcript, call),
-        "b" => show_or_play(b, transcript, call),
-        "ab" => several::compare(a, b, transcript, call),
-        "ba" => several::compare(b, a, transcript, call),
+        "a" => a.play(transcript, call),
+        "b" => b.play(transcript, call),
+        "ab" => a.compare(b, transcript, call),
+        "ba" => b.compare(a, transcript, call),
         _ => transcript.line(call.line),
     }
 }
 
 // The text of an arena asks more of its pointers than the calls do.
-fn show_or_play<P: Ptr, S: OrdSlots<P, Item>>(
-    arena: &mut Pairs<P, S>,
-    transcript: &mut Transcript,
-    call: &Call<'_>,
-) {
-    if call.verb == "show" {
-        transcript.answer(call.line, arena);
-    } else {
-        play_at(arena, transcript, call);
+impl<P: Ptr, S: OrdSlots<P, Item>> Player for Pairs<P, S> {
+    fn play(&mut self, transcript: &mut Transcript, call: &Call<'_>) {
+        if call.verb == "show" {
+            transcript.answer(call.line, self);
+        } else {
+            play_at(self, transcript, call);
+        }
     }
 }
 
 // Makes the call that a line names.
-fn play_at<P: ShownPtr, S: OrdSlots<P, Item>>(
-    arena: &mut Pairs<P, S>,
+fn play_at<P: ShownPtr, A: ArenaTrait<P, Item> + Tells + GoesAlong + Writes>(
+    arena: &mut A,
     transcript: &mut Transcript,
     call: &Call<'_>,
 ) {
-    if !(play_at_any(arena, transcript, call)
+    let at_pointer = OrdPair::new(call.third, call.fourth);
+    let at_index = OrdPair::new(call.second, call.third);
+    if !(arena_calls::read(arena, transcript, call)
+        || arena_calls::change(arena, transcript, call, at_pointer, at_index)
         || reads::reads(arena, transcript, call)
-        || walks::walks(arena, transcript, call)
+        || walks::goes_over(arena, transcript, call)
         || changes::changes(arena, transcript, call))
     {
         transcript.answer(call.line, &"no such call");
     }
-}
-
-// Makes a call that every arena has, and says whether there is one of that name.
-fn play_at_any<P: ShownPtr, A: ArenaTrait<P, Item>>(
-    arena: &mut A,
-    transcript: &mut Transcript,
-    call: &Call<'_>,
-) -> bool {
-    let at_pointer = OrdPair::new(call.third, call.fourth);
-    let at_index = OrdPair::new(call.second, call.third);
-    arena_calls::read(arena, transcript, call)
-        || arena_calls::change(arena, transcript, call, at_pointer, at_index)
 }

@@ -4,49 +4,70 @@ use script::{Call, ShownPtr, Transcript};
 use triple_arena::ArenaTrait;
 use triple_arena_ord::OrdSlots;
 
-/// Makes a call that is the ordered arena's own, and says whether there is one of that name.
-pub fn reads<P: ShownPtr, S: OrdSlots<P, Item>>(
-    arena: &Pairs<P, S>,
-    transcript: &mut Transcript,
-    call: &Call<'_>,
-) -> bool {
+/// What answers the reads that are the ordered arena's own.
+pub trait Tells {
+    fn tell_generation(&self, transcript: &mut Transcript, line: &str);
+
+    fn tell_first(&self, transcript: &mut Transcript, line: &str);
+
+    fn tell_last(&self, transcript: &mut Transcript, line: &str);
+
+    fn tell_place(&self, transcript: &mut Transcript, call: &Call<'_>);
+
+    /// Reads by `arena[p]`, where the pointer is valid.
+    fn tell_item(&self, transcript: &mut Transcript, call: &Call<'_>);
+
+    /// The generation, the neighbors and the item at an index.
+    fn tell_link(&self, transcript: &mut Transcript, call: &Call<'_>);
+}
+
+impl<P: ShownPtr, S: OrdSlots<P, Item>> Tells for Pairs<P, S> {
+    fn tell_generation(&self, transcript: &mut Transcript, line: &str) {
+        transcript.answer(line, &self.generation());
+    }
+
+    fn tell_first(&self, transcript: &mut Transcript, line: &str) {
+        transcript.answer(line, &self.first());
+    }
+
+    fn tell_last(&self, transcript: &mut Transcript, line: &str) {
+        transcript.answer(line, &self.last());
+    }
+
+    fn tell_place(&self, transcript: &mut Transcript, call: &Call<'_>) {
+        transcript.answer(call.line, &self.find_key(&call.first));
+    }
+
+    fn tell_item(&self, transcript: &mut Transcript, call: &Call<'_>) {
+        let p = call.pointer();
+        if self.contains(p) {
+            transcript.answer(call.line, &self[p]);
+        } else {
+            transcript.answer(call.line, &"not live");
+        }
+    }
+
+    fn tell_link(&self, transcript: &mut Transcript, call: &Call<'_>) {
+        match self.get_inx_link_no_gen(call.index()) {
+            Some((generation, link)) => {
+                transcript.answer(call.line, &(generation, link.prev_next(), link.t))
+            }
+            None => transcript.answer(call.line, &"not live"),
+        }
+    }
+}
+
+/// Makes such a call, and says whether there is one of that name.
+pub fn reads<A: Tells>(arena: &A, transcript: &mut Transcript, call: &Call<'_>) -> bool {
     let line = call.line;
     match call.verb {
-        "generation" => transcript.answer(line, &arena.generation()),
-        "first" => transcript.answer(line, &arena.first()),
-        "last" => transcript.answer(line, &arena.last()),
-        "find_key" => transcript.answer(line, &arena.find_key(&call.first)),
-        "index" => index(arena, transcript, call),
-        "get_inx_link_no_gen" => link(arena, transcript, call),
+        "generation" => arena.tell_generation(transcript, line),
+        "first" => arena.tell_first(transcript, line),
+        "last" => arena.tell_last(transcript, line),
+        "find_key" => arena.tell_place(transcript, call),
+        "index" => arena.tell_item(transcript, call),
+        "get_inx_link_no_gen" => arena.tell_link(transcript, call),
         _ => return false,
     }
     true
-}
-
-// Reads by `arena[p]`, where the pointer is valid.
-fn index<P: ShownPtr, S: OrdSlots<P, Item>>(
-    arena: &Pairs<P, S>,
-    transcript: &mut Transcript,
-    call: &Call<'_>,
-) {
-    let p = call.pointer();
-    if arena.contains(p) {
-        transcript.answer(call.line, &arena[p]);
-    } else {
-        transcript.answer(call.line, &"not live");
-    }
-}
-
-// The generation, the neighbors and the item at an index.
-fn link<P: ShownPtr, S: OrdSlots<P, Item>>(
-    arena: &Pairs<P, S>,
-    transcript: &mut Transcript,
-    call: &Call<'_>,
-) {
-    match arena.get_inx_link_no_gen(call.index()) {
-        Some((generation, link)) => {
-            transcript.answer(call.line, &(generation, link.prev_next(), link.t))
-        }
-        None => transcript.answer(call.line, &"not live"),
-    }
 }

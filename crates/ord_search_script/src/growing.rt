@@ -1,6 +1,7 @@
 //! Many calls in a row, of whose comparisons one answer tells the most.
-use crate::entries::{enter, kind, limit_of};
-use crate::items::{Counting, Item, Pairs, item};
+use crate::entries::{PutsByEntry, kind, limit_of};
+use crate::finds::Finds;
+use crate::items::{Counting, CountingKey, Item, Pairs, item};
 use crate::knots::Knots;
 use crate::searches::{Place, place_of, search};
 use crate::work::{Limit, Since, Work};
@@ -12,9 +13,33 @@ use triple_arena_ord::OrdSlots;
 // of them again in another order.
 const PRIME: u64 = 1009;
 
+/// What takes items in and out by their keys.
+pub trait Takes<P: PtrCore, K> {
+    /// Puts an item in, and answers its index, if there was room.
+    fn take(&mut self, item: &Item<K>) -> Option<P::Inx>;
+
+    /// Removes an entry with this key, if there is one.
+    fn give_up(&mut self, k: &K);
+}
+
+impl<P: PtrCore, K: CountingKey, S: OrdSlots<P, Item<K>>> Takes<P, K> for Pairs<P, K, S> {
+    fn take(&mut self, item: &Item<K>) -> Option<P::Inx> {
+        match self.insert(*item) {
+            Ok((p, _)) => Some(p.inx()),
+            Err(_) => None,
+        }
+    }
+
+    fn give_up(&mut self, k: &K) {
+        if let Some(p) = self.find_key(k) {
+            drop(self.remove(p));
+        }
+    }
+}
+
 /// Makes such calls, and says whether there are some of that name.
-pub fn grows<P: ShownPtr, K: Counting, S: OrdSlots<P, Item<K>>>(
-    arena: &mut Pairs<P, K, S>,
+pub fn grows<P: ShownPtr, K: Counting, A: PutsByEntry<P, K> + Finds<P, K> + Knots<P> + Takes<P, K>>(
+    arena: &mut A,
     transcript: &mut Transcript,
     call: &Call<'_>,
     zero: K,
@@ -23,11 +48,11 @@ pub fn grows<P: ShownPtr, K: Counting, S: OrdSlots<P, Item<K>>>(
     match what {
         "grow" => {
             let work = grow(arena, name, call, zero);
-            transcript.answer(call.line, &(arena.len(), work));
+            transcript.answer(call.line, &(arena.size(), work));
         }
         "remove_odd" => {
             remove_odd(arena, call, zero);
-            transcript.answer(call.line, &arena.len());
+            transcript.answer(call.line, &arena.size());
         }
         "each" => {
             let tally = each(arena, name, call, zero);
@@ -40,8 +65,8 @@ pub fn grows<P: ShownPtr, K: Counting, S: OrdSlots<P, Item<K>>>(
 
 // Puts the keys up to the second number in, in the order of their products with the first one: by `insert`, or by an entry of
 // a kind, whose search begins at an index, or at the entry that was put in before it where that is 0.
-fn grow<P: ShownPtr, K: Counting, S: OrdSlots<P, Item<K>>>(
-    arena: &mut Pairs<P, K, S>,
+fn grow<P: PtrCore, K: Counting, A: PutsByEntry<P, K> + Knots<P> + Takes<P, K>>(
+    arena: &mut A,
     name: &str,
     call: &Call<'_>,
     zero: K,
@@ -71,8 +96,8 @@ fn grow<P: ShownPtr, K: Counting, S: OrdSlots<P, Item<K>>>(
 }
 
 // Puts one item in, and answers its index.
-fn put<P: ShownPtr, K: Counting, S: OrdSlots<P, Item<K>>>(
-    arena: &mut Pairs<P, K, S>,
+fn put<P: PtrCore, K: Counting, A: PutsByEntry<P, K> + Knots<P> + Takes<P, K>>(
+    arena: &mut A,
     name: &str,
     item: Item<K>,
     start: P::Inx,
@@ -83,25 +108,14 @@ fn put<P: ShownPtr, K: Counting, S: OrdSlots<P, Item<K>>>(
     let k = *item.k();
     let since = Since::now(k);
     let i = match kind::<P, K>(name, &k, start, num) {
-        Some(kind) => match enter(arena, "entry_insert", kind, Some(item)) {
+        Some(kind) => match arena.enter(kind, Some(item)) {
             Ok((told, _)) => told.any().inx(),
             Err(_) => start,
         },
-        None => insert(arena, item, start),
+        None => arena.take(&item).unwrap_or(start),
     };
     let comparisons = since.count();
     (i, limit.held(comparisons, comparisons))
-}
-
-fn insert<P: ShownPtr, K: Counting, S: OrdSlots<P, Item<K>>>(
-    arena: &mut Pairs<P, K, S>,
-    item: Item<K>,
-    start: P::Inx,
-) -> P::Inx {
-    match arena.insert(item) {
-        Ok((p, _)) => p.inx(),
-        Err(_) => start,
-    }
 }
 
 // The one of two that tells more: the first that is past its limit, or the greater number along the list.
@@ -118,25 +132,11 @@ fn worse(first: Work, second: Work) -> Work {
 }
 
 // Removes each odd key up to the first number.
-fn remove_odd<P: ShownPtr, K: Counting, S: OrdSlots<P, Item<K>>>(
-    arena: &mut Pairs<P, K, S>,
-    call: &Call<'_>,
-    zero: K,
-) {
+fn remove_odd<P: PtrCore, K: Counting, A: Takes<P, K>>(arena: &mut A, call: &Call<'_>, zero: K) {
     for n in 0..call.first.saturating_add(1) {
         if n % 2 == 1 {
-            let k = zero.with(n);
-            remove_key(arena, &k);
+            arena.give_up(&zero.with(n));
         }
-    }
-}
-
-fn remove_key<P: ShownPtr, K: Counting, S: OrdSlots<P, Item<K>>>(
-    arena: &mut Pairs<P, K, S>,
-    k: &K,
-) {
-    if let Some(p) = arena.find_key(k) {
-        drop(arena.remove(p));
     }
 }
 
@@ -151,8 +151,8 @@ struct Tally {
 }
 
 // The search of a name for each key from the first number to the second, with a start.
-fn each<P: ShownPtr, K: Counting, S: OrdSlots<P, Item<K>>>(
-    arena: &Pairs<P, K, S>,
+fn each<P: ShownPtr, K: Counting, A: Finds<P, K> + Knots<P>>(
+    arena: &A,
     name: &str,
     call: &Call<'_>,
     zero: K,
@@ -178,7 +178,7 @@ fn each<P: ShownPtr, K: Counting, S: OrdSlots<P, Item<K>>>(
 }
 
 impl Tally {
-    fn counts<P: ShownPtr, A: Knots<P>>(&mut self, arena: &A, n: u64, place: Place<P>) {
+    fn counts<P: PtrCore, A: Knots<P>>(&mut self, arena: &A, n: u64, place: Place<P>) {
         match place {
             Place::At(p) if key_of(arena, Some(p)) == Some(n) => {
                 self.equal = self.equal.saturating_add(1);
@@ -205,7 +205,7 @@ fn parts(before: Option<u64>, n: u64, after: Option<u64>) -> bool {
     follows && goes_before
 }
 
-fn key_of<P: ShownPtr, A: Knots<P>>(arena: &A, p: Option<P>) -> Option<u64> {
+fn key_of<P: PtrCore, A: Knots<P>>(arena: &A, p: Option<P>) -> Option<u64> {
     match p {
         Some(p) => match arena.knot(p.inx()) {
             Some(knot) => Some(knot.key),

@@ -13,7 +13,7 @@ use triple_arena_chain::LinkNoGen;
 use triple_arena_ord::{OrdPair, SimpleOrdArena, SimpleOrdArenaNode};
 
 /// Numbers that count their comparisons, all in one place.
-pub trait Counting: Ord + Copy + fmt::Debug {
+pub trait Counting: Copy {
     /// The number.
     fn n(&self) -> u64;
 
@@ -23,6 +23,12 @@ pub trait Counting: Ord + Copy + fmt::Debug {
     /// How many comparisons there were.
     fn count(&self) -> u64;
 }
+
+/// Such numbers as the keys of an arena's items. What compares no keys asks for `Counting` alone, since each function carries
+/// all that it asks for.
+pub trait CountingKey: Counting + Ord + fmt::Debug {}
+
+impl<K: Counting + Ord + fmt::Debug> CountingKey for K {}
 
 /// A number that counts each comparison of it with another one.
 #[derive(Clone, Copy)]

@@ -1,6 +1,5 @@
 //! Entries with their neighbors in the list and in the tree, as the checks of a script see them.
-use crate::items::{Counting, Item, Pairs};
-use script::ShownPtr;
+use crate::items::{CountingKey, Item, Pairs};
 use triple_arena::{ArenaTrait, PtrCore, PtrInxCore};
 use triple_arena_ord::OrdSlots;
 
@@ -17,7 +16,7 @@ pub struct Knot<I: PtrInxCore> {
 }
 
 /// What has such entries.
-pub trait Knots<P: ShownPtr> {
+pub trait Knots<P: PtrCore> {
     /// How many entries there are.
     fn size(&self) -> u64;
 
@@ -37,7 +36,7 @@ pub trait Knots<P: ShownPtr> {
     fn ascends(&self) -> bool;
 }
 
-impl<P: ShownPtr, K: Counting, S: OrdSlots<P, Item<K>>> Knots<P> for Pairs<P, K, S> {
+impl<P: PtrCore, K: CountingKey, S: OrdSlots<P, Item<K>>> Knots<P> for Pairs<P, K, S> {
     fn size(&self) -> u64 {
         self.len() as u64
     }

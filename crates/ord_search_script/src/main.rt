@@ -9,9 +9,9 @@
 
 ghost use Rattle.std.specs.Prelude.{◌<◌};
 
-mod changes;
 mod check;
 mod entries;
+mod finds;
 mod growing;
 mod insertions;
 mod items;
@@ -20,17 +20,24 @@ mod reads;
 mod searches;
 mod work;
 
-use items::{Counting, Item, Key, Pairs, Slot};
+use entries::PutsByEntry;
+use finds::Finds;
+use growing::Takes;
+use insertions::PutsIn;
+use items::{Counting, CountingKey, Item, Key, Pairs, Slot, item};
+use knots::Knots;
+use reads::Tells;
 use script::{Call, ShownPtr, Transcript};
-use std::alloc::Global;
+use std::alloc::{Allocator, Global};
 use std::cell::Cell;
+use std::fmt::Debug;
 use std::io;
 use test_kit::{N3, RefusingAllocator};
 use triple_arena::{
     ArenaTrait, NonZeroInxArray, NonZeroInxBoxedSlice, NonZeroInxLimitedVec, NonZeroInxVec, P0, P1,
     P3, P5, Ptr, ReallocationError,
 };
-use triple_arena_ord::{OrdSlots, SimpleOrdArena};
+use triple_arena_ord::OrdSlots;
 
 type Heap<'a> = &'a RefusingAllocator<Global>;
 
@@ -87,11 +94,11 @@ fn play_over<'a>(
         return over_array(zero, transcript, script);
     }
     match script.header.whom {
-        "P0" => over_stack::<P0>(heap, zero, transcript, script),
-        "P1" => over_stack::<P1>(heap, zero, transcript, script),
-        "P3" => over_stack::<P3>(heap, zero, transcript, script),
-        "P5" => over_stack::<P5>(heap, zero, transcript, script),
-        "N3" => over_stack::<N3>(heap, zero, transcript, script),
+        "P0" => over_stack::<P0, Key<'a>, Heap<'a>>(heap, zero, transcript, script),
+        "P1" => over_stack::<P1, Key<'a>, Heap<'a>>(heap, zero, transcript, script),
+        "P3" => over_stack::<P3, Key<'a>, Heap<'a>>(heap, zero, transcript, script),
+        "P5" => over_stack::<P5, Key<'a>, Heap<'a>>(heap, zero, transcript, script),
+        "N3" => over_stack::<N3, Key<'a>, Heap<'a>>(heap, zero, transcript, script),
         _ => Err(ReallocationError::BeyondMaxCapacity),
     }
 }
@@ -109,28 +116,28 @@ fn over_array<'a>(
     }
 }
 
-fn over_stack<'a, P: Ptr>(
-    heap: Heap<'a>,
-    zero: Key<'a>,
+// Over stacks in a heap. It is generic in the keys and the heap, since what a stack owes its arena costs more to prove where
+// these are known.
+fn over_stack<P: Ptr, K: CountingKey, H: Allocator + Copy>(
+    heap: H,
+    zero: K,
     transcript: &mut Transcript,
     script: Script<'_>,
 ) -> Result<(), ReallocationError> {
     match script.header.verb {
-        "heap" => over::<P, Key<'a>, NonZeroInxVec<Slot<P, Key<'a>>, Heap<'a>>>(
-            heap, zero, transcript, script,
-        ),
-        "limited" => over::<P, Key<'a>, NonZeroInxLimitedVec<Slot<P, Key<'a>>, Heap<'a>>>(
-            heap, zero, transcript, script,
-        ),
-        "boxed" => over::<P, Key<'a>, NonZeroInxBoxedSlice<Slot<P, Key<'a>>, Heap<'a>>>(
-            heap, zero, transcript, script,
-        ),
+        "heap" => { over::<P, K, NonZeroInxVec<Slot<P, K>, H>>(heap, zero, transcript, script) }
+        "limited" => {
+            over::<P, K, NonZeroInxLimitedVec<Slot<P, K>, H>>(heap, zero, transcript, script)
+        }
+        "boxed" => {
+            over::<P, K, NonZeroInxBoxedSlice<Slot<P, K>, H>>(heap, zero, transcript, script)
+        }
         _ => Err(ReallocationError::BeyondMaxCapacity),
     }
 }
 
 // The arena has so much room, which is asked for where it is not 0.
-fn over<P: Ptr, K: Counting, S: OrdSlots<P, Item<K>>>(
+fn over<P: Ptr, K: CountingKey, S: OrdSlots<P, Item<K>>>(
     alloc: S::Alloc,
     zero: K,
     transcript: &mut Transcript,
@@ -138,16 +145,34 @@ fn over<P: Ptr, K: Counting, S: OrdSlots<P, Item<K>>>(
 ) -> Result<(), ReallocationError> {
     let room = script.header.first as usize;
     let mut arena = if room == 0 {
-        SimpleOrdArena::new(alloc)
+        Pairs::<P, K, S>::new(alloc)
     } else {
-        SimpleOrdArena::with_min_capacity(alloc, room)?
+        Pairs::<P, K, S>::with_min_capacity(alloc, room)?
     };
-    play_lines::<P, K, S>(&mut arena, zero, transcript, script.lines);
+    play_lines(&mut arena, zero, transcript, script.lines);
     Ok(())
 }
 
-fn play_lines<P: Ptr, K: Counting, S: OrdSlots<P, Item<K>>>(
-    arena: &mut Pairs<P, K, S>,
+// What makes the calls of the lines that name it. The trait has no clauses, and so what is generic in it costs little to prove:
+// each function that names an ordered arena carries all that its stack, its pointers and its keys promise. So it is with the
+// traits of the modules.
+trait Player<K> {
+    fn play(&mut self, transcript: &mut Transcript, call: &Call<'_>, zero: K);
+}
+
+// The text of an arena asks more of its pointers than the calls do.
+impl<P: Ptr, K: CountingKey, S: OrdSlots<P, Item<K>>> Player<K> for Pairs<P, K, S> {
+    fn play(&mut self, transcript: &mut Transcript, call: &Call<'_>, zero: K) {
+        if call.verb == "show" {
+            transcript.answer(call.line, self);
+        } else {
+            play_at(self, transcript, call, zero);
+        }
+    }
+}
+
+fn play_lines<K: Counting, A: Player<K>>(
+    arena: &mut A,
     zero: K,
     transcript: &mut Transcript,
     lines: &str,
@@ -155,41 +180,63 @@ fn play_lines<P: Ptr, K: Counting, S: OrdSlots<P, Item<K>>>(
     for line in lines.lines() {
         let call = Call::new(line);
         if call.whom == "a" {
-            show_or_play(arena, transcript, &call, zero);
+            arena.play(transcript, &call, zero);
         } else {
             transcript.line(line);
         }
     }
 }
 
-// The text of an arena asks more of its pointers than the calls do.
-fn show_or_play<P: Ptr, K: Counting, S: OrdSlots<P, Item<K>>>(
-    arena: &mut Pairs<P, K, S>,
-    transcript: &mut Transcript,
-    call: &Call<'_>,
-    zero: K,
-) {
-    if call.verb == "show" {
-        transcript.answer(call.line, arena);
-    } else {
-        play_at(arena, transcript, call, zero);
-    }
-}
-
 // Makes the call that a line names.
-fn play_at<P: ShownPtr, K: Counting, S: OrdSlots<P, Item<K>>>(
+fn play_at<P: ShownPtr, K: CountingKey, S: OrdSlots<P, Item<K>>>(
     arena: &mut Pairs<P, K, S>,
     transcript: &mut Transcript,
     call: &Call<'_>,
     zero: K,
 ) {
-    if !(reads::reads(arena, transcript, call)
-        || searches::searches(arena, transcript, call, zero)
-        || changes::changes(arena, transcript, call)
-        || insertions::inserts(arena, transcript, call, zero)
-        || growing::grows(arena, transcript, call, zero)
-        || entries::enters(arena, transcript, call, zero))
+    if !(play_own(arena, transcript, call, zero)
+        || play_at_any(arena, transcript, call, zero)
+        || compresses(arena, transcript, call))
     {
         transcript.answer(call.line, &"no such call");
     }
+}
+
+// Makes a call that is the ordered arena's own, and says whether there is one of that name.
+fn play_own<
+    P: ShownPtr,
+    K: Counting + Debug,
+    A: PutsByEntry<P, K> + Finds<P, K> + PutsIn<K> + Knots<P> + Tells + Takes<P, K>,
+>(arena: &mut A, transcript: &mut Transcript, call: &Call<'_>, zero: K) -> bool {
+    reads::reads(arena, transcript, call)
+        || searches::searches(arena, transcript, call, zero)
+        || insertions::inserts(arena, transcript, call, zero)
+        || growing::grows(arena, transcript, call, zero)
+        || entries::enters(arena, transcript, call, zero)
+}
+
+// Makes a call that every arena has, and says whether there is one of that name.
+fn play_at_any<P: ShownPtr, K: Counting + Debug, A: ArenaTrait<P, Item<K>>>(
+    arena: &mut A,
+    transcript: &mut Transcript,
+    call: &Call<'_>,
+    zero: K,
+) -> bool {
+    let at_pointer = item(call.third, call.fourth, zero);
+    let at_index = item(call.second, call.third, zero);
+    arena_calls::read(arena, transcript, call)
+        || arena_calls::change(arena, transcript, call, at_pointer, at_index)
+}
+
+// Lays the entries out anew, in the order of the list.
+fn compresses<P: ShownPtr, K: CountingKey, S: OrdSlots<P, Item<K>>>(
+    arena: &mut Pairs<P, K, S>,
+    transcript: &mut Transcript,
+    call: &Call<'_>,
+) -> bool {
+    let is_named = call.verb == "compress_canonical";
+    if is_named {
+        transcript.answer(call.line, &arena.compress_canonical(call.first == 1));
+    }
+    is_named
 }

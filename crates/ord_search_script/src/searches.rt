@@ -1,57 +1,11 @@
-//! The six searches and their counted forms, from the root and along the list.
-use crate::items::{Counting, Item, Pairs};
+//! The searches by their names, and what is told of the places that they find.
+use crate::finds::{Finds, Found};
+use crate::items::Counting;
 use crate::knots::Knots;
-use crate::work::{Limit, Since, Work, most};
+use crate::work::{Limit, Work, most};
 use script::{Call, ShownPtr, Transcript, pointer};
-use std::cell::Cell;
 use std::cmp::Ordering;
 use triple_arena::PtrCore;
-use triple_arena_ord::{OrdSlots, Probes};
-
-/// What a search found, and its comparisons: as it ticked them, and as the keys, or the closure, counted them.
-#[derive(Clone, Copy)]
-pub struct Found<P> {
-    pub place: Option<(P, Ordering)>,
-    ticks: u64,
-    comparisons: u64,
-}
-
-impl<P: ShownPtr> Found<P> {
-    // An entry with an equal key.
-    fn equal(found: Option<P>, ticks: u64, comparisons: u64) -> Self {
-        let place = match found {
-            Some(p) => Some((p, Ordering::Equal)),
-            None => None,
-        };
-        Found {
-            place,
-            ticks,
-            comparisons,
-        }
-    }
-
-    fn similar(place: Option<(P, Ordering)>, ticks: u64, comparisons: u64) -> Self {
-        Found {
-            place,
-            ticks,
-            comparisons,
-        }
-    }
-
-    /// What is told of its comparisons.
-    pub fn work<A: Knots<P>>(
-        &self,
-        arena: &A,
-        verb: &str,
-        num: u64,
-        start: P,
-        ascends: bool,
-    ) -> Work {
-        let is_exact = ascends && self.place.is_some();
-        let limit = limit_of(arena, verb, num, start, is_exact);
-        limit.held(self.ticks, self.comparisons)
-    }
-}
 
 /// What is told of the place that a search found, as far as the rules fix it.
 #[derive(Clone, Copy, Debug, PartialEq, Eq)]
@@ -71,8 +25,8 @@ pub enum Place<P> {
 }
 
 /// Makes a search, and says whether there is one of that name.
-pub fn searches<P: ShownPtr, K: Counting, S: OrdSlots<P, Item<K>>>(
-    arena: &Pairs<P, K, S>,
+pub fn searches<P: ShownPtr, K: Counting, A: Finds<P, K> + Knots<P>>(
+    arena: &A,
     transcript: &mut Transcript,
     call: &Call<'_>,
     zero: K,
@@ -92,206 +46,62 @@ pub fn searches<P: ShownPtr, K: Counting, S: OrdSlots<P, Item<K>>>(
 }
 
 /// What a search finds, if there is one of that name.
-pub fn search<P: ShownPtr, K: Counting, S: OrdSlots<P, Item<K>>>(
-    arena: &Pairs<P, K, S>,
+pub fn search<P: PtrCore + PartialEq, K: Counting, A: Finds<P, K>>(
+    arena: &A,
     verb: &str,
     k: &K,
     num: u64,
     start: P,
 ) -> Option<Found<P>> {
-    let num = num as usize;
     match verb {
-        "find_key" => Some(find_key(arena, k)),
-        "find_key_counted" => Some(find_key_counted(arena, k)),
-        "find_similar_key" => Some(find_similar_key(arena, k)),
-        "find_similar_key_counted" => Some(find_similar_key_counted(arena, k)),
-        "find_key_linear" => Some(find_key_linear(arena, k, num, start)),
-        "find_key_linear_counted" => Some(find_key_linear_counted(arena, k, num, start)),
-        "find_similar_key_linear" => Some(find_similar_key_linear(arena, k, num, start)),
-        "find_similar_key_linear_counted" => {
-            Some(find_similar_key_linear_counted(arena, k, num, start))
-        }
+        "find_key" => Some(arena.by_key(k)),
+        "find_key_counted" => Some(arena.by_key_counted(k)),
+        "find_similar_key" => Some(arena.by_similar_key(k)),
+        "find_similar_key_counted" => Some(arena.by_similar_key_counted(k)),
+        "find_key_linear" => Some(arena.along(k, num, start)),
+        "find_key_linear_counted" => Some(arena.along_counted(k, num, start)),
+        "find_similar_key_linear" => Some(arena.similar_along(k, num, start)),
+        "find_similar_key_linear_counted" => Some(arena.similar_along_counted(k, num, start)),
         _ => search_with(arena, verb, k.n(), start),
     }
 }
 
 // What a search by a closure finds, if there is one of that name.
-fn search_with<P: ShownPtr, K: Counting, S: OrdSlots<P, Item<K>>>(
-    arena: &Pairs<P, K, S>,
+fn search_with<P: PtrCore + PartialEq, K: Counting, A: Finds<P, K>>(
+    arena: &A,
     verb: &str,
     n: u64,
     start: P,
 ) -> Option<Found<P>> {
     match verb {
-        "find_with" => Some(find_with(arena, n)),
-        "find_with_counted" => Some(find_with_counted(arena, n)),
-        "find_similar_with" => Some(find_similar_with(arena, n)),
-        "find_similar_with_counted" => Some(find_similar_with_counted(arena, n)),
-        "find_with_the_pointer" => Some(find_with_the_pointer(arena, start)),
+        "find_with" => Some(arena.with(n)),
+        "find_with_counted" => Some(arena.with_counted(n)),
+        "find_similar_with" => Some(arena.similar_with(n)),
+        "find_similar_with_counted" => Some(arena.similar_with_counted(n)),
+        "find_with_the_pointer" => Some(arena.with_the_pointer(start)),
         _ => None,
     }
 }
 
-fn find_key<P: ShownPtr, K: Counting, S: OrdSlots<P, Item<K>>>(
-    arena: &Pairs<P, K, S>,
-    k: &K,
-) -> Found<P> {
-    let since = Since::now(*k);
-    let found = arena.find_key(k);
-    Found::equal(found, since.count(), since.count())
+impl<P: PtrCore + PartialEq> Found<P> {
+    /// What is told of its comparisons.
+    pub fn work<A: Knots<P>>(
+        &self,
+        arena: &A,
+        verb: &str,
+        num: u64,
+        start: P,
+        ascends: bool,
+    ) -> Work {
+        let is_exact = ascends && self.place.is_some();
+        let limit = limit_of(arena, verb, num, start, is_exact);
+        limit.held(self.ticks, self.comparisons)
+    }
 }
 
-fn find_key_counted<P: ShownPtr, K: Counting, S: OrdSlots<P, Item<K>>>(
-    arena: &Pairs<P, K, S>,
-    k: &K,
-) -> Found<P> {
-    let since = Since::now(*k);
-    let mut probes = Probes::new();
-    let found = arena.find_key_counted(k, &mut probes);
-    Found::equal(found, probes.count(), since.count())
-}
-
-fn find_similar_key<P: ShownPtr, K: Counting, S: OrdSlots<P, Item<K>>>(
-    arena: &Pairs<P, K, S>,
-    k: &K,
-) -> Found<P> {
-    let since = Since::now(*k);
-    let found = arena.find_similar_key(k);
-    Found::similar(found, since.count(), since.count())
-}
-
-fn find_similar_key_counted<P: ShownPtr, K: Counting, S: OrdSlots<P, Item<K>>>(
-    arena: &Pairs<P, K, S>,
-    k: &K,
-) -> Found<P> {
-    let since = Since::now(*k);
-    let mut probes = Probes::new();
-    let found = arena.find_similar_key_counted(k, &mut probes);
-    Found::similar(found, probes.count(), since.count())
-}
-
-fn find_key_linear<P: ShownPtr, K: Counting, S: OrdSlots<P, Item<K>>>(
-    arena: &Pairs<P, K, S>,
-    k: &K,
-    num: usize,
-    start: P,
-) -> Found<P> {
-    let since = Since::now(*k);
-    let found = arena.find_key_linear(start, num, k);
-    Found::equal(found, since.count(), since.count())
-}
-
-fn find_key_linear_counted<P: ShownPtr, K: Counting, S: OrdSlots<P, Item<K>>>(
-    arena: &Pairs<P, K, S>,
-    k: &K,
-    num: usize,
-    start: P,
-) -> Found<P> {
-    let since = Since::now(*k);
-    let mut probes = Probes::new();
-    let found = arena.find_key_linear_counted(start, num, k, &mut probes);
-    Found::equal(found, probes.count(), since.count())
-}
-
-fn find_similar_key_linear<P: ShownPtr, K: Counting, S: OrdSlots<P, Item<K>>>(
-    arena: &Pairs<P, K, S>,
-    k: &K,
-    num: usize,
-    start: P,
-) -> Found<P> {
-    let since = Since::now(*k);
-    let found = arena.find_similar_key_linear(start.inx(), num, k);
-    Found::similar(found, since.count(), since.count())
-}
-
-fn find_similar_key_linear_counted<P: ShownPtr, K: Counting, S: OrdSlots<P, Item<K>>>(
-    arena: &Pairs<P, K, S>,
-    k: &K,
-    num: usize,
-    start: P,
-) -> Found<P> {
-    let since = Since::now(*k);
-    let mut probes = Probes::new();
-    let found = arena.find_similar_key_linear_counted(start.inx(), num, k, &mut probes);
-    Found::similar(found, probes.count(), since.count())
-}
-
-fn find_with<P: ShownPtr, K: Counting, S: OrdSlots<P, Item<K>>>(
-    arena: &Pairs<P, K, S>,
-    n: u64,
-) -> Found<P> {
-    let asked = Cell::new(0u64);
-    let found = arena.find_with(|_, item| {
-        asked.set(asked.get().wrapping_add(1));
-        n.cmp(&item.k().n())
-    });
-    Found::equal(found, asked.get(), asked.get())
-}
-
-fn find_with_counted<P: ShownPtr, K: Counting, S: OrdSlots<P, Item<K>>>(
-    arena: &Pairs<P, K, S>,
-    n: u64,
-) -> Found<P> {
-    let asked = Cell::new(0u64);
-    let mut probes = Probes::new();
-    let found = arena.find_with_counted(
-        |_, item| {
-            asked.set(asked.get().wrapping_add(1));
-            n.cmp(&item.k().n())
-        },
-        &mut probes,
-    );
-    Found::equal(found, probes.count(), asked.get())
-}
-
-fn find_similar_with<P: ShownPtr, K: Counting, S: OrdSlots<P, Item<K>>>(
-    arena: &Pairs<P, K, S>,
-    n: u64,
-) -> Found<P> {
-    let asked = Cell::new(0u64);
-    let found = arena.find_similar_with(|_, item| {
-        asked.set(asked.get().wrapping_add(1));
-        n.cmp(&item.k().n())
-    });
-    Found::similar(found, asked.get(), asked.get())
-}
-
-fn find_similar_with_counted<P: ShownPtr, K: Counting, S: OrdSlots<P, Item<K>>>(
-    arena: &Pairs<P, K, S>,
-    n: u64,
-) -> Found<P> {
-    let asked = Cell::new(0u64);
-    let mut probes = Probes::new();
-    let found = arena.find_similar_with_counted(
-        |_, item| {
-            asked.set(asked.get().wrapping_add(1));
-            n.cmp(&item.k().n())
-        },
-        &mut probes,
-    );
-    Found::similar(found, probes.count(), asked.get())
-}
-
-// Goes left at each entry but at that of the pointer: it finds the first one.
-fn find_with_the_pointer<P: ShownPtr, K: Counting, S: OrdSlots<P, Item<K>>>(
-    arena: &Pairs<P, K, S>,
-    start: P,
-) -> Found<P> {
-    let asked = Cell::new(0u64);
-    let found = arena.find_with(|p, _| {
-        asked.set(asked.get().wrapping_add(1));
-        if p == start {
-            Ordering::Equal
-        } else {
-            Ordering::Less
-        }
-    });
-    Found::equal(found, asked.get(), asked.get())
-}
-
-/// How many comparisons a search may make. One for a key that is not there goes on from the root, and else their number hangs
-/// on the list alone where one along it came to its end there.
-fn limit_of<P: ShownPtr, A: Knots<P>>(
+// How many comparisons a search may make. One for a key that is not there goes on from the root, and else their number hangs
+// on the list alone where one along it came to its end there.
+fn limit_of<P: PtrCore + PartialEq, A: Knots<P>>(
     arena: &A,
     verb: &str,
     num: u64,
@@ -313,7 +123,7 @@ fn limit_of<P: ShownPtr, A: Knots<P>>(
 }
 
 /// The same of one that goes along the list from an index until it comes to the place.
-pub fn limit_from<P: ShownPtr, A: Knots<P>>(
+pub fn limit_from<P: PtrCore, A: Knots<P>>(
     arena: &A,
     start: P::Inx,
     num: u64,
@@ -330,7 +140,7 @@ pub fn limit_from<P: ShownPtr, A: Knots<P>>(
 }
 
 /// What is told of a place.
-pub fn place_of<P: ShownPtr, A: Knots<P>>(
+pub fn place_of<P: PtrCore + PartialEq, A: Knots<P>>(
     arena: &A,
     place: Option<(P, Ordering)>,
     ascends: bool,
@@ -348,7 +158,10 @@ pub fn place_of<P: ShownPtr, A: Knots<P>>(
     }
 }
 
-fn anywhere<P: ShownPtr, A: Knots<P>>(arena: &A, place: Option<(P, Ordering)>) -> Place<P> {
+fn anywhere<P: PtrCore + PartialEq, A: Knots<P>>(
+    arena: &A,
+    place: Option<(P, Ordering)>,
+) -> Place<P> {
     match place {
         Some((p, _)) => if arena.ptr(p.inx()) == Some(p) {
             Place::Anywhere
@@ -360,7 +173,7 @@ fn anywhere<P: ShownPtr, A: Knots<P>>(arena: &A, place: Option<(P, Ordering)>) -
 }
 
 // The entry of a pointer, or its key, where a neighbor has the same.
-fn at<P: ShownPtr, A: Knots<P>>(arena: &A, p: P) -> Place<P> {
+fn at<P: PtrCore, A: Knots<P>>(arena: &A, p: P) -> Place<P> {
     match arena.knot(p.inx()) {
         Some(knot) => {
             let is_one_of = key_at(arena, knot.prev) == Some(knot.key)
@@ -376,7 +189,7 @@ fn at<P: ShownPtr, A: Knots<P>>(arena: &A, p: P) -> Place<P> {
 }
 
 // The key at an index, if there is an entry.
-fn key_at<P: ShownPtr, A: Knots<P>>(arena: &A, i: Option<P::Inx>) -> Option<u64> {
+fn key_at<P: PtrCore, A: Knots<P>>(arena: &A, i: Option<P::Inx>) -> Option<u64> {
     match i {
         Some(i) => match arena.knot(i) {
             Some(knot) => Some(knot.key),
@@ -387,7 +200,7 @@ fn key_at<P: ShownPtr, A: Knots<P>>(arena: &A, i: Option<P::Inx>) -> Option<u64>
 }
 
 // The pointer to the neighbor of an entry, before it or after it.
-fn beside<P: ShownPtr, A: Knots<P>>(arena: &A, p: P, is_before: bool) -> Option<P> {
+fn beside<P: PtrCore, A: Knots<P>>(arena: &A, p: P, is_before: bool) -> Option<P> {
     match arena.knot(p.inx()) {
         Some(knot) => {
             let i = if is_before { knot.prev } else { knot.next };
