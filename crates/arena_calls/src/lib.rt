@@ -3,7 +3,9 @@
 #![tactic(auto)]
 
 mod changes;
+mod limiting;
 mod reads;
 
 pub use changes::{change, change_numbers};
+pub use limiting::{Limited, Limiting, Unlimited};
 pub use reads::read;

@@ -3,7 +3,7 @@
 //! These traits promise nothing, so a section that is generic in them is proved without a clause of the arenas' calls. That an
 //! arena keeps those is proved in the `impl`s, once for each kind of arena, and not once more wherever a section names it.
 use script::{Call, Transcript};
-use triple_arena::{ReallocationError, SetMaxCapacity};
+use triple_arena::ReallocationError;
 
 /// An arena that makes the calls of a section.
 pub trait Player: Drop {
@@ -37,27 +37,4 @@ pub trait Partner<D> {
         transcript: &mut Transcript,
         call: &Call<'_>,
     );
-}
-
-/// What a line that sets a limit does to an arena.
-pub trait Limiting<A> {
-    fn limit(arena: &mut A, transcript: &mut Transcript, call: &Call<'_>);
-}
-
-/// Over stacks that take no limit it is a line of no arena.
-pub struct Unlimited;
-
-/// Over the others it sets the limit.
-pub struct Limited;
-
-impl<A> Limiting<A> for Unlimited {
-    fn limit(_arena: &mut A, transcript: &mut Transcript, call: &Call<'_>) {
-        transcript.line(call.line);
-    }
-}
-
-impl<A: SetMaxCapacity> Limiting<A> for Limited {
-    fn limit(arena: &mut A, transcript: &mut Transcript, call: &Call<'_>) {
-        transcript.answer(call.line, &arena.set_max_capacity(call.first as usize));
-    }
 }

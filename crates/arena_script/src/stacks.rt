@@ -1,6 +1,6 @@
 //! The arenas of a section, over the stack that its header names.
-use crate::player::{Limited, Unlimited};
 use crate::{renaming, section};
+use arena_calls::{Limited, Unlimited};
 use script::{Call, Transcript};
 use std::alloc::Allocator;
 use test_kit::N3;

@@ -1,5 +1,6 @@
 //! A section's calls, at arenas of any kind.
-use crate::player::{Limiting, Partner, Player};
+use crate::player::{Partner, Player};
+use arena_calls::Limiting;
 use script::{Call, Transcript};
 use triple_arena::ReallocationError;
 

@@ -1,6 +1,6 @@
 //! The stacks that a section is played over.
-use crate::player::{Limited, Unlimited};
 use crate::{renaming, section};
+use arena_calls::{Limited, Unlimited};
 use script::{Call, Transcript};
 use std::alloc::Allocator;
 use test_kit::N3;
