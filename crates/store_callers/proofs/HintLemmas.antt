@@ -1,9 +1,8 @@
 -- The last place as a hint for a greater key.
-use Rattle.std.proofs.Common.{◌≡◌, ◌∙◌, sym, ap, subst, refl, Bool, true, false, ◌==◌, ◌&&◌, ◌||◌, if◌then◌else◌, ℕ, suc, ◌+◌, ◌-◌, ◌<◌, ◌≤◌, List, [], ◌∷◌, ◌++◌, length, nat_le, nat_lt, inl, inr, arith}
+use Rattle.std.proofs.Common.{◌≡◌, ◌∙◌, sym, ap, subst, refl, true, ◌==◌, ℕ, suc, ◌+◌, ◌-◌, ◌<◌, ◌≤◌, List, [], ◌∷◌, ◌++◌, length, nat_le, nat_lt, inl, inr, arith}
 use Rattle.std.specs.List.{AllByRecursion}
 use Rattle.std.proofs.lemmas.Bool.{and_from, or_left, or_right, eq-eqb, le-ltb, lt-leb, lt-ltb}
 use Rattle.std.proofs.lemmas.Bool.Decides.{eqb_tells}
-use Rattle.counted_search.specs.Searches.{most_comparisons}
 use Rattle.route_lines.specs.Searches.{places_before, is_near, is_at_hand, most_near}
 use Rattle.route_lines.specs.Sound.{IsSound, KeysRise, count_of}
 use Rattle.route_lines.specs.State.{State, Place}
