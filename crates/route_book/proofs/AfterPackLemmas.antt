@@ -1,5 +1,5 @@
 -- What a removal makes of a store that was packed first, since a counter would have started again.
-use Rattle.std.proofs.Common.{◌≡◌, ◌∙◌, sym, ap, subst, refl, Bool, true, false, ℕ, ◌+◌, Option, Result, Ok, Err, true≢false}
+use Rattle.std.proofs.Common.{◌≡◌, ◌∙◌, sym, ap, subst, refl, Bool, true, false, ℕ, Option, Result, Ok, Err, true≢false}
 use Rattle.triple_arena_ptr.specs.Generation.{next_wraps, second_generation}
 use Rattle.ticket_book.specs.declared.entry.Kind.{Kind}
 use Rattle.ticket_book.specs.declared.entry.Kind.TheVariants.{Place as OfPlace, Stop as OfStop, Mark as OfMark}
@@ -7,7 +7,7 @@ use Rattle.route_lines.specs.Calls.{after_removed}
 use Rattle.route_lines.specs.State.{State, Item, holder}
 use Rattle.route_lines.specs.declared.refusal.Refusal.{Refusal}
 use Rattle.route_book.specs.Book.{Book}
-use Rattle.route_book.specs.Removals.{IsEnded, IsPacked, IsRemoved, Removes, Tries, kind_of, references_in, removal_wraps}
+use Rattle.route_book.specs.Removals.{IsEnded, IsPacked, IsRemoved, Removes, Tries, kind_of, removal_wraps}
 use Rattle.route_book.specs.Rooms.{counts_short}
 use Rattle.route_book.proofs.OrderLemmas.{counts_on}
 
@@ -26,9 +26,6 @@ module _ {I : Type 0} (number : I → ℕ) (last : Option ℕ) (t : ℕ) (old mi
   held : holder packed.state t ≡ Ok item
   held = ap (λ (s : State). holder s t) same ∙ first.1.0
 
-  looks : after ≡ before + references_in old.state
-  looks = pack.looks ∙ ap (λ (b : Book I). before + references_in b.state) first.1.1.1
-
   calm : (g : ℕ) → g ≡ second_generation last → next_wraps last g ≡ false
   calm g is = ap (next_wraps last) is ∙ (counts_on last counts).1.1
 
@@ -40,18 +37,18 @@ module _ {I : Type 0} (number : I → ℕ) (last : Option ℕ) (t : ℕ) (old mi
   ended : (x : Item) → holder packed.state t ≡ Ok x → IsEnded (kind_of x) t packed new → IsEnded (kind_of item) t packed new
   ended x is h = subst (λ y. IsEnded (kind_of y) t packed new) (ok_same (sym is ∙ held)) h
 
-  removed : (kind : Kind) → removal_wraps last old kind ≡ true → IsEnded kind t packed new → IsRemoved last kind t before after old new
-  removed OfPlace wraps h = rw wraps (record { looks = looks; own = h.counter ∙ ap (λ n. n + 1) pack.place_counter; other = ap (λ s. s.counter) h.stops ∙ pack.stop_counter })
-  removed OfStop wraps h = rw wraps (record { looks = looks; own = h.counter ∙ ap (λ n. n + 1) pack.stop_counter; other = ap (λ p. p.chains.counter) h.places ∙ pack.place_counter })
+  removed : (kind : Kind) → removal_wraps last old kind ≡ true → IsEnded kind t packed new → IsRemoved number last kind t before after old new
+  removed OfPlace wraps h = rw wraps (packed, (same, (subst (λ b. IsPacked number last before after b packed) first.1.1.1 pack, h)))
+  removed OfStop wraps h = rw wraps (packed, (same, (subst (λ b. IsPacked number last before after b packed) first.1.1.1 pack, h)))
   removed OfMark wraps h = absurd (true≢false (sym wraps))
 
-  pub removed_after_pack : (new.state ≡ after_removed old.state t) × Removes last t before after old new (holder old.state t)
+  pub removed_after_pack : (new.state ≡ after_removed old.state t) × Removes number last t before after old new (holder old.state t)
   removed_after_pack = by result second
     where
-      by : (r : Result Bool Refusal) → Tries last t packed new r → (new.state ≡ after_removed old.state t) × Removes last t before after old new (holder old.state t)
+      by : (r : Result Bool Refusal) → Tries last t packed new r → (new.state ≡ after_removed old.state t) × Removes number last t before after old new (holder old.state t)
       by (Ok true) tries = (
         tries.1.1.1.1 ∙ ap (λ (s : State). after_removed s t) same,
-        subst (Removes last t before after old new) (sym first.1.0) (removed (kind_of item) first.1.1.0 (ended tries.0 tries.1.0 tries.1.1.1.0)),
+        subst (Removes number last t before after old new) (sym first.1.0) (removed (kind_of item) first.1.1.0 (ended tries.0 tries.1.0 tries.1.1.1.0)),
       )
       by (Ok false) tries = absurd (true≢false (sym tries.1.1.0 ∙ no_wrap (kind_of tries.0)))
       by (Err refusal) tries = absurd (let no : ◌≡◌ {A = Result Item Refusal} (Ok item) (Err refusal) = sym held ∙ tries.0 in cc)

@@ -1,5 +1,5 @@
 -- What a pack leaves of what ties a store's parts, over what the calls on the three arenas tell.
-use Rattle.std.proofs.Common.{◌≡◌, ◌∙◌, sym, ap, subst, refl, true, ℕ, suc, ◌<◌, ◌≤◌, List, [], ◌∷◌, ◌++◌, length, map, Option, Some, None, IsSome, is_some, true≢false, arith}
+use Rattle.std.proofs.Common.{◌≡◌, ◌∙◌, sym, ap, subst, refl, true, ℕ, suc, ◌<◌, ◌≤◌, List, [], ◌∷◌, ◌++◌, length, map, Option, Some, None, IsSome, is_some, arith}
 use Rattle.std.specs.Option.{option_map}
 use Rattle.triple_arena_ptr.specs.Generation.{second_generation}
 use Rattle.triple_arena_stack.specs.Room.{capacity}
@@ -12,7 +12,7 @@ use Rattle.triple_arena_chain.specs.Chains.{Ends, On, next_at, next_in}
 use Rattle.triple_arena_chain.specs.Renaming.{ends_renamed}
 use Rattle.triple_arena_chain.specs.ListLaws.{On-first, live_prev_in}
 use Rattle.triple_arena_chain.specs.ChainLaws.{On-cons}
-use Rattle.triple_arena_chain.specs.Links.{ends_in, values_in, valued, entry_ends, IsChained}
+use Rattle.triple_arena_chain.specs.Links.{ends_in, values_in, IsChained}
 use Rattle.triple_arena_chain.specs.CanonicalLayout.{IsCanonical}
 use Rattle.triple_arena_ord.specs.Ascending.{entries_along}
 use Rattle.triple_arena_ord.specs.Ordered.{Ordered, entry_in, order_in}
@@ -28,7 +28,7 @@ use Rattle.ticket_book.specs.Mirrors.{Mirror, renewed_entry}
 use Rattle.route_book.proofs.MirrorLemmas.{booked, mirror_is}
 use Rattle.route_book.proofs.PackLemmas.{packed_found, packed, stop_live, mark_live, mark_stop_live}
 use Rattle.route_book.proofs.PassedLemmas.{listed_to, listed_moved}
-use Rattle.route_book.proofs.OptionLemmas.{mapped_some, some_same}
+use Rattle.route_book.proofs.OptionLemmas.{mapped_some}
 use Rattle.route_book.proofs.LinkLemmas.{live_ends, live_values}
 
 no_some : {X : Type 0} {x : X} → ◌≡◌ {A = Option X} None (Some x) → ⊥

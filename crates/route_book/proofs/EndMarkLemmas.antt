@@ -20,6 +20,7 @@ use Rattle.route_book.specs.Book.{found_in, in_order, IsBook}
 use Rattle.route_book.specs.Item.{StopView, MarkView}
 use Rattle.route_book.specs.Holds.{Found, state_stop, state_mark, mark_under, place_at, stop_at, mark_at, IsFilled, entry, Rise, IsHeld}
 use Rattle.route_book.proofs.EndLemmas.{others_stay, was_other, still_found, IsKept, still_booked, still_filled, places_still, stops_still, marks_still, none_there, unchanged, rise_without, length_without}
+use Rattle.route_book.proofs.HoldLemmas.{booked_once}
 use Rattle.route_book.proofs.OrderLemmas.{differ_of_rise}
 use Rattle.route_book.proofs.OptionLemmas.{found_has, some_same, stands_under}
 
@@ -40,10 +41,7 @@ module _ (s s' : State) (f : Found) (order : List Place) (ends : ℕ → Option 
   τ w = w.ticket
 
   pub own_mark : (j k : ℕ) (w : MarkView) → f.marks j ≡ Some (k, w) → w.ticket ≡ t → j ≡ i
-  own_mark j k w is same =
-      let one = h.marks_in i g v stood in
-      let two = subst (λ n. lookup book n ≡ Some (entry n OfMark j k)) same (h.marks_in j k w is) in
-      ap (λ (e : Entry). e.index) (some_same (sym two ∙ one))
+  own_mark j k w is same = booked_once τ OfMark f.marks book h.marks_in j i k g w v is stood same
 
   booked : lookup book t ≡ Some (entry t OfMark i g)
   booked = h.marks_in i g v stood

@@ -27,6 +27,7 @@ use Rattle.route_book.specs.Holds.{Found, found_by, state_stop, state_mark, plac
 use Rattle.route_book.proofs.SettledLemmas.{settled_left, up_to_left}
 use Rattle.route_book.proofs.EndLemmas.{unnamed, others_stay, was_other, still_found, IsKept, still_booked, still_filled, places_still, stops_still, marks_still, none_there, each_mapped, rise_without, length_without}
 use Rattle.route_book.proofs.OrderLemmas.{differ_of_rise, one_up}
+use Rattle.route_book.proofs.HoldLemmas.{booked_once}
 use Rattle.route_book.proofs.OptionLemmas.{found_has, some_same, stands_under}
 
 -- ---- the list of the places without one
@@ -85,10 +86,7 @@ module _ (s s' : State) (f : Found) (order order' : List Place) (ends : ℕ → 
   τ q = q.ticket
 
   pub own_place : (j k : ℕ) (q : Place) → f.places j ≡ Some (k, q) → q.ticket ≡ t → j ≡ i
-  own_place j k q is same =
-      let one = h.places_in i g p stood in
-      let two = subst (λ n. lookup book n ≡ Some (entry n OfPlace j k)) same (h.places_in j k q is) in
-      ap (λ (e : Entry). e.index) (some_same (sym two ∙ one))
+  own_place j k q is same = booked_once τ OfPlace f.places book h.places_in j i k g q p is stood same
 
   booked : lookup book t ≡ Some (entry t OfPlace i g)
   booked = h.places_in i g p stood

@@ -27,6 +27,7 @@ use Rattle.route_book.proofs.LinkLemmas.{live_ends}
 use Rattle.route_book.proofs.SettledLemmas.{settled_left, up_to_left}
 use Rattle.route_book.proofs.EndLemmas.{unnamed, there, others_stay, was_other, still_found, IsKept, still_booked, still_filled, places_still, stops_still, marks_still, none_there, each_mapped, unchanged, rise_without, length_without}
 use Rattle.route_book.proofs.OrderLemmas.{differ_of_rise, one_up}
+use Rattle.route_book.proofs.HoldLemmas.{booked_once}
 use Rattle.route_book.proofs.OptionLemmas.{found_has, some_same, stands_under}
 
 -- ---- what follows once an index is taken out
@@ -115,10 +116,7 @@ module _ (s s' : State) (f : Found) (order : List Place) (ends ends' : ℕ → O
   τ w = w.ticket
 
   pub own_stop : (j k : ℕ) (w : StopView) → f.stops j ≡ Some (k, w) → w.ticket ≡ t → j ≡ i
-  own_stop j k w is same =
-      let one = h.stops_in i g v stood in
-      let two = subst (λ n. lookup book n ≡ Some (entry n OfStop j k)) same (h.stops_in j k w is) in
-      ap (λ (e : Entry). e.index) (some_same (sym two ∙ one))
+  own_stop j k w is same = booked_once τ OfStop f.stops book h.stops_in j i k g w v is stood same
 
   booked : lookup book t ≡ Some (entry t OfStop i g)
   booked = h.stops_in i g v stood

@@ -85,6 +85,14 @@ module _ (s : State) (f : Found) (order : List Place) (ends : ℕ → Option End
 pub holder_unknown : (s : State) (t : ℕ) → ((t == 0) || nat_lt s.last t) ≡ true → holder s t ≡ Err Unknown
 holder_unknown s t is = rw is refl
 
+-- the book has one entry for a ticket, so one item has it
+pub booked_once : {T : Type 0} (ticket : T → ℕ) (kind : Kind) (at : ℕ → Option (ℕ × T)) (book : List Entry)
+    → ((i g : ℕ) (x : T) → at i ≡ Some (g, x) → lookup book (ticket x) ≡ Some (entry (ticket x) kind i g)) → (i j g h : ℕ) (x y : T) → at i ≡ Some (g, x) → at j ≡ Some (h, y) → ticket x ≡ ticket y → i ≡ j
+booked_once ticket kind at book in_book i j g h x y is other same =
+    let one = in_book i g x is in
+    let two = subst (λ n. lookup book n ≡ Some (entry n kind j h)) (sym same) (in_book j h y other) in
+    ap (λ (e : Entry). e.index) (some_same (sym one ∙ two))
+
 -- the items of the arenas, as the state has them
 module _ (s : State) (f : Found) (order : List Place) (ends : ℕ → Option Ends) (book : List Entry) (h : IsHeld s f order ends book) where
   pub stop_listed : (i g : ℕ) (v : StopView) → f.stops i ≡ Some (g, v) → stop_of s.routes v.ticket ≡ Some (state_stop f v)

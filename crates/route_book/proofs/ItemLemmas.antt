@@ -1,11 +1,11 @@
 -- What calls answer of the living item that has a ticket.
-use Rattle.std.proofs.Common.{◌≡◌, ◌≢◌, ◌∙◌, sym, ap, subst, refl, ℕ, Option, Some, None, Result, Ok, Err}
+use Rattle.std.proofs.Common.{◌≡◌, ◌≢◌, ◌∙◌, sym, ap, refl, ℕ, Option, Some, None, Ok, Err}
 use Rattle.std.specs.Option.{option_map}
 use Rattle.triple_arena.specs.Entries.{value_if}
 use Rattle.ticket_book.specs.declared.entry.Kind.{Kind as ItemKind}
 use Rattle.ticket_book.specs.declared.entry.Kind.TheVariants.{Place as OfPlace, Stop as OfStop, Mark as OfMark}
 use Rattle.route_lines.specs.Calls.{shown, place_holder, stop_holder}
-use Rattle.route_lines.specs.State.{State, Place, Stop, Mark, Item, place, stop, mark, holder}
+use Rattle.route_lines.specs.State.{State, Place, Item, place, stop, mark, holder}
 use Rattle.route_lines.specs.declared.refusal.Refusal.{Refusal}
 use Rattle.route_lines.specs.declared.refusal.Refusal.TheVariants.{Kind}
 use Rattle.route_lines.specs.declared.shown.Shown.TheVariants.{Place as ShownPlace, Stop as ShownStop, Mark as ShownMark}

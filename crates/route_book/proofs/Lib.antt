@@ -14,6 +14,7 @@ pub mod LinkLemmas
 pub mod ListedLemmas
 pub mod MarkLemmas
 pub mod MirrorLemmas
+pub mod NearLemmas
 pub mod NeighborLemmas
 pub mod NewItemLemmas
 pub mod NewLemmas

@@ -1,7 +1,6 @@
 -- What a stop that a ticket names is in the arena of the stops, and what other interlinks make of what ties a store's parts.
-use Rattle.std.proofs.Common.{◌≡◌, ◌≢◌, ◌∙◌, sym, ap, subst, refl, Bool, true, false, ◌==◌, ◌||◌, nat_lt, ℕ, ◌+◌, ◌≤◌, List, [], ◌∷◌, length, Option, Some, None, IsSome, Result, Ok, Err, arith, find, cond, inl, inr}
+use Rattle.std.proofs.Common.{◌≡◌, ◌≢◌, ◌∙◌, sym, ap, subst, refl, Bool, true, false, ◌==◌, ◌||◌, nat_lt, ℕ, ◌+◌, ◌≤◌, List, length, Option, Some, None, IsSome, Result, Ok, Err, arith, cond, inl, inr}
 use Rattle.std.specs.Option.{option_map}
-use Rattle.std.proofs.lemmas.Bool.{eqb-true}
 use Rattle.std.proofs.lemmas.Bool.Decides.{eqb_tells}
 use Rattle.triple_arena.specs.Entries.{value_if}
 use Rattle.triple_arena.specs.Content.{Content, entry_at, get}
@@ -14,7 +13,7 @@ use Rattle.ticket_book.specs.declared.entry.Kind.{Kind as ItemKind}
 use Rattle.ticket_book.specs.declared.entry.Kind.TheVariants.{Place as OfPlace, Stop as OfStop, Mark as OfMark}
 use Rattle.ticket_book.specs.Tickets.{Entry, lookup}
 use Rattle.route_lines.specs.Calls.{stop_holder}
-use Rattle.route_lines.specs.Routes.{has_ticket, next_stop}
+use Rattle.route_lines.specs.Routes.{next_stop}
 use Rattle.route_lines.specs.State.{State, Rooms, Place, Stop, Route, Mark, stop_list, place_of, stop_of, mark_of}
 use Rattle.route_lines.specs.declared.refusal.Refusal.{Refusal}
 use Rattle.route_lines.specs.declared.refusal.Refusal.TheVariants.{Unknown, Gone, Kind}

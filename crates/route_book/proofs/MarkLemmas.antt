@@ -19,12 +19,11 @@ use Rattle.route_lines.specs.State.{State, Rooms, Place, Stop, Mark, place_of, s
 use Rattle.route_lines.specs.declared.refusal.Refusal.{Refusal}
 use Rattle.route_lines.specs.declared.refusal.Refusal.TheVariants.{Full, Unknown, Gone, Kind as Refused}
 use Rattle.route_book.specs.Item.{StopView, MarkView}
-use Rattle.route_book.specs.Holds.{Found, entry, state_mark, state_stop, place_at, stop_at, mark_at, place_under, stop_under, mark_under, IsFilled, IsLive, IsSettled, IsHeld}
+use Rattle.route_book.specs.Holds.{Found, entry, state_mark, place_at, stop_at, mark_at, place_under, stop_under, mark_under, IsFilled, IsLive, IsSettled, IsHeld}
 use Rattle.route_book.specs.Book.{MarksDiffer, found_in, in_order, IsBook, KeepsItems}
 use Rattle.route_book.proofs.HoldLemmas.{Rise-add, lookup_none, lookup_added, lookup_other, lookup_kept}
-use Rattle.route_book.proofs.NeighborLemmas.{held_place}
 use Rattle.route_book.proofs.SettledLemmas.{live_settled}
-use Rattle.route_book.proofs.OptionLemmas.{found_has, some_same}
+use Rattle.route_book.proofs.OptionLemmas.{some_same}
 
 -- a mark more, at an index where there was none
 module _ (s : State) (f : Found) (order : List Place) (ends : ℕ → Option Ends) (book : List Entry) (h : IsHeld s f order ends book)

@@ -1,18 +1,17 @@
 -- A store with nothing in it.
-use Rattle.std.proofs.Common.{◌≡◌, ◌≢◌, ◌∙◌, sym, ap, subst, refl, ℕ, zero, suc, ◌+◌, ◌<◌, ◌≤◌, List, [], ◌∷◌, length, Option, Some, None, arith}
+use Rattle.std.proofs.Common.{◌≡◌, ◌∙◌, sym, ap, refl, ℕ, zero, suc, ◌≤◌, List, [], ◌∷◌, length, Option, Some, None, arith}
 use Rattle.std.specs.Option.{option_map}
 use Rattle.triple_arena_stack.specs.Room.{Room}
 use Rattle.triple_arena.specs.Content.{Content, entry_at, live_count, arena_capacity, empty}
 use Rattle.triple_arena_chain.specs.declared.link.IndexLink.{IndexLink}
-use Rattle.triple_arena_chain.specs.Links.{ends_in, values_in, valued}
-use Rattle.triple_arena_ord.specs.declared.node.IndexNode.{IndexNode}
-use Rattle.triple_arena_ord.specs.Ordered.{Ordered, IsOrdered, entry_in, order_in, size_in}
+use Rattle.triple_arena_chain.specs.Links.{values_in, valued}
+use Rattle.triple_arena_ord.specs.Ordered.{Ordered, IsOrdered, entry_in, order_in}
 use Rattle.triple_arena_ord.specs.Node.{itemed}
 use Rattle.ticket_book.specs.Tickets.{Entry}
 use Rattle.route_book.specs.Item.{StopView, MarkView}
 use Rattle.route_lines.specs.State.{Rooms, Place}
 use Rattle.route_lines.specs.State as state
-use Rattle.route_book.specs.Book.{found_in, in_order, IsBook}
+use Rattle.route_book.specs.Book.{IsBook}
 use Rattle.route_book.proofs.KeyLemmas.{along}
 
 nothing_at : (T : Type 0) (counter : ℕ) (room : Room) (i : ℕ) → entry_at {T = T} (empty counter room) i ≡ None

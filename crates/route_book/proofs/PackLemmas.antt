@@ -1,8 +1,7 @@
 -- What a pack makes of what is held: the state stays.
-use Rattle.std.proofs.Common.{◌≡◌, ◌∙◌, sym, ap, subst, refl, Bool, true, false, ◌==◌, if◌then◌else◌, ℕ, inl, inr, List, [], ◌∷◌, map, Option, Some, None, IsSome, is_some, true≢false, arith}
+use Rattle.std.proofs.Common.{◌≡◌, ◌∙◌, sym, ap, subst, refl, Bool, true, false, ◌==◌, if◌then◌else◌, ℕ, List, [], ◌∷◌, map, Option, Some, None, IsSome, is_some, true≢false, arith}
 use Rattle.std.specs.Option.{option_map}
 use Rattle.std.proofs.lemmas.Bool.{eq-eqb}
-use Rattle.std.proofs.lemmas.Bool.Decides.{eqb_tells}
 use Rattle.triple_arena.specs.Entries.{value_if}
 use Rattle.triple_arena_chain.specs.Chains.{Ends, next_at}
 use Rattle.route_lines.specs.State.{Place, State}
@@ -17,7 +16,7 @@ use Rattle.route_book.specs.Packing.{IsMoved, IsMirror, recast_stop, recast_mark
 use Rattle.ticket_book.specs.Mirrors.{Mirror, renewed_pointer, renewed_under, renewed_entry}
 use Rattle.route_book.proofs.MirrorLemmas.{found_recast, live_recast, renewed_live}
 use Rattle.route_book.proofs.SettledLemmas.{live_settled}
-use Rattle.route_book.proofs.OptionLemmas.{mapped_some, some_same, stands_under}
+use Rattle.route_book.proofs.OptionLemmas.{mapped_some, stands_under}
 
 -- the book with other pointers has the same tickets
 module _ (m n o : Mirror) where

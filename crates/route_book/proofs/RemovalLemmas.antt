@@ -26,7 +26,7 @@ use Rattle.route_book.proofs.EndMarkLemmas.{IsMarkGone, mark_leaves, marks_stay}
 use Rattle.route_book.proofs.EndPlaceLemmas.{IsPlaceGone, place_leaves, place_steps, places_stay}
 use Rattle.route_book.proofs.EndStopLemmas.{IsStopGone, stop_leaves, stop_steps, stops_stay}
 use Rattle.route_book.proofs.HoldLemmas.{holder_found}
-use Rattle.route_book.proofs.OptionLemmas.{found_has, mapped_some, some_same}
+use Rattle.route_book.proofs.OptionLemmas.{found_has, mapped_some}
 
 -- the item that a ticket has, has it
 module _ (s : State) (t : ℕ) where

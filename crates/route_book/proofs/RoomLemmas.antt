@@ -1,12 +1,11 @@
 -- What accepted rooms mean for the parts of a store.
-use Rattle.std.proofs.Common.{◌≡◌, ◌∙◌, sym, ap, subst, refl, Bool, true, false, ◌==◌, nat_lt, if◌then◌else◌, ℕ, ◌+◌, ◌-◌, ◌^◌, ◌<◌, ◌≤◌, ◌↔◌, Option, Some, None, arith, inl, inr, min, cond}
-use Rattle.std.proofs.lemmas.Bool.{false≢true, true≢false, ltb-false, cases_lt, lt-ltb, le-ltb}
+use Rattle.std.proofs.Common.{◌≡◌, ◌∙◌, sym, ap, subst, refl, Bool, true, false, nat_lt, ℕ, ◌-◌, ◌^◌, ◌<◌, ◌≤◌, ◌↔◌, Option, Some, None, arith, inl, inr}
+use Rattle.std.proofs.lemmas.Bool.{ltb-false, cases_lt, lt-ltb, le-ltb}
 use Rattle.triple_arena_ptr.specs.Index.{max_index_of}
 use Rattle.triple_arena_stack.specs.Room.{Room, IsBeyond, capacity}
 use Rattle.triple_arena.specs.Content.{Content, arena_capacity, empty}
 use Rattle.triple_arena.specs.DirectContent.{DirectContent, empty as no_pointers, arena_capacity as mirror_capacity}
 use Rattle.triple_arena.specs.ArenaRoom.{index_limit, room_of}
-use Rattle.route_lines.specs.declared.refusal.RoomError.{RoomError}
 use Rattle.route_lines.specs.declared.refusal.RoomError.TheVariants.{Generation, Index, Stack}
 use Rattle.route_book.specs.Rooms.{counts_short, is_past, refusal_of}
 

@@ -1,5 +1,5 @@
 -- What a line does to counters and looks is a step of the law on looks.
-use Rattle.std.proofs.Common.{◌≡◌, ◌≢◌, ◌∙◌, sym, ap, subst, refl, Bool, true, false, ◌==◌, ℕ, ◌+◌, ◌<◌, ◌≤◌, Option, Some, None, Result, Ok, Err, inl, inr, arith}
+use Rattle.std.proofs.Common.{◌≡◌, ◌∙◌, ap, ℕ, ◌+◌, ◌≤◌, Option, Some, None, Result, Ok, Err, inl, inr, arith}
 use Rattle.std.proofs.lemmas.Bool.Decides.{eqb_tells}
 use Rattle.ticket_book.specs.declared.entry.Kind.{Kind}
 use Rattle.ticket_book.specs.declared.entry.Kind.TheVariants.{Place as OfPlace, Stop as OfStop, Mark as OfMark}
@@ -9,7 +9,7 @@ use Rattle.route_lines.specs.declared.command.Command.{Command}
 use Rattle.route_lines.specs.declared.command.Command.TheVariants.{Place, Show, Find, Floor, After, Before, All, Start, Extend, Join, Cut, Swap, Walk, Mark, Remove, Pack}
 use Rattle.route_lines.specs.declared.refusal.Refusal.{Refusal}
 use Rattle.route_book.specs.Book.{Book, KeepsItems}
-use Rattle.route_book.specs.Removals.{IsEndedAfterPack, IsPlaceEnded, IsStopEnded, IsRemoved, Removes, Steps, kind_of, references_in}
+use Rattle.route_book.specs.Removals.{IsPacked, IsPlaceEnded, IsStopEnded, IsRemoved, Removes, Steps, kind_of, references_in}
 use Rattle.route_book.specs.SweepSteps.{tally}
 
 module _ {I : Type 0} (number : I → ℕ) (top most : ℕ) where
@@ -20,12 +20,14 @@ module _ {I : Type 0} (number : I → ℕ) (top most : ℕ) where
     other : KeepsItems old new → after ≡ before → Found
     other kept looks = (Other, (kept.place_counter, (kept.stop_counter, looks)))
 
-    removal : (kind : Kind) (t : ℕ) → IsRemoved (Some top) kind t before after old new → Found
+    removal : (kind : Kind) (t : ℕ) → IsRemoved number (Some top) kind t before after old new → Found
     removal OfPlace t h = elim (eqb_tells old.places.chains.counter top) [
       | inl same ↦
-          let packed : IsEndedAfterPack before after new.places.chains.counter new.stops.counter (Some top) old.state = rw same.0 at h in
-          let looks = packed.looks in
-          (EndPlaceAfterPack, (same.1, (packed.own, (packed.other, omega (arith, looks, few)))))
+          let ended : (packed : Book I) × ((packed.state ≡ old.state) × (IsPacked number (Some top) before after old packed × IsPlaceEnded t packed new)) = rw same.0 at h in
+          let pack = ended.1.1.0 in
+          let last = ended.1.1.1 in
+          let looks = pack.looks in
+          (EndPlaceAfterPack, (same.1, (last.counter ∙ ap (λ n. n + 1) pack.place_counter, (ap (λ s. s.counter) last.stops ∙ pack.stop_counter, omega (arith, looks, few)))))
       | inr apart ↦
           let ended : (after ≡ before) × IsPlaceEnded t old new = rw apart.0 at h in
           let less = apart.1 in
@@ -33,9 +35,11 @@ module _ {I : Type 0} (number : I → ℕ) (top most : ℕ) where
     ]
     removal OfStop t h = elim (eqb_tells old.stops.counter top) [
       | inl same ↦
-          let packed : IsEndedAfterPack before after new.stops.counter new.places.chains.counter (Some top) old.state = rw same.0 at h in
-          let looks = packed.looks in
-          (EndStopAfterPack, (same.1, (packed.own, (packed.other, omega (arith, looks, few)))))
+          let ended : (packed : Book I) × ((packed.state ≡ old.state) × (IsPacked number (Some top) before after old packed × IsStopEnded t packed new)) = rw same.0 at h in
+          let pack = ended.1.1.0 in
+          let last = ended.1.1.1 in
+          let looks = pack.looks in
+          (EndStopAfterPack, (same.1, (last.counter ∙ ap (λ n. n + 1) pack.stop_counter, (ap (λ p. p.chains.counter) last.places ∙ pack.place_counter, omega (arith, looks, few)))))
       | inr apart ↦
           let ended : (after ≡ before) × IsStopEnded t old new = rw apart.0 at h in
           let less = apart.1 in
@@ -43,7 +47,7 @@ module _ {I : Type 0} (number : I → ℕ) (top most : ℕ) where
     ]
     removal OfMark t h = (Other, (ap (λ p. p.chains.counter) h.1.places, (ap (λ s. s.counter) h.1.stops, h.0)))
 
-    removes : (t : ℕ) (r : Result Item Refusal) → Removes (Some top) t before after old new r → Found
+    removes : (t : ℕ) (r : Result Item Refusal) → Removes number (Some top) t before after old new r → Found
     removes t (Ok item) h = removal (kind_of item) t h
     removes t (Err refusal) h = (Other, (ap (λ b. b.places.chains.counter) h.0, (ap (λ b. b.stops.counter) h.0, h.1)))
 

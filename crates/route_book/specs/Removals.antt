@@ -31,12 +31,6 @@ kind_of (place p) = OfPlace
 kind_of (stop v) = OfStop
 kind_of (mark m) = OfMark
 
--- an item has ended after a pack: so many references were looked at, and its arena's counter is one above the other's
-pub record IsEndedAfterPack (before after counter counter' : ℕ) (last : Option ℕ) (s : State) : Type 0 where
-  pub looks : after ≡ before + references_in s
-  pub own : counter ≡ second_generation last + 1
-  pub other : counter' ≡ second_generation last
-
 module _ {I : Type 0} where
   -- a place has ended: its arena's counter is one up, and stops and marks are as they were, with their references
   pub record IsPlaceEnded (t : ℕ) (old new : Book I) : Type 0 where
@@ -70,20 +64,31 @@ module _ {I : Type 0} where
   removal_wraps last b OfStop = next_wraps last b.stops.counter
   removal_wraps last b OfMark = false
 
-  -- an item of a kind has ended: with no look, or after a pack where its counter would have started again
-  abbrev pub IsRemoved : Option ℕ → Kind → ℕ → ℕ → ℕ → Book I → Book I → Type 0
-  IsRemoved last kind t before after old new = by (removal_wraps last old kind) kind
+  -- a pack: each reference was looked at once and none is dead, and all counters have started again. All items stand at the
+  -- indexes from 1 on: places in the order of their keys, the stops of each route one after another
+  pub record IsPacked (number : I → ℕ) (last : Option ℕ) (before after : ℕ) (old new : Book I) : Type 0 where
+    pub looks : after ≡ before + references_in old.state
+    pub place_counter : new.places.chains.counter ≡ second_generation last
+    pub stop_counter : new.stops.counter ≡ second_generation last
+    pub mark_counter : new.marks.counter ≡ second_generation last
+    pub order : order_in number new.places ≡ range_with_len 1 (length new.state.places)
+    pub stop_runs : IsLaidOut (ends_in number new.stops) (live_count new.stops)
+    pub mark_run : (i : ℕ) → IsSome (entry_at new.marks i) ↔ ((1 ≤ i) × (i ≤ live_count new.marks))
+    pub stops : (i g : ℕ) (v : StopView) → values_in new.stops i ≡ Some (g, v) → IsLive (entry_in new.places) v.place
+    pub marks : (i g : ℕ) (m : MarkView) → entry_at new.marks i ≡ Some (g, m) → IsLive (entry_in new.places) m.place × IsLive (values_in new.stops) m.stop
+
+  -- an item of a kind has ended: with no look, or after a pack if its counter would have started again
+  abbrev pub IsRemoved : (I → ℕ) → Option ℕ → Kind → ℕ → ℕ → ℕ → Book I → Book I → Type 0
+  IsRemoved number last kind t before after old new = by (removal_wraps last old kind)
     where
-      by : Bool → Kind → Type 0
-      by false kind = (after ≡ before) × IsEnded kind t old new
-      by true OfPlace = IsEndedAfterPack before after new.places.chains.counter new.stops.counter last old.state
-      by true OfStop = IsEndedAfterPack before after new.stops.counter new.places.chains.counter last old.state
-      by true OfMark = ⊥
+      by : Bool → Type 0
+      by false = (after ≡ before) × IsEnded kind t old new
+      by true = (packed : Book I) × ((packed.state ≡ old.state) × (IsPacked number last before after old packed × IsEnded kind t packed new))
 
   -- what a removal makes of a store, by what has the ticket: a refused one changes nothing and looks at nothing
-  abbrev pub Removes : Option ℕ → ℕ → ℕ → ℕ → Book I → Book I → Result Item Refusal → Type 0
-  Removes last t before after old new (Ok item) = IsRemoved last (kind_of item) t before after old new
-  Removes last t before after old new (Err refusal) = (new ≡ old) × (after ≡ before)
+  abbrev pub Removes : (I → ℕ) → Option ℕ → ℕ → ℕ → ℕ → Book I → Book I → Result Item Refusal → Type 0
+  Removes number last t before after old new (Ok item) = IsRemoved number last (kind_of item) t before after old new
+  Removes number last t before after old new (Err refusal) = (new ≡ old) × (after ≡ before)
 
   -- what one look-up of a ticket does: its item ends where no counter starts again, and else nothing changes
   abbrev pub Tries : Option ℕ → ℕ → Book I → Book I → Result Bool Refusal → Type 0
@@ -92,20 +97,8 @@ module _ {I : Type 0} where
   Tries last t old new (Ok false) = (item : Item) × ((holder old.state t ≡ Ok item) × ((removal_wraps last old (kind_of item) ≡ true) × (new ≡ old)))
   Tries last t old new (Err refusal) = (holder old.state t ≡ Err refusal) × (new ≡ old)
 
-  -- a pack: each reference was looked at once and none is dead, and both counters have started again. All items stand at the
-  -- indexes from 1 on: places in the order of their keys, the stops of each route one after another
-  pub record IsPacked (number : I → ℕ) (last : Option ℕ) (before after : ℕ) (old new : Book I) : Type 0 where
-    pub looks : after ≡ before + references_in old.state
-    pub place_counter : new.places.chains.counter ≡ second_generation last
-    pub stop_counter : new.stops.counter ≡ second_generation last
-    pub order : order_in number new.places ≡ range_with_len 1 (length new.state.places)
-    pub stop_runs : IsLaidOut (ends_in number new.stops) (live_count new.stops)
-    pub mark_run : (i : ℕ) → IsSome (entry_at new.marks i) ↔ ((1 ≤ i) × (i ≤ live_count new.marks))
-    pub stops : (i g : ℕ) (v : StopView) → values_in new.stops i ≡ Some (g, v) → IsLive (entry_in new.places) v.place
-    pub marks : (i g : ℕ) (m : MarkView) → entry_at new.marks i ≡ Some (g, m) → IsLive (entry_in new.places) m.place × IsLive (values_in new.stops) m.stop
-
   -- what a line does to items, counters and looks, by its command
   abbrev pub Steps : (I → ℕ) → Option ℕ → Option Command → ℕ → ℕ → Book I → Book I → Type 0
-  Steps number last (Some (Remove t)) before after old new = Removes last t before after old new (holder old.state t)
+  Steps number last (Some (Remove t)) before after old new = Removes number last t before after old new (holder old.state t)
   Steps number last (Some Pack) before after old new = IsPacked number last before after old new
   Steps number last command before after old new = KeepsItems old new × (after ≡ before)

@@ -171,12 +171,14 @@ impl<P: PtrCore, B: BookBacking<P>> RouteBook<P, B> {
         &self.stops
     }
 
-    /// The arena of the marks. Its references find the place and the stop that the state names.
+    /// The arena of the marks, no two of one ticket. Its references find the place and the stop that the state names.
     pub fn marks_arena(&self) -> &Arena<P, Mark<P>, B::Marks>
         ensures content { result.now ≡ self.now.marks }
         ensures sound { IsSound self.now.state }
         ensures items { (i g : ℕ) (m : MarkView) → entry_at result.now i ≡ Some (g, m)
             → mark_of self.now.state.marks m.ticket ≡ Some (state_mark (found_of self.now) m) }
+        ensures apart { (i j g h : ℕ) (m n : MarkView) → entry_at result.now i ≡ Some (g, m)
+            → entry_at result.now j ≡ Some (h, n) → m.ticket ≡ n.ticket → i ≡ j }
         ensures count { live_count result.now ≡ length self.now.state.marks }
     {
         &self.marks

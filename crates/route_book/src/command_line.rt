@@ -56,11 +56,13 @@ pub fn program<R: Read, W: Write, E: Write>(
         (W.contents (inner_of output.old)) (W.contents (inner_of output.new))
         × ((failed_of input.new ≡ failed_of input.old + 1)
         ⊎ (calls_of input.new ≡ calls_of input.old + (2 ^ 64 - 1)))
+        × (failed_of output.new ≡ failed_of output.old)
         × Tells (failed_of errors.old) (failed_of errors.new) (E.contents (inner_of errors.old))
         (E.contents (inner_of errors.new)) (codes "read failed"))
         ⊎ (BeginsToAnswer rooms (R.remaining (inner_of input.old)) (R.remaining (inner_of input.new))
         (W.contents (inner_of output.old)) (W.contents (inner_of output.new))
         × (failed_of output.new ≡ failed_of output.old + 1)
+        × (failed_of input.new ≡ failed_of input.old)
         × Tells (failed_of errors.old) (failed_of errors.new) (E.contents (inner_of errors.old))
         (E.contents (inner_of errors.new)) (codes "write failed"))) }
 
@@ -105,11 +107,13 @@ fn answer_input<R: Read, W: Write, E: Write>(
         (W.contents (inner_of output.old)) (W.contents (inner_of output.new))
         × ((failed_of input.new ≡ failed_of input.old + 1)
         ⊎ (calls_of input.new ≡ calls_of input.old + (2 ^ 64 - 1)))
+        × (failed_of output.new ≡ failed_of output.old)
         × Tells (failed_of errors.old) (failed_of errors.new) (E.contents (inner_of errors.old))
         (E.contents (inner_of errors.new)) (codes "read failed"))
         ⊎ (BeginsToAnswer rooms (R.remaining (inner_of input.old)) (R.remaining (inner_of input.new))
         (W.contents (inner_of output.old)) (W.contents (inner_of output.new))
         × (failed_of output.new ≡ failed_of output.old + 1)
+        × (failed_of input.new ≡ failed_of input.old)
         × Tells (failed_of errors.old) (failed_of errors.new) (E.contents (inner_of errors.old))
         (E.contents (inner_of errors.new)) (codes "write failed")) }
 {

@@ -86,6 +86,7 @@ fn recast_marks<P: PtrCore, A: ArenaTrait<P, Mark<P>>, M: ArenaTrait<P, P>, N: A
               (numbers P.index P.generation (N.entry_at stops.now)) e.1,
         )) (A.entry_at marks.old j) }
     ensures live { A.live_count marks.new ≡ A.live_count marks.old }
+    ensures counter { A.counter marks.new ≡ A.counter marks.old }
     ensures room { A.room marks.new ≡ A.room marks.old }
     ensures looks { looks.new ≡ looks.old + 2 * A.live_count marks.old }
 {
@@ -130,6 +131,7 @@ pub(crate) fn recast_all_marks<P: PtrCore, S: ArenaSlots<P, Mark<P>>, R: DirectS
               (numbers P.index P.generation (entry_at stops.now)) e.1,
         )) (mark_at marks.old j) }
     ensures live { live_count marks.new ≡ live_count marks.old }
+    ensures counter { marks.new.counter ≡ marks.old.counter }
     ensures room { marks.new.room ≡ marks.old.room }
     ensures looks { looks.new ≡ looks.old + 2 * live_count marks.old }
 {

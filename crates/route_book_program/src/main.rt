@@ -1,7 +1,8 @@
 //! The program `route_book PLACES STOPS MARKS`: a store with these rooms answers the lines of the standard input.
 #![tactic(auto)]
 
-ghost use Rattle.std.specs.Prelude.{◌≡◌, ◌≤◌, ◌^◌, ◌↔◌, IfErr, IfOk, IfSome, IsNone, map, string_bytes, vec_items};
+ghost use Rattle.std.specs.Prelude.{◌≡◌, ◌≢◌, ◌≤◌, ◌^◌, ◌↔◌, IfErr, IfOk, IfSome, IsNone, map, string_bytes, vec_items};
+ghost use Rattle.std.specs.IoError.{error_kind};
 ghost use Rattle.std.specs.Process.{exit_status};
 ghost use Rattle.route_book.specs.CommandLine.{room_sum, rooms_of};
 
@@ -32,7 +33,8 @@ fn exit_code(rt: &HostRuntime, args: io::Result<Vec<String>>) -> ExitCode
     ensures usage { IfOk args (λ args. (exit_status result ≡ 2) ↔ IsNone (rooms_of (map string_bytes (vec_items args)))) }
     ensures index { IfOk args (λ args. IfSome (rooms_of (map string_bytes (vec_items args)))
         (λ rooms. 2 ^ 64 ≤ room_sum rooms → exit_status result ≡ 3)) }
-    ensures refused { IfErr args (λ error. 2 ≤ exit_status result) }
+    ensures memory { IfErr args (λ error. error_kind error ≡ ErrorKind.OutOfMemory → exit_status result ≡ 3) }
+    ensures unread { IfErr args (λ error. error_kind error ≢ ErrorKind.OutOfMemory → exit_status result ≡ 2) }
 {
     ExitCode::from(match args {
         Ok(args) => answer_input(rt, &args),

@@ -1,7 +1,7 @@
 -- How many comparisons a search makes, and how many a command may take.
-use Rattle.std.specs.Prelude.{◌≡◌, ℕ, ◌+◌, ◌≤◌, Option, Some, None, length}
+use Rattle.std.specs.Prelude.{◌≡◌, ℕ, suc, ◌+◌, ◌-◌, ◌≤◌, ◌==◌, ◌&&◌, ◌||◌, Bool, List, [], ◌∷◌, Option, Some, None, if◌then◌else◌, length, nat_le, nat_lt}
 use Rattle.counted_search.specs.Searches.{most_comparisons}
-use Rattle.route_lines.specs.State.{State, stop_list}
+use Rattle.route_lines.specs.State.{State, Place as Spot, stop_list}
 use Rattle.route_lines.specs.declared.command.Command.{Command}
 use Rattle.route_lines.specs.declared.command.Command.TheVariants.{Place, Find, Floor, All, Extend, Join, Swap, Mark, Pack}
 use Rattle.route_lines.specs.declared.counts.Counts.{Counts}
@@ -12,6 +12,27 @@ place_count s = length s.places
 
 abbrev pub living_count : State → ℕ
 living_count s = length s.places + length (stop_list s.routes) + length s.marks
+
+-- how many places stand before the first one of a kind
+abbrev pub places_before : (Spot → Bool) → List Spot → ℕ
+places_before is [] = 0
+places_before is (p ∷ places) = if is p then 0 else suc (places_before is places)
+
+-- two positions in the list are less than 7 steps apart
+abbrev pub is_near : ℕ → ℕ → Bool
+is_near i j = nat_lt i (j + 7) && nat_lt j (i + 7)
+
+-- near a position are the last place whose key is not above this one and the first whose key is not below it, each if there is one:
+-- the place that has the key, or those on both sides of its gap
+abbrev pub is_at_hand : ℕ → List Spot → ℕ → Bool
+is_at_hand key places i =
+    let up_to = places_before (λ p. nat_lt key p.key) places in
+    let below = places_before (λ p. nat_le key p.key) places in
+    ((up_to == 0) || is_near i (up_to - 1)) && ((below == length places) || is_near i below)
+
+-- the greatest number of comparisons with keys of a search that begins at the place with this ticket
+abbrev pub most_near : List Spot → ℕ → ℕ → ℕ
+most_near places key near = if is_at_hand key places (places_before (λ p. p.ticket == near) places) then 7 else most_comparisons (length places) + 7
 
 -- from the old counts on at most so many comparisons with keys, with first and with second tickets
 pub record ComparesWithin (old new : Counts) (keys firsts seconds : ℕ) : Type 0 where
@@ -32,10 +53,10 @@ pub record CountsWithin (old new : Counts) (keys firsts seconds : ℕ) : Type 0 
   pub second : new.second ≤ old.second + seconds
   pub looks : new.looks ≡ old.looks
 
--- the greatest number of comparisons with keys that a command may take: a hint makes it 7 more, and what names no key makes none
+-- the greatest number of comparisons with keys that a command may take: what names no key makes none
 abbrev pub most_keys : State → Option Command → ℕ
 most_keys s (Some (Place key word None)) = most_comparisons (place_count s)
-most_keys s (Some (Place key word (Some near))) = most_comparisons (place_count s) + 7
+most_keys s (Some (Place key word (Some near))) = most_near s.places key near
 most_keys s (Some (Find key)) = most_comparisons (place_count s)
 most_keys s (Some (Floor key)) = most_comparisons (place_count s)
 most_keys s command = 0

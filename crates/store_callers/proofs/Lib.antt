@@ -1,3 +1,4 @@
 mod DispatchLemmas
+mod HintLemmas
 mod ReferenceLemmas
 mod RefusedLemmas

@@ -1,5 +1,5 @@
 //! Marks.
-ghost use Rattle.std.specs.Prelude.{◌≡◌};
+ghost use Rattle.std.specs.Prelude.{◌≡◌, IfErr};
 ghost use Rattle.counted_search.specs.Searches.{most_comparisons};
 ghost use Rattle.route_lines.specs.Calls.{marked, after_mark};
 ghost use Rattle.route_lines.specs.Searches.{CountsWithin, living_count};
@@ -32,6 +32,7 @@ impl<P: PtrCore, B: BookBacking<P>> RouteBook<P, B> {
         ensures result { result ≡ marked self.old.state place stop }
         ensures state { self.new.state ≡ after_mark self.old.state place stop }
         ensures kept { KeepsItems self.old self.new }
+        ensures refused { IfErr result (λ _. self.new ≡ self.old) }
     {
         self.mark_counted(place, stop, &mut Counts::new())
     }
@@ -46,6 +47,7 @@ impl<P: PtrCore, B: BookBacking<P>> RouteBook<P, B> {
         ensures result { result ≡ marked self.old.state place stop }
         ensures state { self.new.state ≡ after_mark self.old.state place stop }
         ensures kept { KeepsItems self.old self.new }
+        ensures refused { IfErr result (λ _. self.new ≡ self.old) }
         ensures counts { CountsWithin counts.old counts.new
             0 (most_comparisons (living_count self.old.state)) (most_comparisons (living_count self.old.state)) }
     {

@@ -1,5 +1,5 @@
 //! A place more, or another word for one.
-ghost use Rattle.std.specs.Prelude.{◌≡◌, ◌≢◌, ◌+◌, ◌<◌, ◌^◌, Some, Ok, IsSome};
+ghost use Rattle.std.specs.Prelude.{◌≡◌, ◌≢◌, ◌<◌, ◌^◌, Some, Ok, IfErr, IsSome};
 ghost use Rattle.std.specs.Ordering.{nat_cmp};
 ghost use Rattle.std.specs.declared.cmp.Ordering.{Ordering as Way};
 ghost use Rattle.counted_search.specs.Searches.{most_comparisons};
@@ -7,7 +7,7 @@ ghost use Rattle.triple_arena.specs.Entries.{value_if};
 ghost use Rattle.triple_arena_ord.specs.Found.{IsSimilar};
 ghost use Rattle.triple_arena_ord.specs.Ordered.{IsAscending, asked_at, entry_in};
 ghost use Rattle.route_lines.specs.Calls.{placed, after_place, placed_near, after_place_near};
-ghost use Rattle.route_lines.specs.Searches.{CountsWithin, place_count, living_count};
+ghost use Rattle.route_lines.specs.Searches.{CountsWithin, place_count, living_count, most_near};
 ghost use Rattle.route_lines.specs.State.{Place as PlaceView, with_key};
 ghost use Rattle.route_book.specs.Book.{KeepsItems};
 
@@ -33,6 +33,7 @@ impl<P: PtrCore, B: BookBacking<P>> RouteBook<P, B> {
         ensures result { result ≡ placed self.old.state key word }
         ensures state { self.new.state ≡ after_place self.old.state key word }
         ensures kept { KeepsItems self.old self.new }
+        ensures refused { IfErr result (λ _. self.new ≡ self.old) }
         ensures others { (self.new.stops ≡ self.old.stops) × (self.new.marks ≡ self.old.marks) }
     {
         self.place_counted(key, word, &mut Counts::new())
@@ -48,6 +49,7 @@ impl<P: PtrCore, B: BookBacking<P>> RouteBook<P, B> {
         ensures result { result ≡ placed self.old.state key word }
         ensures state { self.new.state ≡ after_place self.old.state key word }
         ensures kept { KeepsItems self.old self.new }
+        ensures refused { IfErr result (λ _. self.new ≡ self.old) }
         ensures others { (self.new.stops ≡ self.old.stops) × (self.new.marks ≡ self.old.marks) }
         ensures counts { CountsWithin counts.old counts.new
             (most_comparisons (place_count self.old.state)) 0 0 }
@@ -63,12 +65,14 @@ impl<P: PtrCore, B: BookBacking<P>> RouteBook<P, B> {
         ensures result { result ≡ placed_near self.old.state key word near }
         ensures state { self.new.state ≡ after_place_near self.old.state key word near }
         ensures kept { KeepsItems self.old self.new }
+        ensures refused { IfErr result (λ _. self.new ≡ self.old) }
         ensures others { (self.new.stops ≡ self.old.stops) × (self.new.marks ≡ self.old.marks) }
     {
         self.place_near_counted(key, word, near, &mut Counts::new())
     }
 
-    /// The same, with the comparisons of its searches counted as `key` and `first`. At most 7 are made along the list.
+    /// The same, with the comparisons of its searches counted as `key` and `first`. At most 7 are made along the list, and no
+    /// more with keys if the place that has the key, or each one beside its gap, is less than 7 steps from that of `near`.
     pub fn place_near_counted(
         &mut self,
         key: u64,
@@ -79,10 +83,13 @@ impl<P: PtrCore, B: BookBacking<P>> RouteBook<P, B> {
         ensures result { result ≡ placed_near self.old.state key word near }
         ensures state { self.new.state ≡ after_place_near self.old.state key word near }
         ensures kept { KeepsItems self.old self.new }
+        ensures refused { IfErr result (λ _. self.new ≡ self.old) }
         ensures others { (self.new.stops ≡ self.old.stops) × (self.new.marks ≡ self.old.marks) }
         ensures counts { CountsWithin counts.old counts.new
-            (most_comparisons (place_count self.old.state) + 7) (most_comparisons (living_count self.old.state)) 0 }
+            (most_near self.old.state.places key near) (most_comparisons (living_count self.old.state)) 0 }
     {
+        // The list is as it must be.
+        let _ = self.places.len();
         let at = self.find_place(near, &mut counts.first)?;
         let found = self
             .places
@@ -104,6 +111,7 @@ impl<P: PtrCore, B: BookBacking<P>> RouteBook<P, B> {
         ensures result { result ≡ placed self.old.state key word }
         ensures state { self.new.state ≡ after_place self.old.state key word }
         ensures kept { KeepsItems self.old self.new }
+        ensures refused { IfErr result (λ _. self.new ≡ self.old) }
         ensures others { (self.new.stops ≡ self.old.stops) × (self.new.marks ≡ self.old.marks) }
     {
         entries_stand_in_the_list::<P, Place>();
@@ -152,6 +160,7 @@ impl<P: PtrCore, B: BookBacking<P>> RouteBook<P, B> {
         ensures result { result ≡ placed self.old.state key word }
         ensures state { self.new.state ≡ after_place self.old.state key word }
         ensures kept { KeepsItems self.old self.new }
+        ensures refused { IfErr result (λ _. self.new ≡ self.old) }
         ensures others { (self.new.stops ≡ self.old.stops) × (self.new.marks ≡ self.old.marks) }
     {
         if self.is_full_of_places() {

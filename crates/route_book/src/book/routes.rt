@@ -1,5 +1,5 @@
 //! Routes: a stop behind another, and stops that are joined, parted and exchanged.
-ghost use Rattle.std.specs.Prelude.{◌≡◌};
+ghost use Rattle.std.specs.Prelude.{◌≡◌, IfErr};
 ghost use Rattle.counted_search.specs.Searches.{most_comparisons};
 ghost use Rattle.route_lines.specs.Calls.{after_cut, after_extend, after_join, after_swap, extended, joined, parted, swapped};
 ghost use Rattle.route_lines.specs.Searches.{CountsWithin, living_count};
@@ -30,6 +30,7 @@ impl<P: PtrCore, B: BookBacking<P>> RouteBook<P, B> {
         ensures result { result ≡ extended self.old.state stop place }
         ensures state { self.new.state ≡ after_extend self.old.state stop place }
         ensures kept { KeepsItems self.old self.new }
+        ensures refused { IfErr result (λ _. self.new ≡ self.old) }
     {
         self.extend_counted(stop, place, &mut Counts::new())
     }
@@ -44,6 +45,7 @@ impl<P: PtrCore, B: BookBacking<P>> RouteBook<P, B> {
         ensures result { result ≡ extended self.old.state stop place }
         ensures state { self.new.state ≡ after_extend self.old.state stop place }
         ensures kept { KeepsItems self.old self.new }
+        ensures refused { IfErr result (λ _. self.new ≡ self.old) }
         ensures counts { CountsWithin counts.old counts.new
             0 (most_comparisons (living_count self.old.state)) (most_comparisons (living_count self.old.state)) }
     {
@@ -80,6 +82,7 @@ impl<P: PtrCore, B: BookBacking<P>> RouteBook<P, B> {
         ensures result { result ≡ joined self.old.state stop next }
         ensures state { self.new.state ≡ after_join self.old.state stop next }
         ensures kept { KeepsItems self.old self.new }
+        ensures refused { IfErr result (λ _. self.new ≡ self.old) }
     {
         self.join_counted(stop, next, &mut Counts::new())
     }
@@ -89,6 +92,7 @@ impl<P: PtrCore, B: BookBacking<P>> RouteBook<P, B> {
         ensures result { result ≡ joined self.old.state stop next }
         ensures state { self.new.state ≡ after_join self.old.state stop next }
         ensures kept { KeepsItems self.old self.new }
+        ensures refused { IfErr result (λ _. self.new ≡ self.old) }
         ensures counts { CountsWithin counts.old counts.new
             0 (most_comparisons (living_count self.old.state)) (most_comparisons (living_count self.old.state)) }
     {
@@ -117,6 +121,7 @@ impl<P: PtrCore, B: BookBacking<P>> RouteBook<P, B> {
         ensures result { result ≡ parted self.old.state stop }
         ensures state { self.new.state ≡ after_cut self.old.state stop }
         ensures kept { KeepsItems self.old self.new }
+        ensures refused { IfErr result (λ _. self.new ≡ self.old) }
     {
         self.cut_counted(stop, &mut Counts::new())
     }
@@ -126,6 +131,7 @@ impl<P: PtrCore, B: BookBacking<P>> RouteBook<P, B> {
         ensures result { result ≡ parted self.old.state stop }
         ensures state { self.new.state ≡ after_cut self.old.state stop }
         ensures kept { KeepsItems self.old self.new }
+        ensures refused { IfErr result (λ _. self.new ≡ self.old) }
         ensures counts { CountsWithin counts.old counts.new
             0 (most_comparisons (living_count self.old.state)) 0 }
     {
@@ -153,6 +159,7 @@ impl<P: PtrCore, B: BookBacking<P>> RouteBook<P, B> {
         ensures result { result ≡ swapped self.old.state stop other }
         ensures state { self.new.state ≡ after_swap self.old.state stop other }
         ensures kept { KeepsItems self.old self.new }
+        ensures refused { IfErr result (λ _. self.new ≡ self.old) }
     {
         self.swap_counted(stop, other, &mut Counts::new())
     }
@@ -167,6 +174,7 @@ impl<P: PtrCore, B: BookBacking<P>> RouteBook<P, B> {
         ensures result { result ≡ swapped self.old.state stop other }
         ensures state { self.new.state ≡ after_swap self.old.state stop other }
         ensures kept { KeepsItems self.old self.new }
+        ensures refused { IfErr result (λ _. self.new ≡ self.old) }
         ensures counts { CountsWithin counts.old counts.new
             0 (most_comparisons (living_count self.old.state)) (most_comparisons (living_count self.old.state)) }
     {

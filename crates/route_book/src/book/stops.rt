@@ -1,5 +1,5 @@
 //! Stops and their routes.
-ghost use Rattle.std.specs.Prelude.{◌≡◌};
+ghost use Rattle.std.specs.Prelude.{◌≡◌, IfErr};
 ghost use Rattle.counted_search.specs.Searches.{most_comparisons};
 ghost use Rattle.triple_arena_chain.specs.Links.{IsChained};
 ghost use Rattle.route_lines.specs.Calls.{started, after_start};
@@ -35,6 +35,7 @@ impl<P: PtrCore, B: BookBacking<P>> RouteBook<P, B> {
         ensures result { result ≡ started self.old.state place }
         ensures state { self.new.state ≡ after_start self.old.state place }
         ensures kept { KeepsItems self.old self.new }
+        ensures refused { IfErr result (λ _. self.new ≡ self.old) }
     {
         self.start_counted(place, &mut Counts::new())
     }
@@ -44,6 +45,7 @@ impl<P: PtrCore, B: BookBacking<P>> RouteBook<P, B> {
         ensures result { result ≡ started self.old.state place }
         ensures state { self.new.state ≡ after_start self.old.state place }
         ensures kept { KeepsItems self.old self.new }
+        ensures refused { IfErr result (λ _. self.new ≡ self.old) }
         ensures counts { CountsWithin counts.old counts.new
             0 (most_comparisons (living_count self.old.state)) 0 }
     {

@@ -36,6 +36,7 @@ loop-p-preserved-in-Some-get_mut g c =
       passed = λ j below. cast_passed cast at0 at at' low i h v c.recast.new.self inv.passed inv.ahead st.up st.between stands c.recast.ensures made.0 made.1 j (subst (λ l. j < l) st.low below);
       ahead = λ j past. cast_ahead cast at0 at at' low i h v c.recast.new.self inv.passed inv.ahead st.up st.between stands c.recast.ensures made.0 made.1 j (subst (λ l. l ≤ j) st.low past);
       live = g.met.A.ArenaTrait.live_with_value _ _ _ ∙ inv.live;
+      counter = g.met.A.ArenaTrait.counter_with_value _ _ _ ∙ inv.counter;
       room = g.met.A.ArenaTrait.room_with_value _ _ _ ∙ inv.room;
       looks = omega (arith, tick, tick', looks, count);
     }

@@ -20,6 +20,7 @@ invariant-loop-p g l =
           )) (g.A.ArenaTrait.entry_at l.fn.marks j);
       ahead : (j : ℕ) → (g.A.ArenaTrait.walk l.walk).low ≤ j → g.A.ArenaTrait.entry_at l.marks j ≡ g.A.ArenaTrait.entry_at l.fn.marks j;
       live : g.A.ArenaTrait.live_count l.marks ≡ g.A.ArenaTrait.live_count l.fn.marks;
+      counter : g.A.ArenaTrait.counter l.marks ≡ g.A.ArenaTrait.counter l.fn.marks;
       room : g.A.ArenaTrait.room l.marks ≡ g.A.ArenaTrait.room l.fn.marks;
       looks : l.looks ≡ l.fn.looks + 2 * live_below (g.A.ArenaTrait.entry_at l.fn.marks) (g.A.ArenaTrait.walk l.walk).low;
     }

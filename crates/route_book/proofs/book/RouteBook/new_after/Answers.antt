@@ -1,4 +1,4 @@
-use Rattle.std.proofs.Common.{◌≡◌, ◌∙◌, [], subst, sym, arith}
+use Rattle.std.proofs.Common.{◌∙◌, [], subst, sym, arith}
 use Rattle.route_lines.specs.Sound.{IsSound}
 use Rattle.route_book.proofs.NewLemmas.{new_kept}
 use Rattle.route_book.proofs.RoomLemmas.{counts_long, mirror_fits, part_fits}

@@ -6,6 +6,7 @@ use Rattle.triple_arena_chain.specs.Links.{ends_in}
 use Rattle.triple_arena_chain.specs.CanonicalLayoutLaws.{laid_same}
 use Rattle.route_book.specs.Book.{Book}
 use Rattle.route_book.specs.Removals.{references_in}
+use Rattle.route_book.proofs.OptionLemmas.{some_same}
 use Rattle.route_book.proofs.RunLemmas.{marks_run}
 use Rattle.route_book.proofs.WholeLemmas.{ready_places, ready_stops, ready_marks, looks_made, places_in_order, whole_kept, whole_marks, whole_stop_counter, whole_stops}
 use Rattle.route_book.proofs.book.RouteBook.pack_counted.Goals as goal
@@ -37,6 +38,7 @@ returns-clause-packed g c = record {
       c.recast_all_stops.ensures.entries c.recast_all_marks.ensures.entries c.recast_all_stops.ensures.ends c.recast_all_stops.ensures.counter c.recast_all_stops.ensures.live
       c.recast_all_stops.ensures.room
       c.recast_all_marks.ensures.live c.recast_all_marks.ensures.room;
+  mark_counter = c.recast_all_marks.ensures.counter ∙ some_same c.compress_all.ensures.compressed.counter;
   order = places_in_order g.P.Inx.PtrInxCore.number g.P.Gen.PtrGenCore.last _ _ _ _ _ _ _ _ _ _ c.self.invariant.book c.compress_all.ensures c.entries_stand_in_the_list.ensures;
   stop_runs = subst (IsLaidOut (ends_in g.P.Inx.PtrInxCore.number c.recast_all_stops.new.stops)) (sym (c.recast_all_stops.ensures.live ∙ c.compress_all.ensures.canonical.live))
       (laid_same (ends_in g.P.Inx.PtrInxCore.number c.compress_all.new.stops) (ends_in g.P.Inx.PtrInxCore.number c.recast_all_stops.new.stops) _
