@@ -25,7 +25,7 @@ use Rattle.route_lines.specs.State.{State, Rooms, Place, place_of}
 use Rattle.route_book.specs.Book.{in_order, IsBook}
 use Rattle.route_book.specs.Item.{StopView, MarkView}
 use Rattle.route_book.proofs.HoldLemmas.{booked_once}
-use Rattle.route_book.proofs.KeyLemmas.{along, along_some, ascending, live_along}
+use Rattle.route_book.proofs.KeyLemmas.{above_behind, along, along_some, ascending, live_along}
 use Rattle.route_book.proofs.NeighborLemmas.{held_place}
 use Rattle.route_book.proofs.OptionLemmas.{found_has, some_same, stands_under}
 
@@ -178,11 +178,6 @@ module _ (at : ℕ → Option (ℕ × Place)) where
         let both = subst (AllByRecursion (λ (p : Place). key < p.key)) (along_live j w all) above in
         (less_at j e.0 e.1 both.0, less_above w all.1 both.1)
 
-    -- keys above one that is above this one
-    above_too : (ps : List Place) (k : ℕ) → key < k → AllByRecursion (λ (p : Place). k < p.key) ps → AllByRecursion (λ (p : Place). key < p.key) ps
-    above_too [] k less all = tt
-    above_too (p ∷ ps) k less all = ((let more = all.0 in omega (arith, less, more)), above_too ps k less all.1)
-
     rise_behind : (low high : List ℕ) → Live (low ++ high) → KeysRise (along at (low ++ high)) → KeysRise (along at high)
     rise_behind [] high all rise = rise
     rise_behind (j ∷ low) high all rise = rise_behind low high all.1 (subst KeysRise (along_live j (low ++ high) all) rise).1
@@ -257,7 +252,7 @@ module _ (at : ℕ → Option (ℕ × Place)) where
             let split = along_some at f.first f.behind f.entry f.stands in
             let above : AllByRecursion (λ (p : Place). key < p.key) (along at part.high) =
             subst (λ l. AllByRecursion (λ (p : Place). key < p.key) (along at l)) (sym f.is)
-            (subst (AllByRecursion (λ (p : Place). key < p.key)) (sym split) (less, above_too (along at f.behind) f.entry.1.key less (subst KeysRise split rises).0)) in
+            (subst (AllByRecursion (λ (p : Place). key < p.key)) (sym split) (above_behind [] (along at f.behind) f.entry.1 key (subst KeysRise split rises) less)) in
             gap (less_above part.high live_high above)
             (λ j is. subst (IsNear 7 w i) (first_is (sym (ap (λ l. first_or l None) f.is) ∙ is)) (high_near f))
       ]

@@ -30,7 +30,7 @@ pub enum RoomError {
     /// The rooms together are past what an index can count.
     #[error("index")]
     Index,
-    /// A room is past what its stack can hold.
+    /// The rooms together are past what a stack of the backing holds.
     #[error("stack")]
     Stack,
     /// The memory was refused.
