@@ -1,11 +1,23 @@
-//! A rank balanced binary tree over numbered nodes, as definitions and laws: it knows no arena. The ordered arena writes its nodes, and
-//! proves by these that the tree keeps its rules. After "Rank-Balanced Trees" by Haeupler, Sen and Tarjan, with the rule that each
-//! node's rank is above each child's by 1 or 2.
+//! A rank balanced binary tree over numbered nodes: definitions, laws, and the calls that bring a node in or out. It knows no arena:
+//! where the nodes lie is a type with `Knots`, as that of the ordered arena. After "Rank-Balanced Trees" by Haeupler, Sen and Tarjan,
+//! with the rule that each node's rank is above each child's by 1 or 2.
 #![tactic(auto)]
 
+// A function's clause `no_more` asks nothing. It stands where a `requires` would be alone, whose answers take far longer to state.
+
+mod edges;
+mod insertion_repair;
+mod knots;
 pub mod laws;
+mod looks;
+mod removal_repair;
 mod side;
 mod tree_links;
+mod turn;
 
+pub use edges::exchange;
+pub use insertion_repair::bring_in;
+pub use knots::{Knots, reparent};
+pub use removal_repair::bring_out;
 pub use side::Side;
 pub use tree_links::{TreeLinks, side_of};

@@ -1,4 +1,4 @@
-//! Whether the keys ascend along the list. It is asked of an arena by its trait alone, so that little is known where it is proved.
+//! Whether the keys ascend along the list.
 ghost use Rattle.std.specs.Prelude.{◌≡◌, ◌≤◌, ◌↔◌, ℕ, List, Some, None, IsSome, IsTrue, length, ⊤};
 ghost use Rattle.std.specs.Option.{option_map};
 ghost use Rattle.triple_arena.specs.Content.{entry_at};
@@ -7,10 +7,11 @@ ghost use Rattle.triple_arena_chain.specs.Links.{ends_in};
 ghost use Rattle.triple_arena_ord.specs.Node.{items_in};
 ghost use Rattle.triple_arena_ord.specs.Ascending.{AscendsAlong};
 
+use crate::links::Links;
 use crate::{IndexNode, SimpleOrdItem};
 use std::cmp::Ordering;
 use triple_arena::{PtrCore, PtrInxCore};
-use triple_arena_chain::{ChainArenaTrait, IndexLink};
+use triple_arena_chain::IndexLink;
 use unreached::unreached;
 
 // The link at an index that is live.
@@ -18,12 +19,12 @@ fn link_at<P, T, A>(arena: &A, i: P::Inx) -> &IndexLink<P::Inx, IndexNode<P::Inx
 where
     P: PtrCore,
     T: Drop,
-    A: ChainArenaTrait<P, IndexNode<P::Inx, T>>,
+    A: Links<P, T>,
     requires live { IsSome (entry_at (A.links arena.now) (P.Inx.number i)) }
     requires no_more { ⊤ }
     ensures { option_map (λ e. e.1) (entry_at (A.links arena.now) (P.Inx.number i)) ≡ Some result.now }
 {
-    match arena.get_inx_link_no_gen(i) {
+    match arena.link_entry(i) {
         Some((_, link)) => link,
         None => unreached!(),
     }
@@ -34,7 +35,7 @@ pub(crate) fn ascends<P, T, A>(arena: &A, first: P::Inx, most: usize) -> bool
 where
     P: PtrCore,
     T: SimpleOrdItem + Drop,
-    A: ChainArenaTrait<P, IndexNode<P::Inx, T>>,
+    A: Links<P, T>,
     requires { (w : List ℕ) × IsLinear (ends_in P.Inx.number (A.links arena.now)) w
         × (first_or w None ≡ Some (P.Inx.number first)) × (length w ≤ most) }
     ensures { (w : List ℕ) → IsLinear (ends_in P.Inx.number (A.links arena.now)) w → first_or w None ≡ Some (P.Inx.number first)

@@ -7,9 +7,8 @@ ghost use Rattle.triple_arena_ord.specs.Node.{knots_in, prev_for, next_for};
 ghost use Rattle.triple_arena_ord.specs.Inserted.{IsAdded};
 ghost use Rattle.triple_arena_ord.specs.Ordered.{IsOrdered, StandsBeside, order_in, moved, replaced};
 
-use crate::insertion_repair::bring_in;
 use crate::{IndexNode, OrdSlots, SimpleOrdArenaNode};
-use rank_tree::Side;
+use rank_tree::{Side, bring_in};
 use triple_arena::{ArenaTrait, PtrCore, PtrInxCore};
 use triple_arena_chain::{ChainArena, ChainArenaTrait};
 use unreached::unreached;

@@ -23,22 +23,18 @@
 
 mod ascends;
 mod asks;
-mod edges;
-mod insertion_repair;
 mod item;
 mod kind;
 mod knots;
 pub mod laws;
 mod leaf;
+mod links;
 mod list_searches;
-mod looks;
 mod node;
 mod ord_arena;
 mod pair;
 mod rebuild;
-mod removal_repair;
 mod slots;
-mod turn;
 mod uprooting;
 
 /// The advancers, the iterators and the drains of `SimpleOrdArena`.

@@ -1,4 +1,4 @@
-//! Searches along the list. They know an arena by its trait alone, so that little is known where they are proved.
+//! Searches along the list.
 ghost use Rattle.std.specs.Prelude.{◌≡◌, ◌≢◌, ◌+◌, ◌≤◌, ℕ, List, None, IfSome, ⊤};
 ghost use Rattle.std.specs.Option.{option_map};
 ghost use Rattle.triple_arena_chain.specs.Chains.{IsLinear, On};
@@ -7,10 +7,11 @@ ghost use Rattle.triple_arena_ord.specs.Node.{items_in};
 ghost use Rattle.rank_tree.specs.Search.{IsParted};
 ghost use Rattle.triple_arena_ord.specs.Near.{IsAtHand, IsStop, IsWalked, path_from, asked_in, onward as onward_of};
 
-use crate::{IndexNode, SimpleOrdItem};
+use crate::SimpleOrdItem;
+use crate::links::Links;
 use std::cmp::Ordering;
 use triple_arena::{PtrCore, PtrInxCore};
-use triple_arena_chain::{ChainArenaTrait, IndexLink};
+use triple_arena_chain::IndexLink;
 use triple_arena_ptr::Probes;
 use unreached::unreached;
 
@@ -43,7 +44,7 @@ pub(crate) fn walk_from<P, T, A>(
 where
     P: PtrCore,
     T: SimpleOrdItem + Drop,
-    A: ChainArenaTrait<P, IndexNode<P::Inx, T>>,
+    A: Links<P, T>,
     requires place { (w : List ℕ) × IsLinear (ends_in P.Inx.number (A.links arena.now)) w × On w (P.Inx.number start) }
     requires no_more { ⊤ }
     ensures stops { (w : List ℕ) → IsLinear (ends_in P.Inx.number (A.links arena.now)) w → On w (P.Inx.number start)
@@ -61,7 +62,7 @@ where
     let mut i = start;
     let mut way = Ordering::Equal;
     'along: for _made in 0..num {
-        let link = match arena.get_inx_link_no_gen(i) {
+        let link = match arena.link_entry(i) {
             Some((_, link)) => link,
             None => unreached!(),
         };

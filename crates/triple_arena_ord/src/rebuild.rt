@@ -8,9 +8,8 @@ ghost use Rattle.triple_arena_ord.specs.Node.{knots_in, rest};
 ghost use Rattle.triple_arena_ord.specs.Rebuilt.{IsAhead, IsRebuilt};
 ghost use Rattle.rank_tree.specs.Halving.{part_rank, IsTopRank, IsBuilt};
 
-use crate::knots::{reparent, write};
 use crate::{OrdSlots, SimpleOrdArenaNode};
-use rank_tree::TreeLinks;
+use rank_tree::{Knots, TreeLinks, reparent};
 use triple_arena::{ArenaTrait, PtrCore};
 use triple_arena_chain::{ChainArena, ChainArenaTrait};
 use unreached::unreached;
@@ -74,10 +73,9 @@ fn build<P: PtrCore, T: Drop, S: OrdSlots<P, T>>(
     reparent(chains, left, Some(root));
     reparent(chains, right, Some(root));
     let rank = rank_of_part(count, top);
-    write(
-        chains,
+    chains.write(
         root,
-        TreeLinks {
+        &TreeLinks {
             parent: None,
             left,
             right,

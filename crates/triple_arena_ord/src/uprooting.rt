@@ -15,33 +15,11 @@ ghost use Rattle.rank_tree.specs.Repair.{Exchange};
 ghost use Rattle.triple_arena_ord.specs.Ordered.{IsOrdered, order_in};
 ghost use Rattle.triple_arena_ord.specs.Removal.{Loses, IsUprooted};
 
-use crate::knots::{read, relink, reparent, write};
-use crate::removal_repair::bring_out;
 use crate::{OrdSlots, SimpleOrdArenaNode};
+use rank_tree::{Knots, bring_out, exchange};
 use triple_arena::{ArenaTrait, InvalidationResult, PtrCore};
 use triple_arena_chain::{ChainArena, ChainArenaTrait, LinkNoGen};
 use unreached::unreached;
-
-// `new`, which is not in the tree, takes the place and the rank of `old`.
-fn exchange<P: PtrCore, T: Drop, S: OrdSlots<P, T>>(
-    chains: &mut ChainArena<P, SimpleOrdArenaNode<P, T>, S>,
-    root: &mut Option<P::Inx>,
-    old: P::Inx,
-    new: P::Inx,
-)
-    requires place { Exchange (knots_in P.Inx.number chains.old) (option_map P.Inx.number root.old) (P.Inx.number old) (P.Inx.number new) }
-    requires slot { IsSome (knots_in P.Inx.number chains.old (P.Inx.number new)) }
-    ensures does { (place : Exchange (knots_in P.Inx.number chains.old) (option_map P.Inx.number root.old) (P.Inx.number old) (P.Inx.number new))
-        → Stands (knots_in P.Inx.number chains.new) (option_map P.Inx.number root.new)
-        (plug place.context (node place.left (P.Inx.number new) place.rank place.right)) }
-    ensures keeps { rest chains.new ≡ rest chains.old }
-{
-    let knot = read(chains, old);
-    write(chains, new, knot);
-    reparent(chains, knot.left, Some(new));
-    reparent(chains, knot.right, Some(new));
-    relink(chains, root, knot.parent, old, Some(new));
-}
 
 // A node leaves the tree, and its link stays: one with a right child when the next one, which has no left child, takes its
 // place.
@@ -59,7 +37,7 @@ fn uproot<P: PtrCore, T: Drop, S: OrdSlots<P, T>>(
     ensures keeps { rest chains.new ≡ rest chains.old }
 {
     let _count = chains.len();
-    let knot = read(chains, gone);
+    let knot = chains.read(gone);
     match knot.right {
         None => bring_out(chains, root, gone),
         Some(_) => {

@@ -6,10 +6,9 @@ ghost use Rattle.rank_tree.specs.Search.{IsFreeAt};
 ghost use Rattle.triple_arena_ord.specs.Inserted.{StandsAt, IsSamePlace};
 ghost use Rattle.triple_arena_ord.specs.Ordered.{StandsBeside, order_in};
 
-use crate::knots::read;
 use crate::leaf::neighbors_beside;
 use crate::{OrdSlots, SimpleOrdArena};
-use rank_tree::Side;
+use rank_tree::{Knots, Side};
 use std::cmp::Ordering;
 use triple_arena::PtrCore;
 use unreached::unreached;
@@ -23,7 +22,7 @@ impl<P: PtrCore, T: Drop, S: OrdSlots<P, T>> SimpleOrdArena<P, T, S> {
         ensures same { (w : List ℕ) (n : ℕ) → StandsAt (Some (P.Inx.number result.0, result.1)) (order_in P.Inx.number self.now) w n
             → StandsBeside Side.Left (order_in P.Inx.number self.now) w (P.Inx.number i) n }
     {
-        if read(&self.chains, i).left.is_none() {
+        if self.chains.read(i).left.is_none() {
             return (i, Ordering::Less);
         }
         match neighbors_beside(&self.chains, i, Side::Left).0 {
@@ -40,7 +39,7 @@ impl<P: PtrCore, T: Drop, S: OrdSlots<P, T>> SimpleOrdArena<P, T, S> {
         ensures same { (w : List ℕ) (n : ℕ) → StandsAt (Some (P.Inx.number result.0, result.1)) (order_in P.Inx.number self.now) w n
             → StandsBeside Side.Right (order_in P.Inx.number self.now) w (P.Inx.number i) n }
     {
-        if read(&self.chains, i).right.is_none() {
+        if self.chains.read(i).right.is_none() {
             return (i, Ordering::Greater);
         }
         match neighbors_beside(&self.chains, i, Side::Right).1 {

@@ -36,7 +36,7 @@ linked g c =
 
 -- and the tree one more leaf
 leaf : (g : _) (c : After-bring_in g)
-    → Leaf g.P.Inx.PtrInxCore.number (linked g (goal.at.After-bring_in g c).After-inx) c.bring_in.new.chains
+    → Leaf g.P.Inx.PtrInxCore.number (linked g (goal.at.After-bring_in g c).After-inx) c.bring_in.new.knots
     (option_map g.P.Inx.PtrInxCore.number c.bring_in.new.root)
 leaf g c =
     let link = linked g (goal.at.After-bring_in g c).After-inx in
@@ -61,10 +61,10 @@ returns-clause-added g c = (leaf g (goal.at.returns-clause-added g c).After-brin
 
 pub returns-clause-counter : goal.returns-clause-counter
 returns-clause-counter g c =
-    (rested g.P.Inx.PtrInxCore.number c.insert_in_gap_within_capacity.new.self c.bring_in.new.chains c.bring_in.ensures.keeps).kept.counter
+    (rested g.P.Inx.PtrInxCore.number c.insert_in_gap_within_capacity.new.self c.bring_in.new.knots c.bring_in.ensures.keeps).kept.counter
     ∙ c.in-Ok.ensures.placed.counter
 
 pub returns-clause-room : goal.returns-clause-room
 returns-clause-room g c =
-    (rested g.P.Inx.PtrInxCore.number c.insert_in_gap_within_capacity.new.self c.bring_in.new.chains c.bring_in.ensures.keeps).kept.room
+    (rested g.P.Inx.PtrInxCore.number c.insert_in_gap_within_capacity.new.self c.bring_in.new.knots c.bring_in.ensures.keeps).kept.room
     ∙ c.in-Ok.ensures.room

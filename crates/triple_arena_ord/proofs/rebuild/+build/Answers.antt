@@ -62,8 +62,8 @@ reparent-requires-2-clause-live g t c =
     let is : number c.in-Some.root ≡ p.i = cc came in
     let r = right_ahead number c.args.chains.now c.build-left.new.chains (option_map number c.args.cursor.now) (option_map number c.next_of.result) c.args.count
     (number c.in-Some.root) c.requires.0 c.requires.1.after c.build-left.ensures.keeps p is c.next_of.ensures in
-    lives_if number c.build-right.result (knots_in number c.reparent.new.chains)
-    (λ i root. stays_there number c.build-right.new.chains c.reparent.new.chains i c.reparent.ensures.keeps
+    lives_if number c.build-right.result (knots_in number c.reparent.new.knots)
+    (λ i root. stays_there number c.build-right.new.chains c.reparent.new.knots i c.reparent.ensures.keeps
     (root_lives _ _ _ _ _ (c.build-right.ensures.built p.u r.0) i root))
 
 pub write-requires-clause-live : goal.write-requires-clause-live
@@ -74,7 +74,7 @@ write-requires-clause-live g t c =
     let came : Some (number c.in-Some.root) ≡ Some p.i =
     sym (ap (option_map number) c.in-Some.is) ∙ c.build-left.ensures.goes_on p.v p.left ∙ p.left_after in
     let is : number c.in-Some.root ≡ p.i = cc came in
-    stays_there number c.args.chains.now c.reparent-2.new.chains (number c.in-Some.root)
+    stays_there number c.args.chains.now c.reparent-2.new.knots (number c.in-Some.root)
     (c.reparent-2.ensures.keeps ∙ c.reparent.ensures.keeps ∙ c.build-right.ensures.keeps ∙ c.build-left.ensures.keeps)
     (live_knot number c.args.chains.now (number c.in-Some.root) (subst (λ k. IsSome (ends_in number c.args.chains.now k)) (sym is) p.live))
 

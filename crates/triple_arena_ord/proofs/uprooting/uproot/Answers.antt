@@ -42,9 +42,9 @@ exchange-requires g c =
     let over = over_at number o _ _ s (c.requires.next ∙ ap (option_map number) c.in-Some-next.is) in
     let brought = c.bring_out-in-Some in
     record {
-      place = exchange_place number o c.requires.ordered _ _ c.requires.lives over brought.new.chains (option_map number brought.new.root)
+      place = exchange_place number o c.requires.ordered _ _ c.requires.lives over brought.new.knots (option_map number brought.new.root)
           (brought.ensures.does over.loose);
-      slot = over_lives number o _ _ brought.new.chains over brought.ensures.keeps;
+      slot = over_lives number o _ _ brought.new.knots over brought.ensures.keeps;
     }
 
 pub returns-in-None-clause-uprooted : goal.returns-in-None-clause-uprooted
@@ -53,7 +53,7 @@ returns-in-None-clause-uprooted g c =
     let o : Ordered g.row.P-Inx.Denot g.row.T.Denot = record { chains = c.args.chains.now; root = option_map number c.args.root.now } in
     let there = out number o c.requires.ordered (number c.args.gone) (small _ _ c.len-count.ensures.value (search rules)) c.requires.lives
     _ c.read-knot.ensures (ap (option_map number) c.in-None.is) in
-    uprooted number o (record { chains = c.bring_out.new.chains; root = option_map number c.bring_out.new.root }) (number c.args.gone) there
+    uprooted number o (record { chains = c.bring_out.new.knots; root = option_map number c.bring_out.new.root }) (number c.args.gone) there
     (c.bring_out.ensures.does there.loose)
 
 pub returns-in-Some-next-clause-uprooted : goal.returns-in-Some-next-clause-uprooted
@@ -66,5 +66,5 @@ returns-in-Some-next-clause-uprooted g c =
     let brought = c.bring_out-in-Some in
     let root1 = option_map number brought.new.root in
     let restored = brought.ensures.does over.loose in
-    replaced number o c.requires.ordered _ _ c.requires.lives over brought.new.chains root1 restored c.exchange.new.chains (option_map number c.exchange.new.root)
-    (c.exchange.ensures.does (exchange_place number o c.requires.ordered _ _ c.requires.lives over brought.new.chains root1 restored))
+    replaced number o c.requires.ordered _ _ c.requires.lives over brought.new.knots root1 restored c.exchange.new.knots (option_map number c.exchange.new.root)
+    (c.exchange.ensures.does (exchange_place number o c.requires.ordered _ _ c.requires.lives over brought.new.knots root1 restored))

@@ -1,0 +1,145 @@
+use Rattle.std.proofs.Common.{◌-◌, ◌<◌, ℕ, List, refl, ap, arith}
+use Rattle.std.specs.Option.{option_map}
+use Rattle.rank_tree.proofs.NameLemmas.{if_live_from, if_named}
+use Rattle.rank_tree.specs.Named.{named}
+use Rattle.rank_tree.specs.Store.{rank_in}
+use Rattle.rank_tree.specs.Repair.{Broken}
+use Rattle.rank_tree.specs.SpotLaws.{spot_low}
+use Rattle.rank_tree.specs.MendLaws.{MendReads, Lowered, Higher, Sibling, broken_lives, broken_reads, broken_ends, broken_lower, broken_sibling, mend_reads, not_fit, not_fit_at, mend_higher, higher_some, mend_lower, sibling_short, sets_lives}
+use Rattle.rank_tree.proofs.removal_repair.mend.Goals.{After-rank_at-right, After-set_rank, After-child, In-Some, After-set_rank-3}
+use Rattle.rank_tree.proofs.removal_repair.mend.Goals as goal
+
+-- what was read is what stands there
+read : (g : _) (c : After-rank_at-right g) (w : List ℕ)
+    (h : Broken (g.K.Knots.knots c.args.knots.now) (option_map g.P.Inx.PtrInxCore.number c.args.root.now)
+    (g.P.Inx.PtrInxCore.number c.args.high) w)
+    → MendReads _ _ _ w h (named g.P.Inx.PtrInxCore.number c.read-above.result) c.rank_at-left.result c.rank_at-right.result
+read g c w h =
+    mend_reads _ _ _ _ _ _ c.read-above.ensures c.rank_at-left.ensures.some c.rank_at-left.ensures.none
+    c.rank_at-right.ensures.some c.rank_at-right.ensures.none w h
+
+-- both children are two lower, and the node loses one rank
+falls : (g : _) (c : After-set_rank g) (w : List ℕ)
+    → Broken (g.K.Knots.knots c.args.knots.now) (option_map g.P.Inx.PtrInxCore.number c.args.root.now)
+    (g.P.Inx.PtrInxCore.number c.args.high) w
+    → Lowered (g.K.Knots.knots c.set_rank.new.self) (option_map g.P.Inx.PtrInxCore.number c.args.root.now)
+    (g.P.Inx.PtrInxCore.number c.args.high) (g.K.Knots.knots c.args.knots.now)
+    (option_map g.P.Inx.PtrInxCore.number c.read-above.result.parent) w
+falls g c w h =
+    let m = read g (goal.at.After-set_rank g c).After-rank_at-right w h in
+    broken_lower _ _ _ _ _ c.read-above.ensures (c.set_rank.ensures.does _ c.read-above.ensures) w h (omega arith) (omega arith)
+    (not_fit_at _ _ _ _ h _ _ _ m (not_fit _ _ _ _ c.is_fit.ensures c.if-is_fit.false))
+
+-- the higher child is one lower, and the other three
+higher : (g : _) (c : After-child g) (w : List ℕ)
+    (h : Broken (g.K.Knots.knots c.args.knots.now) (option_map g.P.Inx.PtrInxCore.number c.args.root.now)
+    (g.P.Inx.PtrInxCore.number c.args.high) w)
+    → Higher _ _ _ w h c.higher.result (option_map g.P.Inx.PtrInxCore.number c.child.result)
+higher g c w h =
+    let m = read g (goal.at.After-child g c).After-rank_at-right w h in
+    mend_higher _ _ _ _ _ _ _ _ w h m c.read-above.ensures (not_fit _ _ _ _ c.is_fit.ensures c.if-is_fit.false) (omega arith)
+    c.higher.ensures.right c.higher.ensures.left c.child.ensures
+
+sibling : (g : _) (c : In-Some g) (w : List ℕ)
+    → Broken (g.K.Knots.knots c.args.knots.now) (option_map g.P.Inx.PtrInxCore.number c.args.root.now)
+    (g.P.Inx.PtrInxCore.number c.args.high) w
+    → Sibling (g.K.Knots.knots c.args.knots.now) (option_map g.P.Inx.PtrInxCore.number c.args.root.now)
+    (g.P.Inx.PtrInxCore.number c.in-Some.low) w (g.P.Inx.PtrInxCore.number c.args.high)
+sibling g c w h =
+    broken_sibling _ _ _ _ _ _ w h (higher g (goal.at.In-Some g c).After-child w h) (ap (option_map g.P.Inx.PtrInxCore.number) c.in-Some.is)
+
+-- the sibling and the node lose one rank each
+both_fall : (g : _) (c : After-set_rank-3 g) (w : List ℕ)
+    → Broken (g.K.Knots.knots c.args.knots.now) (option_map g.P.Inx.PtrInxCore.number c.args.root.now)
+    (g.P.Inx.PtrInxCore.number c.args.high) w
+    → Lowered (g.K.Knots.knots c.set_rank-3.new.self) (option_map g.P.Inx.PtrInxCore.number c.args.root.now)
+    (g.P.Inx.PtrInxCore.number c.args.high) (g.K.Knots.knots c.args.knots.now)
+    (option_map g.P.Inx.PtrInxCore.number c.read-above.result.parent) w
+both_fall g c w h =
+    let s = sibling g (goal.at.After-set_rank-3 g c).In-Some w h in
+    let r = c.look_around-near.ensures _ s.spot in
+    mend_lower _ _ _ _ _ _ _ _ _ w s c.read-above.ensures (omega (arith, s, s.fits, r)) (omega (arith, s, s.fits, r))
+    (ap (λ z. z - 1) r.low_rank_is) refl c.set_rank-2.ensures.does c.set_rank-3.ensures.does
+
+pub read-above-requires-clause-live : goal.read-above-requires-clause-live
+read-above-requires-clause-live g c = broken_lives _ _ _ _ c.requires.1
+
+pub rank_at-left-requires-clause-live : goal.rank_at-left-requires-clause-live
+rank_at-left-requires-clause-live g c =
+    if_live_from g.P.Inx.PtrInxCore.number (g.K.Knots.knots c.args.knots.now) c.read-above.result.left
+    (broken_reads _ _ _ _ c.read-above.ensures _ c.requires.1).left_lives
+
+pub rank_at-right-requires-clause-live : goal.rank_at-right-requires-clause-live
+rank_at-right-requires-clause-live g c =
+    if_live_from g.P.Inx.PtrInxCore.number (g.K.Knots.knots c.args.knots.now) c.read-above.result.right
+    (broken_reads _ _ _ _ c.read-above.ensures _ c.requires.1).right_lives
+
+pub is_fit-requires-clause-low_left : goal.is_fit-requires-clause-low_left
+is_fit-requires-clause-low_left g c =
+    omega (arith, read g (goal.at.is_fit-requires-clause-low_left g c).After-rank_at-right _ c.requires.1)
+
+pub is_fit-requires-clause-low_right : goal.is_fit-requires-clause-low_right
+is_fit-requires-clause-low_right g c =
+    omega (arith, read g (goal.at.is_fit-requires-clause-low_right g c).After-rank_at-right _ c.requires.1)
+
+pub returns-then-is_fit-clause-pending : goal.returns-then-is_fit-clause-pending
+returns-then-is_fit-clause-pending g c = λ w h.
+    let m = read g (goal.at.returns-then-is_fit-clause-pending g c).After-rank_at-right w h in
+    let f = c.is_fit.ensures.0 c.if-is_fit.true in
+    broken_ends _ _ _ w h (omega arith) (omega arith) (omega arith)
+
+pub overflow_add-max : goal.overflow_add-max
+overflow_add-max g c = omega (arith, read g (goal.at.overflow_add-max g c).After-rank_at-right _ c.requires.1)
+
+pub returns-then-max-rank-clause-pending : goal.returns-then-max-rank-clause-pending
+returns-then-max-rank-clause-pending g c = λ w h. (falls g (goal.at.returns-then-max-rank-clause-pending g c).After-set_rank w h).pending
+
+pub returns-then-max-rank-clause-rises : goal.returns-then-max-rank-clause-rises
+returns-then-max-rank-clause-rises g c =
+    let number = g.P.Inx.PtrInxCore.number in
+    let old = g.K.Knots.knots c.args.knots.now in
+    if_named number (λ i. rank_in old (number c.args.high) < rank_in (g.K.Knots.knots c.set_rank.new.self) i) c.read-above.result.parent
+    (falls g (goal.at.returns-then-max-rank-clause-rises g c).After-set_rank _ c.requires.1).rises
+
+pub unreached-unreachable-requires : goal.unreached-unreachable-requires
+unreached-unreachable-requires g c =
+    let h = c.requires.1 in
+    higher_some _ _ _ _ _ _ h (higher g (goal.at.unreached-unreachable-requires g c).After-child _ h)
+    (ap (option_map g.P.Inx.PtrInxCore.number) c.in_default.is)
+
+pub look_around-near-requires-clause-spot : goal.look_around-near-requires-clause-spot
+look_around-near-requires-clause-spot g c =
+    (option_map g.P.Inx.PtrInxCore.number c.args.root.now, (sibling g (goal.at.look_around-near-requires-clause-spot g c).In-Some _ c.requires.1).spot)
+
+pub overflow_add-max-2 : goal.overflow_add-max-2
+overflow_add-max-2 g c =
+    let s = sibling g (goal.at.overflow_add-max-2 g c).In-Some _ c.requires.1 in
+    omega (arith, s, s.fits, c.look_around-near.ensures _ s.spot)
+
+pub shorten-requires-clause-short : goal.shorten-requires-clause-short
+shorten-requires-clause-short g c =
+    let s = sibling g (goal.at.shorten-requires-clause-short g c).In-Some _ c.requires.1 in
+    (c.requires.0, sibling_short _ _ _ _ _ s (omega (arith, s, s.fits, c.look_around-near.ensures _ s.spot)))
+
+pub returns-then-near-max-clause-pending : goal.returns-then-near-max-clause-pending
+returns-then-near-max-clause-pending g c = λ w h.
+    let s = sibling g (goal.at.returns-then-near-max-clause-pending g c).In-Some w h in
+    c.shorten.ensures.does w (sibling_short _ _ _ _ w s (omega (arith, s, s.fits, c.look_around-near.ensures _ s.spot)))
+
+pub set_rank-requires-2-clause-live : goal.set_rank-requires-2-clause-live
+set_rank-requires-2-clause-live g c = spot_low _ _ _ (sibling g (goal.at.set_rank-requires-2-clause-live g c).In-Some _ c.requires.1).spot
+
+pub set_rank-requires-3-clause-live : goal.set_rank-requires-3-clause-live
+set_rank-requires-3-clause-live g c =
+    let s = sibling g (goal.at.set_rank-requires-3-clause-live g c).In-Some _ c.requires.1 in
+    sets_lives _ _ _ _ (spot_low _ _ _ s.spot) c.set_rank-2.ensures.does _ (broken_lives _ _ _ _ c.requires.1)
+
+pub returns-clause-pending : goal.returns-clause-pending
+returns-clause-pending g c = λ w h. (both_fall g (goal.at.returns-clause-pending g c).After-set_rank-3 w h).pending
+
+pub returns-clause-rises : goal.returns-clause-rises
+returns-clause-rises g c =
+    let number = g.P.Inx.PtrInxCore.number in
+    let old = g.K.Knots.knots c.args.knots.now in
+    if_named number (λ i. rank_in old (number c.args.high) < rank_in (g.K.Knots.knots c.set_rank-3.new.self) i) c.read-above.result.parent
+    (both_fall g (goal.at.returns-clause-rises g c).After-set_rank-3 _ c.requires.1).rises

@@ -1,0 +1,18 @@
+use Rattle.std.proofs.Common.{◌<◌, ap, subst}
+use Rattle.std.specs.Option.{option_map}
+use Rattle.rank_tree.proofs.NameLemmas.{if_numbered}
+use Rattle.rank_tree.specs.Store.{rank_in}
+use Rattle.rank_tree.specs.Repair.{Pending}
+use Rattle.rank_tree.specs.MendLaws.{mend_falls, broken_small}
+use Rattle.rank_tree.proofs.removal_repair.repair_removed.Goals as goal
+
+pub climb-smaller : goal.climb-smaller
+climb-smaller g c =
+    let number = g.P.Inx.PtrInxCore.number in
+    let old = g.K.Knots.knots c.climb.knots in
+    let new = g.K.Knots.knots c.mend-at.new.knots in
+    let at_is = ap (option_map number) c.in-Some.is in
+    let rises = if_numbered number (λ i. rank_in old (number c.in-Some.high) < rank_in new i) c.mend-at.result c.mend-at.ensures.rises in
+    let broken = subst (λ l. Pending old (option_map number c.climb.root) l c.requires.pending.0) at_is
+    (c.climb.invariant.0 c.requires.pending.0 c.requires.pending.1) in
+    mend_falls old new _ _ (option_map number c.mend-at.result) at_is rises (broken_small _ (option_map number c.climb.root) _ _ broken)

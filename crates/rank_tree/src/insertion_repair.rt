@@ -1,0 +1,85 @@
+//! The rank rules are restored after an insertion.
+ghost use Rattle.std.specs.Prelude.{◌≡◌, ◌≢◌, ℕ, ◌+◌, ◌<◌, ◌≤◌, List, IsSome, ⊤};
+ghost use Rattle.std.specs.Option.{option_map};
+ghost use Rattle.rank_tree.specs.Tree.{walk};
+ghost use Rattle.rank_tree.specs.Repair.{Leaning, Grown, Restored, Gap, filled};
+
+use crate::edges::attach;
+use crate::knots::rank_at;
+use crate::turn::turn;
+use crate::{Knots, Side, side_of};
+use triple_arena_ptr::PtrCore;
+use unreached::unreached;
+
+fn lean<N, P: PtrCore, K: Knots<N, P>>(knots: &mut K, root: &mut Option<P::Inx>, low: P::Inx)
+    requires leaning { (w : List ℕ) × Leaning (K.knots knots.old) (option_map P.Inx.number root.old) (P.Inx.number low) w }
+    requires no_more { ⊤ }
+    ensures does { (w : List ℕ) → Leaning (K.knots knots.old) (option_map P.Inx.number root.old) (P.Inx.number low) w
+        → Restored (K.knots knots.new) (option_map P.Inx.number root.new) w }
+    ensures keeps { K.rest knots.new ≡ K.rest knots.old }
+{
+    let below = knots.read(low);
+    let Some(high) = below.parent else {
+        unreached!()
+    };
+    let above = knots.read(high);
+    let side = side_of(above, low);
+    let inner = below.child(side.other());
+    let rank = below.rank;
+    if rank_at(knots, inner) + 1 < rank {
+        turn(knots, root, low, rank, rank - 1);
+    } else {
+        let Some(middle) = inner else { unreached!() };
+        turn(knots, root, middle, rank, rank - 1);
+        turn(knots, root, middle, rank, rank - 1);
+    }
+}
+
+/// From one subtree that has grown in rank to a tree that keeps the rules.
+pub(crate) fn repair_inserted<N, P: PtrCore, K: Knots<N, P>>(
+    knots: &mut K,
+    root: &mut Option<P::Inx>,
+    start: P::Inx,
+)
+    requires grown { (w : List ℕ) × Grown (K.knots knots.old) (option_map P.Inx.number root.old) (P.Inx.number start) w }
+    requires no_more { ⊤ }
+    ensures does { (w : List ℕ) → Grown (K.knots knots.old) (option_map P.Inx.number root.old) (P.Inx.number start) w
+        → Restored (K.knots knots.new) (option_map P.Inx.number root.new) w }
+    ensures keeps { K.rest knots.new ≡ K.rest knots.old }
+{
+    let mut low = start;
+    'climb: loop {
+        let below = knots.read(low);
+        let Some(high) = below.parent else { return };
+        let above = knots.read(high);
+        if below.rank < above.rank {
+            return;
+        }
+        let side = side_of(above, low);
+        let sibling = above.child(side.other());
+        if rank_at(knots, sibling) + 1 < below.rank {
+            lean(knots, root, low);
+            return;
+        }
+        knots.set_rank(high, above.rank + 1);
+        low = high;
+    }
+}
+
+/// A new leaf below a node, after which the rules hold.
+pub fn bring_in<N, P: PtrCore, K: Knots<N, P>>(
+    knots: &mut K,
+    root: &mut Option<P::Inx>,
+    holder: P::Inx,
+    side: Side,
+    new: P::Inx,
+)
+    requires gap { Gap (K.knots knots.old) (option_map P.Inx.number root.old) (P.Inx.number holder) side (P.Inx.number new) }
+    requires slot { IsSome (K.knots knots.old (P.Inx.number new)) }
+    ensures does { (gap : Gap (K.knots knots.old) (option_map P.Inx.number root.old) (P.Inx.number holder) side (P.Inx.number new))
+        → Restored (K.knots knots.new) (option_map P.Inx.number root.new) (walk (filled gap)) }
+    ensures keeps { K.rest knots.new ≡ K.rest knots.old }
+{
+    attach(knots, *root, holder, side, new);
+    repair_inserted(knots, root, new);
+}

@@ -1,0 +1,108 @@
+//! Where the nodes of a tree are kept, and changes of its links.
+ghost use Rattle.std.specs.Prelude.{◌≡◌, ℕ, Some, None, IsSome, IfSome, ⊤};
+ghost use Rattle.std.specs.Option.{option_map};
+ghost use Rattle.rank_tree.specs.Store.{Store, Written, Reparented, Relinked, with_child, with_parent, with_rank};
+ghost use Rattle.rank_tree.specs.Knot.{Knot};
+ghost use Rattle.rank_tree.specs.Named.{named};
+
+use crate::{Side, TreeLinks, side_of};
+use triple_arena_ptr::PtrCore;
+
+/// A place that keeps the nodes of a tree in values of the type `N`, by the indexes of a pointer type, and whatever else
+/// beside them.
+pub trait Knots<N, P: PtrCore> {
+    // The node at each index.
+    ghost knots: { Self → Store };
+
+    // What stands beside the nodes.
+    ghost Rest: { Type 0 };
+
+    ghost rest: { Self → Rest };
+
+    /// The node at an index that has one.
+    fn read(&self, i: P::Inx) -> TreeLinks<P::Inx>
+        requires live { IsSome (knots self.now (P.Inx.number i)) }
+        requires no_more { ⊤ }
+        ensures { knots self.now (P.Inx.number i) ≡ Some (named P.Inx.number result) };
+
+    /// A node takes the place of the one at an index.
+    fn write(&mut self, i: P::Inx, knot: &TreeLinks<P::Inx>)
+        requires live { IsSome (knots self.old (P.Inx.number i)) }
+        requires no_more { ⊤ }
+        ensures written { Written (knots self.old) (knots self.new) (P.Inx.number i) (named P.Inx.number knot.now) }
+        ensures keeps { rest self.new ≡ rest self.old };
+
+    /// A node gets another parent.
+    fn set_parent(&mut self, i: P::Inx, parent: &Option<P::Inx>)
+        requires { IsSome (knots self.old (P.Inx.number i)) }
+        ensures does { (v : Knot) → knots self.old (P.Inx.number i) ≡ Some v
+            → Written (knots self.old) (knots self.new) (P.Inx.number i) (with_parent (option_map P.Inx.number parent.now) v) }
+        ensures keeps { rest self.new ≡ rest self.old };
+
+    /// A node gets another child on a side.
+    fn set_child(&mut self, i: P::Inx, side: Side, child: &Option<P::Inx>)
+        requires { IsSome (knots self.old (P.Inx.number i)) }
+        ensures does { (v : Knot) → knots self.old (P.Inx.number i) ≡ Some v
+            → Written (knots self.old) (knots self.new) (P.Inx.number i) (with_child side (option_map P.Inx.number child.now) v) }
+        ensures keeps { rest self.new ≡ rest self.old };
+
+    /// A node gets another rank.
+    fn set_rank(&mut self, i: P::Inx, rank: u8)
+        requires live { IsSome (knots self.old (P.Inx.number i)) }
+        requires no_more { ⊤ }
+        ensures does { (v : Knot) → knots self.old (P.Inx.number i) ≡ Some v
+            → Written (knots self.old) (knots self.new) (P.Inx.number i) (with_rank rank v) }
+        ensures keeps { rest self.new ≡ rest self.old };
+}
+
+/// The node that `link` names, if it names one, gets this parent.
+pub fn reparent<N, P: PtrCore, K: Knots<N, P>>(
+    knots: &mut K,
+    link: Option<P::Inx>,
+    parent: Option<P::Inx>,
+)
+    requires live { IfSome link (λ i. IsSome (K.knots knots.old (P.Inx.number i))) }
+    requires no_more { ⊤ }
+    ensures does { Reparented (K.knots knots.old) (K.knots knots.new) (option_map P.Inx.number link) (option_map P.Inx.number parent) }
+    ensures keeps { K.rest knots.new ≡ K.rest knots.old }
+{
+    if let Some(i) = link {
+        knots.set_parent(i, &parent);
+    }
+}
+
+/// What led to `from` leads to `to`: a child link of the holder, or the root.
+pub(crate) fn relink<N, P: PtrCore, K: Knots<N, P>>(
+    knots: &mut K,
+    root: &mut Option<P::Inx>,
+    holder: Option<P::Inx>,
+    from: P::Inx,
+    to: Option<P::Inx>,
+)
+    requires live { IfSome holder (λ i. IsSome (K.knots knots.old (P.Inx.number i))) }
+    requires no_more { ⊤ }
+    ensures does { Relinked (K.knots knots.old) (K.knots knots.new) (option_map P.Inx.number root.old) (option_map P.Inx.number root.new)
+        (option_map P.Inx.number holder) (P.Inx.number from) (option_map P.Inx.number to) }
+    ensures keeps { K.rest knots.new ≡ K.rest knots.old }
+{
+    match holder {
+        Some(i) => {
+            let side = side_of(knots.read(i), from);
+            knots.set_child(i, side, &to);
+        }
+        None => *root = to,
+    }
+}
+
+/// The rank of the node that `link` names, 0 where there is none.
+pub(crate) fn rank_at<N, P: PtrCore, K: Knots<N, P>>(knots: &K, link: Option<P::Inx>) -> u8
+    requires live { IfSome link (λ i. IsSome (K.knots knots.now (P.Inx.number i))) }
+    requires no_more { ⊤ }
+    ensures some { (i : ℕ) → option_map P.Inx.number link ≡ Some i → IfSome (K.knots knots.now i) (λ v. result ≡ v.rank) }
+    ensures none { option_map P.Inx.number link ≡ None → result ≡ 0 }
+{
+    match link {
+        Some(i) => knots.read(i).rank,
+        None => 0,
+    }
+}

@@ -1,0 +1,49 @@
+//! What the repair after a removal reads round a node and its parent.
+ghost use Rattle.std.specs.Prelude.{◌≡◌, ℕ, ◌+◌, ◌<◌, ◌≤◌, Option, ⊤};
+ghost use Rattle.std.specs.Option.{option_map};
+ghost use Rattle.rank_tree.specs.Repair.{Spot, IsAround};
+
+use crate::knots::rank_at;
+use crate::{Knots, side_of};
+use triple_arena_ptr::PtrCore;
+use unreached::unreached;
+
+#[derive(Clone, Copy, Drop)]
+pub(crate) struct Around<I> {
+    pub(crate) high: I,
+    pub(crate) inner: Option<I>,
+    pub(crate) low_rank: u8,
+    pub(crate) high_rank: u8,
+    pub(crate) outer_rank: u8,
+    pub(crate) inner_rank: u8,
+    pub(crate) far_rank: u8,
+}
+
+/// A node that has a parent: `outer` and `inner` are its children, `far` is its sibling.
+pub(crate) fn look_around<N, P: PtrCore, K: Knots<N, P>>(knots: &K, low: P::Inx) -> Around<P::Inx>
+    requires spot { (root : Option ℕ) × Spot (K.knots knots.now) root (P.Inx.number low) }
+    requires no_more { ⊤ }
+    ensures { (root : Option ℕ) → (spot : Spot (K.knots knots.now) root (P.Inx.number low))
+        → IsAround (K.knots knots.now) root (P.Inx.number low) spot (P.Inx.number result.high) (option_map P.Inx.number result.inner)
+        result.low_rank result.high_rank result.outer_rank result.inner_rank result.far_rank }
+{
+    let below = knots.read(low);
+    let Some(high) = below.parent else {
+        unreached!()
+    };
+    let above = knots.read(high);
+    let side = side_of(above, low);
+    let away = side.other();
+    let outer = below.child(side);
+    let inner = below.child(away);
+    let far = above.child(away);
+    Around {
+        high,
+        inner,
+        low_rank: below.rank,
+        high_rank: above.rank,
+        outer_rank: rank_at(knots, outer),
+        inner_rank: rank_at(knots, inner),
+        far_rank: rank_at(knots, far),
+    }
+}

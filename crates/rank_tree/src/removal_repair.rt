@@ -1,0 +1,127 @@
+//! The rank rules are restored after a removal.
+ghost use Rattle.std.specs.Prelude.{◌≡◌, ◌≢◌, ℕ, ◌+◌, ◌<◌, ◌≤◌, List, IfSome, IsTrue, ◌↔◌, ⊤};
+ghost use Rattle.std.specs.Option.{option_map};
+ghost use Rattle.rank_tree.specs.Store.{rank_in};
+ghost use Rattle.rank_tree.specs.Tree.{walk};
+ghost use Rattle.rank_tree.specs.Shape.{plug};
+ghost use Rattle.rank_tree.specs.Repair.{Short, Broken, Pending, Restored, Loose};
+
+use crate::edges::detach;
+use crate::knots::rank_at;
+use crate::looks::look_around;
+use crate::turn::turn;
+use crate::{Knots, Side};
+use triple_arena_ptr::PtrCore;
+use unreached::unreached;
+
+/// The higher child `low` turns up, or its inner child does, twice.
+fn shorten<N, P: PtrCore, K: Knots<N, P>>(knots: &mut K, root: &mut Option<P::Inx>, low: P::Inx)
+    requires short { (w : List ℕ) × Short (K.knots knots.old) (option_map P.Inx.number root.old) (P.Inx.number low) w }
+    requires no_more { ⊤ }
+    ensures does { (w : List ℕ) → Short (K.knots knots.old) (option_map P.Inx.number root.old) (P.Inx.number low) w
+        → Restored (K.knots knots.new) (option_map P.Inx.number root.new) w }
+    ensures keeps { K.rest knots.new ≡ K.rest knots.old }
+{
+    let near = look_around(knots, low);
+    let rank = near.high_rank;
+    if near.low_rank <= near.outer_rank + 1 {
+        turn(knots, root, low, rank, near.inner_rank + 1);
+    } else {
+        let Some(middle) = near.inner else {
+            unreached!()
+        };
+        turn(knots, root, middle, rank, rank - 2);
+        turn(knots, root, middle, rank, rank - 2);
+    }
+}
+
+fn higher(left: u8, right: u8) -> Side
+    ensures right { left < right → result ≡ Side.Right }
+    ensures left { right ≤ left → result ≡ Side.Left }
+{
+    if left < right {
+        Side::Right
+    } else {
+        Side::Left
+    }
+}
+
+/// Whether the rule of a node over two children that are lower holds.
+fn is_fit(left: u8, rank: u8, right: u8) -> bool
+    requires low_left { left ≤ 127 }
+    requires low_right { right ≤ 127 }
+    ensures { IsTrue result ↔ ((rank ≤ left + 2) × (rank ≤ right + 2) × (rank ≤ left + right + 1)) }
+{
+    rank <= left + 2 && rank <= right + 2 && rank <= left + right + 1
+}
+
+/// One step: the rules are restored, or are broken at most at the parent.
+fn mend<N, P: PtrCore, K: Knots<N, P>>(
+    knots: &mut K,
+    root: &mut Option<P::Inx>,
+    high: P::Inx,
+) -> Option<P::Inx>
+    requires { (w : List ℕ) × Broken (K.knots knots.old) (option_map P.Inx.number root.old) (P.Inx.number high) w }
+    ensures pending { (w : List ℕ) → Broken (K.knots knots.old) (option_map P.Inx.number root.old) (P.Inx.number high) w
+        → Pending (K.knots knots.new) (option_map P.Inx.number root.new) (option_map P.Inx.number result) w }
+    ensures rises { IfSome result (λ i. rank_in (K.knots knots.old) (P.Inx.number high)
+        < rank_in (K.knots knots.new) (P.Inx.number i)) }
+    ensures keeps { K.rest knots.new ≡ K.rest knots.old }
+{
+    let above = knots.read(high);
+    let left = rank_at(knots, above.left);
+    let right = rank_at(knots, above.right);
+    let rank = above.rank;
+    if is_fit(left, rank, right) {
+        return None;
+    }
+    if left.max(right) + 2 <= rank {
+        knots.set_rank(high, rank - 1);
+        return above.parent;
+    }
+    let Some(low) = above.child(higher(left, right)) else {
+        unreached!()
+    };
+    let near = look_around(knots, low);
+    if near.low_rank <= near.outer_rank.max(near.inner_rank) + 1 {
+        shorten(knots, root, low);
+        return None;
+    }
+    knots.set_rank(low, near.low_rank - 1);
+    knots.set_rank(high, rank - 1);
+    above.parent
+}
+
+/// From a tree with one child too low to a tree that keeps the rules.
+pub(crate) fn repair_removed<N, P: PtrCore, K: Knots<N, P>>(
+    knots: &mut K,
+    root: &mut Option<P::Inx>,
+    start: Option<P::Inx>,
+)
+    requires pending { (w : List ℕ) × Pending (K.knots knots.old) (option_map P.Inx.number root.old) (option_map P.Inx.number start) w }
+    requires no_more { ⊤ }
+    ensures does { (w : List ℕ) → Pending (K.knots knots.old) (option_map P.Inx.number root.old) (option_map P.Inx.number start) w
+        → Restored (K.knots knots.new) (option_map P.Inx.number root.new) w }
+    ensures keeps { K.rest knots.new ≡ K.rest knots.old }
+{
+    let mut at = start;
+    'climb: while let Some(high) = at {
+        at = mend(knots, root, high);
+    }
+}
+
+/// A node with at most one child leaves the tree, after which the rules hold.
+pub fn bring_out<N, P: PtrCore, K: Knots<N, P>>(
+    knots: &mut K,
+    root: &mut Option<P::Inx>,
+    gone: P::Inx,
+)
+    requires loose { Loose (K.knots knots.old) (option_map P.Inx.number root.old) (P.Inx.number gone) }
+    requires no_more { ⊤ }
+    ensures does { (loose : Loose (K.knots knots.old) (option_map P.Inx.number root.old) (P.Inx.number gone))
+        → Restored (K.knots knots.new) (option_map P.Inx.number root.new) (walk (plug loose.context loose.sub)) }
+    ensures keeps { K.rest knots.new ≡ K.rest knots.old }
+{
+    let pending = detach(knots, root, gone);
+    repair_removed(knots, root, pending);
+}

@@ -1,0 +1,53 @@
+//! A node turns up over its parent.
+ghost use Rattle.std.specs.Prelude.{◌≡◌, ℕ, ⊤};
+ghost use Rattle.std.specs.Option.{option_map};
+ghost use Rattle.rank_tree.specs.Shape.{Stands};
+ghost use Rattle.rank_tree.specs.Repair.{Spot, turned};
+
+use crate::knots::{relink, reparent};
+use crate::{Knots, TreeLinks, side_of};
+use triple_arena_ptr::PtrCore;
+use unreached::unreached;
+
+/// `low` takes the place of its parent, which becomes its child; both get new ranks.
+pub(crate) fn turn<N, P: PtrCore, K: Knots<N, P>>(
+    knots: &mut K,
+    root: &mut Option<P::Inx>,
+    low: P::Inx,
+    low_rank: u8,
+    high_rank: u8,
+)
+    requires spot { Spot (K.knots knots.old) (option_map P.Inx.number root.old) (P.Inx.number low) }
+    requires no_more { ⊤ }
+    ensures does { (spot : Spot (K.knots knots.old) (option_map P.Inx.number root.old) (P.Inx.number low))
+        → Stands (K.knots knots.new) (option_map P.Inx.number root.new) (turned spot low_rank high_rank) }
+    ensures keeps { K.rest knots.new ≡ K.rest knots.old }
+{
+    let below = knots.read(low);
+    let Some(high) = below.parent else {
+        unreached!()
+    };
+    let above = knots.read(high);
+    let side = side_of(above, low);
+    let middle = below.child(side.other());
+    let lowered = above.with_child(side, middle);
+    knots.write(
+        high,
+        &TreeLinks {
+            parent: Some(low),
+            rank: high_rank,
+            ..lowered
+        },
+    );
+    reparent(knots, middle, Some(high));
+    let raised = below.with_child(side.other(), Some(high));
+    knots.write(
+        low,
+        &TreeLinks {
+            parent: above.parent,
+            rank: low_rank,
+            ..raised
+        },
+    );
+    relink(knots, root, above.parent, high, Some(low));
+}
