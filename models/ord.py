@@ -1,10 +1,11 @@
 #!/usr/bin/env python3
-"""What ord_script and ord_search_script must answer, by a model that knows nothing of the library: one list of entries, a
-counter and the free slots.
+"""What ord_script, ord_copies_script and ord_search_script must answer, by a model that knows nothing of the library: one
+list of entries, a counter and the free slots.
 
 usage: ord.py SEED LINES >stdin 2>stdout             writes random sections of ord_script, and what must be answered
+       ord.py copies SEED LINES >stdin 2>stdout      the same of ord_copies_script, whose headers have four words
        ord.py searches SEED LINES >stdin 2>stdout    the same of ord_search_script, whose headers have five words
-       ord.py answer <stdin >stdout                  writes what must be answered to these sections, of either
+       ord.py answer <stdin >stdout                  writes what must be answered to these sections, of any of them
 
 What the rules leave open (which of two neighbors a search answers, which of several equal keys, the tree's shape) the scripts
 tell in a form that does not hang on it, and where they cannot, the model refuses the line.
@@ -594,12 +595,14 @@ SEARCHES = [f'{verb}{form}' for verb in ('find_key', 'find_similar_key', 'find_k
 # The arenas of each script, and its calls: those that are made often, and others.
 ARENAS = {
     'lists': [('P0', 'heap'), ('P3', 'heap'), ('N3', 'heap'), ('P0', 'array'), ('P1', 'array'), ('P5', 'array')],
+    'copies': [(kind, f'copying-{stack}') for kind in ('P0', 'P5', 'N3') for stack in ('heap', 'limited')] + [('P1', 'copying-array')],
     'searches': [(kind, stack) for kind in LAST for stack in ('heap', 'limited', 'boxed')] + [('P0', 'array'), ('P1', 'array')],
 }
-COPIED = [(kind, f'copying-{stack}') for kind in ('P0', 'P5', 'N3') for stack in ('heap', 'limited')] + [('P1', 'copying-array')]
 COMMON = {
     'lists': ['insert', 'insert', 'insert', 'insert', 'remove', 'remove_inx', 'find_key', 'invalidate', 'advancer_ordered', 'walk_over_a_change', 'get',
               'get_inx_link_no_gen', 'show', 'first', 'last', 'set_value', 'walk_from', 'walk_back_from', 'compare', 'repair'],
+    'copies': ['insert', 'insert', 'insert', 'insert', 'remove', 'remove_inx', 'find_key', 'invalidate', 'get', 'get_inx', 'show', 'first', 'last',
+               'iter_ordered', 'walk_from', 'walk_back_from', 'repair'],
     'searches': ['insert', 'insert', 'insert_within_capacity', 'insert_reallocating', 'entry', 'entry', 'entry', 'remove', 'remove_inx', 'search', 'search',
                  'search', 'search', 'invalidate', 'show', 'check', 'repair'],
 }
@@ -608,6 +611,9 @@ RARE = {
               'walk_nowhere', 'set_key', 'generation', 'capacity', 'max_capacity',
               'singular_generation', 'inc_generation', 'set_generation', 'len', 'is_empty', 'find_first_inx_ptr', 'find_last_inx_ptr', 'contains', 'index',
               'get_inx', 'get_inx_unwrap', 'index_set', 'set_inx', 'set_inx_unwrap'],
+    'copies': ['clear', 'drain', 'drain_ordered', 'walk_and_remove', 'walk', 'walk_nowhere', 'set_key', 'generation', 'capacity', 'max_capacity',
+               'singular_generation', 'inc_generation', 'len', 'is_empty', 'find_first_inx_ptr', 'find_last_inx_ptr', 'contains', 'get_inx_unwrap',
+               'set_inx', 'set_inx_unwrap'],
     'searches': ['clear', 'manual', 'generation', 'len', 'capacity', 'max_capacity', 'reallocate_min_capacity', '_check_invariants', 'empty',
                  'find_with_the_pointer', 'each', 'get_inx_node', 'get_inx_node', 'rank', 'rank', 'compress_canonical', 'compress_canonical', 'remove_odd',
                  'grow'],
@@ -655,10 +661,9 @@ def a_line(r, script, s, most):
 
 
 def section(r, script, lines):
-    copies = script == 'lists' and r.random() < 0.25
-    kind, stack = r.choice(COPIED if copies else ARENAS[script])
+    kind, stack = r.choice(ARENAS[script])
     header = f'{kind} {stack}'
-    if copies:
+    if script == 'copies':
         nth = r.choice([0, 0, 1, 2, 3, 4, 5])
         header += f' {nth} {nth}'
     if script == 'searches':
@@ -673,12 +678,12 @@ def section(r, script, lines):
         return asked, told + [f'{header} -> {refused}']
     most = r.choice([8, 20, 60])
     while len(asked) <= lines:
-        whom = 'b' if script == 'lists' and r.random() < 0.1 else 'a'
+        whom = 'b' if script != 'searches' and r.random() < 0.1 else 'a'
         verb, words = a_line(r, script, play.a if whom == 'a' else play.b, most)
-        if copies and r.random() < 0.3:
+        if script == 'copies' and r.random() < 0.3:
             whom, verb, words = play.copies.a_line(r)
-        elif copies:
-            whom, verb = 'c' if whom == 'b' else 'a', 'len' if verb == 'compare' else verb
+        elif script == 'copies':
+            whom = 'c' if whom == 'b' else 'a'
         elif verb == 'compare':
             whom, verb, words = r.choice(['ab', 'ba']), r.choice(['canonical_eq', 'canonical_partial_cmp', 'canonical_cmp']), []
         line = ' '.join([whom, verb, *map(str, words)])
@@ -696,9 +701,9 @@ def main():
     if words == ['answer']:
         print('\n'.join(answers(sys.stdin.read())))
         return
-    script = words.pop(0) if words[:1] == ['searches'] else 'lists'
+    script = words.pop(0) if words[:1] in (['copies'], ['searches']) else 'lists'
     if len(words) != 2:
-        sys.exit('usage: ord.py [searches] SEED LINES | answer')
+        sys.exit('usage: ord.py [copies|searches] SEED LINES | answer')
     r = random.Random(int(words[0]))
     each, left = [], int(words[1])
     while left > 0:

@@ -1,4 +1,4 @@
-"""What ord_script must answer to sections of copies and of renaming, as ord.py says of the other sections."""
+"""What ord_copies_script must answer to its sections, as ord.py says of the calls at one arena."""
 
 
 def pieces(entries):
@@ -57,8 +57,8 @@ class Copies:
 
     def a_line(self, r):
         """A line of a copy, or one that shows or limits what is copied."""
-        limits = ['a|', 'c|', 'c|'] if self.limited else []
-        whom = r.choice(['c=a', 'c=a', 'c=a', 'h=a', 'v=a', 'a<c', 'a*', 'h', 'v', *limits])
+        limits = ['a|', 'c|', 'c|']
+        whom = r.choice(['c=a', 'c=a', 'c=a', 'a<c', 'a*', *(limits if self.limited else ['h=a', 'v=a', 'h', 'v'])])
         verbs = {'c=a': r.choice(['clone_from', 'clone_from', 'clone']), 'h=a': 'clone_to_chain_arena', 'v=a': 'clone_to_arena', 'h': 'links', 'v': 'show',
                  'a<c': 'transfer_canonical', 'a*': 'compress_with'}
         words = [r.randrange(8)] if whom in ('h=a', 'v=a', 'a<c') else [r.randrange(2)] if whom == 'a*' else [r.randrange(20)] if whom in limits else []

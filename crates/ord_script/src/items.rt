@@ -1,7 +1,7 @@
 //! The items of a script's arenas.
-use triple_arena::ArenaSlot;
+use triple_arena::{ArenaSlot, PtrCore};
 use triple_arena_chain::LinkNoGen;
-use triple_arena_ord::{OrdPair, SimpleOrdArena, SimpleOrdArenaNode};
+use triple_arena_ord::{OrdPair, OrdSlots, SimpleOrdArena, SimpleOrdArenaNode};
 
 /// A value under a key.
 pub type Item = OrdPair<u64, u64>;
@@ -10,4 +10,7 @@ pub type Item = OrdPair<u64, u64>;
 pub type Slot<P> = ArenaSlot<P, LinkNoGen<P, SimpleOrdArenaNode<P, Item>>>;
 
 /// An arena of them.
-pub type Pairs<P, S> = SimpleOrdArena<P, Item, S>;
+#[derive(Drop)]
+pub struct Pairs<P: PtrCore, S: OrdSlots<P, Item>> {
+    pub arena: SimpleOrdArena<P, Item, S>,
+}

@@ -3,33 +3,24 @@
 //!
 //! Sections are split by an empty line. The first line of one is `POINTER STACK`, and the others are calls, one a line:
 //! `WHOM CALL NUMBERS`. The arena `a` is over that pointer and stack, the arena `b` over `P1` and a vector. The items are
-//! pairs of a key and a value. Insertions of each kind, searches and the tree are in `ord_search_script`.
-//!
-//! A section may also begin with `POINTER STACK FIRST LAST`, where the stack is `copying-heap`, `copying-limited`,
-//! `copying-array` or `renaming`. It is played once for each request for memory from the first to the last, which is
-//! refused; 0 refuses none. `copies.rt` and `renaming.rt` say what its lines are.
+//! pairs of a key and a value. Insertions of each kind, searches and the tree are in `ord_search_script`, copies of arenas in
+//! `ord_copies_script`.
 #![tactic(auto)]
 
 mod changes;
-mod copies;
 mod items;
-mod player;
 mod reads;
-mod renaming;
 mod several;
 mod walks;
 
-use changes::Writes;
 use items::{Item, Pairs, Slot};
-use player::{Compare, Player};
-use reads::Tells;
-use script::{Call, ShownPtr, Transcript};
+use ord_calls::{Player, call_any, call_list, play_beside};
+use script::{Call, Transcript};
 use std::alloc::Global;
 use std::io;
 use test_kit::N3;
 use triple_arena::{ArenaTrait, NonZeroInxArray, NonZeroInxVec, P0, P1, P3, P5, Ptr};
-use triple_arena_ord::{OrdPair, OrdSlots};
-use walks::GoesAlong;
+use triple_arena_ord::{OrdPair, OrdSlots, SimpleOrdArena};
 
 type InArray<P> = NonZeroInxArray<Slot<P>, 8>;
 
@@ -55,7 +46,7 @@ fn play(heap: Global, transcript: &mut Transcript, section: &str) {
         "P0 array" => beside::<P0, InArray<P0>>((), heap, transcript, lines),
         "P1 array" => beside::<P1, InArray<P1>>((), heap, transcript, lines),
         "P5 array" => beside::<P5, InArray<P5>>((), heap, transcript, lines),
-        _ => copies::play(heap, transcript, header, lines),
+        _ => transcript.line("no such arena"),
     }
 }
 
@@ -91,62 +82,26 @@ fn over<P: Ptr, Q: Ptr, S: OrdSlots<P, Item>, R: OrdSlots<Q, Item>>(
     transcript: &mut Transcript,
     lines: &str,
 ) {
-    let mut a = Pairs::<P, S>::new(first);
-    let mut b = Pairs::<Q, R>::new(second);
-    play_lines(&mut a, &mut b, transcript, lines);
-}
-
-fn play_lines<A: Player + Compare<B>, B: Player + Compare<A>>(
-    a: &mut A,
-    b: &mut B,
-    transcript: &mut Transcript,
-    lines: &str,
-) {
-    for line in lines.lines() {
-        play_line(a, b, transcript, &Call::new(line));
-    }
-}
-
-fn play_line<A: Player + Compare<B>, B: Player + Compare<A>>(
-    a: &mut A,
-    b: &mut B,
-    transcript: &mut Transcript,
-    call: &Call<'_>,
-) {
-    match call.whom {
-        "a" => a.play(transcript, call),
-        "b" => b.play(transcript, call),
-        "ab" => a.compare(b, transcript, call),
-        "ba" => b.compare(a, transcript, call),
-        _ => transcript.line(call.line),
-    }
+    let mut a = Pairs {
+        arena: SimpleOrdArena::<P, Item, S>::new(first),
+    };
+    let mut b = Pairs {
+        arena: SimpleOrdArena::<Q, Item, R>::new(second),
+    };
+    play_beside(&mut a, &mut b, transcript, lines);
 }
 
 // The text of an arena asks more of its pointers than the calls do.
 impl<P: Ptr, S: OrdSlots<P, Item>> Player for Pairs<P, S> {
     fn play(&mut self, transcript: &mut Transcript, call: &Call<'_>) {
         if call.verb == "show" {
-            transcript.answer(call.line, self);
+            transcript.answer(call.line, &self.arena);
         } else {
-            play_at(self, transcript, call);
+            let at_pointer = OrdPair::new(call.third, call.fourth);
+            let at_index = OrdPair::new(call.second, call.third);
+            if !call_any(&mut self.arena, transcript, call, at_pointer, at_index) {
+                call_list(self, transcript, call);
+            }
         }
-    }
-}
-
-// Makes the call that a line names.
-fn play_at<P: ShownPtr, A: ArenaTrait<P, Item> + Tells + GoesAlong + Writes>(
-    arena: &mut A,
-    transcript: &mut Transcript,
-    call: &Call<'_>,
-) {
-    let at_pointer = OrdPair::new(call.third, call.fourth);
-    let at_index = OrdPair::new(call.second, call.third);
-    if !(arena_calls::read(arena, transcript, call)
-        || arena_calls::change(arena, transcript, call, at_pointer, at_index)
-        || reads::reads(arena, transcript, call)
-        || walks::goes_over(arena, transcript, call)
-        || changes::changes(arena, transcript, call))
-    {
-        transcript.answer(call.line, &"no such call");
     }
 }

@@ -1,6 +1,6 @@
 //! Comparisons of two arenas by their lists.
 use crate::items::{Item, Pairs};
-use crate::player::Compare;
+use ord_calls::Compare;
 use script::{Call, ShownPtr, Transcript};
 use triple_arena_ord::OrdSlots;
 
@@ -9,9 +9,12 @@ impl<P: ShownPtr, Q: ShownPtr, S: OrdSlots<P, Item>, R: OrdSlots<Q, Item>> Compa
     fn compare(&self, other: &Pairs<Q, R>, transcript: &mut Transcript, call: &Call<'_>) {
         let line = call.line;
         match call.verb {
-            "canonical_eq" => transcript.answer(line, &self.canonical_eq(other)),
-            "canonical_partial_cmp" => transcript.answer(line, &self.canonical_partial_cmp(other)),
-            "canonical_cmp" => transcript.answer(line, &self.canonical_cmp(other)),
+            "canonical_eq" => transcript.answer(line, &self.arena.canonical_eq(&other.arena)),
+            "canonical_partial_cmp" => transcript.answer(
+                line,
+                &self.arena.canonical_partial_cmp(&other.arena),
+            ),
+            "canonical_cmp" => transcript.answer(line, &self.arena.canonical_cmp(&other.arena)),
             _ => transcript.answer(line, &"no such call"),
         }
     }

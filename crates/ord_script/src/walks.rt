@@ -1,160 +1,73 @@
 //! Walks along the list, by advancers and by iterators, and iterators by index.
-ghost use Rattle.std.specs.Iterator.{IsFinite};
-
 use crate::items::{Item, Pairs};
+use ord_calls::{GoesAlong, answer_each, remove_along, walk};
 use script::{Call, ShownPtr, Transcript};
-use std::fmt::Debug;
 use triple_arena::{Advancer, ArenaTrait};
-use triple_arena_ord::ord_iterators::OrderedPtrAdvancer;
-use triple_arena_ord::{OrdPair, OrdSlots};
-
-// More than the longest list of a script.
-const LONGEST: u64 = 4096;
-
-/// What goes over its entries, and answers each that it comes to.
-pub trait GoesAlong {
-    fn walk_ptrs(&self, transcript: &mut Transcript, line: &str);
-
-    fn walk_vals(&self, transcript: &mut Transcript, line: &str);
-
-    fn walk_iter(&self, transcript: &mut Transcript, line: &str);
-
-    fn walk_iter_ordered(&self, transcript: &mut Transcript, line: &str);
-
-    fn walk_into_iter(&self, transcript: &mut Transcript, line: &str);
-
-    /// Goes along the list from a pointer.
-    fn walk_ordered(&self, transcript: &mut Transcript, call: &Call<'_>);
-
-    /// The same, and removes each entry that it comes to.
-    fn walk_and_remove(&mut self, transcript: &mut Transcript, call: &Call<'_>);
-
-    /// The same over an arena that changes: after the first step the entry at an index is removed, and an item is put in.
-    fn walk_over_a_change(&mut self, transcript: &mut Transcript, call: &Call<'_>);
-
-    /// Takes so many items of a drain along the list, and tells how many are left when it is let go.
-    fn drain_along(&mut self, transcript: &mut Transcript, call: &Call<'_>);
-}
+use triple_arena_ord::{OrdPair, OrdSlots, SimpleOrdArena};
 
 impl<P: ShownPtr, S: OrdSlots<P, Item>> GoesAlong for Pairs<P, S> {
     fn walk_ptrs(&self, transcript: &mut Transcript, line: &str) {
-        answer_each(self.ptrs(), transcript, line);
+        answer_each(self.arena.ptrs(), transcript, line);
     }
 
     fn walk_vals(&self, transcript: &mut Transcript, line: &str) {
-        answer_each(self.vals(), transcript, line);
+        answer_each(self.arena.vals(), transcript, line);
     }
 
     fn walk_iter(&self, transcript: &mut Transcript, line: &str) {
-        answer_each(self.iter(), transcript, line);
+        answer_each(self.arena.iter(), transcript, line);
     }
 
     fn walk_iter_ordered(&self, transcript: &mut Transcript, line: &str) {
-        answer_each(self.iter_ordered(), transcript, line);
+        answer_each(self.arena.iter_ordered(), transcript, line);
     }
 
     fn walk_into_iter(&self, transcript: &mut Transcript, line: &str) {
-        answer_each(self.into_iter(), transcript, line);
+        answer_each((&self.arena).into_iter(), transcript, line);
     }
 
     fn walk_ordered(&self, transcript: &mut Transcript, call: &Call<'_>) {
-        match self.advancer_ordered(call.pointer(), call.third == 1) {
-            Some(advancer) => walk(self, transcript, call.line, advancer),
+        match self.arena.advancer_ordered(call.pointer(), call.third == 1) {
+            Some(advancer) => walk(&self.arena, transcript, call.line, advancer),
             None => transcript.answer(call.line, &"no walk"),
         }
     }
 
     fn walk_and_remove(&mut self, transcript: &mut Transcript, call: &Call<'_>) {
-        match self.advancer_ordered(call.pointer(), call.third == 1) {
-            Some(advancer) => remove_along(self, transcript, call.line, advancer),
+        match self.arena.advancer_ordered(call.pointer(), call.third == 1) {
+            Some(advancer) => remove_along(&mut self.arena, transcript, call.line, advancer),
             None => transcript.answer(call.line, &"no walk"),
         }
     }
 
     fn walk_over_a_change(&mut self, transcript: &mut Transcript, call: &Call<'_>) {
-        match self.advancer_ordered(call.pointer(), call.third == 1) {
+        match self.arena.advancer_ordered(call.pointer(), call.third == 1) {
             Some(mut advancer) => {
-                transcript.answer(call.line, &advancer.advance(self));
-                transcript.answer(call.line, &self.remove_inx(script::index(call.fourth)));
-                transcript.answer(call.line, &self.insert(OrdPair::new(call.fifth, 0)));
-                walk(self, transcript, call.line, advancer);
+                transcript.answer(call.line, &advancer.advance(&self.arena));
+                transcript.answer(
+                    call.line,
+                    &self.arena.remove_inx(script::index(call.fourth)),
+                );
+                transcript.answer(call.line, &self.arena.insert(OrdPair::new(call.fifth, 0)));
+                walk(&self.arena, transcript, call.line, advancer);
             }
             None => transcript.answer(call.line, &"no walk"),
         }
     }
 
     fn drain_along(&mut self, transcript: &mut Transcript, call: &Call<'_>) {
-        let mut drain = self.drain_ordered();
-        for _ in 0..call.first {
-            transcript.answer(call.line, &drain.next());
-        }
-        transcript.answer(call.line, &drain.size_hint());
+        drain(&mut self.arena, transcript, call);
     }
 }
 
-/// What an iterator gives, up to its end.
-pub fn answer_each<I: Iterator<Item: Debug + Drop> + Drop>(
-    items: I,
-    transcript: &mut Transcript,
-    line: &str,
-)
-    requires { I.can_next items × IsFinite (I.remaining items) }
-{
-    for item in items {
-        transcript.answer(line, &item);
-    }
-}
-
-// The pointers that an advancer comes to, up to its end.
-fn walk<P: ShownPtr, C, W: Advancer<C, Item = P> + Drop>(
-    arena: &C,
-    transcript: &mut Transcript,
-    line: &str,
-    advancer: W,
-) {
-    let mut advancer = advancer;
-    for _ in 0..LONGEST {
-        match advancer.advance(arena) {
-            Some(p) => transcript.answer(line, &p),
-            None => break,
-        }
-    }
-    transcript.answer(line, &advancer.advance(arena));
-}
-
-fn remove_along<P: ShownPtr, S: OrdSlots<P, Item>>(
-    arena: &mut Pairs<P, S>,
-    transcript: &mut Transcript,
-    line: &str,
-    advancer: OrderedPtrAdvancer<P>,
-) {
-    let mut advancer = advancer;
-    for _ in 0..LONGEST {
-        match advancer.advance(arena) {
-            Some(p) => transcript.answer(line, &arena.remove(p)),
-            None => break,
-        }
-    }
-}
-
-/// Makes a walk, and says whether there is one of that name.
-pub fn goes_over<A: GoesAlong>(
-    arena: &mut A,
+fn drain<P: ShownPtr, S: OrdSlots<P, Item>>(
+    arena: &mut SimpleOrdArena<P, Item, S>,
     transcript: &mut Transcript,
     call: &Call<'_>,
-) -> bool {
-    let line = call.line;
-    match call.verb {
-        "ptrs" => arena.walk_ptrs(transcript, line),
-        "vals" => arena.walk_vals(transcript, line),
-        "iter" => arena.walk_iter(transcript, line),
-        "iter_ordered" => arena.walk_iter_ordered(transcript, line),
-        "into_iter" => arena.walk_into_iter(transcript, line),
-        "advancer_ordered" => arena.walk_ordered(transcript, call),
-        "walk_ordered_and_remove" => arena.walk_and_remove(transcript, call),
-        "walk_over_a_change" => arena.walk_over_a_change(transcript, call),
-        "drain_ordered" => arena.drain_along(transcript, call),
-        _ => return false,
+) {
+    let mut drain = arena.drain_ordered();
+    for _ in 0..call.first {
+        transcript.answer(call.line, &drain.next());
     }
-    true
+    transcript.answer(call.line, &drain.size_hint());
 }

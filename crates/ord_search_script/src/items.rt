@@ -5,24 +5,13 @@ ghost use Rattle.std.specs.Cmp.{partial_order_from_own_ties};
 ghost use Rattle.std.specs.Cmp.Rules.{comparing};
 ghost use Rattle.std.specs.Ordering.{nat_cmp, on, as_partial_cmp};
 
+use ord_calls::Counting;
 use std::cell::Cell;
 use std::cmp::Ordering;
 use std::fmt;
-use triple_arena::ArenaSlot;
+use triple_arena::{ArenaSlot, PtrCore};
 use triple_arena_chain::LinkNoGen;
-use triple_arena_ord::{OrdPair, SimpleOrdArena, SimpleOrdArenaNode};
-
-/// Numbers that count their comparisons, all in one place.
-pub trait Counting: Copy {
-    /// The number.
-    fn n(&self) -> u64;
-
-    /// Another number, which counts in the same place.
-    fn with(&self, n: u64) -> Self;
-
-    /// How many comparisons there were.
-    fn count(&self) -> u64;
-}
+use triple_arena_ord::{OrdPair, OrdSlots, SimpleOrdArena, SimpleOrdArenaNode};
 
 /// Such numbers as the keys of an arena's items. What compares no keys asks for `Counting` alone, since each function carries
 /// all that it asks for.
@@ -121,4 +110,7 @@ pub fn item<K: Counting>(n: u64, v: u64, zero: K) -> Item<K> {
 pub type Slot<P, K> = ArenaSlot<P, LinkNoGen<P, SimpleOrdArenaNode<P, Item<K>>>>;
 
 /// An arena of them.
-pub type Pairs<P, K, S> = SimpleOrdArena<P, Item<K>, S>;
+#[derive(Drop)]
+pub struct Pairs<P: PtrCore, K: CountingKey, S: OrdSlots<P, Item<K>>> {
+    pub arena: SimpleOrdArena<P, Item<K>, S>,
+}

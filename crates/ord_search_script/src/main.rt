@@ -9,35 +9,25 @@
 
 ghost use Rattle.std.specs.Prelude.{◌<◌};
 
-mod check;
 mod entries;
 mod finds;
-mod growing;
 mod insertions;
 mod items;
 mod knots;
 mod reads;
-mod searches;
-mod work;
 
-use entries::PutsByEntry;
-use finds::Finds;
-use growing::Takes;
-use insertions::PutsIn;
-use items::{Counting, CountingKey, Item, Key, Pairs, Slot, item};
-use knots::Knots;
-use reads::Tells;
-use script::{Call, ShownPtr, Transcript};
+use items::{CountingKey, Item, Key, Pairs, Slot, item};
+use ord_calls::{CountingPlayer, call_any, call_tree, play_counted};
+use script::{Call, Transcript};
 use std::alloc::{Allocator, Global};
 use std::cell::Cell;
-use std::fmt::Debug;
 use std::io;
 use test_kit::{N3, RefusingAllocator};
 use triple_arena::{
     ArenaTrait, NonZeroInxArray, NonZeroInxBoxedSlice, NonZeroInxLimitedVec, NonZeroInxVec, P0, P1,
     P3, P5, Ptr, ReallocationError,
 };
-use triple_arena_ord::OrdSlots;
+use triple_arena_ord::{OrdSlots, SimpleOrdArena};
 
 type Heap<'a> = &'a RefusingAllocator<Global>;
 
@@ -144,99 +134,27 @@ fn over<P: Ptr, K: CountingKey, S: OrdSlots<P, Item<K>>>(
     script: Script<'_>,
 ) -> Result<(), ReallocationError> {
     let room = script.header.first as usize;
-    let mut arena = if room == 0 {
-        Pairs::<P, K, S>::new(alloc)
+    let arena = if room == 0 {
+        SimpleOrdArena::<P, Item<K>, S>::new(alloc)
     } else {
-        Pairs::<P, K, S>::with_min_capacity(alloc, room)?
+        SimpleOrdArena::<P, Item<K>, S>::with_min_capacity(alloc, room)?
     };
-    play_lines(&mut arena, zero, transcript, script.lines);
+    let mut arena = Pairs { arena };
+    play_counted(&mut arena, zero, transcript, script.lines);
     Ok(())
 }
 
-// What makes the calls of the lines that name it. The trait has no clauses, and so what is generic in it costs little to prove:
-// each function that names an ordered arena carries all that its stack, its pointers and its keys promise. So it is with the
-// traits of the modules.
-trait Player<K> {
-    fn play(&mut self, transcript: &mut Transcript, call: &Call<'_>, zero: K);
-}
-
 // The text of an arena asks more of its pointers than the calls do.
-impl<P: Ptr, K: CountingKey, S: OrdSlots<P, Item<K>>> Player<K> for Pairs<P, K, S> {
-    fn play(&mut self, transcript: &mut Transcript, call: &Call<'_>, zero: K) {
+impl<P: Ptr, K: CountingKey, S: OrdSlots<P, Item<K>>> CountingPlayer<K> for Pairs<P, K, S> {
+    fn play_counting(&mut self, transcript: &mut Transcript, call: &Call<'_>, zero: K) {
         if call.verb == "show" {
-            transcript.answer(call.line, self);
+            transcript.answer(call.line, &self.arena);
         } else {
-            play_at(self, transcript, call, zero);
+            let at_pointer = item(call.third, call.fourth, zero);
+            let at_index = item(call.second, call.third, zero);
+            if !call_any(&mut self.arena, transcript, call, at_pointer, at_index) {
+                call_tree(self, transcript, call, zero);
+            }
         }
     }
-}
-
-fn play_lines<K: Counting, A: Player<K>>(
-    arena: &mut A,
-    zero: K,
-    transcript: &mut Transcript,
-    lines: &str,
-) {
-    for line in lines.lines() {
-        let call = Call::new(line);
-        if call.whom == "a" {
-            arena.play(transcript, &call, zero);
-        } else {
-            transcript.line(line);
-        }
-    }
-}
-
-// Makes the call that a line names.
-fn play_at<P: ShownPtr, K: CountingKey, S: OrdSlots<P, Item<K>>>(
-    arena: &mut Pairs<P, K, S>,
-    transcript: &mut Transcript,
-    call: &Call<'_>,
-    zero: K,
-) {
-    if !(play_own(arena, transcript, call, zero)
-        || play_at_any(arena, transcript, call, zero)
-        || compresses(arena, transcript, call))
-    {
-        transcript.answer(call.line, &"no such call");
-    }
-}
-
-// Makes a call that is the ordered arena's own, and says whether there is one of that name.
-fn play_own<
-    P: ShownPtr,
-    K: Counting + Debug,
-    A: PutsByEntry<P, K> + Finds<P, K> + PutsIn<K> + Knots<P> + Tells + Takes<P, K>,
->(arena: &mut A, transcript: &mut Transcript, call: &Call<'_>, zero: K) -> bool {
-    reads::reads(arena, transcript, call)
-        || searches::searches(arena, transcript, call, zero)
-        || insertions::inserts(arena, transcript, call, zero)
-        || growing::grows(arena, transcript, call, zero)
-        || entries::enters(arena, transcript, call, zero)
-}
-
-// Makes a call that every arena has, and says whether there is one of that name.
-fn play_at_any<P: ShownPtr, K: Counting + Debug, A: ArenaTrait<P, Item<K>>>(
-    arena: &mut A,
-    transcript: &mut Transcript,
-    call: &Call<'_>,
-    zero: K,
-) -> bool {
-    let at_pointer = item(call.third, call.fourth, zero);
-    let at_index = item(call.second, call.third, zero);
-    arena_calls::read(arena, transcript, call)
-        || arena_calls::change(arena, transcript, call, at_pointer, at_index)
-}
-
-// Lays the entries out anew, in the order of the list.
-fn compresses<P: ShownPtr, K: CountingKey, S: OrdSlots<P, Item<K>>>(
-    arena: &mut Pairs<P, K, S>,
-    transcript: &mut Transcript,
-    call: &Call<'_>,
-) -> bool {
-    let is_named = call.verb == "compress_canonical";
-    if is_named {
-        transcript.answer(call.line, &arena.compress_canonical(call.first == 1));
-    }
-    is_named
 }

@@ -1,13 +1,11 @@
 //! Many calls in a row, of whose comparisons one answer tells the most.
-use crate::entries::{PutsByEntry, kind, limit_of};
-use crate::finds::Finds;
-use crate::items::{Counting, CountingKey, Item, Pairs, item};
+use crate::entries::limit_of;
+use crate::finds::{Finds, search};
 use crate::knots::Knots;
-use crate::searches::{Place, place_of, search};
-use crate::work::{Limit, Since, Work};
+use crate::places::{Place, place_of};
+use crate::work::{Counting, Since, Work};
 use script::{Call, ShownPtr, Transcript, index, pointer};
-use triple_arena::{ArenaTrait, PtrCore};
-use triple_arena_ord::OrdSlots;
+use triple_arena::PtrCore;
 
 // The keys of a script go up to this prime: the products of all lesser numbers with one of them, modulo the prime, are all
 // of them again in another order.
@@ -15,30 +13,17 @@ const PRIME: u64 = 1009;
 
 /// What takes items in and out by their keys.
 pub trait Takes<P: PtrCore, K> {
-    /// Puts an item in, and answers its index, if there was room.
-    fn take(&mut self, item: &Item<K>) -> Option<P::Inx>;
+    /// Puts an item of a key and a value in, by an entry of the kind of this name, whose search begins at an index and goes
+    /// so far along the list, or by `insert` where there is no such kind. It answers the item's index, or the one that it
+    /// began with where there was no room.
+    fn take(&mut self, name: &str, item: &(K, u64), start: P::Inx, num: u64) -> P::Inx;
 
     /// Removes an entry with this key, if there is one.
     fn give_up(&mut self, k: &K);
 }
 
-impl<P: PtrCore, K: CountingKey, S: OrdSlots<P, Item<K>>> Takes<P, K> for Pairs<P, K, S> {
-    fn take(&mut self, item: &Item<K>) -> Option<P::Inx> {
-        match self.insert(*item) {
-            Ok((p, _)) => Some(p.inx()),
-            Err(_) => None,
-        }
-    }
-
-    fn give_up(&mut self, k: &K) {
-        if let Some(p) = self.find_key(k) {
-            drop(self.remove(p));
-        }
-    }
-}
-
 /// Makes such calls, and says whether there are some of that name.
-pub fn grows<P: ShownPtr, K: Counting, A: PutsByEntry<P, K> + Finds<P, K> + Knots<P> + Takes<P, K>>(
+pub fn grows<P: ShownPtr, K: Counting, A: Finds<P, K> + Knots<P> + Takes<P, K>>(
     arena: &mut A,
     transcript: &mut Transcript,
     call: &Call<'_>,
@@ -65,7 +50,7 @@ pub fn grows<P: ShownPtr, K: Counting, A: PutsByEntry<P, K> + Finds<P, K> + Knot
 
 // Puts the keys up to the second number in, in the order of their products with the first one: by `insert`, or by an entry of
 // a kind, whose search begins at an index, or at the entry that was put in before it where that is 0.
-fn grow<P: PtrCore, K: Counting, A: PutsByEntry<P, K> + Knots<P> + Takes<P, K>>(
+fn grow<P: PtrCore, K: Counting, A: Knots<P> + Takes<P, K>>(
     arena: &mut A,
     name: &str,
     call: &Call<'_>,
@@ -81,7 +66,7 @@ fn grow<P: PtrCore, K: Counting, A: PutsByEntry<P, K> + Knots<P> + Takes<P, K>>(
             let (p, work) = put(
                 arena,
                 name,
-                item(n, n.wrapping_mul(2), zero),
+                &(zero.with(n), n.wrapping_mul(2)),
                 start,
                 call.third,
                 ascends,
@@ -96,24 +81,17 @@ fn grow<P: PtrCore, K: Counting, A: PutsByEntry<P, K> + Knots<P> + Takes<P, K>>(
 }
 
 // Puts one item in, and answers its index.
-fn put<P: PtrCore, K: Counting, A: PutsByEntry<P, K> + Knots<P> + Takes<P, K>>(
+fn put<P: PtrCore, K: Counting, A: Knots<P> + Takes<P, K>>(
     arena: &mut A,
     name: &str,
-    item: Item<K>,
+    item: &(K, u64),
     start: P::Inx,
     num: u64,
     ascends: bool,
 ) -> (P::Inx, Work) {
     let limit = limit_of(arena, name, start, num, ascends);
-    let k = *item.k();
-    let since = Since::now(k);
-    let i = match kind::<P, K>(name, &k, start, num) {
-        Some(kind) => match arena.enter(kind, Some(item)) {
-            Ok((told, _)) => told.any().inx(),
-            Err(_) => start,
-        },
-        None => arena.take(&item).unwrap_or(start),
-    };
+    let since = Since::now(item.0);
+    let i = arena.take(name, item, start, num);
     let comparisons = since.count();
     (i, limit.held(comparisons, comparisons))
 }

@@ -1,5 +1,16 @@
 //! How many comparisons a call made, held against how many it may make.
-use crate::items::Counting;
+
+/// Numbers that count their comparisons, all in one place.
+pub trait Counting: Copy {
+    /// The number.
+    fn n(&self) -> u64;
+
+    /// Another number, which counts in the same place.
+    fn with(&self, n: u64) -> Self;
+
+    /// How many comparisons there were.
+    fn count(&self) -> u64;
+}
 
 /// What is told of the comparisons of a call. A number is told where the rules fix it, and where it is too great.
 #[derive(Clone, Copy, Debug, PartialEq, Eq)]

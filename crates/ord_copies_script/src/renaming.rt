@@ -1,4 +1,5 @@
 //! The arena `x`, whose values are pointers, and the arena `n` of names for them.
+use ord_calls::{Renames, play_renaming};
 use script::{Call, Transcript, pointer};
 use triple_arena::{
     Arena, ArenaInsertTrait, ArenaSlot, ArenaSlots, ArenaTrait, Ptr, PtrCore, Recast, Recaster,
@@ -12,6 +13,12 @@ pub type Named<P> = OrdPair<u64, P>;
 /// A slot of the arena `x`.
 pub type NamedSlot<P> = ArenaSlot<P, LinkNoGen<P, SimpleOrdArenaNode<P, Named<P>>>>;
 
+// An arena of them.
+#[derive(Drop)]
+struct Names<P: PtrCore, S: OrdSlots<P, Named<P>>> {
+    arena: SimpleOrdArena<P, Named<P>, S>,
+}
+
 /// Makes the calls of a section at two new arenas.
 pub fn over<P: Ptr + Recast<P>, S: OrdSlots<P, Named<P>>, N: ArenaSlots<P, P>>(
     first: S::Alloc,
@@ -19,45 +26,23 @@ pub fn over<P: Ptr + Recast<P>, S: OrdSlots<P, Named<P>>, N: ArenaSlots<P, P>>(
     transcript: &mut Transcript,
     lines: &str,
 ) {
-    let mut x = SimpleOrdArena::<P, Named<P>, S>::new(first);
+    let mut x = Names {
+        arena: SimpleOrdArena::<P, Named<P>, S>::new(first),
+    };
     let mut n = Arena::<P, P, N>::new(second);
-    play_lines(&mut x, &mut n, transcript, lines);
-}
-
-fn play_lines<N, X: Renames<N>>(x: &mut X, n: &mut N, transcript: &mut Transcript, lines: &str) {
-    for line in lines.lines() {
-        let call = Call::new(line);
-        match call.whom {
-            "x" => x.hold(transcript, &call),
-            "n" => X::name(n, transcript, &call),
-            "x<n" => x.rename(n, transcript, line),
-            _ => transcript.line(line),
-        }
-    }
-}
-
-// An arena that holds pointers under keys, beside one of names for them.
-trait Renames<N> {
-    // Puts the pointer of the last two numbers under the key of the first, or removes at an index.
-    fn hold(&mut self, transcript: &mut Transcript, call: &Call<'_>);
-
-    // Names the pointer of the two numbers, or takes a name back.
-    fn name(names: &mut N, transcript: &mut Transcript, call: &Call<'_>);
-
-    // Renames the pointers.
-    fn rename(&mut self, names: &N, transcript: &mut Transcript, line: &str);
+    play_renaming(&mut x, &mut n, transcript, lines);
 }
 
 impl<P: Ptr + Recast<P>, S: OrdSlots<P, Named<P>>, N: ArenaSlots<P, P>> Renames<Arena<P, P, N>>
-    for SimpleOrdArena<P, Named<P>, S> {
+    for Names<P, S> {
     fn hold(&mut self, transcript: &mut Transcript, call: &Call<'_>) {
         match call.verb {
             "insert" => {
                 let new = OrdPair::new(call.first, pointer(call.second, call.third));
-                transcript.answer(call.line, &self.insert(new));
+                transcript.answer(call.line, &self.arena.insert(new));
             }
-            "remove_inx" => transcript.answer(call.line, &self.remove_inx(call.index())),
-            _ => transcript.answer(call.line, self),
+            "remove_inx" => transcript.answer(call.line, &self.arena.remove_inx(call.index())),
+            _ => transcript.answer(call.line, &self.arena),
         }
     }
 
@@ -70,7 +55,7 @@ impl<P: Ptr + Recast<P>, S: OrdSlots<P, Named<P>>, N: ArenaSlots<P, P>> Renames<
     }
 
     fn rename(&mut self, names: &Arena<P, P, N>, transcript: &mut Transcript, line: &str) {
-        transcript.answer(line, &recast(self, names));
+        transcript.answer(line, &recast(&mut self.arena, names));
     }
 }
 

@@ -1,8 +1,7 @@
 //! The searches by their names, and what is told of the places that they find.
-use crate::finds::{Finds, Found};
-use crate::items::Counting;
+use crate::finds::{Finds, Found, search};
 use crate::knots::Knots;
-use crate::work::{Limit, Work, most};
+use crate::work::{Counting, Limit, Work, most};
 use script::{Call, ShownPtr, Transcript, pointer};
 use std::cmp::Ordering;
 use triple_arena::PtrCore;
@@ -42,44 +41,6 @@ pub fn searches<P: ShownPtr, K: Counting, A: Finds<P, K> + Knots<P>>(
             true
         }
         None => false,
-    }
-}
-
-/// What a search finds, if there is one of that name.
-pub fn search<P: PtrCore + PartialEq, K: Counting, A: Finds<P, K>>(
-    arena: &A,
-    verb: &str,
-    k: &K,
-    num: u64,
-    start: P,
-) -> Option<Found<P>> {
-    match verb {
-        "find_key" => Some(arena.by_key(k)),
-        "find_key_counted" => Some(arena.by_key_counted(k)),
-        "find_similar_key" => Some(arena.by_similar_key(k)),
-        "find_similar_key_counted" => Some(arena.by_similar_key_counted(k)),
-        "find_key_linear" => Some(arena.along(k, num, start)),
-        "find_key_linear_counted" => Some(arena.along_counted(k, num, start)),
-        "find_similar_key_linear" => Some(arena.similar_along(k, num, start)),
-        "find_similar_key_linear_counted" => Some(arena.similar_along_counted(k, num, start)),
-        _ => search_with(arena, verb, k.n(), start),
-    }
-}
-
-// What a search by a closure finds, if there is one of that name.
-fn search_with<P: PtrCore + PartialEq, K: Counting, A: Finds<P, K>>(
-    arena: &A,
-    verb: &str,
-    n: u64,
-    start: P,
-) -> Option<Found<P>> {
-    match verb {
-        "find_with" => Some(arena.with(n)),
-        "find_with_counted" => Some(arena.with_counted(n)),
-        "find_similar_with" => Some(arena.similar_with(n)),
-        "find_similar_with_counted" => Some(arena.similar_with_counted(n)),
-        "find_with_the_pointer" => Some(arena.with_the_pointer(start)),
-        _ => None,
     }
 }
 

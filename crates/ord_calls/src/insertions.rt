@@ -1,0 +1,71 @@
+//! The calls that put an item in where its key belongs, or at an entry.
+use crate::knots::Knots;
+use crate::work::{Counting, Limit, Since};
+use script::{Call, Transcript};
+use std::cmp::Ordering;
+use std::fmt::Debug;
+use triple_arena::PtrCore;
+
+/// What puts an item of a key and a value in and tells of it: where the key belongs, with so many comparisons, or at an
+/// entry.
+pub trait PutsIn<K> {
+    fn puts(&mut self, transcript: &mut Transcript, line: &str, item: &(K, u64), limit: Limit);
+
+    fn puts_reallocating(
+        &mut self,
+        transcript: &mut Transcript,
+        line: &str,
+        item: &(K, u64),
+        limit: Limit,
+    );
+
+    fn puts_within_capacity(
+        &mut self,
+        transcript: &mut Transcript,
+        line: &str,
+        item: &(K, u64),
+        limit: Limit,
+    );
+
+    /// At the index of the third number, if it is live. No key is compared.
+    fn puts_at(
+        &mut self,
+        transcript: &mut Transcript,
+        call: &Call<'_>,
+        item: &(K, u64),
+        direction: Ordering,
+    );
+}
+
+/// The answer of an insertion, and what is told of its comparisons.
+pub fn tell<A: Debug, K: Counting>(
+    transcript: &mut Transcript,
+    line: &str,
+    answer: &A,
+    limit: Limit,
+    since: &Since<K>,
+) {
+    let comparisons = since.count();
+    transcript.answer(line, &(answer, limit.held(comparisons, comparisons)));
+}
+
+/// Makes such a call, and says whether there is one of that name.
+pub fn inserts<P: PtrCore, K: Counting, A: PutsIn<K> + Knots<P>>(
+    arena: &mut A,
+    transcript: &mut Transcript,
+    call: &Call<'_>,
+    zero: K,
+) -> bool {
+    let new = (zero.with(call.first), call.second);
+    let limit = Limit::from_root(arena.size());
+    match call.verb {
+        "insert" => arena.puts(transcript, call.line, &new, limit),
+        "insert_reallocating" => arena.puts_reallocating(transcript, call.line, &new, limit),
+        "insert_within_capacity" => arena.puts_within_capacity(transcript, call.line, &new, limit),
+        "insert_inx_manual:less" => arena.puts_at(transcript, call, &new, Ordering::Less),
+        "insert_inx_manual:equal" => arena.puts_at(transcript, call, &new, Ordering::Equal),
+        "insert_inx_manual:greater" => arena.puts_at(transcript, call, &new, Ordering::Greater),
+        _ => return false,
+    }
+    true
+}
