@@ -47,8 +47,8 @@ trait Measured<P>: Drop {
 
     fn start(&self) -> Self::Steps;
 
-    // A checksum with the next value more.
-    fn step(&self, steps: &mut Self::Steps, sum: u64) -> Option<u64>;
+    // Takes the next value into a checksum, and says whether there is one.
+    fn step(&self, steps: &mut Self::Steps, sum: &mut u64) -> bool;
 
     // A checksum of the values, which are taken out.
     fn empty(&mut self) -> u64;
@@ -102,11 +102,15 @@ impl<P: PtrCore, A: ArenaInsertTrait<P, u64, Alloc = Global> + Drop> Measured<P>
     }
 
     #[inline(always)]
-    fn step(&self, steps: &mut Self::Steps, sum: u64) -> Option<u64> {
-        let p = steps.advance(self)?;
-        match self.get(p) {
-            Some(value) => Some(with(sum, *value)),
-            None => Some(sum),
+    fn step(&self, steps: &mut Self::Steps, sum: &mut u64) -> bool {
+        match steps.advance(self) {
+            Some(p) => {
+                if let Some(value) = self.get(p) {
+                    *sum = with(*sum, *value);
+                }
+                true
+            }
+            None => false,
         }
     }
 
@@ -162,7 +166,7 @@ fn run_in<A: Measured<Pointer> + Copied>(
         "write" => Some(over_table::<A, WRITE>(alloc, steps)),
         "advance" => Some(over_table::<A, ADVANCE>(alloc, steps)),
         "iterate" => Some(over_table::<A, ITERATE>(alloc, steps)),
-        "churn" => Some(over_table::<A, CHURN>(alloc, steps)),
+        "churn" => Some(churn::<A>(alloc, steps)),
         "loop" => Some(over_table::<A, LOOP>(alloc, steps)),
         _ => None,
     }
@@ -187,9 +191,7 @@ const ADVANCE: usize = 7;
 
 const ITERATE: usize = 8;
 
-const CHURN: usize = 9;
-
-const LOOP: usize = 10;
+const LOOP: usize = 9;
 
 // How many pointers a table has.
 const TABLE: usize = 4096;
@@ -290,11 +292,10 @@ fn over_table<A: Measured<Pointer> + Copied, const OPERATION: usize>(
     let mut arena = A::make(alloc);
     let mut table = [Pointer::invalid(); TABLE];
     fill_table(&mut arena, &mut table)?;
-    match OPERATION {
-        CHURN => return churn(&mut arena, &mut table, steps),
-        LOOP => return Ok(read_table(&table, steps)),
-        _ => thin(&mut arena, &table),
+    if OPERATION == LOOP {
+        return Ok(read_table(&table, steps));
     }
+    thin(&mut arena, &table);
     match OPERATION {
         GET => Ok(get(&arena, &table, steps)),
         WRITE => Ok(write(&mut arena, &table, steps)),
@@ -350,9 +351,8 @@ fn advance<A: Measured<Pointer>>(arena: &A, steps: usize) -> u64 {
     let mut pointers = arena.start();
     let mut sum = 0u64;
     for _ in 0..steps {
-        match arena.step(&mut pointers, sum) {
-            Some(next) => sum = next,
-            None => pointers = arena.start(),
+        if !arena.step(&mut pointers, &mut sum) {
+            pointers = arena.start();
         }
     }
     sum
@@ -368,12 +368,20 @@ fn iterate<A: Copied>(arena: &A, steps: usize) -> u64 {
     sum
 }
 
-#[inline(always)]
-fn churn<A: Measured<Pointer>>(
-    arena: &mut A,
-    table: &mut [Pointer; TABLE],
-    steps: usize,
-) -> Result<u64, ReallocationError> {
+// An arena with an entry for each place of a table, and the table of their pointers.
+#[inline(never)]
+fn filled_table<A: Measured<Pointer>>(
+    alloc: Global,
+) -> Result<(A, [Pointer; TABLE]), ReallocationError> {
+    let mut arena = A::make(alloc);
+    let mut table = [Pointer::invalid(); TABLE];
+    fill_table(&mut arena, &mut table)?;
+    Ok((arena, table))
+}
+
+#[inline(never)]
+fn churn<A: Measured<Pointer>>(alloc: Global, steps: usize) -> Result<u64, ReallocationError> {
+    let (mut arena, mut table) = filled_table::<A>(alloc)?;
     let mut sequence = Sequence::new();
     let mut sum = 0u64;
     for _ in 0..steps {
