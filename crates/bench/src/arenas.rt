@@ -1,4 +1,5 @@
-//! The operations on an arena, as `bench/plain/main.rs` has them. They are generic in the arena, which is proved in far less time.
+//! The operations on an arena, as `bench/plain/main.rs` has them. They are generic in traits without clauses, which are proved
+//! in far less time, and which a known arena meets once.
 use crate::sequence::{Sequence, with};
 use std::alloc::Global;
 use triple_arena::{Arena, ArenaInsertTrait, ArenaSlot, ArenaSlots, ArenaTrait, NonZeroInxVec};
@@ -23,32 +24,174 @@ fn run_over<S: ArenaSlots<Pointer, u64, Alloc = Global>>(
     alloc: Global,
     steps: usize,
 ) -> Option<Result<u64, ReallocationError>> {
-    match operation {
-        "iterate" => Some(iterate::<S>(alloc, steps)),
-        "clone" => Some(clone::<S>(alloc, steps)),
-        "drain" => Some(drain::<S>(alloc, steps)),
-        _ => run_in::<Arena<Pointer, u64, S>>(operation, alloc, steps),
+    run_in::<Arena<Pointer, u64, S>>(operation, alloc, steps)
+}
+
+// What the operations do with an arena of any kind. It is inlined, and so they take no more instructions than at the arena.
+trait Measured<P>: Drop {
+    // What goes along the pointers.
+    type Steps: Drop;
+
+    fn make(alloc: Global) -> Self;
+
+    fn put(&mut self, value: u64) -> Result<P, ReallocationError>;
+
+    fn take(&mut self, p: P) -> InvalidationResult<u64>;
+
+    fn take_at(&mut self, p: P) -> Option<u64>;
+
+    fn read(&self, p: P) -> Option<u64>;
+
+    // Adds a value to a sum, and writes that.
+    fn add_up(&mut self, p: P, sum: u64) -> u64;
+
+    fn start(&self) -> Self::Steps;
+
+    // Takes the next value into a checksum, and says whether there is one.
+    fn step(&self, steps: &mut Self::Steps, sum: &mut u64) -> bool;
+
+    // A checksum of the values, which are taken out.
+    fn empty(&mut self) -> u64;
+}
+
+impl<P: PtrCore, A: ArenaInsertTrait<P, u64, Alloc = Global> + Drop> Measured<P> for A {
+    type Steps = A::PtrAdvancer;
+
+    #[inline(always)]
+    fn make(alloc: Global) -> Self {
+        A::new(alloc)
+    }
+
+    #[inline(always)]
+    fn put(&mut self, value: u64) -> Result<P, ReallocationError> {
+        self.insert(value)
+    }
+
+    #[inline(always)]
+    fn take(&mut self, p: P) -> InvalidationResult<u64> {
+        self.remove(p)
+    }
+
+    #[inline(always)]
+    fn take_at(&mut self, p: P) -> Option<u64> {
+        match self.remove_inx(p.inx()) {
+            InvalidationResult::Success((_, value)) => Some(value),
+            _ => None,
+        }
+    }
+
+    #[inline(always)]
+    fn read(&self, p: P) -> Option<u64> {
+        self.get(p).copied()
+    }
+
+    #[inline(always)]
+    fn add_up(&mut self, p: P, sum: u64) -> u64 {
+        match self.get_mut(p) {
+            Some(value) => {
+                *value = sum.wrapping_add(*value);
+                *value
+            }
+            None => sum,
+        }
+    }
+
+    #[inline(always)]
+    fn start(&self) -> Self::Steps {
+        self.advancer()
+    }
+
+    #[inline(always)]
+    fn step(&self, steps: &mut Self::Steps, sum: &mut u64) -> bool {
+        match steps.advance(self) {
+            Some(p) => {
+                if let Some(value) = self.get(p) {
+                    *sum = with(*sum, *value);
+                }
+                true
+            }
+            None => false,
+        }
+    }
+
+    fn empty(&mut self) -> u64 {
+        let mut sum = 0u64;
+        for item in self.drain() {
+            sum = with(sum, item.allow().1);
+        }
+        sum
     }
 }
 
-// In this kind of arena.
-fn run_in<A: ArenaInsertTrait<Pointer, u64, Alloc = Global> + Drop>(
+// What they do with an `Arena` alone.
+trait Copied: Drop {
+    // A checksum of the values, so many of them.
+    fn go_over(&self, left: &mut usize, sum: u64) -> u64;
+
+    fn copy(&self, alloc: Global) -> Result<Self, ReallocationError>;
+}
+
+impl<P: PtrCore, S: ArenaSlots<P, u64, Alloc = Global>> Copied for Arena<P, u64, S> {
+    #[inline(always)]
+    fn go_over(&self, left: &mut usize, sum: u64) -> u64 {
+        let mut sum = sum;
+        for (_, value) in self {
+            if *left == 0 {
+                break;
+            }
+            *left -= 1;
+            sum = with(sum, *value);
+        }
+        sum
+    }
+
+    fn copy(&self, alloc: Global) -> Result<Self, ReallocationError> {
+        self.clone(alloc)
+    }
+}
+
+// In this kind of arena. Each operation is compiled for itself, so that another one does not change what it takes.
+fn run_in<A: Measured<Pointer> + Copied>(
     operation: &str,
     alloc: Global,
     steps: usize,
 ) -> Option<Result<u64, ReallocationError>> {
     match operation {
-        "insert" => Some(insert::<A>(alloc, steps)),
-        "remove" => Some(remove::<A>(alloc, steps)),
-        "remove_inx" => Some(remove_inx::<A>(alloc, steps)),
-        "get" => Some(get::<A>(alloc, steps)),
-        "write" => Some(write::<A>(alloc, steps)),
-        "advance" => Some(advance::<A>(alloc, steps)),
+        "insert" => Some(over_entries::<A, INSERT>(alloc, steps)),
+        "remove" => Some(over_entries::<A, REMOVE>(alloc, steps)),
+        "remove_inx" => Some(over_entries::<A, REMOVE_INX>(alloc, steps)),
+        "clone" => Some(over_entries::<A, CLONE>(alloc, steps)),
+        "drain" => Some(over_entries::<A, DRAIN>(alloc, steps)),
+        "get" => Some(over_table::<A, GET>(alloc, steps)),
+        "write" => Some(over_table::<A, WRITE>(alloc, steps)),
+        "advance" => Some(over_table::<A, ADVANCE>(alloc, steps)),
+        "iterate" => Some(over_table::<A, ITERATE>(alloc, steps)),
         "churn" => Some(churn::<A>(alloc, steps)),
-        "loop" => Some(read_table::<A>(alloc, steps)),
+        "loop" => Some(over_table::<A, LOOP>(alloc, steps)),
         _ => None,
     }
 }
+
+// The operations.
+const INSERT: usize = 0;
+
+const REMOVE: usize = 1;
+
+const REMOVE_INX: usize = 2;
+
+const CLONE: usize = 3;
+
+const DRAIN: usize = 4;
+
+const GET: usize = 5;
+
+const WRITE: usize = 6;
+
+const ADVANCE: usize = 7;
+
+const ITERATE: usize = 8;
+
+const LOOP: usize = 9;
 
 // How many pointers a table has.
 const TABLE: usize = 4096;
@@ -56,16 +199,32 @@ const TABLE: usize = 4096;
 // How many of them find an entry where each fourth one is removed.
 const THINNED: usize = 3072;
 
+// In an arena with this many entries.
+#[inline(never)]
+fn over_entries<A: Measured<Pointer> + Copied, const OPERATION: usize>(
+    alloc: Global,
+    steps: usize,
+) -> Result<u64, ReallocationError> {
+    let (mut arena, mut pointers) = filled::<A>(alloc, steps)?;
+    match OPERATION {
+        REMOVE => Ok(remove(&mut arena, &mut pointers, steps)),
+        REMOVE_INX => Ok(remove_inx(&mut arena, &mut pointers, steps)),
+        CLONE => clone(&arena, &pointers, alloc),
+        DRAIN => Ok(arena.empty()),
+        _ => Ok(pointers.len() as u64),
+    }
+}
+
 // An arena with this many entries, and their pointers.
-fn filled<A: ArenaInsertTrait<Pointer, u64, Alloc = Global> + Drop>(
+fn filled<A: Measured<Pointer>>(
     alloc: Global,
     len: usize,
 ) -> Result<(A, Vec<Pointer>), ReallocationError> {
-    let mut arena = A::new(alloc);
+    let mut arena = A::make(alloc);
     let mut pointers = Vec::with_capacity(alloc, len).map_err(|_| ReallocationError::AllocError)?;
     let mut sequence = Sequence::new();
     for _ in 0..len {
-        let pointer = arena.insert(sequence.number())?;
+        let pointer = arena.put(sequence.number())?;
         pointers
             .push(pointer)
             .map_err(|_| ReallocationError::AllocError)?;
@@ -73,31 +232,8 @@ fn filled<A: ArenaInsertTrait<Pointer, u64, Alloc = Global> + Drop>(
     Ok((arena, pointers))
 }
 
-// An arena with an entry for each place of a table, and the table of their pointers.
-fn filled_table<A: ArenaInsertTrait<Pointer, u64, Alloc = Global> + Drop>(
-    alloc: Global,
-) -> Result<(A, [Pointer; TABLE]), ReallocationError> {
-    let mut arena = A::new(alloc);
-    let mut table = [Pointer::invalid(); TABLE];
-    let mut sequence = Sequence::new();
-    for pointer in &mut table {
-        *pointer = arena.insert(sequence.number())?;
-    }
-    Ok((arena, table))
-}
-
-fn insert<A: ArenaInsertTrait<Pointer, u64, Alloc = Global> + Drop>(
-    alloc: Global,
-    steps: usize,
-) -> Result<u64, ReallocationError> {
-    Ok(filled::<A>(alloc, steps)?.1.len() as u64)
-}
-
-fn remove<A: ArenaInsertTrait<Pointer, u64, Alloc = Global> + Drop>(
-    alloc: Global,
-    steps: usize,
-) -> Result<u64, ReallocationError> {
-    let (mut arena, mut pointers) = filled::<A>(alloc, steps)?;
+#[inline(always)]
+fn remove<A: Measured<Pointer>>(arena: &mut A, pointers: &mut Vec<Pointer>, steps: usize) -> u64 {
     let mut sequence = Sequence::new();
     let mut sum = 0u64;
     for _ in 0..steps {
@@ -106,18 +242,19 @@ fn remove<A: ArenaInsertTrait<Pointer, u64, Alloc = Global> + Drop>(
             break;
         }
         let place = (sequence.number() >> 33) as usize % len;
-        if let InvalidationResult::Success(value) = arena.remove(pointers.swap_remove(place)) {
+        if let InvalidationResult::Success(value) = arena.take(pointers.swap_remove(place)) {
             sum = with(sum, value);
         }
     }
-    Ok(sum)
+    sum
 }
 
-fn remove_inx<A: ArenaInsertTrait<Pointer, u64, Alloc = Global> + Drop>(
-    alloc: Global,
+#[inline(always)]
+fn remove_inx<A: Measured<Pointer>>(
+    arena: &mut A,
+    pointers: &mut Vec<Pointer>,
     steps: usize,
-) -> Result<u64, ReallocationError> {
-    let (mut arena, mut pointers) = filled::<A>(alloc, steps)?;
+) -> u64 {
     let mut sequence = Sequence::new();
     let mut sum = 0u64;
     for _ in 0..steps {
@@ -126,150 +263,148 @@ fn remove_inx<A: ArenaInsertTrait<Pointer, u64, Alloc = Global> + Drop>(
             break;
         }
         let place = (sequence.number() >> 33) as usize % len;
-        let index = pointers.swap_remove(place).inx();
-        if let InvalidationResult::Success((_, value)) = arena.remove_inx(index) {
+        if let Some(value) = arena.take_at(pointers.swap_remove(place)) {
             sum = with(sum, value);
         }
     }
-    Ok(sum)
+    sum
 }
 
-// The arena of a table without the entry of each fourth place, and the table.
-fn thinned_table<A: ArenaInsertTrait<Pointer, u64, Alloc = Global> + Drop>(
+#[inline(always)]
+fn clone<A: Measured<Pointer> + Copied>(
+    arena: &A,
+    pointers: &Vec<Pointer>,
     alloc: Global,
-) -> Result<(A, [Pointer; TABLE]), ReallocationError> {
-    let (mut arena, table) = filled_table::<A>(alloc)?;
-    for pointer in table.iter().step_by(4) {
-        drop(arena.remove(*pointer));
-    }
-    Ok((arena, table))
-}
-
-fn get<A: ArenaInsertTrait<Pointer, u64, Alloc = Global> + Drop>(
-    alloc: Global,
-    steps: usize,
 ) -> Result<u64, ReallocationError> {
-    let (arena, table) = thinned_table::<A>(alloc)?;
-    let mut sequence = Sequence::new();
-    let mut sum = 0u64;
-    for _ in 0..steps {
-        if let Some(value) = arena.get(table[sequence.place()]) {
-            sum = sum.wrapping_add(*value);
-        }
-    }
-    Ok(sum)
-}
-
-fn write<A: ArenaInsertTrait<Pointer, u64, Alloc = Global> + Drop>(
-    alloc: Global,
-    steps: usize,
-) -> Result<u64, ReallocationError> {
-    let (mut arena, table) = thinned_table::<A>(alloc)?;
-    let mut sequence = Sequence::new();
-    let mut sum = 0u64;
-    for _ in 0..steps {
-        if let Some(value) = arena.get_mut(table[sequence.place()]) {
-            sum = sum.wrapping_add(*value);
-            *value = sum;
-        }
-    }
-    Ok(sum)
-}
-
-fn advance<A: ArenaInsertTrait<Pointer, u64, Alloc = Global> + Drop>(
-    alloc: Global,
-    steps: usize,
-) -> Result<u64, ReallocationError> {
-    let (arena, _table) = thinned_table::<A>(alloc)?;
-    let mut advancer = arena.advancer();
-    let mut sum = 0u64;
-    for _ in 0..steps {
-        match advancer.advance(&arena) {
-            Some(pointer) => {
-                if let Some(value) = arena.get(pointer) {
-                    sum = with(sum, *value);
-                }
-            }
-            None => advancer = arena.advancer(),
-        }
-    }
-    Ok(sum)
-}
-
-fn iterate<S: ArenaSlots<Pointer, u64, Alloc = Global>>(
-    alloc: Global,
-    steps: usize,
-) -> Result<u64, ReallocationError> {
-    let (arena, _table) = thinned_table::<Arena<Pointer, u64, S>>(alloc)?;
-    let mut left = steps;
-    let mut sum = 0u64;
-    for _ in 0..steps / THINNED + 1 {
-        for (_, value) in &arena {
-            if left == 0 {
-                break;
-            }
-            left -= 1;
-            sum = with(sum, *value);
-        }
-    }
-    Ok(sum)
-}
-
-fn clone<S: ArenaSlots<Pointer, u64, Alloc = Global>>(
-    alloc: Global,
-    steps: usize,
-) -> Result<u64, ReallocationError> {
-    let (arena, pointers) = filled::<Arena<Pointer, u64, S>>(alloc, steps)?;
-    let copy = arena.clone(alloc)?;
+    let copy = arena.copy(alloc)?;
     match pointers.last() {
-        Some(last) => Ok(copy.get(*last).copied().unwrap_or(0)),
+        Some(last) => Ok(copy.read(*last).unwrap_or(0)),
         None => Ok(0),
     }
 }
 
-fn drain<S: ArenaSlots<Pointer, u64, Alloc = Global>>(
+// In an arena with an entry for each place of a table, of which some operations leave each fourth one out.
+#[inline(never)]
+fn over_table<A: Measured<Pointer> + Copied, const OPERATION: usize>(
     alloc: Global,
     steps: usize,
 ) -> Result<u64, ReallocationError> {
-    let (mut arena, _pointers) = filled::<Arena<Pointer, u64, S>>(alloc, steps)?;
-    let mut sum = 0u64;
-    for item in arena.drain() {
-        sum = with(sum, item.allow().1);
+    let mut arena = A::make(alloc);
+    let mut table = [Pointer::invalid(); TABLE];
+    fill_table(&mut arena, &mut table)?;
+    if OPERATION == LOOP {
+        return Ok(read_table(&table, steps));
     }
-    Ok(sum)
+    thin(&mut arena, &table);
+    match OPERATION {
+        GET => Ok(get(&arena, &table, steps)),
+        WRITE => Ok(write(&mut arena, &table, steps)),
+        ADVANCE => Ok(advance(&arena, steps)),
+        _ => Ok(iterate(&arena, steps)),
+    }
 }
 
-fn churn<A: ArenaInsertTrait<Pointer, u64, Alloc = Global> + Drop>(
+#[inline(always)]
+fn fill_table<A: Measured<Pointer>>(
+    arena: &mut A,
+    table: &mut [Pointer; TABLE],
+) -> Result<(), ReallocationError> {
+    let mut sequence = Sequence::new();
+    for pointer in table {
+        *pointer = arena.put(sequence.number())?;
+    }
+    Ok(())
+}
+
+// Removes the entry of each fourth place.
+#[inline(always)]
+fn thin<A: Measured<Pointer>>(arena: &mut A, table: &[Pointer; TABLE]) {
+    for pointer in table.iter().step_by(4) {
+        drop(arena.take(*pointer));
+    }
+}
+
+#[inline(always)]
+fn get<A: Measured<Pointer>>(arena: &A, table: &[Pointer; TABLE], steps: usize) -> u64 {
+    let mut sequence = Sequence::new();
+    let mut sum = 0u64;
+    for _ in 0..steps {
+        if let Some(value) = arena.read(table[sequence.place()]) {
+            sum = sum.wrapping_add(value);
+        }
+    }
+    sum
+}
+
+#[inline(always)]
+fn write<A: Measured<Pointer>>(arena: &mut A, table: &[Pointer; TABLE], steps: usize) -> u64 {
+    let mut sequence = Sequence::new();
+    let mut sum = 0u64;
+    for _ in 0..steps {
+        sum = arena.add_up(table[sequence.place()], sum);
+    }
+    sum
+}
+
+#[inline(always)]
+fn advance<A: Measured<Pointer>>(arena: &A, steps: usize) -> u64 {
+    let mut pointers = arena.start();
+    let mut sum = 0u64;
+    for _ in 0..steps {
+        if !arena.step(&mut pointers, &mut sum) {
+            pointers = arena.start();
+        }
+    }
+    sum
+}
+
+#[inline(always)]
+fn iterate<A: Copied>(arena: &A, steps: usize) -> u64 {
+    let mut left = steps;
+    let mut sum = 0u64;
+    for _ in 0..steps / THINNED + 1 {
+        sum = arena.go_over(&mut left, sum);
+    }
+    sum
+}
+
+// An arena with an entry for each place of a table, and the table of their pointers.
+#[inline(never)]
+fn filled_table<A: Measured<Pointer>>(
     alloc: Global,
-    steps: usize,
-) -> Result<u64, ReallocationError> {
+) -> Result<(A, [Pointer; TABLE]), ReallocationError> {
+    let mut arena = A::make(alloc);
+    let mut table = [Pointer::invalid(); TABLE];
+    fill_table(&mut arena, &mut table)?;
+    Ok((arena, table))
+}
+
+#[inline(never)]
+fn churn<A: Measured<Pointer>>(alloc: Global, steps: usize) -> Result<u64, ReallocationError> {
     let (mut arena, mut table) = filled_table::<A>(alloc)?;
     let mut sequence = Sequence::new();
     let mut sum = 0u64;
     for _ in 0..steps {
-        if let Some(value) = arena.get(table[sequence.place()]) {
-            sum = sum.wrapping_add(*value);
+        if let Some(value) = arena.read(table[sequence.place()]) {
+            sum = sum.wrapping_add(value);
         }
         let place = sequence.place();
-        match arena.remove(table[place]) {
+        match arena.take(table[place]) {
             InvalidationResult::Success(value) | InvalidationResult::GenerationOverflow(value) => {
                 sum = with(sum, value);
             }
-            InvalidationResult::InvalidPtr => table[place] = arena.insert(sum)?,
+            InvalidationResult::InvalidPtr => table[place] = arena.put(sum)?,
         }
     }
     Ok(sum)
 }
 
-fn read_table<A: ArenaInsertTrait<Pointer, u64, Alloc = Global> + Drop>(
-    alloc: Global,
-    steps: usize,
-) -> Result<u64, ReallocationError> {
-    let (_arena, table) = filled_table::<A>(alloc)?;
+#[inline(always)]
+fn read_table(table: &[Pointer; TABLE], steps: usize) -> u64 {
     let mut sequence = Sequence::new();
     let mut sum = 0u64;
     for _ in 0..steps {
         sum = sum.wrapping_add(u64::from(table[sequence.place()].generation().get()));
     }
-    Ok(sum)
+    sum
 }

@@ -1,5 +1,5 @@
-//! The operations on links in chains, as `bench/plain/chains.rs` has them. They are generic in the arena, which is proved in far
-//! less time.
+//! The operations on links in chains, as `bench/plain/chains.rs` has them. They are generic in a trait without clauses, as those
+//! on an arena are.
 use crate::sequence::{Sequence, with};
 use std::alloc::Global;
 use triple_arena::{Advancer, ArenaSlot, ArenaTrait, NonZeroInxVec, P0, PtrCore};
@@ -27,191 +27,394 @@ fn run_over<P: PtrCore, S: ChainSlots<P, u64, Alloc = Global>>(
     alloc: Global,
     steps: usize,
 ) -> Option<Result<u64, ChainInsertionError>> {
-    match operation {
-        "iterate" => Some(iterate::<P, S>(alloc, steps)),
-        "fill" | "renumber" | "transfer" | "clone" => {
-            Some(rearrange::<P, S>(operation, alloc, steps))
-        }
-        _ => run_in::<P, ChainArena<P, u64, S>>(operation, alloc, steps),
-    }
+    run_in::<P, P::Inx, ChainArena<P, u64, S>>(operation, alloc, steps)
 }
 
-// In this kind of arena.
-fn run_in<P: PtrCore, A: ChainArenaTrait<P, u64, Alloc = Global> + Drop>(
-    operation: &str,
-    alloc: Global,
-    steps: usize,
-) -> Option<Result<u64, ChainInsertionError>> {
-    match operation {
-        "queue" => Some(queue::<P, A>(alloc, steps)),
-        "turn" => Some(turn::<P, A>(alloc, steps)),
-        "rotate" => Some(rotate::<P, A>(alloc, steps)),
-        "walk" => Some(walk::<P, A>(alloc, steps)),
-        _ => None,
-    }
+// Where a link is put in.
+enum Place<P: Copy, I: Copy> {
+    // In a chain of its own.
+    Apart,
+    Behind(P),
+    BehindIndex(I),
 }
 
-// How many links there are before the steps.
-const LEN: usize = 4096;
+// What the operations do with chains.
+trait Measured<P: Copy, I: Copy>: Drop {
+    // What goes along a chain.
+    type Steps: Drop;
 
-// A linear chain, with its first and its last link.
-fn filled<P: PtrCore, A: ChainArenaTrait<P, u64, Alloc = Global> + Drop>(
-    alloc: Global,
-    sequence: &mut Sequence,
-) -> Result<(A, P, P), ChainInsertionError> {
-    let mut chains = A::new(alloc);
-    let first = chains.insert_reallocating(LinkInsertKind::Disconnected, sequence.number())?;
-    let mut last = first;
-    for _ in 1..LEN {
-        last = chains.insert_reallocating(LinkInsertKind::NextTo(last), sequence.number())?;
-    }
-    Ok((chains, first, last))
+    fn make(alloc: Global) -> Self;
+
+    fn index(p: P) -> I;
+
+    fn put(&mut self, place: Place<P, I>, value: u64) -> Result<P, ChainInsertionError>;
+
+    // The value of a link, and the index of the next one, if there is one.
+    fn read(&self, i: I) -> Option<(I, u64)>;
+
+    // The same of a link that is taken out.
+    fn take(&mut self, i: I) -> Option<(I, u64)>;
+
+    fn close(&mut self, last: P, first: P);
+
+    fn start(&self, first: P) -> Option<Self::Steps>;
+
+    // A checksum with the next value more.
+    fn step(&self, steps: &mut Self::Steps, sum: u64) -> Option<u64>;
+
+    // A checksum of the values of a chain, so many of them.
+    fn go_over(&self, first: P, left: &mut usize, sum: u64) -> Option<u64>;
+
+    // A checksum of the list of the link with the least index, which is its start.
+    fn along(&self) -> u64;
+
+    fn renumber(&mut self);
+
+    // Takes the links of another one.
+    fn take_all(&mut self, source: &mut Self) -> Result<(), ChainInsertionError>;
+
+    fn copy(&self, alloc: Global) -> Result<Self, ChainInsertionError>;
 }
 
-// Each step puts a number at the end and takes one from the start.
-fn queue<P: PtrCore, A: ChainArenaTrait<P, u64, Alloc = Global> + Drop>(
-    alloc: Global,
-    steps: usize,
-) -> Result<u64, ChainInsertionError> {
-    let mut sequence = Sequence::new();
-    let (mut chains, first, last) = filled::<P, A>(alloc, &mut sequence)?;
-    let mut first = first.inx();
-    let mut last = last.inx();
-    let mut sum = 0u64;
-    for _ in 0..steps {
-        let number = sequence.number();
-        last = chains
-            .insert_reallocating(LinkInsertKind::NextToInx(last), number)?
-            .inx();
-        let Some((_, link)) = chains.remove_inx_link_no_gen(first).allow() else {
-            break;
-        };
-        let Some(next) = link.next() else {
-            break;
-        };
-        first = next;
-        sum = with(sum, link.t);
-    }
-    Ok(sum)
-}
+impl<P: PtrCore, S: ChainSlots<P, u64, Alloc = Global>> Measured<P, P::Inx>
+    for ChainArena<P, u64, S> {
+    type Steps = <Self as ChainArenaTrait<P, u64>>::ChainAdvancer;
 
-// Each step goes to the next link of a ring, and reads it.
-fn rotate<P: PtrCore, A: ChainArenaTrait<P, u64, Alloc = Global> + Drop>(
-    alloc: Global,
-    steps: usize,
-) -> Result<u64, ChainInsertionError> {
-    let mut sequence = Sequence::new();
-    let (mut chains, first, last) = filled::<P, A>(alloc, &mut sequence)?;
-    let _ = chains.connect(last, first);
-    let mut at = first.inx();
-    let mut sum = 0u64;
-    for _ in 0..steps {
-        let Some((_, link)) = chains.get_inx_link_no_gen(at) else {
-            break;
-        };
-        let Some(next) = link.next() else {
-            break;
-        };
-        at = next;
-        sum = with(sum, link.t);
+    #[inline(always)]
+    fn make(alloc: Global) -> Self {
+        Self::new(alloc)
     }
-    Ok(sum)
-}
 
-// A walk along the chain by an advancer and a read of each link, again and again.
-fn walk<P: PtrCore, A: ChainArenaTrait<P, u64, Alloc = Global> + Drop>(
-    alloc: Global,
-    steps: usize,
-) -> Result<u64, ChainInsertionError> {
-    let mut sequence = Sequence::new();
-    let (chains, first, _) = filled::<P, A>(alloc, &mut sequence)?;
-    let mut sum = 0u64;
-    let Some(mut links) = chains.advancer_chain(first) else {
-        return Ok(sum);
-    };
-    for _ in 0..steps {
-        if let Some(p) = links.advance(&chains) {
-            if let Some(number) = chains.get(p) {
-                sum = with(sum, *number);
-            }
-            continue;
-        }
-        // Round again.
-        let Some(again) = chains.advancer_chain(first) else {
-            break;
+    #[inline(always)]
+    fn index(p: P) -> P::Inx {
+        p.inx()
+    }
+
+    #[inline(always)]
+    fn put(&mut self, place: Place<P, P::Inx>, value: u64) -> Result<P, ChainInsertionError> {
+        let kind = match place {
+            Place::Apart => LinkInsertKind::Disconnected,
+            Place::Behind(p) => LinkInsertKind::NextTo(p),
+            Place::BehindIndex(i) => LinkInsertKind::NextToInx(i),
         };
-        links = again;
-        if let Some(p) = links.advance(&chains) {
-            if let Some(number) = chains.get(p) {
-                sum = with(sum, *number);
-            }
+        self.insert_reallocating(kind, value)
+    }
+
+    #[inline(always)]
+    fn read(&self, i: P::Inx) -> Option<(P::Inx, u64)> {
+        let (_, link) = self.get_inx_link_no_gen(i)?;
+        Some((link.next()?, link.t))
+    }
+
+    #[inline(always)]
+    fn take(&mut self, i: P::Inx) -> Option<(P::Inx, u64)> {
+        let (_, link) = self.remove_inx_link_no_gen(i).allow()?;
+        Some((link.next()?, link.t))
+    }
+
+    #[inline(always)]
+    fn close(&mut self, last: P, first: P) {
+        let _ = self.connect(last, first);
+    }
+
+    #[inline(always)]
+    fn start(&self, first: P) -> Option<Self::Steps> {
+        self.advancer_chain(first)
+    }
+
+    #[inline(always)]
+    fn step(&self, steps: &mut Self::Steps, sum: u64) -> Option<u64> {
+        let p = steps.advance(self)?;
+        match self.get(p) {
+            Some(value) => Some(with(sum, *value)),
+            None => Some(sum),
         }
     }
-    Ok(sum)
-}
 
-// The same by an iterator.
-fn iterate<P: PtrCore, S: ChainSlots<P, u64, Alloc = Global>>(
-    alloc: Global,
-    steps: usize,
-) -> Result<u64, ChainInsertionError> {
-    let mut sequence = Sequence::new();
-    let (chains, first, _) = filled::<P, ChainArena<P, u64, S>>(alloc, &mut sequence)?;
-    let mut sum = 0u64;
-    let mut left = steps;
-    for _ in 0..steps / LEN + 1 {
-        let Some(mut links) = chains.iter_chain(first) else {
-            break;
-        };
+    #[inline(always)]
+    fn go_over(&self, first: P, left: &mut usize, sum: u64) -> Option<u64> {
+        let mut links = self.iter_chain(first)?;
+        let mut sum = sum;
         for _ in 0..LEN {
-            if left == 0 {
+            if *left == 0 {
                 break;
             }
-            left -= 1;
+            *left -= 1;
             let Some((_, link)) = links.next() else {
                 break;
             };
             sum = with(sum, link.t);
         }
+        Some(sum)
+    }
+
+    #[inline(always)]
+    fn along(&self) -> u64 {
+        let mut sum = 0u64;
+        let Some(first) = self.find_first_inx_ptr() else {
+            return sum;
+        };
+        let Some(mut links) = self.iter_chain(first) else {
+            return sum;
+        };
+        while let Some((_, link)) = links.next() {
+            sum = with(sum, link.t);
+        }
+        sum
+    }
+
+    #[inline(always)]
+    fn renumber(&mut self) {
+        let _ = self.compress_canonical(false);
+    }
+
+    #[inline(always)]
+    fn take_all(&mut self, source: &mut Self) -> Result<(), ChainInsertionError> {
+        let generation = source.generation();
+        match self.transfer_canonical_reallocating(
+            generation,
+            source,
+            |_, value, _| value.allow(),
+        ) {
+            Ok(()) => Ok(()),
+            Err(_) => Err(ChainInsertionError::AllocError),
+        }
+    }
+
+    #[inline(always)]
+    fn copy(&self, alloc: Global) -> Result<Self, ChainInsertionError> {
+        match self.clone(alloc) {
+            Ok(copy) => Ok(copy),
+            Err(_) => Err(ChainInsertionError::AllocError),
+        }
+    }
+}
+
+// In this kind of arena.
+fn run_in<P: Copy, I: Copy, A: Measured<P, I>>(
+    operation: &str,
+    alloc: Global,
+    steps: usize,
+) -> Option<Result<u64, ChainInsertionError>> {
+    match operation {
+        "queue" => Some(go::<P, I, A, QUEUE>(alloc, steps)),
+        "turn" => Some(go::<P, I, A, TURN>(alloc, steps)),
+        "rotate" => Some(go::<P, I, A, ROTATE>(alloc, steps)),
+        "walk" => Some(go::<P, I, A, WALK>(alloc, steps)),
+        "iterate" => Some(go::<P, I, A, ITERATE>(alloc, steps)),
+        "fill" => Some(rearrange::<P, I, A, FILL>(alloc, steps)),
+        "renumber" => Some(rearrange::<P, I, A, RENUMBER>(alloc, steps)),
+        "transfer" => Some(rearrange::<P, I, A, TRANSFER>(alloc, steps)),
+        "clone" => Some(rearrange::<P, I, A, CLONE>(alloc, steps)),
+        _ => None,
+    }
+}
+
+// The operations.
+const QUEUE: usize = 0;
+
+const TURN: usize = 1;
+
+const ROTATE: usize = 2;
+
+const WALK: usize = 3;
+
+const ITERATE: usize = 4;
+
+const FILL: usize = 5;
+
+const RENUMBER: usize = 6;
+
+const TRANSFER: usize = 7;
+
+const CLONE: usize = 8;
+
+// How many links there are before the steps.
+const LEN: usize = 4096;
+
+// Goes in a linear chain.
+#[inline(never)]
+fn go<P: Copy, I: Copy, A: Measured<P, I>, const OPERATION: usize>(
+    alloc: Global,
+    steps: usize,
+) -> Result<u64, ChainInsertionError> {
+    let mut sequence = Sequence::new();
+    let (mut chains, first, last) = filled::<P, I, A>(alloc, &mut sequence)?;
+    match OPERATION {
+        QUEUE => queue(
+            &mut chains,
+            A::index(first),
+            A::index(last),
+            &mut sequence,
+            steps,
+        ),
+        TURN => turn(&mut chains, A::index(first), A::index(last), steps),
+        ROTATE => {
+            chains.close(last, first);
+            Ok(rotate(&chains, A::index(first), steps))
+        }
+        WALK => Ok(walk(&chains, first, steps)),
+        _ => Ok(iterate(&chains, first, steps)),
+    }
+}
+
+// A linear chain, with its first and its last link.
+fn filled<P: Copy, I: Copy, A: Measured<P, I>>(
+    alloc: Global,
+    sequence: &mut Sequence,
+) -> Result<(A, P, P), ChainInsertionError> {
+    let mut chains = A::make(alloc);
+    let first = chains.put(Place::Apart, sequence.number())?;
+    let mut last = first;
+    for _ in 1..LEN {
+        last = chains.put(Place::Behind(last), sequence.number())?;
+    }
+    Ok((chains, first, last))
+}
+
+// Each step puts a number at the end and takes one from the start.
+#[inline(always)]
+fn queue<P: Copy, I: Copy, A: Measured<P, I>>(
+    chains: &mut A,
+    first: I,
+    last: I,
+    sequence: &mut Sequence,
+    steps: usize,
+) -> Result<u64, ChainInsertionError> {
+    let mut first = first;
+    let mut last = last;
+    let mut sum = 0u64;
+    for _ in 0..steps {
+        last = A::index(chains.put(Place::BehindIndex(last), sequence.number())?);
+        let Some((next, value)) = chains.take(first) else {
+            break;
+        };
+        first = next;
+        sum = with(sum, value);
     }
     Ok(sum)
 }
 
 // Each step takes the first link out and puts it at the end.
-fn turn<P: PtrCore, A: ChainArenaTrait<P, u64, Alloc = Global> + Drop>(
-    alloc: Global,
+#[inline(always)]
+fn turn<P: Copy, I: Copy, A: Measured<P, I>>(
+    chains: &mut A,
+    first: I,
+    last: I,
     steps: usize,
 ) -> Result<u64, ChainInsertionError> {
-    let mut sequence = Sequence::new();
-    let (mut chains, first, last) = filled::<P, A>(alloc, &mut sequence)?;
-    let mut first = first.inx();
-    let mut last = last.inx();
+    let mut first = first;
+    let mut last = last;
     let mut sum = 0u64;
     for _ in 0..steps {
-        let Some((_, link)) = chains.remove_inx_link_no_gen(first).allow() else {
-            break;
-        };
-        let Some(next) = link.next() else {
+        let Some((next, value)) = chains.take(first) else {
             break;
         };
         first = next;
-        sum = with(sum, link.t);
-        last = chains
-            .insert_reallocating(LinkInsertKind::NextToInx(last), link.t)?
-            .inx();
+        sum = with(sum, value);
+        last = A::index(chains.put(Place::BehindIndex(last), value)?);
     }
     Ok(sum)
 }
 
-// So many links of one list, whose indexes come shuffled.
-fn shuffled<P: PtrCore, S: ChainSlots<P, u64, Alloc = Global>>(
+// Each step goes to the next link of a ring, and reads it.
+#[inline(always)]
+fn rotate<P: Copy, I: Copy, A: Measured<P, I>>(chains: &A, first: I, steps: usize) -> u64 {
+    let mut at = first;
+    let mut sum = 0u64;
+    for _ in 0..steps {
+        let Some((next, value)) = chains.read(at) else {
+            break;
+        };
+        at = next;
+        sum = with(sum, value);
+    }
+    sum
+}
+
+// A walk along the chain by an advancer and a read of each link, again and again.
+#[inline(always)]
+fn walk<P: Copy, I: Copy, A: Measured<P, I>>(chains: &A, first: P, steps: usize) -> u64 {
+    let mut sum = 0u64;
+    let Some(mut links) = chains.start(first) else {
+        return sum;
+    };
+    for _ in 0..steps {
+        if let Some(next) = chains.step(&mut links, sum) {
+            sum = next;
+            continue;
+        }
+        // Round again.
+        let Some(again) = chains.start(first) else {
+            break;
+        };
+        links = again;
+        if let Some(next) = chains.step(&mut links, sum) {
+            sum = next;
+        }
+    }
+    sum
+}
+
+// The same by an iterator.
+#[inline(always)]
+fn iterate<P: Copy, I: Copy, A: Measured<P, I>>(chains: &A, first: P, steps: usize) -> u64 {
+    let mut sum = 0u64;
+    let mut left = steps;
+    for _ in 0..steps / LEN + 1 {
+        let Some(next) = chains.go_over(first, &mut left, sum) else {
+            break;
+        };
+        sum = next;
+    }
+    sum
+}
+
+// Fills, and does no more, or renumbers, moves or clones what is there.
+#[inline(never)]
+fn rearrange<P: Copy, I: Copy, A: Measured<P, I>, const OPERATION: usize>(
     alloc: Global,
     len: usize,
-) -> Result<ChainArena<P, u64, S>, ChainInsertionError> {
+) -> Result<u64, ChainInsertionError> {
+    let mut chains = shuffled::<P, I, A>(alloc, len)?;
+    match OPERATION {
+        CLONE => return clone(&chains, alloc),
+        TRANSFER => return transfer(&mut chains, alloc),
+        RENUMBER => chains.renumber(),
+        _ => {}
+    }
+    Ok(chains.along())
+}
+
+// Goes along a clone.
+#[inline(always)]
+fn clone<P: Copy, I: Copy, A: Measured<P, I>>(
+    chains: &A,
+    alloc: Global,
+) -> Result<u64, ChainInsertionError> {
+    Ok(chains.copy(alloc)?.along())
+}
+
+// Goes along the links in a new arena.
+#[inline(always)]
+fn transfer<P: Copy, I: Copy, A: Measured<P, I>>(
+    chains: &mut A,
+    alloc: Global,
+) -> Result<u64, ChainInsertionError> {
+    let mut other = A::make(alloc);
+    other.take_all(chains)?;
+    Ok(other.along())
+}
+
+// So many links of one list, whose indexes come shuffled.
+fn shuffled<P: Copy, I: Copy, A: Measured<P, I>>(
+    alloc: Global,
+    len: usize,
+) -> Result<A, ChainInsertionError> {
     let mut sequence = Sequence::new();
-    let mut chains = ChainArena::<P, u64, S>::new(alloc);
+    let mut chains = A::make(alloc);
     let mut links = Vec::with_capacity(alloc, len).map_err(|_| ChainInsertionError::AllocError)?;
-    let p = chains.insert_reallocating(LinkInsertKind::Disconnected, sequence.number())?;
+    let p = chains.put(Place::Apart, sequence.number())?;
     links.push(p).map_err(|_| ChainInsertionError::AllocError)?;
     for n in 1..len {
         let number = sequence.number();
@@ -219,58 +422,8 @@ fn shuffled<P: PtrCore, S: ChainSlots<P, u64, Alloc = Global>>(
             Some(before) => *before,
             None => break,
         };
-        let p = chains.insert_reallocating(LinkInsertKind::NextTo(before), number)?;
+        let p = chains.put(Place::Behind(before), number)?;
         links.push(p).map_err(|_| ChainInsertionError::AllocError)?;
     }
     Ok(chains)
-}
-
-// Along the list of the link with the least index, which is its start.
-fn along<P: PtrCore, S: ChainSlots<P, u64, Alloc = Global>>(chains: &ChainArena<P, u64, S>) -> u64 {
-    let mut sum = 0u64;
-    let Some(first) = chains.find_first_inx_ptr() else {
-        return sum;
-    };
-    let Some(mut links) = chains.iter_chain(first) else {
-        return sum;
-    };
-    while let Some((_, link)) = links.next() {
-        sum = with(sum, link.t);
-    }
-    sum
-}
-
-// Goes along the links in a new arena.
-fn transfer<P: PtrCore, S: ChainSlots<P, u64, Alloc = Global>>(
-    chains: &mut ChainArena<P, u64, S>,
-    alloc: Global,
-) -> Result<u64, ChainInsertionError> {
-    let mut other = ChainArena::<P, u64, S>::new(alloc);
-    let generation = chains.generation();
-    match other.transfer_canonical_reallocating(generation, chains, |_, value, _| value.allow()) {
-        Ok(()) => Ok(along(&other)),
-        Err(_) => Err(ChainInsertionError::AllocError),
-    }
-}
-
-// Fills, and does no more, or renumbers, moves or clones what is there.
-fn rearrange<P: PtrCore, S: ChainSlots<P, u64, Alloc = Global>>(
-    operation: &str,
-    alloc: Global,
-    steps: usize,
-) -> Result<u64, ChainInsertionError> {
-    let mut chains = shuffled::<P, S>(alloc, steps)?;
-    if operation == "clone" {
-        return match chains.clone(alloc) {
-            Ok(copy) => Ok(along(&copy)),
-            Err(_) => Err(ChainInsertionError::AllocError),
-        };
-    }
-    if operation == "transfer" {
-        return transfer(&mut chains, alloc);
-    }
-    if operation == "renumber" {
-        let _ = chains.compress_canonical(false);
-    }
-    Ok(along(&chains))
 }

@@ -1,5 +1,5 @@
-//! The operations on an ordered arena, as `bench/plain/ordered.rs` has them. They are generic in the pointer and the stack, which
-//! is proved in far less time.
+//! The operations on an ordered arena, as `bench/plain/ordered.rs` has them. They are generic in a trait without clauses, as
+//! those on an arena are.
 use crate::sequence::with;
 use std::alloc::Global;
 use triple_arena::{ArenaSlot, ArenaTrait, InvalidationResult, NonZeroInxVec, P0, PtrCore};
@@ -17,9 +17,9 @@ type Slots = NonZeroInxVec<ArenaSlot<P0, LinkNoGen<P0, SimpleOrdArenaNode<P0, It
 /// Fills an arena with so many entries under shuffled keys, runs so many steps of an operation, and answers a checksum.
 ///
 /// `insert` is the filling alone. `find` looks up keys that are there, `remove` removes them, `cancel` removes by pointers, and
-/// `walk` goes over the entries in their order again and again. `renumber` compresses the arena canonically,
-/// `transfer` moves it canonically into a new one, and `clone` clones it, if there are steps; then they go over the entries once. `most` and `all` take no steps: the most comparisons that the
-/// search for a key takes, and those of the searches for all keys together.
+/// `walk` goes over the entries in their order again and again. `renumber` compresses the arena canonically, `transfer` moves it
+/// canonically into a new one, and `clone` clones it, if there are steps; then they go over the entries once. `most` and `all`
+/// take no steps: the most comparisons that the search for a key takes, and those of the searches for all keys together.
 pub fn run(
     operation: &str,
     alloc: Global,
@@ -36,22 +36,194 @@ fn run_over<P: PtrCore, S: OrdSlots<P, Item, Alloc = Global>>(
     len: usize,
     steps: usize,
 ) -> Option<Result<u64, OrdInsertionError>> {
-    let (mut arena, pointers) = match filled::<P, S>(alloc, len) {
-        Ok(filled) => filled,
-        Err(refused) => return Some(Err(refused)),
-    };
+    run_in::<P, Ordered<P, S>>(operation, alloc, len, steps)
+}
+
+// What the operations do with an ordered arena.
+trait Measured<P>: Drop {
+    fn make(alloc: Global) -> Self;
+
+    fn held(&self) -> usize;
+
+    fn put(&mut self, key: u64, value: u64) -> Result<P, OrdInsertionError>;
+
+    // The value under a key.
+    fn read(&self, key: u64) -> Option<u64>;
+
+    // The same, which is removed.
+    fn take(&mut self, key: u64) -> Option<u64>;
+
+    // The value that a pointer finds, which is removed.
+    fn cancel(&mut self, p: P) -> Option<u64>;
+
+    // A checksum of the values in their order, so many of them.
+    fn go_over(&self, left: &mut usize, sum: u64) -> u64;
+
+    // A checksum of all values in their order.
+    fn values(&self) -> u64;
+
+    fn renumber(&mut self);
+
+    // Takes the entries of another one.
+    fn take_all(&mut self, source: &mut Self) -> Result<(), OrdInsertionError>;
+
+    fn copy(&self, alloc: Global) -> Result<Self, OrdInsertionError>;
+
+    // The comparisons that the search for a key takes.
+    fn comparisons(&self, key: u64) -> u64;
+}
+
+impl<P: PtrCore, S: OrdSlots<P, Item, Alloc = Global>> Measured<P> for Ordered<P, S> {
+    #[inline(always)]
+    fn make(alloc: Global) -> Self {
+        Self::new(alloc)
+    }
+
+    #[inline(always)]
+    fn held(&self) -> usize {
+        self.len()
+    }
+
+    #[inline(always)]
+    fn put(&mut self, key: u64, value: u64) -> Result<P, OrdInsertionError> {
+        match self.insert(OrdPair::new(key, value)) {
+            Ok((p, _)) => Ok(p),
+            Err(refused) => Err(refused),
+        }
+    }
+
+    #[inline(always)]
+    fn read(&self, key: u64) -> Option<u64> {
+        match self.get(self.find_key(&key)?) {
+            Some(item) => Some(*item.v()),
+            None => None,
+        }
+    }
+
+    #[inline(always)]
+    fn take(&mut self, key: u64) -> Option<u64> {
+        self.cancel(self.find_key(&key)?)
+    }
+
+    #[inline(always)]
+    fn cancel(&mut self, p: P) -> Option<u64> {
+        match self.remove(p) {
+            InvalidationResult::Success(item) => Some(*item.v()),
+            _ => None,
+        }
+    }
+
+    #[inline(always)]
+    fn go_over(&self, left: &mut usize, sum: u64) -> u64 {
+        let mut sum = sum;
+        for (_, item) in self.iter_ordered() {
+            if *left == 0 {
+                break;
+            }
+            *left -= 1;
+            sum = with(sum, *item.v());
+        }
+        sum
+    }
+
+    #[inline(always)]
+    fn values(&self) -> u64 {
+        let mut sum = 0u64;
+        for (_, item) in self.iter_ordered() {
+            sum = with(sum, *item.v());
+        }
+        sum
+    }
+
+    #[inline(always)]
+    fn renumber(&mut self) {
+        let _ = self.compress_canonical(false);
+    }
+
+    fn take_all(&mut self, source: &mut Self) -> Result<(), OrdInsertionError> {
+        let generation = source.generation();
+        match self.transfer_canonical_reallocating(generation, source, |_, item, _| item.allow()) {
+            Ok(()) => Ok(()),
+            Err(_) => Err(OrdInsertionError::AllocError),
+        }
+    }
+
+    #[inline(always)]
+    fn copy(&self, alloc: Global) -> Result<Self, OrdInsertionError> {
+        match self.clone(alloc) {
+            Ok(copy) => Ok(copy),
+            Err(_) => Err(OrdInsertionError::AllocError),
+        }
+    }
+
+    #[inline(always)]
+    fn comparisons(&self, key: u64) -> u64 {
+        let mut probes = Probes::new();
+        let _ = self.find_key_counted(&key, &mut probes);
+        probes.count()
+    }
+}
+
+// In this kind of arena.
+fn run_in<P: Copy, A: Measured<P>>(
+    operation: &str,
+    alloc: Global,
+    len: usize,
+    steps: usize,
+) -> Option<Result<u64, OrdInsertionError>> {
     match operation {
-        "insert" => Some(Ok(arena.len() as u64)),
-        "find" => Some(Ok(find(&arena, len, steps))),
-        "remove" => Some(Ok(remove(&mut arena, steps))),
-        "cancel" => Some(Ok(cancel(&mut arena, &pointers, steps))),
-        "walk" => Some(Ok(walk(&arena, steps))),
-        "renumber" => Some(Ok(renumber(&mut arena, steps))),
-        "transfer" => Some(transfer(&mut arena, alloc, steps)),
-        "clone" => Some(clone(&arena, alloc, steps)),
-        "most" => Some(Ok(comparisons(&arena, len).0)),
-        "all" => Some(Ok(comparisons(&arena, len).1)),
+        "insert" => Some(over::<P, A, INSERT>(alloc, len, steps)),
+        "find" => Some(over::<P, A, FIND>(alloc, len, steps)),
+        "remove" => Some(over::<P, A, REMOVE>(alloc, len, steps)),
+        "cancel" => Some(over::<P, A, CANCEL>(alloc, len, steps)),
+        "walk" => Some(over::<P, A, WALK>(alloc, len, steps)),
+        "renumber" => Some(over::<P, A, RENUMBER>(alloc, len, steps)),
+        "transfer" => Some(over::<P, A, TRANSFER>(alloc, len, steps)),
+        "clone" => Some(over::<P, A, CLONE>(alloc, len, steps)),
+        "most" => Some(over::<P, A, MOST>(alloc, len, steps)),
+        "all" => Some(over::<P, A, ALL>(alloc, len, steps)),
         _ => None,
+    }
+}
+
+// The operations.
+const INSERT: usize = 0;
+
+const FIND: usize = 1;
+
+const REMOVE: usize = 2;
+
+const CANCEL: usize = 3;
+
+const WALK: usize = 4;
+
+const RENUMBER: usize = 5;
+
+const TRANSFER: usize = 6;
+
+const CLONE: usize = 7;
+
+const MOST: usize = 8;
+
+const ALL: usize = 9;
+
+// In an arena with so many entries.
+#[inline(never)]
+fn over<P: Copy, A: Measured<P>, const OPERATION: usize>(
+    alloc: Global,
+    len: usize,
+    steps: usize,
+) -> Result<u64, OrdInsertionError> {
+    let (mut arena, pointers) = filled::<P, A>(alloc, len)?;
+    match OPERATION {
+        INSERT => Ok(arena.held() as u64),
+        FIND => Ok(find(&arena, len, steps)),
+        REMOVE => Ok(remove(&mut arena, steps)),
+        CANCEL => Ok(cancel(&mut arena, &pointers, steps)),
+        WALK => Ok(walk(&arena, steps)),
+        MOST => Ok(comparisons(&arena, len).0),
+        ALL => Ok(comparisons(&arena, len).1),
+        _ => rearrange::<P, A, OPERATION>(&mut arena, alloc, steps),
     }
 }
 
@@ -64,31 +236,26 @@ fn key(n: usize) -> u64 {
 }
 
 // So many entries, and their pointers.
-fn filled<P: PtrCore, S: OrdSlots<P, Item, Alloc = Global>>(
+fn filled<P: Copy, A: Measured<P>>(
     alloc: Global,
     len: usize,
-) -> Result<(Ordered<P, S>, Vec<P>), OrdInsertionError> {
-    let mut arena = Ordered::<P, S>::new(alloc);
+) -> Result<(A, Vec<P>), OrdInsertionError> {
+    let mut arena = A::make(alloc);
     let mut pointers = Vec::with_capacity(alloc, len).map_err(|_| OrdInsertionError::AllocError)?;
     for n in 0..len {
-        let (p, _) = arena.insert(OrdPair::new(key(n), n as u64))?;
+        let p = arena.put(key(n), n as u64)?;
         pointers.push(p).map_err(|_| OrdInsertionError::AllocError)?;
     }
     Ok((arena, pointers))
 }
 
-fn find<P: PtrCore, S: OrdSlots<P, Item, Alloc = Global>>(
-    arena: &Ordered<P, S>,
-    len: usize,
-    steps: usize,
-) -> u64 {
+#[inline(always)]
+fn find<P, A: Measured<P>>(arena: &A, len: usize, steps: usize) -> u64 {
     let mut sum = 0u64;
     let mut n = 0usize;
     for _ in 0..steps {
-        if let Some(p) = arena.find_key(&key(n)) {
-            if let Some(item) = arena.get(p) {
-                sum = with(sum, *item.v());
-            }
+        if let Some(value) = arena.read(key(n)) {
+            sum = with(sum, value);
         }
         n = n.wrapping_add(1);
         if n == len {
@@ -98,117 +265,80 @@ fn find<P: PtrCore, S: OrdSlots<P, Item, Alloc = Global>>(
     sum
 }
 
-fn remove<P: PtrCore, S: OrdSlots<P, Item, Alloc = Global>>(
-    arena: &mut Ordered<P, S>,
-    steps: usize,
-) -> u64 {
+#[inline(always)]
+fn remove<P, A: Measured<P>>(arena: &mut A, steps: usize) -> u64 {
     let mut sum = 0u64;
     for n in 0..steps {
-        if let Some(p) = arena.find_key(&key(n)) {
-            if let InvalidationResult::Success(item) = arena.remove(p) {
-                sum = with(sum, *item.v());
-            }
+        if let Some(value) = arena.take(key(n)) {
+            sum = with(sum, value);
         }
     }
     sum
 }
 
-fn cancel<P: PtrCore, S: OrdSlots<P, Item, Alloc = Global>>(
-    arena: &mut Ordered<P, S>,
-    pointers: &[P],
-    steps: usize,
-) -> u64 {
+#[inline(always)]
+fn cancel<P: Copy, A: Measured<P>>(arena: &mut A, pointers: &[P], steps: usize) -> u64 {
     let mut sum = 0u64;
     for p in pointers.iter().take(steps) {
-        if let InvalidationResult::Success(item) = arena.remove(*p) {
-            sum = with(sum, *item.v());
+        if let Some(value) = arena.cancel(*p) {
+            sum = with(sum, value);
         }
     }
     sum
 }
 
-fn walk<P: PtrCore, S: OrdSlots<P, Item, Alloc = Global>>(
-    arena: &Ordered<P, S>,
-    steps: usize,
-) -> u64 {
+#[inline(always)]
+fn walk<P, A: Measured<P>>(arena: &A, steps: usize) -> u64 {
     let mut sum = 0u64;
     let mut left = steps;
     for _ in 0..steps {
         if left == 0 {
             break;
         }
-        for (_, item) in arena.iter_ordered() {
-            if left == 0 {
-                break;
-            }
-            left -= 1;
-            sum = with(sum, *item.v());
+        sum = arena.go_over(&mut left, sum);
+    }
+    sum
+}
+
+// Renumbers, moves or clones what is there, if there are steps.
+#[inline(always)]
+fn rearrange<P, A: Measured<P>, const OPERATION: usize>(
+    arena: &mut A,
+    alloc: Global,
+    steps: usize,
+) -> Result<u64, OrdInsertionError> {
+    if steps > 0 {
+        match OPERATION {
+            CLONE => return clone(arena, alloc),
+            TRANSFER => return transfer(arena, alloc),
+            _ => arena.renumber(),
         }
     }
-    sum
+    Ok(arena.values())
 }
 
-fn values<P: PtrCore, S: OrdSlots<P, Item, Alloc = Global>>(arena: &Ordered<P, S>) -> u64 {
-    let mut sum = 0u64;
-    for (_, item) in arena.iter_ordered() {
-        sum = with(sum, *item.v());
-    }
-    sum
+#[inline(always)]
+fn clone<P, A: Measured<P>>(arena: &A, alloc: Global) -> Result<u64, OrdInsertionError> {
+    Ok(arena.copy(alloc)?.values())
 }
 
-fn renumber<P: PtrCore, S: OrdSlots<P, Item, Alloc = Global>>(
-    arena: &mut Ordered<P, S>,
-    steps: usize,
-) -> u64 {
-    if steps > 0 {
-        let _ = arena.compress_canonical(false);
-    }
-    values(arena)
-}
-
-fn transfer<P: PtrCore, S: OrdSlots<P, Item, Alloc = Global>>(
-    arena: &mut Ordered<P, S>,
-    alloc: Global,
-    steps: usize,
-) -> Result<u64, OrdInsertionError> {
-    if steps == 0 {
-        return Ok(values(arena));
-    }
-    let mut other = Ordered::<P, S>::new(alloc);
-    let generation = arena.generation();
-    match other.transfer_canonical_reallocating(generation, arena, |_, item, _| item.allow()) {
-        Ok(()) => Ok(values(&other)),
-        Err(_) => Err(OrdInsertionError::AllocError),
-    }
-}
-
-fn clone<P: PtrCore, S: OrdSlots<P, Item, Alloc = Global>>(
-    arena: &Ordered<P, S>,
-    alloc: Global,
-    steps: usize,
-) -> Result<u64, OrdInsertionError> {
-    if steps == 0 {
-        return Ok(values(arena));
-    }
-    match arena.clone(alloc) {
-        Ok(copy) => Ok(values(&copy)),
-        Err(_) => Err(OrdInsertionError::AllocError),
-    }
+#[inline(always)]
+fn transfer<P, A: Measured<P>>(arena: &mut A, alloc: Global) -> Result<u64, OrdInsertionError> {
+    let mut other = A::make(alloc);
+    other.take_all(arena)?;
+    Ok(other.values())
 }
 
 // The most comparisons that the search for a key takes, and those of the searches for all keys together.
-fn comparisons<P: PtrCore, S: OrdSlots<P, Item, Alloc = Global>>(
-    arena: &Ordered<P, S>,
-    len: usize,
-) -> (u64, u64) {
+#[inline(always)]
+fn comparisons<P, A: Measured<P>>(arena: &A, len: usize) -> (u64, u64) {
     let mut most = 0u64;
     let mut all = 0u64;
     for n in 0..len {
-        let mut probes = Probes::new();
-        let _ = arena.find_key_counted(&key(n), &mut probes);
-        all = all.wrapping_add(probes.count());
-        if most < probes.count() {
-            most = probes.count();
+        let count = arena.comparisons(key(n));
+        all = all.wrapping_add(count);
+        if most < count {
+            most = count;
         }
     }
     (most, all)
