@@ -57,19 +57,24 @@ pub fn empty_on_heap(alloc: Global) -> Chains
     agreed(Links::new(alloc))
 }
 
+// The sum of the values of links that do not agree.
+fn sum_links<P: PtrCore, S: ChainSlots<P, u64>>(links: Arena<P, LinkNoGen<P, u64>, S>) -> u64
+    ensures { result ≡ sum_of (list_map value_of (listed_values links)) % 2 ^ 64 }
+{
+    let mut total = 0u64;
+    for (_, link) in links {
+        total = total.wrapping_add(link.t);
+    }
+    total
+}
+
 /// The sum of the values of the links, whether they agree or not. Past the greatest number it goes on from 0.
 pub fn sum_either<P: PtrCore, S: ChainSlots<P, u64>>(arena: Arena<P, LinkNoGen<P, u64>, S>) -> u64
     ensures { result ≡ sum_of (list_map value_of (listed_values arena)) % 2 ^ 64 }
 {
     match ChainArena::from_arena(arena) {
         Ok(chains) => chains::sum(chains),
-        Err(refused) => {
-            let mut total = 0u64;
-            for (_, link) in refused {
-                total = total.wrapping_add(link.t);
-            }
-            total
-        }
+        Err(refused) => sum_links(refused),
     }
 }
 
@@ -79,12 +84,6 @@ pub fn sum_either_on_heap(arena: Links) -> u64
 {
     match Chains::from_arena(arena) {
         Ok(chains) => chains::sum_on_heap(chains),
-        Err(refused) => {
-            let mut total = 0u64;
-            for (_, link) in refused {
-                total = total.wrapping_add(link.t);
-            }
-            total
-        }
+        Err(refused) => sum_links(refused),
     }
 }
