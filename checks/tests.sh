@@ -10,7 +10,7 @@ case $check in
         mkdir -p "$work/crates/$crate/src/tests"
         printf '#![tactic(auto)]\n\n#[cfg(test)]\nmod tests;\n' >"$work/crates/$crate/src/lib.rt"
         : >"$work/crates/$crate/src/tests.rt"
-        echo "$crate: examples arena_callers triple_arena_chain triple_arena triple_arena_ptr" >>"$work/crates.txt"
+        echo "$crate: examples ord_examples arena_callers triple_arena_chain triple_arena triple_arena_ptr" >>"$work/crates.txt"
         ;;
 esac
 tests=$work/crates/$crate/src/tests

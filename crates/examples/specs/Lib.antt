@@ -1,6 +1,5 @@
 pub mod Documents
 pub mod Follow
-pub mod OrderBooks
 pub mod Playlists
 pub mod Scene
 pub mod Scheduler

@@ -1,4 +1,4 @@
-//! Examples of what the arenas are for, each a page to copy from.
+//! Examples of what arenas and chain arenas are for, each a page to copy from. Those of ordered arenas are in `ord_examples`.
 //!
 //! - [`Scheduler`]: tasks named by pointers, where a task that was cancelled is never found again.
 //! - [`Scene`]: nodes that name their parents by numbers, which a compression does not change.
@@ -7,14 +7,10 @@
 //! - [`tidy`]: a document whose nodes name one another by pointers, which is compressed and keeps its names.
 //! - [`number_paragraphs`]: a document whose sections are lists of paragraphs, which get successive numbers.
 //! - [`add_after`], [`move_after`], [`reverse_pair`], [`play_from`]: playlists, which are lists in a chain arena.
-//! - [`open_book`], [`add_order`], [`cancel_order`], [`best_order`], [`next_order`]: an order book, in an ordered arena.
-//! - [`move_orders`]: the orders of one book moved into another, as one over narrower pointers.
 #![tactic(auto)]
 
 mod document;
 mod follow;
-mod order_book;
-mod order_moves;
 mod playlist;
 mod scene;
 mod scheduler;
@@ -22,10 +18,6 @@ mod sections;
 
 pub use document::tidy;
 pub use follow::{Moved, compress_and_follow, compress_with_table};
-pub use order_book::{
-    OrderBook, OrderSlot, add_order, best_order, cancel_order, next_order, open_book,
-};
-pub use order_moves::move_orders;
 pub use playlist::{add_after, move_after, play_from, reverse_pair};
 pub use scene::{Node, Scene};
 pub use scheduler::{Scheduler, Task};

@@ -1,5 +1,5 @@
-use Rattle.examples.proofs.OrderBookLemmas.{answered_as}
-use Rattle.examples.proofs.order_book.add_order.Goals as goal
+use Rattle.ord_examples.proofs.OrderBookLemmas.{answered_as}
+use Rattle.ord_examples.proofs.order_book.add_order.Goals as goal
 
 pub returns : goal.returns
 returns g c =

@@ -7,7 +7,7 @@ ghost use Rattle.triple_arena.specs.Transfer.{IsFilled};
 ghost use Rattle.triple_arena_ord.specs.Indexed.{indexed};
 ghost use Rattle.triple_arena_ord.specs.Ordered.{entry_in, size_in, counter_in, room_in, order_in, ordered_entries};
 ghost use Rattle.triple_arena_ord.specs.States.{drained_in};
-ghost use Rattle.examples.specs.OrderBooks.{listed_order};
+ghost use Rattle.ord_examples.specs.OrderBooks.{listed_order};
 
 use crate::order_book::{OrderBook, OrderSlot};
 use triple_arena::{NonZeroInxGenericStack, PtrCore, ReallocationError};

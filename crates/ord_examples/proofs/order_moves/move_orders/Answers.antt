@@ -1,7 +1,7 @@
 use Rattle.std.proofs.Common.{rules, map, ap, ◌∙◌}
-use Rattle.examples.specs.OrderBooks.{listed_order}
-use Rattle.examples.proofs.OrderMoveLemmas.{orders_kept, on_success}
-use Rattle.examples.proofs.order_moves.move_orders.Goals as goal
+use Rattle.ord_examples.specs.OrderBooks.{listed_order}
+use Rattle.ord_examples.proofs.OrderMoveLemmas.{orders_kept, on_success}
+use Rattle.ord_examples.proofs.order_moves.move_orders.Goals as goal
 
 pub returns-clause-orders : goal.returns-clause-orders
 returns-clause-orders g c =

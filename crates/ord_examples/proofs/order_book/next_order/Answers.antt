@@ -1,11 +1,11 @@
 use Rattle.std.proofs.Common.{None, IsSome}
 use Rattle.triple_arena.specs.Entries.{value_if}
-use Rattle.examples.specs.OrderBooks.{orders_in}
+use Rattle.ord_examples.specs.OrderBooks.{orders_in}
 use Rattle.triple_arena_chain.specs.Links.{ends_in}
 use Rattle.triple_arena_chain.specs.UniquenessLaws.{linear_apart}
 use Rattle.triple_arena_ord.specs.Ordered.{order_in}
-use Rattle.examples.proofs.OrderBookLemmas.{Compared, stepped, next_given}
-use Rattle.examples.proofs.order_book.next_order.Goals as goal
+use Rattle.ord_examples.proofs.OrderBookLemmas.{Compared, stepped, next_given}
+use Rattle.ord_examples.proofs.order_book.next_order.Goals as goal
 
 pub returns-clause-next : goal.returns-clause-next
 returns-clause-next g c =

@@ -16,7 +16,7 @@ use Rattle.triple_arena_ord.specs.Ordered.{Ordered, IsOrdered, IsAscending, orde
 use Rattle.triple_arena_ord.specs.OrderedWalks.{OrderedWalk, OrderedSteps, left_over}
 use Rattle.triple_arena_ord.specs.Removal.{IsEntryRemoved}
 use Rattle.rank_tree.specs.Search.{AllIn}
-use Rattle.examples.specs.OrderBooks.{orders_in, price_in, IsFreePrice, IsNewOrder, IsBook, IsNextPrice, IsLastPrice, as_order}
+use Rattle.ord_examples.specs.OrderBooks.{orders_in, price_in, IsFreePrice, IsNewOrder, IsBook, IsNextPrice, IsLastPrice, as_order}
 
 -- what holds of each of a list holds of one that is on it
 at_of : (Q : ℕ → Type 0) (front : List ℕ) (i : ℕ) (back : List ℕ) → AllIn Q (front ++ i ∷ back) → Q i

@@ -5,7 +5,7 @@ use Rattle.triple_arena_ptr.specs.declared.invalidation.InvalidationOption.{Inva
 use Rattle.triple_arena_ptr.specs.InvalidationOption.{value_of}
 use Rattle.triple_arena.specs.Transfer.{Transfer, entry_before, entry_after, IsTransferred}
 use Rattle.triple_arena_ord.specs.declared.pair.OrdPair.{OrdPair}
-use Rattle.examples.specs.OrderBooks.{listed_order}
+use Rattle.ord_examples.specs.OrderBooks.{listed_order}
 
 module _ {Q P V F : Type 0} {old_index old_generation : Q → ℕ} {index generation : P → ℕ}
     {step : F → Q → InvalidationOption (OrdPair ℕ V) → P → OrdPair ℕ V → F → Type 0} {last counter : Option ℕ} where

@@ -2,8 +2,8 @@ use Rattle.std.proofs.Common.{sym, ◌∙◌}
 use Rattle.triple_arena_ptr.specs.InvalidationOption.{value_of}
 use Rattle.triple_arena_ptr.specs.InvalidationResult.{answer_of}
 use Rattle.triple_arena_ord.specs.Removal.{IsEntryRemoved}
-use Rattle.examples.proofs.OrderBookLemmas.{removed_book, where_some}
-use Rattle.examples.proofs.order_book.cancel_order.Goals as goal
+use Rattle.ord_examples.proofs.OrderBookLemmas.{removed_book, where_some}
+use Rattle.ord_examples.proofs.order_book.cancel_order.Goals as goal
 
 pub returns-clause-book : goal.returns-clause-book
 returns-clause-book g c =

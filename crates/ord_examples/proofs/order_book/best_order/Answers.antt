@@ -1,6 +1,6 @@
 use Rattle.std.proofs.Common.{[]}
-use Rattle.examples.proofs.OrderBookLemmas.{best_of}
-use Rattle.examples.proofs.order_book.best_order.Goals as goal
+use Rattle.ord_examples.proofs.OrderBookLemmas.{best_of}
+use Rattle.ord_examples.proofs.order_book.best_order.Goals as goal
 
 pub returns-clause-best : goal.returns-clause-best
 returns-clause-best g c =

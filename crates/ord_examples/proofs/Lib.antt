@@ -1,0 +1,2 @@
+pub mod OrderBookLemmas
+pub mod OrderMoveLemmas

@@ -1,0 +1,13 @@
+//! Examples of what ordered arenas are for, each a page to copy from. Those of the other arenas are in `examples`.
+//!
+//! - [`open_book`], [`add_order`], [`cancel_order`], [`best_order`], [`next_order`]: an order book, in an ordered arena.
+//! - [`move_orders`]: the orders of one book moved into another, as one over narrower pointers.
+#![tactic(auto)]
+
+mod order_book;
+mod order_moves;
+
+pub use order_book::{
+    OrderBook, OrderSlot, add_order, best_order, cancel_order, next_order, open_book,
+};
+pub use order_moves::move_orders;
