@@ -1,6 +1,5 @@
 use Rattle.std.proofs.Common.{◌≡◌, ◌∙◌, length, sym, ap, arith}
-use Rattle.triple_arena_ord.specs.Ordered.{ordered_entries}
-use Rattle.by_value_callers.proofs.ordered.count.Goals as goal
+use Rattle.ord_by_value_callers.proofs.ordered.count.Goals as goal
 
 -- the list that is to come has as many entries as are live
 pub loop-entry-init : goal.loop-entry-init
