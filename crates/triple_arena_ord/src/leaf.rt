@@ -3,6 +3,9 @@ ghost use Rattle.std.specs.Prelude.{◌≡◌, ℕ, ◌<◌, Some, IsSome};
 ghost use Rattle.std.specs.Option.{option_map};
 ghost use Rattle.triple_arena.specs.Content.{entry_at, live_count, arena_capacity};
 ghost use Rattle.rank_tree.specs.Store.{child_of};
+ghost use Rattle.triple_arena_chain.specs.Chains.{IsGap};
+ghost use Rattle.triple_arena_chain.specs.Kinds.{ends_by};
+ghost use Rattle.triple_arena_chain.specs.Links.{ends_in};
 ghost use Rattle.triple_arena_ord.specs.Node.{knots_in, prev_for, next_for};
 ghost use Rattle.triple_arena_ord.specs.Inserted.{IsAdded};
 ghost use Rattle.triple_arena_ord.specs.Ordered.{IsOrdered, StandsBeside, order_in, moved, replaced};
@@ -36,7 +39,7 @@ pub(crate) fn insert_leaf<P: PtrCore, T: Drop, S: OrdSlots<P, T>>(
     ensures room { chains.new.room ≡ chains.old.room }
 {
     let _capacity = chains.capacity();
-    let (prev, next) = neighbors_beside(chains, holder, side);
+    let (prev, next) = gap_beside(chains, *root, holder, side);
     let node: SimpleOrdArenaNode<P, T> = IndexNode {
         t,
         p_back: None,
@@ -51,6 +54,25 @@ pub(crate) fn insert_leaf<P: PtrCore, T: Drop, S: OrdSlots<P, T>>(
         }
         Err(_) => unreached!(),
     }
+}
+
+// The same neighbors, which are a gap of the list. That the caller meets what an insertion there asks, it finds so by itself.
+fn gap_beside<P: PtrCore, T: Drop, S: OrdSlots<P, T>>(
+    chains: &ChainArena<P, SimpleOrdArenaNode<P, T>, S>,
+    root: Option<P::Inx>,
+    holder: P::Inx,
+    side: Side,
+) -> (Option<P::Inx>, Option<P::Inx>)
+    requires ordered { IsOrdered P.Inx.number (record { chains = chains.now; root = option_map P.Inx.number root }) }
+    requires lives { IsSome (knots_in P.Inx.number chains.now (P.Inx.number holder)) }
+    requires free { option_map (λ v. child_of side v) (knots_in P.Inx.number chains.now (P.Inx.number holder)) ≡ Some None }
+    ensures prev { option_map (λ e. prev_for P.Inx.number side e.1 (P.Inx.number holder)) (entry_at chains.now (P.Inx.number holder))
+        ≡ Some (option_map P.Inx.number result.0) }
+    ensures next { option_map (λ e. next_for P.Inx.number side e.1 (P.Inx.number holder)) (entry_at chains.now (P.Inx.number holder))
+        ≡ Some (option_map P.Inx.number result.1) }
+    ensures gap { IsGap (ends_in P.Inx.number chains.now) (ends_by P.Inx.number (result.0, result.1)) }
+{
+    neighbors_beside(chains, holder, side)
 }
 
 // The neighbors of one more link directly before or after that of `holder`.

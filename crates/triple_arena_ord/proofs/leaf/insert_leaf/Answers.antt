@@ -1,18 +1,18 @@
 use Rattle.std.proofs.Common.{rules, ◌<◌, ◌^◌, None, ◌∙◌, arith}
 use Rattle.std.specs.Option.{option_map}
 use Rattle.triple_arena_ord.proofs.RestLemmas.{rested}
-use Rattle.triple_arena_ord.proofs.LeafLemmas.{Cut, Linked, Leaf, cut_found, cut_gap, leaf_gap, leaf_works}
-use Rattle.triple_arena_ord.proofs.leaf.insert_leaf.Goals.{After-neighbors_beside-prev, After-inx, After-bring_in}
+use Rattle.triple_arena_ord.proofs.LeafLemmas.{Cut, Linked, Leaf, cut_found, leaf_gap, leaf_works}
+use Rattle.triple_arena_ord.proofs.leaf.insert_leaf.Goals.{After-gap_beside-prev, After-inx, After-bring_in}
 use Rattle.triple_arena_ord.proofs.leaf.insert_leaf.Goals as goal
 
 -- the list is cut beside the holder
-cut : (g : _) (c : After-neighbors_beside-prev g)
+cut : (g : _) (c : After-gap_beside-prev g)
     → Cut g.P.Inx.PtrInxCore.number (record { chains = c.args.chains.now; root = option_map g.P.Inx.PtrInxCore.number c.args.root.now })
-    (g.P.Inx.PtrInxCore.number c.args.holder) c.args.side (option_map g.P.Inx.PtrInxCore.number c.neighbors_beside-prev.result.0)
-    (option_map g.P.Inx.PtrInxCore.number c.neighbors_beside-prev.result.1)
+    (g.P.Inx.PtrInxCore.number c.args.holder) c.args.side (option_map g.P.Inx.PtrInxCore.number c.gap_beside-prev.result.0)
+    (option_map g.P.Inx.PtrInxCore.number c.gap_beside-prev.result.1)
 cut g c =
     cut_found g.P.Inx.PtrInxCore.number _ c.requires.ordered _ _ _ _ c.requires.lives c.requires.free
-    c.neighbors_beside-prev.ensures.prev c.neighbors_beside-prev.ensures.next
+    c.gap_beside-prev.ensures.prev c.gap_beside-prev.ensures.next
 
 -- the chain has one more link there
 linked : (g : _) (c : After-inx g)
@@ -26,9 +26,9 @@ linked g c =
     let room = c.requires.room in
     record {
       is = c.requires.ordered;
-      prev = option_map g.P.Inx.PtrInxCore.number c.neighbors_beside-prev.result.0;
-      next = option_map g.P.Inx.PtrInxCore.number c.neighbors_beside-prev.result.1;
-      cut = cut g (goal.at.After-inx g c).After-neighbors_beside-prev;
+      prev = option_map g.P.Inx.PtrInxCore.number c.gap_beside-prev.result.0;
+      next = option_map g.P.Inx.PtrInxCore.number c.gap_beside-prev.result.1;
+      cut = cut g (goal.at.After-inx g c).After-gap_beside-prev;
       placed = c.in-Ok.ensures.placed;
       index_is = c.inx.ensures;
       small = omega arith;
@@ -41,11 +41,6 @@ leaf : (g : _) (c : After-bring_in g)
 leaf g c =
     let link = linked g (goal.at.After-bring_in g c).After-inx in
     leaf_works g.P.Inx.PtrInxCore.number link _ _ (c.bring_in.ensures.does (leaf_gap g.P.Inx.PtrInxCore.number link)) c.bring_in.ensures.keeps
-
-pub insert_in_gap_within_capacity-requires : goal.insert_in_gap_within_capacity-requires
-insert_in_gap_within_capacity-requires g c =
-    cut_gap g.P.Inx.PtrInxCore.number _ c.requires.ordered _ _ _ _
-    (cut g (goal.at.insert_in_gap_within_capacity-requires g c).After-neighbors_beside-prev)
 
 pub bring_in-requires-clause-gap : goal.bring_in-requires-clause-gap
 bring_in-requires-clause-gap g c = leaf_gap g.P.Inx.PtrInxCore.number (linked g (goal.at.bring_in-requires-clause-gap g c).After-inx)
