@@ -1,7 +1,7 @@
 use Rattle.std.specs.Prelude.{ℕ, ◌<◌, All, Contains}
 use Rattle.triple_arena.specs.Compression.{value_of}
 use Rattle.triple_arena_ord.specs.Ordered.{ordered_entries}
-use Rattle.by_value_callers.proofs.ordered.find.Given as goal
+use Rattle.ord_by_value_callers.proofs.ordered.find.Given as goal
 
 abbrev pub invariant-loop-p : goal.invariant-loop-p
 invariant-loop-p g l =

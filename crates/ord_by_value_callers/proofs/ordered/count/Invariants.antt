@@ -1,5 +1,5 @@
 use Rattle.std.specs.Prelude.{◌≡◌, ◌+◌, length}
-use Rattle.by_value_callers.proofs.ordered.count.Given as goal
+use Rattle.ord_by_value_callers.proofs.ordered.count.Given as goal
 
 abbrev pub invariant-loop-entry : goal.invariant-loop-entry
 invariant-loop-entry g l =

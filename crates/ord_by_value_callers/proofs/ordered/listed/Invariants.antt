@@ -1,6 +1,6 @@
 use Rattle.std.specs.Prelude.{◌≡◌, ◌++◌, map}
 use Rattle.triple_arena_ord.specs.Ordered.{ordered_entries}
-use Rattle.by_value_callers.proofs.ordered.listed.Given as goal
+use Rattle.ord_by_value_callers.proofs.ordered.listed.Given as goal
 
 abbrev pub invariant-loop-entry : goal.invariant-loop-entry
 invariant-loop-entry g l =

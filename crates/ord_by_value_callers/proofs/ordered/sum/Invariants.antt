@@ -2,7 +2,7 @@ use Rattle.std.specs.Prelude.{◌≡◌, ◌+◌, ◌%◌, ◌^◌, map}
 use Rattle.std.specs.List.{sum}
 use Rattle.triple_arena.specs.Compression.{value_of}
 use Rattle.triple_arena_ord.specs.Ordered.{ordered_entries}
-use Rattle.by_value_callers.proofs.ordered.sum.Given as goal
+use Rattle.ord_by_value_callers.proofs.ordered.sum.Given as goal
 
 abbrev pub invariant-loop-value : goal.invariant-loop-value
 invariant-loop-value g l =
