@@ -11,6 +11,7 @@ use crate::{Knots, Side, side_of};
 use triple_arena_ptr::PtrCore;
 use unreached::unreached;
 
+/// `low` turns up over its parent of the same rank, or its inner child does, twice.
 fn lean<N, P: PtrCore, K: Knots<N, P>>(knots: &mut K, root: &mut Option<P::Inx>, low: P::Inx)
     requires leaning { (w : List ℕ) × Leaning (K.knots knots.old) (option_map P.Inx.number root.old) (P.Inx.number low) w }
     requires no_more { ⊤ }
@@ -66,7 +67,7 @@ pub(crate) fn repair_inserted<N, P: PtrCore, K: Knots<N, P>>(
     }
 }
 
-/// A new leaf below a node, after which the rules hold.
+/// Hangs the node at `new`, which is in no tree, below `holder`, on a side where that has no child. After it the rules hold.
 pub fn bring_in<N, P: PtrCore, K: Knots<N, P>>(
     knots: &mut K,
     root: &mut Option<P::Inx>,

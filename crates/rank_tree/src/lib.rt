@@ -1,6 +1,6 @@
 //! A rank balanced binary tree over numbered nodes: definitions, laws, and the calls that bring a node in or out. It knows no arena:
-//! where the nodes lie is a type with `Knots`, as that of the ordered arena. After "Rank-Balanced Trees" by Haeupler, Sen and Tarjan,
-//! with the rule that each node's rank is above each child's by 1 or 2.
+//! the nodes lie in a type that has the trait `Knots`. After "Rank-Balanced Trees" by Haeupler, Sen and Tarjan, with the rule that
+//! each node's rank is above each child's by 1 or 2.
 #![tactic(auto)]
 
 // A function's clause `no_more` asks nothing. It stands where a `requires` would be alone, whose answers take far longer to state.

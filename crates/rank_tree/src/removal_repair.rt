@@ -110,7 +110,7 @@ pub(crate) fn repair_removed<N, P: PtrCore, K: Knots<N, P>>(
     }
 }
 
-/// A node with at most one child leaves the tree, after which the rules hold.
+/// Takes the node at `gone`, which has no child on one side, out of the tree. After it the rules hold.
 pub fn bring_out<N, P: PtrCore, K: Knots<N, P>>(
     knots: &mut K,
     root: &mut Option<P::Inx>,

@@ -56,25 +56,6 @@ pub(crate) fn insert_leaf<P: PtrCore, T: Drop, S: OrdSlots<P, T>>(
     }
 }
 
-// The same neighbors, which are a gap of the list. That the caller meets what an insertion there asks, it finds so by itself.
-fn gap_beside<P: PtrCore, T: Drop, S: OrdSlots<P, T>>(
-    chains: &ChainArena<P, SimpleOrdArenaNode<P, T>, S>,
-    root: Option<P::Inx>,
-    holder: P::Inx,
-    side: Side,
-) -> (Option<P::Inx>, Option<P::Inx>)
-    requires ordered { IsOrdered P.Inx.number (record { chains = chains.now; root = option_map P.Inx.number root }) }
-    requires lives { IsSome (knots_in P.Inx.number chains.now (P.Inx.number holder)) }
-    requires free { option_map (λ v. child_of side v) (knots_in P.Inx.number chains.now (P.Inx.number holder)) ≡ Some None }
-    ensures prev { option_map (λ e. prev_for P.Inx.number side e.1 (P.Inx.number holder)) (entry_at chains.now (P.Inx.number holder))
-        ≡ Some (option_map P.Inx.number result.0) }
-    ensures next { option_map (λ e. next_for P.Inx.number side e.1 (P.Inx.number holder)) (entry_at chains.now (P.Inx.number holder))
-        ≡ Some (option_map P.Inx.number result.1) }
-    ensures gap { IsGap (ends_in P.Inx.number chains.now) (ends_by P.Inx.number (result.0, result.1)) }
-{
-    neighbors_beside(chains, holder, side)
-}
-
 // The neighbors of one more link directly before or after that of `holder`.
 pub(crate) fn neighbors_beside<P: PtrCore, T: Drop, S: OrdSlots<P, T>>(
     chains: &ChainArena<P, SimpleOrdArenaNode<P, T>, S>,
@@ -94,6 +75,25 @@ pub(crate) fn neighbors_beside<P: PtrCore, T: Drop, S: OrdSlots<P, T>>(
         },
         None => unreached!(),
     }
+}
+
+// These neighbors, told to be a gap of the list. So what an insertion there requires is found by search.
+fn gap_beside<P: PtrCore, T: Drop, S: OrdSlots<P, T>>(
+    chains: &ChainArena<P, SimpleOrdArenaNode<P, T>, S>,
+    root: Option<P::Inx>,
+    holder: P::Inx,
+    side: Side,
+) -> (Option<P::Inx>, Option<P::Inx>)
+    requires ordered { IsOrdered P.Inx.number (record { chains = chains.now; root = option_map P.Inx.number root }) }
+    requires lives { IsSome (knots_in P.Inx.number chains.now (P.Inx.number holder)) }
+    requires free { option_map (λ v. child_of side v) (knots_in P.Inx.number chains.now (P.Inx.number holder)) ≡ Some None }
+    ensures prev { option_map (λ e. prev_for P.Inx.number side e.1 (P.Inx.number holder)) (entry_at chains.now (P.Inx.number holder))
+        ≡ Some (option_map P.Inx.number result.0) }
+    ensures next { option_map (λ e. next_for P.Inx.number side e.1 (P.Inx.number holder)) (entry_at chains.now (P.Inx.number holder))
+        ≡ Some (option_map P.Inx.number result.1) }
+    ensures gap { IsGap (ends_in P.Inx.number chains.now) (ends_by P.Inx.number (result.0, result.1)) }
+{
+    neighbors_beside(chains, holder, side)
 }
 
 // What an end of the list is after one more index stands beside another.

@@ -1,5 +1,5 @@
-//! The links of a list, as what goes along it asks for them. It knows an arena by these alone, so that little is known where it is
-//! proved, and a known arena meets no more where it is called.
+//! The links of a list, which is all that a search along it asks of an arena. So little is known where such a search is proved,
+//! and a known arena meets little where it is called.
 ghost use Rattle.std.specs.Prelude.{◌≡◌};
 ghost use Rattle.std.specs.Option.{option_map};
 ghost use Rattle.triple_arena.specs.Content.{Content, entry_at};

@@ -9,9 +9,6 @@ ghost use Rattle.triple_arena.specs.Entries.{without};
 ghost use Rattle.triple_arena_chain.specs.Chains.{next_at};
 ghost use Rattle.triple_arena_chain.specs.Links.{ends_in};
 ghost use Rattle.triple_arena_ord.specs.Node.{knots_in, items_in, rest};
-ghost use Rattle.rank_tree.specs.Tree.{node};
-ghost use Rattle.rank_tree.specs.Shape.{plug, Stands};
-ghost use Rattle.rank_tree.specs.Repair.{Exchange};
 ghost use Rattle.triple_arena_ord.specs.Ordered.{IsOrdered, order_in};
 ghost use Rattle.triple_arena_ord.specs.Removal.{Loses, IsUprooted};
 
