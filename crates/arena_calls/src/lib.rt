@@ -1,5 +1,5 @@
-//! The calls of every arena, as the lines of a script name them. The programs `arena_script`, `chain_script` and
-//! `ord_script` make them at arenas of their own.
+//! The calls of every arena, as the lines of a script name them. The programs `arena_script` and `chain_script` make them at
+//! arenas of their own, and so do those of the ordered arenas.
 #![tactic(auto)]
 
 mod changes;

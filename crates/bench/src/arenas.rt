@@ -27,7 +27,8 @@ fn run_over<S: ArenaSlots<Pointer, u64, Alloc = Global>>(
     run_in::<Arena<Pointer, u64, S>>(operation, alloc, steps)
 }
 
-// What the operations do with an arena of any kind. It is inlined, and so they take no more instructions than at the arena.
+// What the operations do with an arena of any kind. What a step calls is inlined, and so it takes no more instructions than at
+// the arena.
 trait Measured<P>: Drop {
     // What goes along the pointers.
     type Steps: Drop;
@@ -283,7 +284,7 @@ fn clone<A: Measured<Pointer> + Copied>(
     }
 }
 
-// In an arena with an entry for each place of a table, of which some operations leave each fourth one out.
+// In an arena with an entry for each place of a table, of which all operations but the empty loop leave each fourth one out.
 #[inline(never)]
 fn over_table<A: Measured<Pointer> + Copied, const OPERATION: usize>(
     alloc: Global,
@@ -368,7 +369,8 @@ fn iterate<A: Copied>(arena: &A, steps: usize) -> u64 {
     sum
 }
 
-// An arena with an entry for each place of a table, and the table of their pointers.
+// An arena with an entry for each place of a table, and the table of their pointers. `churn` owns its arena, which takes no
+// more instructions; for the others that is dearer to prove.
 #[inline(never)]
 fn filled_table<A: Measured<Pointer>>(
     alloc: Global,

@@ -38,8 +38,8 @@ fn main(rt: HostRuntime) -> anyhow::Result<ExitCode> {
         None => {
             eprintln!(rt;
                 "usage: bench arena insert|remove|remove_inx|get|write|advance|iterate|clone|drain|churn|loop STEPS\n       \
-                bench chains queue|turn|rotate|walk|iterate STEPS\n       \
-                bench ord insert|find|remove|cancel|walk|most|all LEN STEPS"
+                bench chains queue|turn|rotate|walk|iterate|fill|renumber|transfer|clone STEPS\n       \
+                bench ord insert|find|remove|cancel|walk|renumber|transfer|clone|most|all LEN STEPS"
             )?;
             Ok(ExitCode::from(2))
         }

@@ -1,7 +1,7 @@
 //! The calls at an ordered arena that is copied.
 use script::{Call, Transcript};
 
-/// What makes those that are not of every arena.
+/// What makes those that are not of every arena. It is one trait, so that what is generic in it names one bound.
 pub trait Copied {
     fn tell_generation(&self, transcript: &mut Transcript, line: &str);
 

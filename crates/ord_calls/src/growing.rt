@@ -7,15 +7,15 @@ use crate::work::{Counting, Since, Work};
 use script::{Call, ShownPtr, Transcript, index, pointer};
 use triple_arena::PtrCore;
 
-// The keys of a script go up to this prime: the products of all lesser numbers with one of them, modulo the prime, are all
-// of them again in another order.
+// The keys of a script go up to this prime. The products of all lesser numbers with one of them, modulo the prime, are all of
+// them again in another order.
 const PRIME: u64 = 1009;
 
 /// What takes items in and out by their keys.
 pub trait Takes<P: PtrCore, K> {
-    /// Puts an item of a key and a value in, by an entry of the kind of this name, whose search begins at an index and goes
-    /// so far along the list, or by `insert` where there is no such kind. It answers the item's index, or the one that it
-    /// began with where there was no room.
+    /// Puts an item of a key and a value in: by an entry of the kind of this name, whose search begins at an index and goes
+    /// so far along the list, or by `insert` if there is no such kind. It answers the item's index, or the one that it
+    /// began with if there was no room.
     fn take(&mut self, name: &str, item: &(K, u64), start: P::Inx, num: u64) -> P::Inx;
 
     /// Removes an entry with this key, if there is one.
@@ -48,8 +48,8 @@ pub fn grows<P: ShownPtr, K: Counting, A: Finds<P, K> + Knots<P> + Takes<P, K>>(
     true
 }
 
-// Puts the keys up to the second number in, in the order of their products with the first one: by `insert`, or by an entry of
-// a kind, whose search begins at an index, or at the entry that was put in before it where that is 0.
+// Puts the keys up to the second number in, in the order of their products with the first one. It does so by `insert`, or by
+// an entry of a kind. That one's search begins at an index, or, if that is 0, at the entry that was put in before.
 fn grow<P: PtrCore, K: Counting, A: Knots<P> + Takes<P, K>>(
     arena: &mut A,
     name: &str,

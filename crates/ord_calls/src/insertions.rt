@@ -37,7 +37,7 @@ pub trait PutsIn<K> {
     );
 }
 
-/// The answer of an insertion, and what is told of its comparisons.
+/// Tells the answer of an insertion, and of its comparisons.
 pub fn tell<A: Debug, K: Counting>(
     transcript: &mut Transcript,
     line: &str,

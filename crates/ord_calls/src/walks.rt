@@ -33,7 +33,7 @@ pub trait GoesAlong {
     fn drain_along(&mut self, transcript: &mut Transcript, call: &Call<'_>);
 }
 
-/// What an iterator gives, up to its end.
+/// Answers each item that an iterator gives, up to its end.
 pub fn answer_each<I: Iterator<Item: Debug + Drop> + Drop>(
     items: I,
     transcript: &mut Transcript,

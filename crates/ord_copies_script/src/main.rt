@@ -3,10 +3,10 @@
 //!
 //! Sections are split by an empty line. The first line of one is `POINTER STACK FIRST LAST`, where the stack is
 //! `copying-heap`, `copying-limited`, `copying-array` or `renaming`. A section is played once for each request for memory from
-//! the first to the last, which is refused; 0 refuses none. The others are calls, one a line: `WHOM CALL NUMBERS`.
+//! the first to the last, which is refused; 0 refuses none. The other lines are calls: `WHOM CALL NUMBERS`.
 //!
-//! The copies are among arenas over stacks of one kind: the ordered arenas `a` and `c`, the chain arena `h` and the arena `v`
-//! of values; over stacks that take a limit they are `a` and `c` alone. `a<c transfer_canonical G` moves the entries of `c`
+//! The copies are among arenas over stacks of one kind: the ordered arenas `a` and `c`, the chain arena `h`, and the arena `v`
+//! of values. Over stacks that take a limit they are `a` and `c` alone. `a<c transfer_canonical G` moves the entries of `c`
 //! to `a`, under that generation; `a* compress_with 1` compresses `a` with a reset. `renaming.rt` has the arenas of the
 //! other sections.
 #![tactic(auto)]
