@@ -9,7 +9,8 @@ pub read-below-requires-clause-live : goal.read-below-requires-clause-live
 read-below-requires-clause-live g c = grown_lives _ _ _ _ (c.climb.invariant.0 c.requires.grown.0 c.requires.grown.1)
 
 pub read-above-requires-clause-live : goal.read-above-requires-clause-live
-read-above-requires-clause-live g c = parent_lives _ _ _ _ _ (grown_under _ _ _ _ _ _ c.read-below.ensures (ap (option_map g.P.Inx.PtrInxCore.number) c.in-Some.is) (c.climb.invariant.0 c.requires.grown.0 c.requires.grown.1))
+read-above-requires-clause-live g c =
+    parent_lives _ _ _ _ _ (grown_under _ _ _ _ _ _ c.read-below.ensures (ap (option_map g.P.Inx.PtrInxCore.number) c.in-Some.is) (c.climb.invariant.0 c.requires.grown.0 c.requires.grown.1))
 
 pub returns-then-below-above-clause-does : goal.returns-then-below-above-clause-does
 returns-then-below-above-clause-does g c = λ w grown.
@@ -20,27 +21,34 @@ returns-then-below-above-clause-does g c = λ w grown.
 pub rank_at-requires-clause-live : goal.rank_at-requires-clause-live
 rank_at-requires-clause-live g c =
     if_live_from g.P.Inx.PtrInxCore.number (g.K.Knots.knots c.climb.knots) c.child-sibling.result
-    (let h = grown_under _ _ _ _ _ _ c.read-below.ensures (ap (option_map g.P.Inx.PtrInxCore.number) c.in-Some.is) (c.climb.invariant.0 c.requires.grown.0 c.requires.grown.1) in sibling_lives _ _ _ _ _
+    (let h = grown_under _ _ _ _ _ _ c.read-below.ensures (ap (option_map g.P.Inx.PtrInxCore.number) c.in-Some.is)
+    (c.climb.invariant.0 c.requires.grown.0 c.requires.grown.1) in sibling_lives _ _ _ _ _
     _ _ _ h (climb_reads _ _ _ _ _ _ _ _ _ c.read-below.ensures (ap (option_map g.P.Inx.PtrInxCore.number) c.in-Some.is) c.read-above.ensures c.side_of-side.ensures.left
     c.side_of-side.ensures.right c.other.ensures c.child-sibling.ensures _ h))
 
 pub overflow_add-rank_at : goal.overflow_add-rank_at
 overflow_add-rank_at g c =
-    let h = grown_under _ _ _ _ _ _ c.read-below.ensures (ap (option_map g.P.Inx.PtrInxCore.number) c.in-Some.is) (c.climb.invariant.0 c.requires.grown.0 c.requires.grown.1) in let r = climb_reads _ _ _
+    let h = grown_under _ _ _ _ _ _ c.read-below.ensures (ap (option_map g.P.Inx.PtrInxCore.number) c.in-Some.is)
+    (c.climb.invariant.0 c.requires.grown.0 c.requires.grown.1) in
+    let r = climb_reads _ _ _
     _ _ _ _ _ _ c.read-below.ensures (ap (option_map g.P.Inx.PtrInxCore.number) c.in-Some.is) c.read-above.ensures c.side_of-side.ensures.left c.side_of-side.ensures.right c.other.ensures
     c.child-sibling.ensures _ h in let f = rank_read _ _ h.far _ _ r.far_is r.far_stands c.rank_at.ensures.some c.rank_at.ensures.none in
     let b = climb_small _ _ _ _ _ h in let fits = h.high_fits in omega arith
 
 pub lean-requires-clause-leaning : goal.lean-requires-clause-leaning
 lean-requires-clause-leaning g c =
-    let h = grown_under _ _ _ _ _ _ c.read-below.ensures (ap (option_map g.P.Inx.PtrInxCore.number) c.in-Some.is) (c.climb.invariant.0 c.requires.grown.0 c.requires.grown.1) in let r = climb_reads _ _ _
+    let h = grown_under _ _ _ _ _ _ c.read-below.ensures (ap (option_map g.P.Inx.PtrInxCore.number) c.in-Some.is)
+    (c.climb.invariant.0 c.requires.grown.0 c.requires.grown.1) in
+    let r = climb_reads _ _ _
     _ _ _ _ _ _ c.read-below.ensures (ap (option_map g.P.Inx.PtrInxCore.number) c.in-Some.is) c.read-above.ensures c.side_of-side.ensures.left c.side_of-side.ensures.right c.other.ensures
     c.child-sibling.ensures _ h in let f = rank_read _ _ h.far _ _ r.far_is r.far_stands c.rank_at.ensures.some c.rank_at.ensures.none in
     (c.requires.grown.0, climb_leans _ _ _ _ _ h (omega arith) (omega arith))
 
 pub overflow_add-above : goal.overflow_add-above
 overflow_add-above g c =
-    let h = grown_under _ _ _ _ _ _ c.read-below.ensures (ap (option_map g.P.Inx.PtrInxCore.number) c.in-Some.is) (c.climb.invariant.0 c.requires.grown.0 c.requires.grown.1) in let r = climb_reads _ _ _
+    let h = grown_under _ _ _ _ _ _ c.read-below.ensures (ap (option_map g.P.Inx.PtrInxCore.number) c.in-Some.is)
+    (c.climb.invariant.0 c.requires.grown.0 c.requires.grown.1) in
+    let r = climb_reads _ _ _
     _ _ _ _ _ _ c.read-below.ensures (ap (option_map g.P.Inx.PtrInxCore.number) c.in-Some.is) c.read-above.ensures c.side_of-side.ensures.left c.side_of-side.ensures.right c.other.ensures
     c.child-sibling.ensures _ h in
     let b = climb_small _ _ _ _ _ h in omega arith
@@ -57,7 +65,9 @@ returns-then-rank_at-below-clause-does g c = λ w grown.
 
 pub climb-smaller : goal.climb-smaller
 climb-smaller g c =
-    let h = grown_under _ _ _ _ _ _ c.read-below.ensures (ap (option_map g.P.Inx.PtrInxCore.number) c.in-Some.is) (c.climb.invariant.0 c.requires.grown.0 c.requires.grown.1) in let r = climb_reads _ _ _
+    let h = grown_under _ _ _ _ _ _ c.read-below.ensures (ap (option_map g.P.Inx.PtrInxCore.number) c.in-Some.is)
+    (c.climb.invariant.0 c.requires.grown.0 c.requires.grown.1) in
+    let r = climb_reads _ _ _
     _ _ _ _ _ _ c.read-below.ensures (ap (option_map g.P.Inx.PtrInxCore.number) c.in-Some.is) c.read-above.ensures c.side_of-side.ensures.left c.side_of-side.ensures.right c.other.ensures
     c.child-sibling.ensures _ h in
     let b = climb_small _ _ _ _ _ h in
