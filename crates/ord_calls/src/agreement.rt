@@ -1,5 +1,5 @@
 //! Whether the tree of an arena agrees with its list, seen from outside: by the nodes that the arena lends.
-use crate::knots::{Knot, Knots};
+use crate::knots::{Knot, ShowsKnots};
 use crate::work::most;
 use triple_arena::{PtrCore, PtrInxCore};
 
@@ -21,7 +21,7 @@ struct Seen<I: PtrInxCore> {
 
 /// Says that tree and list agree, or what is wrong: an index that is not live, neighbors that disagree, a child that does
 /// not know its parent, a rank against the rules, or an entry whose next one is not its successor in the tree.
-pub fn check<P: PtrCore, A: Knots<P>>(arena: &A) -> &'static str {
+pub fn check<P: PtrCore, A: ShowsKnots<P>>(arena: &A) -> &'static str {
     let mut seen = Seen {
         at: arena.start(),
         before: None,
@@ -44,7 +44,7 @@ pub fn check<P: PtrCore, A: Knots<P>>(arena: &A) -> &'static str {
 }
 
 // Looks at one entry more, if there is one and nothing is wrong.
-fn see<P: PtrCore, A: Knots<P>>(arena: &A, seen: &Seen<P::Inx>) -> Seen<P::Inx> {
+fn see<P: PtrCore, A: ShowsKnots<P>>(arena: &A, seen: &Seen<P::Inx>) -> Seen<P::Inx> {
     match seen.at {
         Some(i) => Seen {
             at: next_of(arena, i),
@@ -67,40 +67,44 @@ fn first_fault(first: &'static str, second: &'static str) -> &'static str {
     if first == "" { second } else { first }
 }
 
-fn next_of<P: PtrCore, A: Knots<P>>(arena: &A, i: P::Inx) -> Option<P::Inx> {
+fn next_of<P: PtrCore, A: ShowsKnots<P>>(arena: &A, i: P::Inx) -> Option<P::Inx> {
     match arena.knot(i) {
         Some(knot) => knot.next,
         None => None,
     }
 }
 
-fn parent_of<P: PtrCore, A: Knots<P>>(arena: &A, i: P::Inx) -> Option<P::Inx> {
+fn parent_of<P: PtrCore, A: ShowsKnots<P>>(arena: &A, i: P::Inx) -> Option<P::Inx> {
     match arena.knot(i) {
         Some(knot) => knot.parent,
         None => None,
     }
 }
 
-fn left_of<P: PtrCore, A: Knots<P>>(arena: &A, i: P::Inx) -> Option<P::Inx> {
+fn left_of<P: PtrCore, A: ShowsKnots<P>>(arena: &A, i: P::Inx) -> Option<P::Inx> {
     match arena.knot(i) {
         Some(knot) => knot.left,
         None => None,
     }
 }
 
-fn is_root<P: PtrCore, A: Knots<P>>(arena: &A, i: P::Inx) -> bool {
+fn is_root<P: PtrCore, A: ShowsKnots<P>>(arena: &A, i: P::Inx) -> bool {
     parent_of(arena, i).is_none()
 }
 
 // What is wrong with an entry, if anything is.
-fn fault_at<P: PtrCore, A: Knots<P>>(arena: &A, i: P::Inx, before: Option<P::Inx>) -> &'static str {
+fn fault_at<P: PtrCore, A: ShowsKnots<P>>(
+    arena: &A,
+    i: P::Inx,
+    before: Option<P::Inx>,
+) -> &'static str {
     match arena.knot(i) {
         Some(knot) => fault_of(arena, i, &knot, before),
         None => "an index of the list is not live",
     }
 }
 
-fn fault_of<P: PtrCore, A: Knots<P>>(
+fn fault_of<P: PtrCore, A: ShowsKnots<P>>(
     arena: &A,
     i: P::Inx,
     knot: &Knot<P::Inx>,
@@ -122,7 +126,7 @@ fn fault_of<P: PtrCore, A: Knots<P>>(
 }
 
 // Whether a child, if there is one, has this parent.
-fn knows<P: PtrCore, A: Knots<P>>(arena: &A, parent: P::Inx, child: Option<P::Inx>) -> bool {
+fn knows<P: PtrCore, A: ShowsKnots<P>>(arena: &A, parent: P::Inx, child: Option<P::Inx>) -> bool {
     match child {
         Some(child) => parent_of(arena, child) == Some(parent),
         None => true,
@@ -130,7 +134,11 @@ fn knows<P: PtrCore, A: Knots<P>>(arena: &A, parent: P::Inx, child: Option<P::In
 }
 
 // Whether a parent, if there is one, has this child, on one side.
-fn is_child<P: PtrCore, A: Knots<P>>(arena: &A, child: P::Inx, parent: Option<P::Inx>) -> bool {
+fn is_child<P: PtrCore, A: ShowsKnots<P>>(
+    arena: &A,
+    child: P::Inx,
+    parent: Option<P::Inx>,
+) -> bool {
     match parent {
         Some(parent) => match arena.knot(parent) {
             Some(parent) => (parent.left == Some(child)) != (parent.right == Some(child)),
@@ -141,7 +149,7 @@ fn is_child<P: PtrCore, A: Knots<P>>(arena: &A, child: P::Inx, parent: Option<P:
 }
 
 // The rank at an index, which is 0 where there is none.
-fn rank<P: PtrCore, A: Knots<P>>(arena: &A, i: Option<P::Inx>) -> u8 {
+fn rank<P: PtrCore, A: ShowsKnots<P>>(arena: &A, i: Option<P::Inx>) -> u8 {
     match i {
         Some(i) => match arena.knot(i) {
             Some(knot) => knot.rank,
@@ -153,7 +161,7 @@ fn rank<P: PtrCore, A: Knots<P>>(arena: &A, i: Option<P::Inx>) -> u8 {
 
 // Whether the rank is above that of each child by 1 or 2, is 1 without children, and, at the root, is no more than a search
 // may compare.
-fn is_ranked<P: PtrCore, A: Knots<P>>(arena: &A, knot: &Knot<P::Inx>) -> bool {
+fn is_ranked<P: PtrCore, A: ShowsKnots<P>>(arena: &A, knot: &Knot<P::Inx>) -> bool {
     let left = knot.rank.wrapping_sub(rank(arena, knot.left));
     let right = knot.rank.wrapping_sub(rank(arena, knot.right));
     let is_leaf = knot.left.is_none() && knot.right.is_none();
@@ -163,7 +171,11 @@ fn is_ranked<P: PtrCore, A: Knots<P>>(arena: &A, knot: &Knot<P::Inx>) -> bool {
 }
 
 // The index of the entry after this one in the order of the tree.
-fn successor<P: PtrCore, A: Knots<P>>(arena: &A, i: P::Inx, knot: &Knot<P::Inx>) -> Option<P::Inx> {
+fn successor<P: PtrCore, A: ShowsKnots<P>>(
+    arena: &A,
+    i: P::Inx,
+    knot: &Knot<P::Inx>,
+) -> Option<P::Inx> {
     match knot.right {
         Some(right) => Some(leftmost(arena, right)),
         None => first_above(arena, i, knot.parent),
@@ -171,7 +183,7 @@ fn successor<P: PtrCore, A: Knots<P>>(arena: &A, i: P::Inx, knot: &Knot<P::Inx>)
 }
 
 // The first entry below an index.
-fn leftmost<P: PtrCore, A: Knots<P>>(arena: &A, below: P::Inx) -> P::Inx {
+fn leftmost<P: PtrCore, A: ShowsKnots<P>>(arena: &A, below: P::Inx) -> P::Inx {
     let mut below = below;
     for _ in 0..HIGHEST {
         below = left_of(arena, below).unwrap_or(below);
@@ -180,7 +192,7 @@ fn leftmost<P: PtrCore, A: Knots<P>>(arena: &A, below: P::Inx) -> P::Inx {
 }
 
 // The nearest entry above an index whose left side has it.
-fn first_above<P: PtrCore, A: Knots<P>>(
+fn first_above<P: PtrCore, A: ShowsKnots<P>>(
     arena: &A,
     i: P::Inx,
     parent: Option<P::Inx>,
@@ -193,7 +205,7 @@ fn first_above<P: PtrCore, A: Knots<P>>(
 }
 
 // One step up from an index to its parent, unless it is the left child.
-fn step_up<P: PtrCore, A: Knots<P>>(
+fn step_up<P: PtrCore, A: ShowsKnots<P>>(
     arena: &A,
     way: (P::Inx, Option<P::Inx>),
 ) -> (P::Inx, Option<P::Inx>) {

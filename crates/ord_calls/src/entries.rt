@@ -1,5 +1,5 @@
 //! Insertions by an entry, of each kind, in each form.
-use crate::knots::Knots;
+use crate::knots::ShowsKnots;
 use crate::places::limit_from;
 use crate::work::Limit;
 use script::{Call, Transcript, index};
@@ -19,7 +19,7 @@ pub trait PutsByEntry<K> {
 }
 
 /// Makes such a call, and says whether there is one of that name.
-pub fn enters<P: PtrCore, K: Copy, A: PutsByEntry<K> + Knots<P>>(
+pub fn enters<P: PtrCore, K: Copy, A: PutsByEntry<K> + ShowsKnots<P>>(
     arena: &mut A,
     transcript: &mut Transcript,
     call: &Call<'_>,
@@ -36,7 +36,7 @@ pub fn enters<P: PtrCore, K: Copy, A: PutsByEntry<K> + Knots<P>>(
 }
 
 /// How many comparisons an entry of a kind may make.
-pub fn limit_of<P: PtrCore, A: Knots<P>>(
+pub fn limit_of<P: PtrCore, A: ShowsKnots<P>>(
     arena: &A,
     name: &str,
     start: P::Inx,

@@ -1,7 +1,7 @@
 //! Many calls in a row, of whose comparisons one answer tells the most.
 use crate::entries::limit_of;
 use crate::finds::{Finds, search};
-use crate::knots::Knots;
+use crate::knots::ShowsKnots;
 use crate::places::{Place, place_of};
 use crate::work::{Counting, Since, Work};
 use script::{Call, ShownPtr, Transcript, index, pointer};
@@ -23,7 +23,7 @@ pub trait Takes<P: PtrCore, K> {
 }
 
 /// Makes such calls, and says whether there are some of that name.
-pub fn grows<P: ShownPtr, K: Counting, A: Finds<P, K> + Knots<P> + Takes<P, K>>(
+pub fn grows<P: ShownPtr, K: Counting, A: Finds<P, K> + ShowsKnots<P> + Takes<P, K>>(
     arena: &mut A,
     transcript: &mut Transcript,
     call: &Call<'_>,
@@ -50,7 +50,7 @@ pub fn grows<P: ShownPtr, K: Counting, A: Finds<P, K> + Knots<P> + Takes<P, K>>(
 
 // Puts the keys up to the second number in, in the order of their products with the first one. It does so by `insert`, or by
 // an entry of a kind. That one's search begins at an index, or, if that is 0, at the entry that was put in before.
-fn grow<P: PtrCore, K: Counting, A: Knots<P> + Takes<P, K>>(
+fn grow<P: PtrCore, K: Counting, A: ShowsKnots<P> + Takes<P, K>>(
     arena: &mut A,
     name: &str,
     call: &Call<'_>,
@@ -81,7 +81,7 @@ fn grow<P: PtrCore, K: Counting, A: Knots<P> + Takes<P, K>>(
 }
 
 // Puts one item in, and answers its index.
-fn put<P: PtrCore, K: Counting, A: Knots<P> + Takes<P, K>>(
+fn put<P: PtrCore, K: Counting, A: ShowsKnots<P> + Takes<P, K>>(
     arena: &mut A,
     name: &str,
     item: &(K, u64),
@@ -129,7 +129,7 @@ struct Tally {
 }
 
 // The search of a name for each key from the first number to the second, with a start.
-fn each<P: ShownPtr, K: Counting, A: Finds<P, K> + Knots<P>>(
+fn each<P: ShownPtr, K: Counting, A: Finds<P, K> + ShowsKnots<P>>(
     arena: &A,
     name: &str,
     call: &Call<'_>,
@@ -156,7 +156,7 @@ fn each<P: ShownPtr, K: Counting, A: Finds<P, K> + Knots<P>>(
 }
 
 impl Tally {
-    fn counts<P: PtrCore, A: Knots<P>>(&mut self, arena: &A, n: u64, place: Place<P>) {
+    fn counts<P: PtrCore, A: ShowsKnots<P>>(&mut self, arena: &A, n: u64, place: Place<P>) {
         match place {
             Place::At(p) if key_of(arena, Some(p)) == Some(n) => {
                 self.equal = self.equal.saturating_add(1);
@@ -183,7 +183,7 @@ fn parts(before: Option<u64>, n: u64, after: Option<u64>) -> bool {
     follows && goes_before
 }
 
-fn key_of<P: PtrCore, A: Knots<P>>(arena: &A, p: Option<P>) -> Option<u64> {
+fn key_of<P: PtrCore, A: ShowsKnots<P>>(arena: &A, p: Option<P>) -> Option<u64> {
     match p {
         Some(p) => match arena.knot(p.inx()) {
             Some(knot) => Some(knot.key),

@@ -15,7 +15,7 @@ pub struct Knot<I: PtrInxCore> {
 }
 
 /// What has such entries.
-pub trait Knots<P: PtrCore> {
+pub trait ShowsKnots<P: PtrCore> {
     /// How many entries there are.
     fn size(&self) -> u64;
 

@@ -31,7 +31,7 @@ pub use entries::PutsByEntry;
 pub use finds::{Finds, Found};
 pub use growing::Takes;
 pub use insertions::{PutsIn, tell};
-pub use knots::{Knot, Knots};
+pub use knots::{Knot, ShowsKnots};
 pub use lists::TellsOfList;
 pub use nodes::TellsOfTree;
 pub use players::{Compare, CountingPlayer, Player, play_beside, play_counted};

@@ -1,6 +1,6 @@
 //! The calls that tell of the tree and of its nodes, and the one that lays them out anew.
 use crate::agreement::check;
-use crate::knots::Knots;
+use crate::knots::ShowsKnots;
 use script::{Call, ShownPtr, Transcript};
 
 /// What tells of itself and of its tree.
@@ -14,7 +14,7 @@ pub trait TellsOfTree {
 }
 
 /// Makes such a call, and says whether there is one of that name.
-pub fn reads_tree<P: ShownPtr, A: Knots<P> + TellsOfTree>(
+pub fn reads_tree<P: ShownPtr, A: ShowsKnots<P> + TellsOfTree>(
     arena: &mut A,
     transcript: &mut Transcript,
     call: &Call<'_>,
@@ -33,14 +33,23 @@ pub fn reads_tree<P: ShownPtr, A: Knots<P> + TellsOfTree>(
 }
 
 // The generation, the neighbors, the item, the parent and the children at an index.
-fn tell_node<P: ShownPtr, A: Knots<P>>(arena: &A, transcript: &mut Transcript, call: &Call<'_>) {
+fn tell_node<P: ShownPtr, A: ShowsKnots<P>>(
+    arena: &A,
+    transcript: &mut Transcript,
+    call: &Call<'_>,
+) {
     match arena.ptr(call.index()) {
         Some(p) => tell_entry(arena, transcript, call.line, p),
         None => transcript.answer(call.line, &"not live"),
     }
 }
 
-fn tell_entry<P: ShownPtr, A: Knots<P>>(arena: &A, transcript: &mut Transcript, line: &str, p: P) {
+fn tell_entry<P: ShownPtr, A: ShowsKnots<P>>(
+    arena: &A,
+    transcript: &mut Transcript,
+    line: &str,
+    p: P,
+) {
     match arena.knot(p.inx()) {
         Some(knot) => {
             let ends = (knot.prev, knot.next);
@@ -52,7 +61,11 @@ fn tell_entry<P: ShownPtr, A: Knots<P>>(arena: &A, transcript: &mut Transcript, 
 }
 
 // The rank at an index.
-fn tell_rank<P: ShownPtr, A: Knots<P>>(arena: &A, transcript: &mut Transcript, call: &Call<'_>) {
+fn tell_rank<P: ShownPtr, A: ShowsKnots<P>>(
+    arena: &A,
+    transcript: &mut Transcript,
+    call: &Call<'_>,
+) {
     match arena.knot(call.index()) {
         Some(knot) => transcript.answer(call.line, &knot.rank),
         None => transcript.answer(call.line, &"not live"),

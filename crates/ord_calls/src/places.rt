@@ -1,6 +1,6 @@
 //! The searches by their names, and what is told of the places that they find.
 use crate::finds::{Finds, Found, search};
-use crate::knots::Knots;
+use crate::knots::ShowsKnots;
 use crate::work::{Counting, Limit, Work, most};
 use script::{Call, ShownPtr, Transcript, pointer};
 use std::cmp::Ordering;
@@ -24,7 +24,7 @@ pub enum Place<P> {
 }
 
 /// Makes a search, and says whether there is one of that name.
-pub fn searches<P: ShownPtr, K: Counting, A: Finds<P, K> + Knots<P>>(
+pub fn searches<P: ShownPtr, K: Counting, A: Finds<P, K> + ShowsKnots<P>>(
     arena: &A,
     transcript: &mut Transcript,
     call: &Call<'_>,
@@ -46,7 +46,7 @@ pub fn searches<P: ShownPtr, K: Counting, A: Finds<P, K> + Knots<P>>(
 
 impl<P: PtrCore + PartialEq> Found<P> {
     /// What is told of its comparisons.
-    pub fn work<A: Knots<P>>(
+    pub fn work<A: ShowsKnots<P>>(
         &self,
         arena: &A,
         verb: &str,
@@ -55,14 +55,14 @@ impl<P: PtrCore + PartialEq> Found<P> {
         ascends: bool,
     ) -> Work {
         let is_exact = ascends && self.place.is_some();
-        let limit = limit_of(arena, verb, num, start, is_exact);
+        let limit = limit_of_search(arena, verb, num, start, is_exact);
         limit.held(self.ticks, self.comparisons)
     }
 }
 
 // How many comparisons a search may make. One for a key that is not there goes on from the root, and else their number hangs
 // on the list alone where one along it came to its end there.
-fn limit_of<P: PtrCore + PartialEq, A: Knots<P>>(
+fn limit_of_search<P: PtrCore + PartialEq, A: ShowsKnots<P>>(
     arena: &A,
     verb: &str,
     num: u64,
@@ -84,7 +84,7 @@ fn limit_of<P: PtrCore + PartialEq, A: Knots<P>>(
 }
 
 /// The same of one that goes along the list from an index until it comes to the place.
-pub fn limit_from<P: PtrCore, A: Knots<P>>(
+pub fn limit_from<P: PtrCore, A: ShowsKnots<P>>(
     arena: &A,
     start: P::Inx,
     num: u64,
@@ -101,7 +101,7 @@ pub fn limit_from<P: PtrCore, A: Knots<P>>(
 }
 
 /// What is told of a place.
-pub fn place_of<P: PtrCore + PartialEq, A: Knots<P>>(
+pub fn place_of<P: PtrCore + PartialEq, A: ShowsKnots<P>>(
     arena: &A,
     place: Option<(P, Ordering)>,
     ascends: bool,
@@ -119,7 +119,7 @@ pub fn place_of<P: PtrCore + PartialEq, A: Knots<P>>(
     }
 }
 
-fn anywhere<P: PtrCore + PartialEq, A: Knots<P>>(
+fn anywhere<P: PtrCore + PartialEq, A: ShowsKnots<P>>(
     arena: &A,
     place: Option<(P, Ordering)>,
 ) -> Place<P> {
@@ -134,7 +134,7 @@ fn anywhere<P: PtrCore + PartialEq, A: Knots<P>>(
 }
 
 // The entry of a pointer, or its key, where a neighbor has the same.
-fn at<P: PtrCore, A: Knots<P>>(arena: &A, p: P) -> Place<P> {
+fn at<P: PtrCore, A: ShowsKnots<P>>(arena: &A, p: P) -> Place<P> {
     match arena.knot(p.inx()) {
         Some(knot) => {
             let is_one_of = key_at(arena, knot.prev) == Some(knot.key)
@@ -150,7 +150,7 @@ fn at<P: PtrCore, A: Knots<P>>(arena: &A, p: P) -> Place<P> {
 }
 
 // The key at an index, if there is an entry.
-fn key_at<P: PtrCore, A: Knots<P>>(arena: &A, i: Option<P::Inx>) -> Option<u64> {
+fn key_at<P: PtrCore, A: ShowsKnots<P>>(arena: &A, i: Option<P::Inx>) -> Option<u64> {
     match i {
         Some(i) => match arena.knot(i) {
             Some(knot) => Some(knot.key),
@@ -161,7 +161,7 @@ fn key_at<P: PtrCore, A: Knots<P>>(arena: &A, i: Option<P::Inx>) -> Option<u64> 
 }
 
 // The pointer to the neighbor of an entry, before it or after it.
-fn beside<P: PtrCore, A: Knots<P>>(arena: &A, p: P, is_before: bool) -> Option<P> {
+fn beside<P: PtrCore, A: ShowsKnots<P>>(arena: &A, p: P, is_before: bool) -> Option<P> {
     match arena.knot(p.inx()) {
         Some(knot) => {
             let i = if is_before { knot.prev } else { knot.next };

@@ -1,10 +1,10 @@
 //! Entries with their neighbors in the list and in the tree, as the checks of a script see them.
 use crate::items::{CountingKey, Item, Pairs};
-use ord_calls::{Knot, Knots};
+use ord_calls::{Knot, ShowsKnots};
 use triple_arena::{ArenaTrait, PtrCore};
 use triple_arena_ord::{OrdSlots, SimpleOrdArena};
 
-impl<P: PtrCore, K: CountingKey, S: OrdSlots<P, Item<K>>> Knots<P> for Pairs<P, K, S> {
+impl<P: PtrCore, K: CountingKey, S: OrdSlots<P, Item<K>>> ShowsKnots<P> for Pairs<P, K, S> {
     fn size(&self) -> u64 {
         self.arena.len() as u64
     }
