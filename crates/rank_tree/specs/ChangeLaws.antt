@@ -4,10 +4,10 @@ use Rattle.std.specs.Option.{IsSome}
 use Rattle.rank_tree.specs.Knot.{Knot}
 use Rattle.rank_tree.specs.declared.side.Side.TheVariants.{Left}
 use Rattle.rank_tree.specs.Store.{Store, Written, Reparented, Relinked}
-use Rattle.rank_tree.specs.Tree.{node}
+use Rattle.rank_tree.specs.Tree.{node, walk}
 use Rattle.rank_tree.specs.Shape.{knot, root_of, plug, holder, Stands, one, count, count_round}
-use Rattle.rank_tree.specs.Repair.{Exchange}
-use Rattle.rank_tree.specs.FrameLaws.{Represents-keep, Hangs-keep, plug-count, plug-opens, plug-closes, Represents-reparent, reparent-elsewhere, relink-elsewhere, Hangs-relink}
+use Rattle.rank_tree.specs.Repair.{Exchange, KeptOff}
+use Rattle.rank_tree.specs.FrameLaws.{Represents-keep, Hangs-keep, plug-count, plug-opens, plug-closes, Represents-reparent, reparent-elsewhere, relink-elsewhere, Hangs-relink, write-elsewhere, off-count}
 use Rattle.rank_tree.specs.SpotLaws.{is_some, root-lives, holder-lives}
 
 pub exchanged : (n n1 n2 n3 n4 : Store) (root new_root : Option ℕ) (old new : ℕ) (h : Exchange n root old new)
@@ -39,6 +39,17 @@ exchanged n n1 n2 n3 n4 root new_root old new h w1 w2 w3 w4 =
     n1 n2 (Some new) l w2 new (omega arith) ∙ w1.here in
     plug-closes n4 new_root c (node l new h.rank r) round_4 (at_new, l_4, r_4)
 
+exchanged_kept : (n n1 n2 n3 n4 : Store) (root new_root : Option ℕ) (old new : ℕ) (v : Knot) (h : Exchange n root old new)
+    → Written n n1 new v → Reparented n1 n2 (root_of h.left) (Some new) → Reparented n2 n3 (root_of h.right) (Some new)
+    → Relinked n3 n4 root new_root (holder h.context) old (Some new) → KeptOff (walk (plug h.context (node h.left new h.rank h.right))) n n4
+exchanged_kept n n1 n2 n3 n4 root new_root old new v h w1 w2 w3 w4 = λ j off.
+    let c = h.context in
+    let t = node h.left new h.rank h.right in
+    let z = off-count j (plug c t) off in
+    let p = plug-count c j t in
+    relink-elsewhere n3 n4 root new_root c old (Some new) w4 j (omega arith) ∙ reparent-elsewhere n2 n3 (Some new) h.right w3 j (omega arith)
+    ∙ reparent-elsewhere n1 n2 (Some new) h.left w2 j (omega arith) ∙ write-elsewhere n n1 new v w1 j (omega arith)
+
 pub exchange_knot : (n : Store) (root : Option ℕ) (old new : ℕ) (h : Exchange n root old new) (value : Knot) → n old ≡ Some value
     → value ≡ knot Left (holder h.context) (root_of h.left) h.rank (root_of h.right)
 exchange_knot n root old new h value e = let f = (plug-opens n root h.context (node h.left old h.rank h.right) h.stands).1.0 in cc
@@ -63,9 +74,13 @@ exchange_links n root old new h value e =
 
 pub exchange_works : (n n1 n2 n3 n4 : Store) (root new_root : Option ℕ) (old new : ℕ) (value : Knot) → n old ≡ Some value
     → Written n n1 new value → Reparented n1 n2 value.left (Some new) → Reparented n2 n3 value.right (Some new) → Relinked n3 n4 root new_root value.parent old (Some new)
-    → (h : Exchange n root old new) → Stands n4 new_root (plug h.context (node h.left new h.rank h.right))
+    → (h : Exchange n root old new)
+    → Stands n4 new_root (plug h.context (node h.left new h.rank h.right)) × KeptOff (walk (plug h.context (node h.left new h.rank h.right))) n n4
 exchange_works n n1 n2 n3 n4 root new_root old new value e w1 w2 w3 w4 h =
     let is = exchange_knot n root old new h value e in
-    exchanged n n1 n2 n3 n4 root new_root old new h
-    (subst (λ v. Written n n1 new v) is w1) (subst (λ v. Reparented n1 n2 v.left (Some new)) is w2) (subst (λ v. Reparented n2 n3 v.right (Some new)) is w3)
-    (subst (λ v. Relinked n3 n4 root new_root v.parent old (Some new)) is w4)
+    let moved_left = subst (λ v. Reparented n1 n2 v.left (Some new)) is w2 in
+    let moved_right = subst (λ v. Reparented n2 n3 v.right (Some new)) is w3 in
+    let hung = subst (λ v. Relinked n3 n4 root new_root v.parent old (Some new)) is w4 in (
+      exchanged n n1 n2 n3 n4 root new_root old new h (subst (λ v. Written n n1 new v) is w1) moved_left moved_right hung,
+      exchanged_kept n n1 n2 n3 n4 root new_root old new value h w1 moved_left moved_right hung,
+    )

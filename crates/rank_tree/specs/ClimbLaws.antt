@@ -7,9 +7,9 @@ use Rattle.rank_tree.specs.declared.side.Side.TheVariants.{Left, Right}
 use Rattle.rank_tree.specs.Store.{Store, other_side, child_of, Written, with_rank, rank_in, rank_or_zero}
 use Rattle.rank_tree.specs.Tree.{Tree, leaf, node, walk, size, rank_of, IsRanked, Fits}
 use Rattle.rank_tree.specs.Shape.{make, knot, root_of, Context, top, under, plug, holder, Represents, Hangs, Stands, one, count, count_round, IsDistinct}
-use Rattle.rank_tree.specs.Repair.{Spot, IsRankedRound, Restored, Grown, Leaning}
+use Rattle.rank_tree.specs.Repair.{Spot, IsRankedRound, Restored, Grown, Leaning, KeptOff}
 use Rattle.rank_tree.specs.BoundLaws.{small_rank}
-use Rattle.rank_tree.specs.FrameLaws.{one-same, Represents-keep, Hangs-keep, make-count, make-root, make-rank, make-opens, make-closes, plug-count, plug-opens, plug-closes, plug-walk, IsDistinct-walk, write-elsewhere}
+use Rattle.rank_tree.specs.FrameLaws.{one-same, Represents-keep, Hangs-keep, make-count, make-root, make-rank, make-opens, make-closes, plug-count, plug-opens, plug-closes, plug-walk, IsDistinct-walk, write-elsewhere, write_kept}
 use Rattle.rank_tree.specs.SpotLaws.{is_some, if_some, root-lives, knot_rank, knot_ranked, reads, spotted}
 use Rattle.rank_tree.specs.TurningLaws.{make-ranked, make-ranked-opens, restored}
 
@@ -247,6 +247,15 @@ climb_up n m root low high w h same less written =
       is_walk = ap (λ z. walk (plug h.context z)) (sym new_is) ∙ sym new_walk ∙ h.is_walk;
       small = h.small;
     }
+
+-- and nothing beside the tree is changed
+pub climb_kept : (n m : Store) (root : Option ℕ) (low high : ℕ) (v : Knot) (w : List ℕ) → Climbing n root low w high → Written n m high v → KeptOff w n m
+climb_kept n m root low high v w h written =
+    let t = make h.side (make h.side h.outer low h.rank h.inner) high h.high_rank h.far in
+    let p = plug-count h.context high t in
+    let q = make-count h.side high (make h.side h.outer low h.rank h.inner) high h.high_rank h.far in
+    let f = one-same high in
+    write_kept n m high v (plug h.context t) w written (omega arith) h.is_walk
 
 -- what the code of the climb reads
 pub record ClimbReads (n : Store) (root : Option ℕ) (low high : ℕ) (w : List ℕ) (h : Climbing n root low w high) (below above : Knot) (sibling : Option ℕ) : Type 0 where

@@ -8,8 +8,8 @@ use Rattle.rank_tree.specs.declared.side.Side.TheVariants.{Left, Right}
 use Rattle.rank_tree.specs.Store.{Store, with_child, Written, Reparented, Relinked}
 use Rattle.rank_tree.specs.Tree.{Tree, leaf, node, walk, rank_of, IsRanked}
 use Rattle.rank_tree.specs.Shape.{make, knot, root_of, Context, top, under, plug, holder, Hangs, one, count, count_round}
-use Rattle.rank_tree.specs.Repair.{IsRankedRound, Grown, Pending, Gap, filled, Loose}
-use Rattle.rank_tree.specs.FrameLaws.{one-same, one-other, Represents-keep, Hangs-keep, make-count, make-root, make-rank, make-opens, make-closes, plug-count, plug-opens, plug-closes, write-elsewhere, Represents-reparent, reparent-elsewhere, relink-elsewhere, Hangs-relink}
+use Rattle.rank_tree.specs.Repair.{IsRankedRound, Grown, Pending, Gap, filled, Loose, KeptOff}
+use Rattle.rank_tree.specs.FrameLaws.{one-same, one-other, Represents-keep, Hangs-keep, make-count, make-root, make-rank, make-opens, make-closes, plug-count, plug-opens, plug-closes, write-elsewhere, Represents-reparent, reparent-elsewhere, relink-elsewhere, Hangs-relink, off-count}
 use Rattle.rank_tree.specs.SpotLaws.{is_some as some_at, if_some, root-lives, holder-lives, knot_parent}
 use Rattle.rank_tree.specs.TurningLaws.{make-ranked-opens}
 use Rattle.rank_tree.specs.DescentLaws.{before, after, plug-walk_is}
@@ -100,6 +100,15 @@ attached n n1 n2 root at_holder side new g w1 w2 =
       small = let e = filled-length c side at_holder g.rank g.far new in let f = g.small in omega arith;
     }
 
+pub attached_kept : (n n1 n2 : Store) (root : Option ℕ) (at_holder : ℕ) (side : Side) (new : ℕ) (u v : Knot) (g : Gap n root at_holder side new)
+    → Written n n1 new u → Written n1 n2 at_holder v → KeptOff (walk (filled g)) n n2
+attached_kept n n1 n2 root at_holder side new u v g w1 w2 = λ j off.
+    let t = node leaf new 1 leaf in
+    let z = off-count j (filled g) off in
+    let p = plug-count g.context j (make side t at_holder g.rank g.far) in
+    let q = make-count side j t at_holder g.rank g.far in
+    write-elsewhere n1 n2 at_holder v w2 j (omega arith) ∙ write-elsewhere n n1 new u w1 j (omega arith)
+
 pub detached : (n n1 n2 : Store) (root new_root : Option ℕ) (gone : ℕ) (h : Loose n root gone)
     → Reparented n n1 (root_of h.sub) (holder h.context)
     → Relinked n1 n2 root new_root (holder h.context) gone (root_of h.sub)
@@ -126,6 +135,15 @@ detached n n1 n2 root new_root gone h w1 w2 =
     (record { once = λ j. let o = once j in let p = plug-count c j h.sub in omega arith })
     (plug-closes n2 new_root c h.sub round_2 sub_2)
     parts.near (omega arith) (subst (λ z. IsRankedRound c z) (make-rank s h.sub gone h.rank leaf) ranks.0) refl (omega arith)
+
+detached_kept : (n n1 n2 : Store) (root new_root : Option ℕ) (gone : ℕ) (h : Loose n root gone)
+    → Reparented n n1 (root_of h.sub) (holder h.context)
+    → Relinked n1 n2 root new_root (holder h.context) gone (root_of h.sub) → KeptOff (walk (plug h.context h.sub)) n n2
+detached_kept n n1 n2 root new_root gone h w1 w2 = λ j off.
+    let c = h.context in
+    let z = off-count j (plug c h.sub) off in
+    let p = plug-count c j h.sub in
+    relink-elsewhere n1 n2 root new_root c gone (root_of h.sub) w2 j (omega arith) ∙ reparent-elsewhere n n1 (holder c) h.sub w1 j (omega arith)
 
 -- what the code reads
 pub gap_lives : (n : Store) (root : Option ℕ) (at_holder : ℕ) (side : Side) (new : ℕ) → Gap n root at_holder side new → IsSome (n at_holder)
@@ -188,9 +206,11 @@ loose_reads n root gone value link e f g h =
 
 pub detach_works : (n n1 n2 : Store) (root new_root : Option ℕ) (gone : ℕ) (value : Knot) (link : Option ℕ)
     → Reparented n n1 link value.parent → Relinked n1 n2 root new_root value.parent gone link
-    → (h : Loose n root gone) → LooseReads n root gone h value link → Pending n2 new_root value.parent (walk (plug h.context h.sub))
+    → (h : Loose n root gone) → LooseReads n root gone h value link
+    → Pending n2 new_root value.parent (walk (plug h.context h.sub)) × KeptOff (walk (plug h.context h.sub)) n n2
 detach_works n n1 n2 root new_root gone value link w1 w2 h r =
-    subst (λ p. Pending n2 new_root p (walk (plug h.context h.sub))) (sym r.parent_is)
-    (detached n n1 n2 root new_root gone h
-    (subst (λ l. Reparented n n1 l (holder h.context)) r.link_is (subst (λ p. Reparented n n1 link p) r.parent_is w1))
-    (subst (λ l. Relinked n1 n2 root new_root (holder h.context) gone l) r.link_is (subst (λ p. Relinked n1 n2 root new_root p gone link) r.parent_is w2)))
+    let moved = subst (λ l. Reparented n n1 l (holder h.context)) r.link_is (subst (λ p. Reparented n n1 link p) r.parent_is w1) in
+    let hung = subst (λ l. Relinked n1 n2 root new_root (holder h.context) gone l) r.link_is (subst (λ p. Relinked n1 n2 root new_root p gone link) r.parent_is w2) in (
+      subst (λ p. Pending n2 new_root p (walk (plug h.context h.sub))) (sym r.parent_is) (detached n n1 n2 root new_root gone h moved hung),
+      detached_kept n n1 n2 root new_root gone h moved hung,
+    )

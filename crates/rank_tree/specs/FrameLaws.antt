@@ -7,6 +7,8 @@ use Rattle.rank_tree.specs.declared.side.Side.TheVariants.{Left, Right}
 use Rattle.rank_tree.specs.Store.{Store, Written, Reparented, Relinked}
 use Rattle.rank_tree.specs.Tree.{Tree, leaf, node, walk, rank_of}
 use Rattle.rank_tree.specs.Shape.{make, knot, root_of, Context, top, under, plug, holder, Represents, Hangs, Stands, one, count, count_round, IsDistinct}
+use Rattle.rank_tree.specs.Search.{AllIn}
+use Rattle.rank_tree.specs.Repair.{KeptOff}
 
 pub one-same : (i : ℕ) → one i i ≡ 1
 one-same i = rw (eq-eqb i i refl)
@@ -103,6 +105,14 @@ count-walk j leaf = refl
 count-walk j (node l i k r) =
     let h = count_in-append j (walk l) (i ∷ walk r) in let p = count-walk j l in let q = count-walk j r in omega arith
 
+count_in-off : (j : ℕ) (w : List ℕ) → AllIn (λ i. j ≢ i) w → count_in j w ≡ 0
+count_in-off j [] off = refl
+count_in-off j (x ∷ xs) off = let p = one-other j x off.0 in let q = count_in-off j xs off.1 in omega arith
+
+-- an index that is not in the walk is not in the tree
+pub off-count : (j : ℕ) (t : Tree) → AllIn (λ i. j ≢ i) (walk t) → count j t ≡ 0
+off-count j t off = count-walk j t ∙ count_in-off j (walk t) off
+
 pub IsDistinct-walk : (a b : Tree) → walk a ≡ walk b → IsDistinct a → IsDistinct b
 IsDistinct-walk a b e d = record { once = λ j. let h = d.once j in rw (count-walk j b, ← e, ← count-walk j a) h }
 
@@ -145,6 +155,15 @@ one-apart j i z u = let g : one j i ≡ 1 = rw u (one-same i) in absurd (omega a
 
 pub write-elsewhere : (n m : Store) (i : ℕ) (v : Knot) → Written n m i v → (j : ℕ) → one j i ≡ 0 → m j ≡ n j
 write-elsewhere n m i v w j z = w.elsewhere j (one-apart j i z)
+
+-- a write within a tree
+pub write_kept : (n m : Store) (i : ℕ) (v : Knot) (t : Tree) (w : List ℕ) → Written n m i v → 0 < count i t → walk t ≡ w → KeptOff w n m
+write_kept n m i v t w written on e = λ j off. written.elsewhere j (λ u.
+    let z = off-count j t (subst (λ y. AllIn (λ x. j ≢ x) y) (sym e) off) in let f = subst (λ x. 0 < count x t) (sym u) on in absurd (omega arith))
+
+-- one change after another
+pub both_kept : (w : List ℕ) (n m k : Store) → KeptOff w n m → KeptOff w m k → KeptOff w n k
+both_kept w n m k f g = λ j off. g j off ∙ f j off
 
 pub count-same : (j : ℕ) (a b : Tree) → walk a ≡ walk b → count j a ≡ count j b
 count-same j a b e = count-walk j a ∙ ap (count_in j) e ∙ sym (count-walk j b)

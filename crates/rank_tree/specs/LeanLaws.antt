@@ -30,7 +30,7 @@ lean_ready n root low w h = record { outer_ranked = h.outer_ranked; inner_ranked
 
 -- `low` turns up
 pub lean_once : (n : Store) (root : Option ℕ) (low j k : ℕ) (w : List ℕ) (h : Leaning n root low w) → rank_of h.inner + 1 < h.rank
-    → j ≡ h.rank → k ≡ h.rank - 1 → Turns n root low j k (λ m r. Restored m r w)
+    → j ≡ h.rank → k ≡ h.rank - 1 → Turns n root low j k w (λ m r. Restored m r w)
 lean_once n root low j k w h less ej ek =
     let f = h.fits in
     let two_less = h.two_less in

@@ -8,9 +8,9 @@ use Rattle.rank_tree.specs.declared.side.Side.{Side}
 use Rattle.rank_tree.specs.declared.side.Side.TheVariants.{Left, Right}
 use Rattle.rank_tree.specs.Store.{Store, other_side, child_of, Written, with_rank, rank_in, rank_or_zero, ahead}
 use Rattle.rank_tree.specs.Tree.{Tree, node, walk, rank_of, IsRanked, Fits}
-use Rattle.rank_tree.specs.Shape.{make, knot, root_of, Context, top, under, plug, holder, Represents, Hangs, Stands, IsDistinct, one}
-use Rattle.rank_tree.specs.Repair.{Spot, IsRankedRound, Restored, Broken, Nearly, Pending, Short}
-use Rattle.rank_tree.specs.FrameLaws.{one-same, make-count, plug-count, make-rank, make-root, make-walk, plug-opens, plug-walk, IsDistinct-walk}
+use Rattle.rank_tree.specs.Shape.{make, knot, root_of, Context, top, under, plug, holder, Represents, Hangs, Stands, IsDistinct, one, count}
+use Rattle.rank_tree.specs.Repair.{Spot, IsRankedRound, Restored, Broken, Nearly, Pending, Short, KeptOff}
+use Rattle.rank_tree.specs.FrameLaws.{one-same, make-count, plug-count, make-rank, make-root, make-walk, plug-opens, plug-walk, IsDistinct-walk, write_kept, both_kept}
 use Rattle.rank_tree.specs.SpotLaws.{is_some, if_some, root-lives, spotted, knot_rank, knot_ranked, knot_parent, rank_read, write-lives}
 use Rattle.rank_tree.specs.TurningLaws.{make-ranked, make-ranked-opens, plug-ranked, open_tree, root-some}
 use Rattle.rank_tree.specs.ClimbLaws.{ranked-write, same-walk-rank, near_of, as_make, as_node, near_ranks, plug-small}
@@ -123,6 +123,7 @@ IsUnfit a k b = k ≤ a + 2 → k ≤ b + 2 → a + b + 2 ≤ k
 pub record Lowered (m : Store) (root : Option ℕ) (high : ℕ) (old : Store) (parent : Option ℕ) (w : List ℕ) : Type 0 where
   pub pending : Pending m root parent w
   pub rises : IfSome parent (λ i. rank_in old high < rank_in m i)
+  pub kept : KeptOff w old m
 
 -- a node whose children are both two lower may lose one
 pub broken_lower : (n m : Store) (root : Option ℕ) (high : ℕ) (above : Knot) → n high ≡ Some above
@@ -151,6 +152,7 @@ broken_lower n m root high above e written w h p q not_fits =
       rises =
           subst (λ l. IfSome l (λ i. rank_in n high < rank_in m i)) (sym r.holder_is)
           (subst (λ k. IfSome (holder h.context) (λ i. k < rank_in m i)) (sym old_rank) rises);
+      kept = let p = plug-count h.context high old in let q = one-same high in write_kept n m high _ (plug h.context old) w written (omega arith) h.is_walk;
     }
 
 pub no_fit : (a k b : ℕ) → ((k ≤ a + 2) × (k ≤ b + 2) × (k ≤ a + b + 1) → ⊥) → IsUnfit a k b
@@ -330,6 +332,13 @@ sibling_lower n m m' root low high j k w h p q ej ek written written' =
       rises =
           subst (λ z. IfSome (holder c) (λ i. z < rank_in m' i)) (sym old_rank)
           (round_rises m' root c (root_of new) x.high_rank h.round o.0);
+      kept =
+          let at_low : 0 < count low (plug c old) =
+          let f = plug-count c low old in let g = make-count s low old_low x.high x.high_rank x.far in
+          let i = make-count s low x.outer low x.low_rank x.inner in let l = one-same low in omega arith in
+          let at_high : 0 < count x.high (plug c old) =
+          let f = plug-count c x.high old in let g = make-count s x.high old_low x.high x.high_rank x.far in let l = one-same x.high in omega arith in
+          both_kept w n m m' (write_kept n m low _ (plug c old) w written at_low h.is_walk) (write_kept m m' x.high _ (plug c old) w written' at_high h.is_walk);
     }
 
 pub spot_apart : (n : Store) (root : Option ℕ) (low : ℕ) (spot : Spot n root low) → spot.high ≢ low

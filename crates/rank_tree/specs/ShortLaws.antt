@@ -10,7 +10,7 @@ pub short_ready : (n : Store) (root : Option ℕ) (low : ℕ) (w : List ℕ) (h 
 short_ready n root low w h = record { outer_ranked = h.outer_ranked; inner_ranked = h.inner_ranked; far_ranked = h.far_ranked; round = h.round; is_walk = h.is_walk }
 
 pub short_once : (n : Store) (root : Option ℕ) (low j k : ℕ) (w : List ℕ) (h : Short n root low w) → h.spot.low_rank ≤ rank_of h.spot.outer + 1 → j ≡ h.spot.high_rank → k ≡ rank_of h.spot.inner + 1
-    → Turns n root low j k (λ m r. Restored m r w)
+    → Turns n root low j k w (λ m r. Restored m r w)
 short_once n root low j k w h near ej ek =
     let f = h.fits in
     let one_less = h.one_less in

@@ -6,11 +6,11 @@ use Rattle.rank_tree.specs.Knot.{Knot}
 use Rattle.rank_tree.specs.declared.side.Side.{Side}
 use Rattle.rank_tree.specs.declared.side.Side.TheVariants.{Left, Right}
 use Rattle.rank_tree.specs.Store.{Store, other_side, child_of, rank_or_link, rank_or_zero, Written, Reparented, Relinked, with_parent, with_child, with_rank}
-use Rattle.rank_tree.specs.Tree.{Tree, leaf, node, rank_of}
+use Rattle.rank_tree.specs.Tree.{Tree, leaf, node, walk, rank_of}
 use Rattle.rank_tree.specs.Shape.{make, knot, root_of, Context, top, under, holder, Represents, Hangs, Stands}
-use Rattle.rank_tree.specs.Repair.{Spot, turned}
+use Rattle.rank_tree.specs.Repair.{Spot, turned, KeptOff}
 use Rattle.rank_tree.specs.FrameLaws.{one-same, make-count, make-root, make-opens, plug-count, plug-opens, root-counted}
-use Rattle.rank_tree.specs.TurnLaws.{turned as turned_stands}
+use Rattle.rank_tree.specs.TurnLaws.{turned as turned_stands, turned_kept}
 
 pub is_some : {A : Type 0} (o : Option A) (v : A) → o ≡ Some v → IsSome o
 is_some o v e = rw e (search rules)
@@ -141,7 +141,7 @@ pub turn_works : (n n1 n2 n3 n4 : Store) (root new_root : Option ℕ) (low jx jy
     → Reparented n1 n2 middle (Some high)
     → Written n2 n3 low (record raised { parent = above.parent; rank = jx })
     → Relinked n3 n4 root new_root above.parent high (Some low)
-    → (spot : Spot n root low) → Stands n4 new_root (turned spot jx jy)
+    → (spot : Spot n root low) → Stands n4 new_root (turned spot jx jy) × KeptOff (walk (turned spot jx jy)) n n4
 turn_works n n1 n2 n3 n4 root new_root low jx jy below above high t middle lowered raised eb eh ea left right em el er w1 w2 w3 w4 spot =
     let f = spotted n root low spot in
     let s = spot.side in
@@ -159,12 +159,14 @@ turn_works n n1 n2 n3 n4 root new_root low jx jy below above high t middle lower
     ap (placed (Some low) jy) lowered_is ∙ knot_near_with s _ _ _ _ _ _ _ in
     let v3 : record raised { parent = above.parent; rank = jx } ≡ knot s (holder spot.context) (root_of spot.outer) jx (Some spot.high) =
     ap (placed above.parent jx) raised_is ∙ knot_far_with s _ _ _ _ _ _ _ ∙ ap (λ p. knot s p (root_of spot.outer) jx (Some spot.high)) parent_is in
-    turned_stands n n1 n2 n3 n4 root new_root spot.context s spot.outer low spot.low_rank spot.inner spot.high spot.high_rank spot.far jx jy
-    (written_same n n1 high spot.high _ _ high_is v1 w1)
-    (reparented_same n1 n2 middle (root_of spot.inner) high spot.high middle_is high_is w2)
-    (written_same n2 n3 low low _ _ refl v3 w3)
-    (relinked_same n3 n4 root new_root above.parent (holder spot.context) high spot.high (Some low) parent_is high_is w4)
-    spot.distinct spot.stands
+    let at_high = written_same n n1 high spot.high _ _ high_is v1 w1 in
+    let moved = reparented_same n1 n2 middle (root_of spot.inner) high spot.high middle_is high_is w2 in
+    let at_low = written_same n2 n3 low low _ _ refl v3 w3 in
+    let hung = relinked_same n3 n4 root new_root above.parent (holder spot.context) high spot.high (Some low) parent_is high_is w4 in (
+      turned_stands n n1 n2 n3 n4 root new_root spot.context s spot.outer low spot.low_rank spot.inner spot.high spot.high_rank spot.far jx jy
+          at_high moved at_low hung spot.distinct spot.stands,
+      turned_kept n n1 n2 n3 n4 root new_root spot.context s spot.outer low spot.inner spot.high spot.far jx jy _ _ at_high moved at_low hung,
+    )
 
 -- what the code of a turn asks for
 pub spot_low : (n : Store) (root : Option ℕ) (low : ℕ) → Spot n root low → IsSome (n low)

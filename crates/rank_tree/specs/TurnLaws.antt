@@ -2,10 +2,12 @@
 use Rattle.std.proofs.Common.{◌≡◌, ℕ, ◌+◌, ◌≤◌, ◌∷◌, Option, Some, sym, ap, ◌∙◌, subst, arith, append_assoc}
 use Rattle.rank_tree.specs.declared.side.Side.{Side}
 use Rattle.rank_tree.specs.declared.side.Side.TheVariants.{Left, Right}
+use Rattle.rank_tree.specs.Knot.{Knot}
 use Rattle.rank_tree.specs.Store.{Store, Written, Reparented, Relinked}
 use Rattle.rank_tree.specs.Tree.{Tree, walk}
 use Rattle.rank_tree.specs.Shape.{make, knot, root_of, Context, plug, holder, Hangs, Stands, one, count, count_round, IsDistinct}
-use Rattle.rank_tree.specs.FrameLaws.{one-same, Represents-keep, Hangs-keep, make-count, make-root, make-opens, make-closes, plug-count, plug-opens, plug-closes, Represents-reparent, reparent-elsewhere, relink-elsewhere, Hangs-relink, write-elsewhere}
+use Rattle.rank_tree.specs.Repair.{KeptOff}
+use Rattle.rank_tree.specs.FrameLaws.{one-same, Represents-keep, Hangs-keep, make-count, make-root, make-opens, make-closes, plug-count, plug-opens, plug-closes, Represents-reparent, reparent-elsewhere, relink-elsewhere, Hangs-relink, write-elsewhere, off-count}
 
 -- the writes of a turn, one after another; both nodes may get other ranks
 pub turned : (n n1 n2 n3 n4 : Store) (root new_root : Option ℕ) (c : Context) (s : Side) (a : Tree) (x kx : ℕ) (b : Tree) (y ky : ℕ) (d : Tree) (jx jy : ℕ)
@@ -47,6 +49,19 @@ turned n n1 n2 n3 n4 root new_root c s a x kx b y ky d jx jy w1 w2 w3 w4 distinc
     let link : Some y ≡ root_of (make s b y jy d) = sym (make-root s b y jy d) in
     let high = make-closes s n4 (holder c) a x jx (make s b y jy d) (at_x ∙ ap (λ z. Some (knot s (holder c) (root_of a) jx z)) link) same_a low in
     plug-closes n4 new_root c (make s a x jx (make s b y jy d)) (subst (λ z. Hangs n4 new_root c z) (sym (make-root s a x jx (make s b y jy d))) round_4) high
+
+-- they change nothing beside the tree
+pub turned_kept : (n n1 n2 n3 n4 : Store) (root new_root : Option ℕ) (c : Context) (s : Side) (a : Tree) (x : ℕ) (b : Tree) (y : ℕ) (d : Tree) (jx jy : ℕ) (u v : Knot)
+    → Written n n1 y u → Reparented n1 n2 (root_of b) (Some y) → Written n2 n3 x v → Relinked n3 n4 root new_root (holder c) y (Some x)
+    → KeptOff (walk (plug c (make s a x jx (make s b y jy d)))) n n4
+turned_kept n n1 n2 n3 n4 root new_root c s a x b y d jx jy u v w1 w2 w3 w4 = λ j off.
+    let t = make s a x jx (make s b y jy d) in
+    let z = off-count j (plug c t) off in
+    let p = plug-count c j t in
+    let q = make-count s j a x jx (make s b y jy d) in
+    let r = make-count s j b y jy d in
+    relink-elsewhere n3 n4 root new_root c y (Some x) w4 j (omega arith) ∙ write-elsewhere n2 n3 x v w3 j (omega arith)
+    ∙ reparent-elsewhere n1 n2 (Some y) b w2 j (omega arith) ∙ write-elsewhere n n1 y u w1 j (omega arith)
 
 pub turn-walk : (s : Side) (a : Tree) (x kx : ℕ) (b : Tree) (y ky : ℕ) (d : Tree) (jx jy : ℕ) → walk (make s (make s a x kx b) y ky d) ≡ walk (make s a x jx (make s b y jy d))
 turn-walk Left a x kx b y ky d jx jy = append_assoc (walk a) (x ∷ walk b) (y ∷ walk d)

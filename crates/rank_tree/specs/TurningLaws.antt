@@ -5,7 +5,7 @@ use Rattle.rank_tree.specs.declared.side.Side.TheVariants.{Left, Right}
 use Rattle.rank_tree.specs.Store.{Store, other_side}
 use Rattle.rank_tree.specs.Tree.{Tree, leaf, node, walk, rank_of, IsRanked, Fits}
 use Rattle.rank_tree.specs.Shape.{make, root_of, Context, top, under, plug, Stands, IsDistinct}
-use Rattle.rank_tree.specs.Repair.{Spot, turned, IsRankedRound, Restored}
+use Rattle.rank_tree.specs.Repair.{Spot, turned, IsRankedRound, Restored, KeptOff}
 use Rattle.rank_tree.specs.FrameLaws.{make-rank, make-walk, plug-walk, IsDistinct-walk}
 use Rattle.rank_tree.specs.TurnLaws.{turn-walk}
 
@@ -30,14 +30,19 @@ restored n root c t old w h r k e q = record {
   is_walk = plug-walk c t old e ∙ q;
 }
 
--- what a turn asks for, and what it leaves
-pub record Turns (n : Store) (root : Option ℕ) (low j k : ℕ) (After : Store → Option ℕ → Type 0) : Type 0 where
+-- what a turn in a tree with a given walk asks for, and what it leaves
+pub record Turns (n : Store) (root : Option ℕ) (low j k : ℕ) (w : List ℕ) (After : Store → Option ℕ → Type 0) : Type 0 where
   pub spot : Spot n root low
+  pub is_walk : walk (turned spot j k) ≡ w
   pub after : (m : Store) (new_root : Option ℕ) → Stands m new_root (turned spot j k) → After m new_root
 
 -- one node turns up twice, and the rules hold
 abbrev pub TurnsTwice : Store → Option ℕ → ℕ → ℕ → ℕ → List ℕ → Type 0
-TurnsTwice n root middle j k w = Turns n root middle j k (λ m r. Turns m r middle j k (λ m' r'. Restored m' r' w))
+TurnsTwice n root middle j k w = Turns n root middle j k w (λ m r. Turns m r middle j k w (λ m' r'. Restored m' r' w))
+
+pub turns_kept : (n m : Store) (root : Option ℕ) (low j k : ℕ) (w : List ℕ) (After : Store → Option ℕ → Type 0) (t : Turns n root low j k w After)
+    → KeptOff (walk (turned t.spot j k)) n m → KeptOff w n m
+turns_kept n m root low j k w After t h = subst (λ v. KeptOff v n m) t.is_walk h
 
 pub flip : (s : Side) (a : Tree) (i k : ℕ) (b : Tree) → make (other_side s) a i k b ≡ make s b i k a
 flip Left a i k b = refl
@@ -82,9 +87,10 @@ pub record Ready (n : Store) (root : Option ℕ) (low : ℕ) (w : List ℕ) (spo
   pub is_walk : walk (plug spot.context (make spot.side (make spot.side spot.outer low spot.low_rank spot.inner) spot.high spot.high_rank spot.far)) ≡ w
 
 pub turn_once : (n : Store) (root : Option ℕ) (low j k : ℕ) (w : List ℕ) (h : Spot n root low) → Ready n root low w h → j ≡ h.high_rank
-    → Fits (rank_of h.inner) k (rank_of h.far) → Fits (rank_of h.outer) j k → Turns n root low j k (λ m r. Restored m r w)
+    → Fits (rank_of h.inner) k (rank_of h.far) → Fits (rank_of h.outer) j k → Turns n root low j k w (λ m r. Restored m r w)
 turn_once n root low j k w h ready ej low_fits high_fits = record {
   spot = h;
+  is_walk = plug-walk h.context _ _ (sym (turn-walk h.side h.outer low h.low_rank h.inner h.high h.high_rank h.far j k)) ∙ ready.is_walk;
   after = λ m r stands.
       let lowered = make h.side h.inner h.high k h.far in
       let rank_is = make-rank h.side h.inner h.high k h.far in
@@ -98,7 +104,7 @@ turn_once n root low j k w h ready ej low_fits high_fits = record {
 
 pub turn_twice : (n : Store) (root : Option ℕ) (low middle j k : ℕ) (w : List ℕ) (h : Spot n root low) → Ready n root low w h → root_of h.inner ≡ Some middle → j ≡ h.high_rank
     → ((a b : ℕ) → Fits a (rank_of h.inner) b → Fits b k (rank_of h.outer) × Fits a k (rank_of h.far)) → Fits k j k
-    → Turns n root middle j k (λ m r. Turns m r middle j k (λ m' r'. Restored m' r' w))
+    → TurnsTwice n root middle j k w
 turn_twice n root low middle j k w h ready is ej low_fits high_fits =
     let c = h.context in
     let s = h.side in
@@ -121,8 +127,13 @@ turn_twice n root low middle j k w h ready is ej low_fits high_fits =
     let lowered = make o v.far low k h.outer in
     let other = make s v.near h.high k h.far in
     let half_is : make o v.near middle j lowered ≡ make s lowered middle j v.near = flip s v.near middle j lowered in
+    let half_walk : walk (make o v.near middle j lowered) ≡ walk (make s h.outer low h.low_rank h.inner) =
+    sym (turn-walk o v.near middle v.rank v.far low h.low_rank h.outer j k) ∙ ap walk (sym old_is) in
+    let last_walk : walk (make s lowered middle j other) ≡ walk (make s (make s h.outer low h.low_rank h.inner) h.high h.high_rank h.far) =
+    sym (turn-walk s lowered middle j v.near h.high h.high_rank h.far j k) ∙ make-walk s _ _ h.high h.high_rank h.far (ap walk (sym half_is) ∙ half_walk) in
     record {
       spot = first;
+      is_walk = plug-walk (under c s h.high h.high_rank h.far) _ _ half_walk ∙ ready.is_walk;
       after = λ m r stands. record {
         spot = record {
           context = c;
@@ -136,6 +147,7 @@ turn_twice n root low middle j k w h ready is ej low_fits high_fits =
           distinct = subst (λ t. IsDistinct (plug c (make s t h.high h.high_rank h.far))) half_is (turned-distinct n root middle first j k);
           stands = subst (λ t. Stands m r (plug c (make s t h.high h.high_rank h.far))) half_is stands;
         };
+        is_walk = plug-walk c _ _ last_walk ∙ ready.is_walk;
         after = λ m' r' stands'.
             let parts = make-ranked-opens o v.near middle v.rank v.far (subst IsRanked v.is ready.inner_ranked) in
             let rank_is : v.rank ≡ rank_of h.inner = sym (ap rank_of v.is ∙ make-rank o v.near middle v.rank v.far) in
@@ -145,8 +157,6 @@ turn_twice n root low middle j k w h ready is ej low_fits high_fits =
             restored m' r' c (make s lowered middle j other) (make s (make s h.outer low h.low_rank h.inner) h.high h.high_rank h.far) w stands'
             (subst (λ z. IsRankedRound c z) (sym ej ∙ sym (make-rank s lowered middle j other)) ready.round)
             (make-ranked s lowered middle j other fits (make-ranked o v.far low k h.outer both.0 parts.far ready.outer_ranked) (make-ranked s v.near h.high k h.far both.1 parts.near ready.far_ranked))
-            (sym (turn-walk s lowered middle j v.near h.high h.high_rank h.far j k)
-            ∙ make-walk s _ _ h.high h.high_rank h.far (ap walk (sym half_is) ∙ sym (turn-walk o v.near middle v.rank v.far low h.low_rank h.outer j k) ∙ ap walk (sym old_is)))
-            ready.is_walk;
+            last_walk ready.is_walk;
       };
     }

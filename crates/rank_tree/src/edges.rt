@@ -3,7 +3,7 @@ ghost use Rattle.std.specs.Prelude.{◌≡◌, ℕ, Some, None, IsSome};
 ghost use Rattle.std.specs.Option.{option_map};
 ghost use Rattle.rank_tree.specs.Tree.{node, walk};
 ghost use Rattle.rank_tree.specs.Shape.{plug, Stands};
-ghost use Rattle.rank_tree.specs.Repair.{Exchange, Gap, filled, Grown, Loose, Pending};
+ghost use Rattle.rank_tree.specs.Repair.{Exchange, Gap, filled, Grown, Loose, Pending, KeptOff};
 
 use crate::knots::{relink, reparent};
 use crate::{Knots, Side, TreeLinks};
@@ -21,6 +21,8 @@ pub(crate) fn attach<N, P: PtrCore, K: Knots<N, P>>(
     requires slot { IsSome (K.knots knots.old (P.Inx.number new)) }
     ensures does { (gap : Gap (K.knots knots.old) (option_map P.Inx.number root) (P.Inx.number holder) side (P.Inx.number new))
         → Grown (K.knots knots.new) (option_map P.Inx.number root) (P.Inx.number new) (walk (filled gap)) }
+    ensures elsewhere { (gap : Gap (K.knots knots.old) (option_map P.Inx.number root) (P.Inx.number holder) side (P.Inx.number new))
+        → KeptOff (walk (filled gap)) (K.knots knots.old) (K.knots knots.new) }
     ensures keeps { K.rest knots.new ≡ K.rest knots.old }
 {
     knots.write(
@@ -45,6 +47,8 @@ pub(crate) fn detach<N, P: PtrCore, K: Knots<N, P>>(
     requires { Loose (K.knots knots.old) (option_map P.Inx.number root.old) (P.Inx.number gone) }
     ensures does { (loose : Loose (K.knots knots.old) (option_map P.Inx.number root.old) (P.Inx.number gone))
         → Pending (K.knots knots.new) (option_map P.Inx.number root.new) (option_map P.Inx.number result) (walk (plug loose.context loose.sub)) }
+    ensures elsewhere { (loose : Loose (K.knots knots.old) (option_map P.Inx.number root.old) (P.Inx.number gone))
+        → KeptOff (walk (plug loose.context loose.sub)) (K.knots knots.old) (K.knots knots.new) }
     ensures keeps { K.rest knots.new ≡ K.rest knots.old }
 {
     let knot = knots.read(gone);
@@ -66,6 +70,8 @@ pub fn exchange<N, P: PtrCore, K: Knots<N, P>>(
     ensures does { (place : Exchange (K.knots knots.old) (option_map P.Inx.number root.old) (P.Inx.number old) (P.Inx.number new))
         → Stands (K.knots knots.new) (option_map P.Inx.number root.new)
         (plug place.context (node place.left (P.Inx.number new) place.rank place.right)) }
+    ensures elsewhere { (place : Exchange (K.knots knots.old) (option_map P.Inx.number root.old) (P.Inx.number old) (P.Inx.number new))
+        → KeptOff (walk (plug place.context (node place.left (P.Inx.number new) place.rank place.right))) (K.knots knots.old) (K.knots knots.new) }
     ensures keeps { K.rest knots.new ≡ K.rest knots.old }
 {
     let knot = knots.read(old);

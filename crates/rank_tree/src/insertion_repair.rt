@@ -2,7 +2,7 @@
 ghost use Rattle.std.specs.Prelude.{◌≡◌, ◌≢◌, ℕ, ◌+◌, ◌<◌, ◌≤◌, List, IsSome, ⊤};
 ghost use Rattle.std.specs.Option.{option_map};
 ghost use Rattle.rank_tree.specs.Tree.{walk};
-ghost use Rattle.rank_tree.specs.Repair.{Leaning, Grown, Restored, Gap, filled};
+ghost use Rattle.rank_tree.specs.Repair.{Leaning, Grown, Restored, Gap, filled, KeptOff};
 
 use crate::edges::attach;
 use crate::knots::rank_at;
@@ -17,6 +17,8 @@ fn lean<N, P: PtrCore, K: Knots<N, P>>(knots: &mut K, root: &mut Option<P::Inx>,
     requires no_more { ⊤ }
     ensures does { (w : List ℕ) → Leaning (K.knots knots.old) (option_map P.Inx.number root.old) (P.Inx.number low) w
         → Restored (K.knots knots.new) (option_map P.Inx.number root.new) w }
+    ensures elsewhere { (w : List ℕ) → Leaning (K.knots knots.old) (option_map P.Inx.number root.old) (P.Inx.number low) w
+        → KeptOff w (K.knots knots.old) (K.knots knots.new) }
     ensures keeps { K.rest knots.new ≡ K.rest knots.old }
 {
     let below = knots.read(low);
@@ -46,6 +48,8 @@ pub(crate) fn repair_inserted<N, P: PtrCore, K: Knots<N, P>>(
     requires no_more { ⊤ }
     ensures does { (w : List ℕ) → Grown (K.knots knots.old) (option_map P.Inx.number root.old) (P.Inx.number start) w
         → Restored (K.knots knots.new) (option_map P.Inx.number root.new) w }
+    ensures elsewhere { (w : List ℕ) → Grown (K.knots knots.old) (option_map P.Inx.number root.old) (P.Inx.number start) w
+        → KeptOff w (K.knots knots.old) (K.knots knots.new) }
     ensures keeps { K.rest knots.new ≡ K.rest knots.old }
 {
     let mut low = start;
@@ -79,6 +83,8 @@ pub fn bring_in<N, P: PtrCore, K: Knots<N, P>>(
     requires slot { IsSome (K.knots knots.old (P.Inx.number new)) }
     ensures does { (gap : Gap (K.knots knots.old) (option_map P.Inx.number root.old) (P.Inx.number holder) side (P.Inx.number new))
         → Restored (K.knots knots.new) (option_map P.Inx.number root.new) (walk (filled gap)) }
+    ensures elsewhere { (gap : Gap (K.knots knots.old) (option_map P.Inx.number root.old) (P.Inx.number holder) side (P.Inx.number new))
+        → KeptOff (walk (filled gap)) (K.knots knots.old) (K.knots knots.new) }
     ensures keeps { K.rest knots.new ≡ K.rest knots.old }
 {
     attach(knots, *root, holder, side, new);

@@ -4,7 +4,7 @@ ghost use Rattle.std.specs.Option.{option_map};
 ghost use Rattle.rank_tree.specs.Store.{rank_in};
 ghost use Rattle.rank_tree.specs.Tree.{walk};
 ghost use Rattle.rank_tree.specs.Shape.{plug};
-ghost use Rattle.rank_tree.specs.Repair.{Short, Broken, Pending, Restored, Loose};
+ghost use Rattle.rank_tree.specs.Repair.{Short, Broken, Pending, Restored, Loose, KeptOff};
 
 use crate::edges::detach;
 use crate::knots::rank_at;
@@ -20,6 +20,8 @@ fn shorten<N, P: PtrCore, K: Knots<N, P>>(knots: &mut K, root: &mut Option<P::In
     requires no_more { ⊤ }
     ensures does { (w : List ℕ) → Short (K.knots knots.old) (option_map P.Inx.number root.old) (P.Inx.number low) w
         → Restored (K.knots knots.new) (option_map P.Inx.number root.new) w }
+    ensures elsewhere { (w : List ℕ) → Short (K.knots knots.old) (option_map P.Inx.number root.old) (P.Inx.number low) w
+        → KeptOff w (K.knots knots.old) (K.knots knots.new) }
     ensures keeps { K.rest knots.new ≡ K.rest knots.old }
 {
     let near = look_around(knots, low);
@@ -66,6 +68,8 @@ fn mend<N, P: PtrCore, K: Knots<N, P>>(
         → Pending (K.knots knots.new) (option_map P.Inx.number root.new) (option_map P.Inx.number result) w }
     ensures rises { IfSome result (λ i. rank_in (K.knots knots.old) (P.Inx.number high)
         < rank_in (K.knots knots.new) (P.Inx.number i)) }
+    ensures elsewhere { (w : List ℕ) → Broken (K.knots knots.old) (option_map P.Inx.number root.old) (P.Inx.number high) w
+        → KeptOff w (K.knots knots.old) (K.knots knots.new) }
     ensures keeps { K.rest knots.new ≡ K.rest knots.old }
 {
     let above = knots.read(high);
@@ -102,6 +106,8 @@ pub(crate) fn repair_removed<N, P: PtrCore, K: Knots<N, P>>(
     requires no_more { ⊤ }
     ensures does { (w : List ℕ) → Pending (K.knots knots.old) (option_map P.Inx.number root.old) (option_map P.Inx.number start) w
         → Restored (K.knots knots.new) (option_map P.Inx.number root.new) w }
+    ensures elsewhere { (w : List ℕ) → Pending (K.knots knots.old) (option_map P.Inx.number root.old) (option_map P.Inx.number start) w
+        → KeptOff w (K.knots knots.old) (K.knots knots.new) }
     ensures keeps { K.rest knots.new ≡ K.rest knots.old }
 {
     let mut at = start;
@@ -120,6 +126,8 @@ pub fn bring_out<N, P: PtrCore, K: Knots<N, P>>(
     requires no_more { ⊤ }
     ensures does { (loose : Loose (K.knots knots.old) (option_map P.Inx.number root.old) (P.Inx.number gone))
         → Restored (K.knots knots.new) (option_map P.Inx.number root.new) (walk (plug loose.context loose.sub)) }
+    ensures elsewhere { (loose : Loose (K.knots knots.old) (option_map P.Inx.number root.old) (P.Inx.number gone))
+        → KeptOff (walk (plug loose.context loose.sub)) (K.knots knots.old) (K.knots knots.new) }
     ensures keeps { K.rest knots.new ≡ K.rest knots.old }
 {
     let pending = detach(knots, root, gone);

@@ -1,8 +1,9 @@
 //! A node turns up over its parent.
 ghost use Rattle.std.specs.Prelude.{◌≡◌, ℕ, ⊤};
 ghost use Rattle.std.specs.Option.{option_map};
+ghost use Rattle.rank_tree.specs.Tree.{walk};
 ghost use Rattle.rank_tree.specs.Shape.{Stands};
-ghost use Rattle.rank_tree.specs.Repair.{Spot, turned};
+ghost use Rattle.rank_tree.specs.Repair.{Spot, turned, KeptOff};
 
 use crate::knots::{relink, reparent};
 use crate::{Knots, TreeLinks, side_of};
@@ -21,6 +22,8 @@ pub(crate) fn turn<N, P: PtrCore, K: Knots<N, P>>(
     requires no_more { ⊤ }
     ensures does { (spot : Spot (K.knots knots.old) (option_map P.Inx.number root.old) (P.Inx.number low))
         → Stands (K.knots knots.new) (option_map P.Inx.number root.new) (turned spot low_rank high_rank) }
+    ensures elsewhere { (spot : Spot (K.knots knots.old) (option_map P.Inx.number root.old) (P.Inx.number low))
+        → KeptOff (walk (turned spot low_rank high_rank)) (K.knots knots.old) (K.knots knots.new) }
     ensures keeps { K.rest knots.new ≡ K.rest knots.old }
 {
     let below = knots.read(low);

@@ -1,7 +1,23 @@
+use Rattle.std.specs.Option.{option_map}
+use Rattle.rank_tree.specs.Tree.{node, walk}
+use Rattle.rank_tree.specs.Shape.{plug, Stands}
 use Rattle.rank_tree.specs.SpotLaws.{write-lives, reparent-lives}
 use Rattle.rank_tree.proofs.NameLemmas.{if_live}
 use Rattle.rank_tree.specs.ChangeLaws.{exchange_lives, exchange_links, exchange_works}
+use Rattle.rank_tree.specs.Repair.{Exchange, KeptOff}
+use Rattle.rank_tree.proofs.edges.exchange.Goals.{After-relink}
 use Rattle.rank_tree.proofs.edges.exchange.Goals as goal
+
+-- the four changes, one after another
+works : (g : _) (c : After-relink g)
+    (h : Exchange (g.K.Knots.knots c.args.knots.now) (option_map g.P.Inx.PtrInxCore.number c.args.root.now) (g.P.Inx.PtrInxCore.number c.args.old)
+    (g.P.Inx.PtrInxCore.number c.args.new))
+    → Stands (g.K.Knots.knots c.relink.new.knots) (option_map g.P.Inx.PtrInxCore.number c.relink.new.root)
+    (plug h.context (node h.left (g.P.Inx.PtrInxCore.number c.args.new) h.rank h.right))
+    × KeptOff (walk (plug h.context (node h.left (g.P.Inx.PtrInxCore.number c.args.new) h.rank h.right))) (g.K.Knots.knots c.args.knots.now)
+    (g.K.Knots.knots c.relink.new.knots)
+works g c h =
+    exchange_works _ _ _ _ _ _ _ _ _ _ c.read-knot.ensures c.write.ensures.written c.reparent.ensures.does c.reparent-2.ensures.does c.relink.ensures.does h
 
 pub read-knot-requires-clause-live : goal.read-knot-requires-clause-live
 read-knot-requires-clause-live g c = exchange_lives _ _ _ _ c.requires.place
@@ -26,5 +42,7 @@ relink-requires-clause-live g c =
     (reparent-lives _ _ _ _ c.reparent.ensures.does i (write-lives _ _ _ _ c.write.ensures.written i (links.parent i e))))
 
 pub returns-clause-does : goal.returns-clause-does
-returns-clause-does g c = λ place.
-    exchange_works _ _ _ _ _ _ _ _ _ _ c.read-knot.ensures c.write.ensures.written c.reparent.ensures.does c.reparent-2.ensures.does c.relink.ensures.does place
+returns-clause-does g c = λ place. (works g (goal.at.returns-clause-does g c).After-relink place).0
+
+pub returns-clause-elsewhere : goal.returns-clause-elsewhere
+returns-clause-elsewhere g c = λ place. (works g (goal.at.returns-clause-elsewhere g c).After-relink place).1

@@ -1,11 +1,12 @@
 use Rattle.std.proofs.Common.{◌-◌, ℕ, List, sym, ◌∙◌, ap, arith}
 use Rattle.std.specs.Option.{option_map}
 use Rattle.rank_tree.proofs.NameLemmas.{not_some, if_live}
-use Rattle.rank_tree.specs.Repair.{Leaning}
+use Rattle.rank_tree.specs.Repair.{Leaning, Restored}
+use Rattle.rank_tree.specs.FrameLaws.{both_kept}
 use Rattle.rank_tree.specs.SpotLaws.{spot_low, spot_parent, spot_high, spot_child}
 use Rattle.rank_tree.specs.LeanLaws.{LeanReads, lean_spot, lean_reads, lean_once, lean_twice}
-use Rattle.rank_tree.specs.TurningLaws.{TurnsTwice, root-some}
-use Rattle.rank_tree.proofs.insertion_repair.lean.Goals.{After-rank_at, In-Some-inner}
+use Rattle.rank_tree.specs.TurningLaws.{Turns, TurnsTwice, turns_kept, root-some}
+use Rattle.rank_tree.proofs.insertion_repair.lean.Goals.{After-rank_at, After-turn, In-Some-inner}
 use Rattle.rank_tree.proofs.insertion_repair.lean.Goals as goal
 
 -- what was read is what stands there
@@ -17,6 +18,16 @@ read g c w h =
     lean_reads _ _ _ _ _ _ _ _ _ _ c.read-below.ensures (ap (option_map g.P.Inx.PtrInxCore.number) c.in-Some.is) c.read-above.ensures
     c.side_of-side.ensures.left c.side_of-side.ensures.right c.other.ensures c.child-inner.ensures
     c.rank_at.ensures.some c.rank_at.ensures.none w h
+
+-- the node turns up
+once : (g : _) (c : After-turn g) (w : List ℕ)
+    (h : Leaning (g.K.Knots.knots c.args.knots.now) (option_map g.P.Inx.PtrInxCore.number c.args.root.now)
+    (g.P.Inx.PtrInxCore.number c.args.low) w)
+    → Turns (g.K.Knots.knots c.args.knots.now) (option_map g.P.Inx.PtrInxCore.number c.args.root.now)
+    (g.P.Inx.PtrInxCore.number c.args.low) c.read-below.result.rank (c.read-below.result.rank - 1) w (λ m r. Restored m r w)
+once g c w h =
+    let r = read g (goal.at.After-turn g c).After-rank_at w h in
+    lean_once _ _ _ _ _ w h (omega arith) r.rank_is (ap (λ z. z - 1) r.rank_is)
 
 -- the inner child turns up, twice
 twice : (g : _) (c : In-Some-inner g) (w : List ℕ)
@@ -78,12 +89,23 @@ turn-requires-else-rank_at-rank-2-clause-spot g c =
 
 pub returns-then-rank_at-rank-clause-does : goal.returns-then-rank_at-rank-clause-does
 returns-then-rank_at-rank-clause-does g c = λ w h.
-    let r = read g (goal.at.returns-then-rank_at-rank-clause-does g c).After-rank_at w h in
-    let one = lean_once _ _ _ _ _ w h (omega arith) r.rank_is (ap (λ z. z - 1) r.rank_is) in
+    let one = once g (goal.at.returns-then-rank_at-rank-clause-does g c).After-turn w h in
     one.after _ _ (c.turn.ensures.does one.spot)
+
+pub returns-then-rank_at-rank-clause-elsewhere : goal.returns-then-rank_at-rank-clause-elsewhere
+returns-then-rank_at-rank-clause-elsewhere g c = λ w h.
+    let one = once g (goal.at.returns-then-rank_at-rank-clause-elsewhere g c).After-turn w h in
+    turns_kept _ _ _ _ _ _ w _ one (c.turn.ensures.elsewhere one.spot)
 
 pub returns-in-Some-inner-clause-does : goal.returns-in-Some-inner-clause-does
 returns-in-Some-inner-clause-does g c = λ w h.
     let one = twice g (goal.at.returns-in-Some-inner-clause-does g c).In-Some-inner w h in
     let two = one.after _ _ (c.turn-else-rank_at-rank.ensures.does one.spot) in
     two.after _ _ (c.turn-else-rank_at-rank-2.ensures.does two.spot)
+
+pub returns-in-Some-inner-clause-elsewhere : goal.returns-in-Some-inner-clause-elsewhere
+returns-in-Some-inner-clause-elsewhere g c = λ w h.
+    let one = twice g (goal.at.returns-in-Some-inner-clause-elsewhere g c).In-Some-inner w h in
+    let two = one.after _ _ (c.turn-else-rank_at-rank.ensures.does one.spot) in
+    both_kept w _ _ _ (turns_kept _ _ _ _ _ _ w _ one (c.turn-else-rank_at-rank.ensures.elsewhere one.spot))
+    (turns_kept _ _ _ _ _ _ w _ two (c.turn-else-rank_at-rank-2.ensures.elsewhere two.spot))

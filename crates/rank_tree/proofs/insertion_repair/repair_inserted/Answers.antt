@@ -2,7 +2,8 @@ use Rattle.std.proofs.Common.{◌∙◌, ap, arith}
 use Rattle.std.specs.Option.{option_map}
 use Rattle.rank_tree.proofs.NameLemmas.{if_live_from}
 use Rattle.rank_tree.specs.SpotLaws.{rank_read}
-use Rattle.rank_tree.specs.ClimbLaws.{grown_under, grown_ends, grown_lives, parent_lives, sibling_lives, climb_reads, climb_write, climb_small, climb_ends, climb_leans, climb_up, climb_ranks, climb_falls}
+use Rattle.rank_tree.specs.ClimbLaws.{grown_under, grown_ends, grown_lives, parent_lives, sibling_lives, climb_reads, climb_write, climb_small, climb_ends, climb_leans, climb_up, climb_kept, climb_ranks, climb_falls}
+use Rattle.rank_tree.specs.FrameLaws.{both_kept}
 use Rattle.rank_tree.proofs.insertion_repair.repair_inserted.Goals as goal
 
 pub read-below-requires-clause-live : goal.read-below-requires-clause-live
@@ -81,4 +82,20 @@ climb-preserved g c = (
       c.child-sibling.ensures w h in let f = rank_read _ _ h.far _ _ r.far_is r.far_stands c.rank_at.ensures.some c.rank_at.ensures.none in
       climb_up _ _ _ _ _ w h (omega arith) (omega arith) (climb_write _ _ _ _ _ _ _ _ w h r (c.set_rank.ensures.does _ c.read-above.ensures)),
   c.set_rank.ensures.keeps ∙ c.climb.invariant.1,
+  λ w grown.
+      let h = grown_under _ _ _ _ _ _ c.read-below.ensures (ap (option_map g.P.Inx.PtrInxCore.number) c.in-Some.is) (c.climb.invariant.0 w grown) in
+      both_kept w _ _ _ (c.climb.invariant.2 w grown) (climb_kept _ _ _ _ _ _ w h (c.set_rank.ensures.does _ c.read-above.ensures)),
 )
+
+pub returns-in_default-clause-elsewhere : goal.returns-in_default-clause-elsewhere
+returns-in_default-clause-elsewhere g c = c.climb.invariant.2
+
+pub returns-then-below-above-clause-elsewhere : goal.returns-then-below-above-clause-elsewhere
+returns-then-below-above-clause-elsewhere g c = c.climb.invariant.2
+
+pub returns-then-rank_at-below-clause-elsewhere : goal.returns-then-rank_at-below-clause-elsewhere
+returns-then-rank_at-below-clause-elsewhere g c = λ w grown.
+    let h = grown_under _ _ _ _ _ _ c.read-below.ensures (ap (option_map g.P.Inx.PtrInxCore.number) c.in-Some.is) (c.climb.invariant.0 w grown) in let r = climb_reads _ _ _ _ _ _ _ _ _
+    c.read-below.ensures (ap (option_map g.P.Inx.PtrInxCore.number) c.in-Some.is) c.read-above.ensures c.side_of-side.ensures.left c.side_of-side.ensures.right c.other.ensures
+    c.child-sibling.ensures w h in let f = rank_read _ _ h.far _ _ r.far_is r.far_stands c.rank_at.ensures.some c.rank_at.ensures.none in
+    both_kept w _ _ _ (c.climb.invariant.2 w grown) (c.lean.ensures.elsewhere w (climb_leans _ _ _ _ w h (omega arith) (omega arith)))

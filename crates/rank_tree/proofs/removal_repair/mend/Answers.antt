@@ -143,3 +143,14 @@ returns-clause-rises g c =
     let old = g.K.Knots.knots c.args.knots.now in
     if_named number (λ i. rank_in old (number c.args.high) < rank_in (g.K.Knots.knots c.set_rank-3.new.self) i) c.read-above.result.parent
     (both_fall g (goal.at.returns-clause-rises g c).After-set_rank-3 _ c.requires.1).rises
+
+pub returns-then-max-rank-clause-elsewhere : goal.returns-then-max-rank-clause-elsewhere
+returns-then-max-rank-clause-elsewhere g c = λ w h. (falls g (goal.at.returns-then-max-rank-clause-elsewhere g c).After-set_rank w h).kept
+
+pub returns-then-near-max-clause-elsewhere : goal.returns-then-near-max-clause-elsewhere
+returns-then-near-max-clause-elsewhere g c = λ w h.
+    let s = sibling g (goal.at.returns-then-near-max-clause-elsewhere g c).In-Some w h in
+    c.shorten.ensures.elsewhere w (sibling_short _ _ _ _ w s (omega (arith, s, s.fits, c.look_around-near.ensures _ s.spot)))
+
+pub returns-clause-elsewhere : goal.returns-clause-elsewhere
+returns-clause-elsewhere g c = λ w h. (both_fall g (goal.at.returns-clause-elsewhere g c).After-set_rank-3 w h).kept

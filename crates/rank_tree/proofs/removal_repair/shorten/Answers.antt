@@ -1,10 +1,21 @@
 use Rattle.std.proofs.Common.{◌+◌, ◌-◌, List, ℕ, sym, ◌∙◌, ap, arith}
 use Rattle.std.specs.Option.{option_map}
-use Rattle.rank_tree.specs.Repair.{Short}
+use Rattle.rank_tree.specs.Repair.{Short, Restored}
+use Rattle.rank_tree.specs.FrameLaws.{both_kept}
 use Rattle.rank_tree.specs.ShortLaws.{short_once, short_twice}
-use Rattle.rank_tree.specs.TurningLaws.{TurnsTwice, root-some}
-use Rattle.rank_tree.proofs.removal_repair.shorten.Goals.{In-Some}
+use Rattle.rank_tree.specs.TurningLaws.{Turns, TurnsTwice, turns_kept, root-some}
+use Rattle.rank_tree.proofs.removal_repair.shorten.Goals.{After-turn, In-Some}
 use Rattle.rank_tree.proofs.removal_repair.shorten.Goals as goal
+
+-- the node turns up
+once : (g : _) (c : After-turn g) (w : List ℕ)
+    (h : Short (g.K.Knots.knots c.args.knots.now) (option_map g.P.Inx.PtrInxCore.number c.args.root.now)
+    (g.P.Inx.PtrInxCore.number c.args.low) w)
+    → Turns (g.K.Knots.knots c.args.knots.now) (option_map g.P.Inx.PtrInxCore.number c.args.root.now)
+    (g.P.Inx.PtrInxCore.number c.args.low) c.look_around-near.result.high_rank (c.look_around-near.result.inner_rank + 1) w (λ m r. Restored m r w)
+once g c w h =
+    let r = c.look_around-near.ensures _ h.spot in
+    short_once _ _ _ _ _ w h (omega arith) r.high_rank_is (ap (λ z. z + 1) r.inner_rank_is)
 
 -- the inner child turns up, twice
 twice : (g : _) (c : In-Some g) (w : List ℕ)
@@ -53,12 +64,23 @@ turn-requires-else-near-2-clause-spot g c =
 
 pub returns-then-near-clause-does : goal.returns-then-near-clause-does
 returns-then-near-clause-does g c = λ w h.
-    let r = c.look_around-near.ensures _ h.spot in
-    let one = short_once _ _ _ _ _ w h (omega arith) r.high_rank_is (ap (λ z. z + 1) r.inner_rank_is) in
+    let one = once g (goal.at.returns-then-near-clause-does g c).After-turn w h in
     one.after _ _ (c.turn.ensures.does one.spot)
+
+pub returns-then-near-clause-elsewhere : goal.returns-then-near-clause-elsewhere
+returns-then-near-clause-elsewhere g c = λ w h.
+    let one = once g (goal.at.returns-then-near-clause-elsewhere g c).After-turn w h in
+    turns_kept _ _ _ _ _ _ w _ one (c.turn.ensures.elsewhere one.spot)
 
 pub returns-in-Some-clause-does : goal.returns-in-Some-clause-does
 returns-in-Some-clause-does g c = λ w h.
     let one = twice g (goal.at.returns-in-Some-clause-does g c).In-Some w h in
     let two = one.after _ _ (c.turn-else-near.ensures.does one.spot) in
     two.after _ _ (c.turn-else-near-2.ensures.does two.spot)
+
+pub returns-in-Some-clause-elsewhere : goal.returns-in-Some-clause-elsewhere
+returns-in-Some-clause-elsewhere g c = λ w h.
+    let one = twice g (goal.at.returns-in-Some-clause-elsewhere g c).In-Some w h in
+    let two = one.after _ _ (c.turn-else-near.ensures.does one.spot) in
+    both_kept w _ _ _ (turns_kept _ _ _ _ _ _ w _ one (c.turn-else-near.ensures.elsewhere one.spot))
+    (turns_kept _ _ _ _ _ _ w _ two (c.turn-else-near-2.ensures.elsewhere two.spot))
