@@ -1,5 +1,5 @@
 -- What led to a node leads to another.
-use Rattle.std.proofs.Common.{◌≡◌, ◌≢◌, ℕ, Option, Some, None, refl, sym, ap, ◌∙◌}
+use Rattle.std.proofs.Common.{◌≡◌, ◌≢◌, ℕ, Option, Some, refl, sym, ap, ◌∙◌}
 use Rattle.rank_tree.specs.Knot.{Knot}
 use Rattle.rank_tree.specs.Store.{Store, Written, Relinked, with_child}
 use Rattle.rank_tree.specs.declared.side.Side.{Side}

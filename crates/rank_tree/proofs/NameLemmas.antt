@@ -11,10 +11,6 @@ module _ {I : Type 0} (number : I → ℕ) where
   if_live n None h = tt
   if_live n (Some x) h = h (number x) refl
 
-  pub if_live_from : (n : Store) (o : Option I) → IfSome (option_map number o) (λ i. IsSome (n i)) → IfSome o (λ x. IsSome (n (number x)))
-  if_live_from n None h = tt
-  if_live_from n (Some x) h = h
-
   -- what holds of the number that a link names holds of the link's index, and the other way round
   pub if_named : (Q : ℕ → Type 0) (o : Option I) → IfSome (option_map number o) Q → IfSome o (λ x. Q (number x))
   if_named Q None h = tt

@@ -7,7 +7,7 @@ use Rattle.rank_tree.specs.Store.{Store, Written, Reparented, Relinked}
 use Rattle.rank_tree.specs.Tree.{node, walk}
 use Rattle.rank_tree.specs.Shape.{knot, root_of, plug, holder, Stands, one, count, count_round}
 use Rattle.rank_tree.specs.Repair.{Exchange, KeptOff}
-use Rattle.rank_tree.specs.FrameLaws.{Represents-keep, Hangs-keep, plug-count, plug-opens, plug-closes, Represents-reparent, reparent-elsewhere, relink-elsewhere, Hangs-relink, write-elsewhere, off-count}
+use Rattle.rank_tree.specs.FrameLaws.{Represents-keep, Hangs-keep, plug-count, plug-opens, plug-closes, Represents-reparent, reparent-elsewhere, relink-elsewhere, Hangs-relink, write-elsewhere, count-walk}
 use Rattle.rank_tree.specs.SpotLaws.{is_some, root-lives, holder-lives}
 
 pub exchanged : (n n1 n2 n3 n4 : Store) (root new_root : Option ℕ) (old new : ℕ) (h : Exchange n root old new)
@@ -45,7 +45,7 @@ exchanged_kept : (n n1 n2 n3 n4 : Store) (root new_root : Option ℕ) (old new :
 exchanged_kept n n1 n2 n3 n4 root new_root old new v h w1 w2 w3 w4 = λ j off.
     let c = h.context in
     let t = node h.left new h.rank h.right in
-    let z = off-count j (plug c t) off in
+    let z = count-walk j (plug c t) ∙ off in
     let p = plug-count c j t in
     relink-elsewhere n3 n4 root new_root c old (Some new) w4 j (omega arith) ∙ reparent-elsewhere n2 n3 (Some new) h.right w3 j (omega arith)
     ∙ reparent-elsewhere n1 n2 (Some new) h.left w2 j (omega arith) ∙ write-elsewhere n n1 new v w1 j (omega arith)

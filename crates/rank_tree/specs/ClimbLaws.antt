@@ -72,7 +72,7 @@ pub size-walk : (t : Tree) → size t ≡ length (walk t)
 size-walk leaf = refl
 size-walk (node l i k r) = let p = size-walk l in let q = size-walk r in omega (arith, length-append (walk l) (i ∷ walk r))
 
-size-make : (s : Side) (a : Tree) (i k : ℕ) (b : Tree) → size (make s a i k b) ≡ size a + size b + 1
+pub size-make : (s : Side) (a : Tree) (i k : ℕ) (b : Tree) → size (make s a i k b) ≡ size a + size b + 1
 size-make Left a i k b = refl
 size-make Right a i k b = omega arith
 

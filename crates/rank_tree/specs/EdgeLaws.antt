@@ -9,10 +9,11 @@ use Rattle.rank_tree.specs.Store.{Store, with_child, Written, Reparented, Relink
 use Rattle.rank_tree.specs.Tree.{Tree, leaf, node, walk, rank_of, IsRanked}
 use Rattle.rank_tree.specs.Shape.{make, knot, root_of, Context, top, under, plug, holder, Hangs, one, count, count_round}
 use Rattle.rank_tree.specs.Repair.{IsRankedRound, Grown, Pending, Gap, filled, Loose, KeptOff}
-use Rattle.rank_tree.specs.FrameLaws.{one-same, one-other, Represents-keep, Hangs-keep, make-count, make-root, make-rank, make-opens, make-closes, plug-count, plug-opens, plug-closes, write-elsewhere, Represents-reparent, reparent-elsewhere, relink-elsewhere, Hangs-relink, off-count}
+use Rattle.rank_tree.specs.FrameLaws.{one-same, one-other, Represents-keep, Hangs-keep, make-count, make-root, make-rank, make-opens, make-closes, plug-count, plug-opens, plug-closes, write-elsewhere, Represents-reparent, reparent-elsewhere, relink-elsewhere, Hangs-relink, count-walk}
 use Rattle.rank_tree.specs.SpotLaws.{is_some as some_at, if_some, root-lives, holder-lives, knot_parent}
 use Rattle.rank_tree.specs.TurningLaws.{make-ranked-opens}
 use Rattle.rank_tree.specs.DescentLaws.{before, after, plug-walk_is}
+use Rattle.rank_tree.specs.ClimbLaws.{size-walk, size-make}
 use Rattle.rank_tree.specs.MendLaws.{pending_up}
 
 pub plug-ranked-opens : (c : Context) (t : Tree) → IsRanked (plug c t) → IsRankedRound c (rank_of t) × IsRanked t
@@ -37,9 +38,6 @@ one-le j i = elim (cases_eq j i) [
   | inr d ↦ let f = one-other j i d in omega arith
 ]
 
-apart_one : (j i : ℕ) → j ≢ i → one j i ≡ 0
-apart_one j i d = one-other j i d
-
 plug-length : (c : Context) (a b : Tree) → length (walk a) ≤ length (walk b) → length (walk (plug c a)) ≤ length (walk (plug c b))
 plug-length c a b h =
     let p = ap length (plug-walk_is c a) in
@@ -51,8 +49,7 @@ plug-length c a b h =
     omega arith
 
 make-length : (s : Side) (a : Tree) (i k : ℕ) (b : Tree) → length (walk (make s a i k b)) ≡ length (walk a) + length (walk b) + 1
-make-length Left a i k b = let e = length-append (walk a) (i ∷ walk b) in omega arith
-make-length Right a i k b = let e = length-append (walk b) (i ∷ walk a) in omega arith
+make-length s a i k b = let p = size-walk (make s a i k b) in let q = size-make s a i k b in let l = size-walk a in let r = size-walk b in omega arith
 
 pub attached : (n n1 n2 : Store) (root : Option ℕ) (at_holder : ℕ) (side : Side) (new : ℕ) (g : Gap n root at_holder side new)
     → Written n n1 new (knot Left (Some at_holder) None 1 None)
@@ -67,7 +64,7 @@ attached n n1 n2 root at_holder side new g w1 w2 =
     let o = g.fresh in let p = plug-count c new old in let q = make-count side new leaf at_holder g.rank g.far in omega arith in
     let e0 = plug-opens n root c old g.stands in
     let e1 = make-opens side n (holder c) leaf at_holder g.rank g.far e0.1 in
-    let not_new : (j : ℕ) → 0 < count_round j c + count j g.far → one j new ≡ 0 = λ j z. apart_one j new
+    let not_new : (j : ℕ) → 0 < count_round j c + count j g.far → one j new ≡ 0 = λ j z. one-other j new
     (λ e. let f = fresh in let y = subst (λ v. 0 < count_round v c + count v g.far) e z in absurd (omega arith)) in
     let same : (j : ℕ) → 0 < count_round j c + count j g.far → n2 j ≡ n j = λ j z. let o = once j in write-elsewhere n1 n2 at_holder _ w2 j (omega arith) ∙ write-elsewhere n n1 new _ w1 j
     (not_new j z) in
@@ -104,7 +101,7 @@ pub attached_kept : (n n1 n2 : Store) (root : Option ℕ) (at_holder : ℕ) (sid
     → Written n n1 new u → Written n1 n2 at_holder v → KeptOff (walk (filled g)) n n2
 attached_kept n n1 n2 root at_holder side new u v g w1 w2 = λ j off.
     let t = node leaf new 1 leaf in
-    let z = off-count j (filled g) off in
+    let z = count-walk j (filled g) ∙ off in
     let p = plug-count g.context j (make side t at_holder g.rank g.far) in
     let q = make-count side j t at_holder g.rank g.far in
     write-elsewhere n1 n2 at_holder v w2 j (omega arith) ∙ write-elsewhere n n1 new u w1 j (omega arith)
@@ -141,7 +138,7 @@ detached_kept : (n n1 n2 : Store) (root new_root : Option ℕ) (gone : ℕ) (h :
     → Relinked n1 n2 root new_root (holder h.context) gone (root_of h.sub) → KeptOff (walk (plug h.context h.sub)) n n2
 detached_kept n n1 n2 root new_root gone h w1 w2 = λ j off.
     let c = h.context in
-    let z = off-count j (plug c h.sub) off in
+    let z = count-walk j (plug c h.sub) ∙ off in
     let p = plug-count c j h.sub in
     relink-elsewhere n1 n2 root new_root c gone (root_of h.sub) w2 j (omega arith) ∙ reparent-elsewhere n n1 (holder c) h.sub w1 j (omega arith)
 

@@ -6,8 +6,7 @@ use Rattle.rank_tree.specs.declared.side.Side.{Side}
 use Rattle.rank_tree.specs.declared.side.Side.TheVariants.{Left, Right}
 use Rattle.rank_tree.specs.Store.{Store, Written, Reparented, Relinked}
 use Rattle.rank_tree.specs.Tree.{Tree, leaf, node, walk, rank_of}
-use Rattle.rank_tree.specs.Shape.{make, knot, root_of, Context, top, under, plug, holder, Represents, Hangs, Stands, one, count, count_round, IsDistinct}
-use Rattle.rank_tree.specs.Search.{AllIn}
+use Rattle.rank_tree.specs.Shape.{make, knot, root_of, Context, top, under, plug, holder, Represents, Hangs, Stands, one, count, count_in, count_round, IsDistinct}
 use Rattle.rank_tree.specs.Repair.{KeptOff}
 
 pub one-same : (i : ℕ) → one i i ≡ 1
@@ -92,26 +91,14 @@ plug-walk top a b e = e
 plug-walk (under c s i k far) a b e = plug-walk c (make s a i k far) (make s b i k far) (make-walk s a b i k far e)
 
 -- how often an index stands in a tree depends on the walk alone
-abbrev count_in : ℕ → List ℕ → ℕ
-count_in j [] = 0
-count_in j (x ∷ xs) = one j x + count_in j xs
-
 count_in-append : (j : ℕ) (xs ys : List ℕ) → count_in j (xs ++ ys) ≡ count_in j xs + count_in j ys
 count_in-append j [] ys = omega arith
 count_in-append j (x ∷ xs) ys = let h = count_in-append j xs ys in omega arith
 
-count-walk : (j : ℕ) (t : Tree) → count j t ≡ count_in j (walk t)
+pub count-walk : (j : ℕ) (t : Tree) → count j t ≡ count_in j (walk t)
 count-walk j leaf = refl
 count-walk j (node l i k r) =
     let h = count_in-append j (walk l) (i ∷ walk r) in let p = count-walk j l in let q = count-walk j r in omega arith
-
-count_in-off : (j : ℕ) (w : List ℕ) → AllIn (λ i. j ≢ i) w → count_in j w ≡ 0
-count_in-off j [] off = refl
-count_in-off j (x ∷ xs) off = let p = one-other j x off.0 in let q = count_in-off j xs off.1 in omega arith
-
--- an index that is not in the walk is not in the tree
-pub off-count : (j : ℕ) (t : Tree) → AllIn (λ i. j ≢ i) (walk t) → count j t ≡ 0
-off-count j t off = count-walk j t ∙ count_in-off j (walk t) off
 
 pub IsDistinct-walk : (a b : Tree) → walk a ≡ walk b → IsDistinct a → IsDistinct b
 IsDistinct-walk a b e d = record { once = λ j. let h = d.once j in rw (count-walk j b, ← e, ← count-walk j a) h }
@@ -159,7 +146,7 @@ write-elsewhere n m i v w j z = w.elsewhere j (one-apart j i z)
 -- a write within a tree
 pub write_kept : (n m : Store) (i : ℕ) (v : Knot) (t : Tree) (w : List ℕ) → Written n m i v → 0 < count i t → walk t ≡ w → KeptOff w n m
 write_kept n m i v t w written on e = λ j off. written.elsewhere j (λ u.
-    let z = off-count j t (subst (λ y. AllIn (λ x. j ≢ x) y) (sym e) off) in let f = subst (λ x. 0 < count x t) (sym u) on in absurd (omega arith))
+    let z = count-walk j t ∙ ap (count_in j) e ∙ off in let f = subst (λ x. 0 < count x t) (sym u) on in absurd (omega arith))
 
 -- one change after another
 pub both_kept : (w : List ℕ) (n m k : Store) → KeptOff w n m → KeptOff w m k → KeptOff w n k

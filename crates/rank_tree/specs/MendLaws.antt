@@ -128,9 +128,8 @@ pub record Lowered (m : Store) (root : Option ℕ) (high : ℕ) (old : Store) (p
 -- a node whose children are both two lower may lose one
 pub broken_lower : (n m : Store) (root : Option ℕ) (high : ℕ) (above : Knot) → n high ≡ Some above
     → Written n m high (with_rank (above.rank - 1) above) → (w : List ℕ) (h : Broken n root high w)
-    → rank_of h.left + 2 ≤ h.rank → rank_of h.right + 2 ≤ h.rank → IsUnfit (rank_of h.left) h.rank (rank_of h.right)
-    → Lowered m root high n above.parent w
-broken_lower n m root high above e written w h p q not_fits =
+    → rank_of h.left + 2 ≤ h.rank → rank_of h.right + 2 ≤ h.rank → Lowered m root high n above.parent w
+broken_lower n m root high above e written w h p q =
     let r = broken_reads n root high above e w h in
     let f = h.nearly in
     let old = node h.left high h.rank h.right in
@@ -392,7 +391,7 @@ mend_reads n root high above l r e ls ln rs rn w h =
 pub not_fit : (b : Bool) (l k r : ℕ) → (IsTrue b ↔ ((k ≤ l + 2) × (k ≤ r + 2) × (k ≤ l + r + 1))) → b ≡ false → IsUnfit l k r
 not_fit b l k r f e = no_fit l k r (λ q. false≢true (sym e ∙ f.1 q))
 
-pub not_fit_at : (n : Store) (root : Option ℕ) (high : ℕ) (w : List ℕ) (h : Broken n root high w) (above : Knot) (l r : ℕ)
+not_fit_at : (n : Store) (root : Option ℕ) (high : ℕ) (w : List ℕ) (h : Broken n root high w) (above : Knot) (l r : ℕ)
     → MendReads n root high w h above l r → IsUnfit l above.rank r → IsUnfit (rank_of h.left) h.rank (rank_of h.right)
 not_fit_at n root high w h above l r m f p q = let g = f (omega arith) (omega arith) in omega arith
 

@@ -10,7 +10,7 @@ use Rattle.rank_tree.specs.Tree.{Tree, leaf, node, walk, rank_of}
 use Rattle.rank_tree.specs.Shape.{make, knot, root_of, Context, top, under, holder, Represents, Hangs, Stands}
 use Rattle.rank_tree.specs.Repair.{Spot, turned, KeptOff}
 use Rattle.rank_tree.specs.FrameLaws.{one-same, make-count, make-root, make-opens, plug-count, plug-opens, root-counted}
-use Rattle.rank_tree.specs.TurnLaws.{turned as turned_stands, turned_kept}
+use Rattle.rank_tree.specs.TurnLaws.{turned_stands, turned_kept}
 
 pub is_some : {A : Type 0} (o : Option A) (v : A) → o ≡ Some v → IsSome o
 is_some o v e = rw e (search rules)
@@ -84,7 +84,6 @@ spotted n root low spot =
           let f = one-same low in let g = root-counted spot.far low e in absurd (omega arith);
     }
 
--- the code of a turn, over what it read
 -- the link to a tree tells its rank
 pub rank_link : (n : Store) (p : Option ℕ) (t : Tree) → Represents n p t → rank_or_link n (root_of t) ≡ rank_of t
 rank_link n p leaf h = refl
@@ -131,6 +130,7 @@ reparented_same n m l k i j e f h = subst (λ z. Reparented n m k (Some z)) f (s
 relinked_same : (n m : Store) (r q : Option ℕ) (l k : Option ℕ) (i j : ℕ) (to : Option ℕ) → l ≡ k → i ≡ j → Relinked n m r q l i to → Relinked n m r q k j to
 relinked_same n m r q l k i j to e f h = subst (λ z. Relinked n m r q k z to) f (subst (λ z. Relinked n m r q z i to) e h)
 
+-- the code of a turn, over what it read
 pub turn_works : (n n1 n2 n3 n4 : Store) (root new_root : Option ℕ) (low jx jy : ℕ) (below above : Knot) (high : ℕ) (t : Side) (middle : Option ℕ) (lowered raised : Knot)
     → n low ≡ Some below → below.parent ≡ Some high → n high ≡ Some above
     → (above.left ≡ Some low → t ≡ Left) → (above.left ≢ Some low → t ≡ Right)

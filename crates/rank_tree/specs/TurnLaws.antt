@@ -7,10 +7,10 @@ use Rattle.rank_tree.specs.Store.{Store, Written, Reparented, Relinked}
 use Rattle.rank_tree.specs.Tree.{Tree, walk}
 use Rattle.rank_tree.specs.Shape.{make, knot, root_of, Context, plug, holder, Hangs, Stands, one, count, count_round, IsDistinct}
 use Rattle.rank_tree.specs.Repair.{KeptOff}
-use Rattle.rank_tree.specs.FrameLaws.{one-same, Represents-keep, Hangs-keep, make-count, make-root, make-opens, make-closes, plug-count, plug-opens, plug-closes, Represents-reparent, reparent-elsewhere, relink-elsewhere, Hangs-relink, write-elsewhere, off-count}
+use Rattle.rank_tree.specs.FrameLaws.{one-same, Represents-keep, Hangs-keep, make-count, make-root, make-opens, make-closes, plug-count, plug-opens, plug-closes, Represents-reparent, reparent-elsewhere, relink-elsewhere, Hangs-relink, write-elsewhere, count-walk}
 
 -- the writes of a turn, one after another; both nodes may get other ranks
-pub turned : (n n1 n2 n3 n4 : Store) (root new_root : Option ℕ) (c : Context) (s : Side) (a : Tree) (x kx : ℕ) (b : Tree) (y ky : ℕ) (d : Tree) (jx jy : ℕ)
+pub turned_stands : (n n1 n2 n3 n4 : Store) (root new_root : Option ℕ) (c : Context) (s : Side) (a : Tree) (x kx : ℕ) (b : Tree) (y ky : ℕ) (d : Tree) (jx jy : ℕ)
     → Written n n1 y (knot s (Some x) (root_of b) jy (root_of d))
     → Reparented n1 n2 (root_of b) (Some y)
     → Written n2 n3 x (knot s (holder c) (root_of a) jx (Some y))
@@ -18,7 +18,7 @@ pub turned : (n n1 n2 n3 n4 : Store) (root new_root : Option ℕ) (c : Context) 
     → IsDistinct (plug c (make s (make s a x kx b) y ky d))
     → Stands n root (plug c (make s (make s a x kx b) y ky d))
     → Stands n4 new_root (plug c (make s a x jx (make s b y jy d)))
-turned n n1 n2 n3 n4 root new_root c s a x kx b y ky d jx jy w1 w2 w3 w4 distinct h =
+turned_stands n n1 n2 n3 n4 root new_root c s a x kx b y ky d jx jy w1 w2 w3 w4 distinct h =
     let e0 = plug-opens n root c (make s (make s a x kx b) y ky d) h in
     let e1 = make-opens s n (holder c) (make s a x kx b) y ky d e0.1 in
     let e2 = make-opens s n (Some y) a x kx b e1.1 in
@@ -56,7 +56,7 @@ pub turned_kept : (n n1 n2 n3 n4 : Store) (root new_root : Option ℕ) (c : Cont
     → KeptOff (walk (plug c (make s a x jx (make s b y jy d)))) n n4
 turned_kept n n1 n2 n3 n4 root new_root c s a x b y d jx jy u v w1 w2 w3 w4 = λ j off.
     let t = make s a x jx (make s b y jy d) in
-    let z = off-count j (plug c t) off in
+    let z = count-walk j (plug c t) ∙ off in
     let p = plug-count c j t in
     let q = make-count s j a x jx (make s b y jy d) in
     let r = make-count s j b y jy d in

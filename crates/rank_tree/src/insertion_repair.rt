@@ -71,7 +71,7 @@ pub(crate) fn repair_inserted<N, P: PtrCore, K: Knots<N, P>>(
     }
 }
 
-/// Hangs the node at `new`, which is in no tree, below `holder`, on a side where that has no child. After it the rules hold.
+/// Hangs the node at `new`, which is not in the tree, below `holder`, on a side on which that has no child. After it the rules hold.
 pub fn bring_in<N, P: PtrCore, K: Knots<N, P>>(
     knots: &mut K,
     root: &mut Option<P::Inx>,

@@ -94,7 +94,7 @@ pub(crate) fn relink<N, P: PtrCore, K: Knots<N, P>>(
     }
 }
 
-/// The rank of the node that `link` names, 0 where there is none.
+/// The rank of the node that `link` names, 0 if it names none.
 pub(crate) fn rank_at<N, P: PtrCore, K: Knots<N, P>>(knots: &K, link: Option<P::Inx>) -> u8
     requires live { IfSome link (λ i. IsSome (K.knots knots.now (P.Inx.number i))) }
     requires no_more { ⊤ }

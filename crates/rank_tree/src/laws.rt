@@ -5,7 +5,7 @@ ghost use Rattle.rank_tree.specs.Store.{Store};
 ghost use Rattle.rank_tree.specs.Tree.{Tree, IsRanked, height, rank_of, size};
 ghost use Rattle.rank_tree.specs.Shape.{Stands};
 
-/// No path in a tree that keeps the rules has more nodes than the rank r of its root, and with n nodes, where there is one,
+/// No path in a tree that keeps the rules has more nodes than the rank r of its root. A tree of n nodes, if n is not 0, has
 /// `2^(r+1) <= (n+1)^2`.
 pub fn paths_are_short()
     ensures high { (t : Tree) → IsRanked t → height t ≤ rank_of t }

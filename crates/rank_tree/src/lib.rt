@@ -3,7 +3,7 @@
 //! each node's rank is above each child's by 1 or 2.
 #![tactic(auto)]
 
-// A function's clause `no_more` asks nothing. It stands where a `requires` would be alone, whose answers take far longer to state.
+// The clause `no_more` asks nothing. It stands beside a `requires` that callers answer by hand, which alone takes long to state.
 
 mod edges;
 mod insertion_repair;

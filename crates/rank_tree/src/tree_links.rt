@@ -48,7 +48,7 @@ impl<I: PtrInxCore> TreeLinks<I> {
     }
 }
 
-/// The side on which a node has this child: the left one where it is the left child, and else the right one.
+/// The side on which a node has this child: the left one if it is the left child, and else the right one.
 pub fn side_of<I: PtrInxCore>(knot: TreeLinks<I>, child: I) -> Side
     ensures left { option_map I.number knot.left ≡ Some (I.number child) → result ≡ Side.Left }
     ensures right { option_map I.number knot.left ≢ Some (I.number child) → result ≡ Side.Right }

@@ -18,8 +18,7 @@ use triple_arena::{ArenaTrait, InvalidationResult, PtrCore};
 use triple_arena_chain::{ChainArena, ChainArenaTrait, LinkNoGen};
 use unreached::unreached;
 
-// A node leaves the tree, and its link stays: one with a right child when the next one, which has no left child, takes its
-// place.
+// A node leaves the tree, and its link stays. If it has a right child, the next one, which has no left child, takes its place.
 fn uproot<P: PtrCore, T: Drop, S: OrdSlots<P, T>>(
     chains: &mut ChainArena<P, SimpleOrdArenaNode<P, T>, S>,
     root: &mut Option<P::Inx>,

@@ -1,8 +1,8 @@
-use Rattle.std.specs.Option.{option_map}
+use Rattle.std.specs.Option.{IsSome, option_map}
 use Rattle.rank_tree.specs.Tree.{walk}
 use Rattle.rank_tree.specs.Shape.{plug}
 use Rattle.rank_tree.specs.SpotLaws.{reparent-lives}
-use Rattle.rank_tree.proofs.NameLemmas.{if_live, if_live_from}
+use Rattle.rank_tree.proofs.NameLemmas.{if_live, if_named}
 use Rattle.rank_tree.specs.EdgeLaws.{loose_lives, loose_reads, detach_works}
 use Rattle.rank_tree.specs.Repair.{Loose, Pending, KeptOff}
 use Rattle.rank_tree.proofs.edges.detach.Goals.{After-relink}
@@ -23,7 +23,7 @@ read-knot-requires-clause-live g c = loose_lives _ _ _ c.requires
 
 pub reparent-requires-clause-live : goal.reparent-requires-clause-live
 reparent-requires-clause-live g c =
-    if_live_from g.P.Inx.PtrInxCore.number (g.K.Knots.knots c.args.knots.now) c.first_child-child.result
+    if_named g.P.Inx.PtrInxCore.number (λ i. IsSome (g.K.Knots.knots c.args.knots.now i)) c.first_child-child.result
     ((loose_reads _ _ _ _ _ c.read-knot.ensures c.first_child-child.ensures.left c.first_child-child.ensures.right c.requires).sub_lives)
 
 pub relink-requires-clause-live : goal.relink-requires-clause-live

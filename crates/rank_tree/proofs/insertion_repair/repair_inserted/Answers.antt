@@ -1,6 +1,6 @@
 use Rattle.std.proofs.Common.{◌∙◌, ap, arith}
-use Rattle.std.specs.Option.{option_map}
-use Rattle.rank_tree.proofs.NameLemmas.{if_live_from}
+use Rattle.std.specs.Option.{IsSome, option_map}
+use Rattle.rank_tree.proofs.NameLemmas.{if_named}
 use Rattle.rank_tree.specs.SpotLaws.{rank_read}
 use Rattle.rank_tree.specs.ClimbLaws.{grown_under, grown_ends, grown_lives, parent_lives, sibling_lives, climb_reads, climb_write, climb_small, climb_ends, climb_leans, climb_up, climb_kept, climb_ranks, climb_falls}
 use Rattle.rank_tree.specs.FrameLaws.{both_kept}
@@ -21,7 +21,7 @@ returns-then-below-above-clause-does g c = λ w grown.
 
 pub rank_at-requires-clause-live : goal.rank_at-requires-clause-live
 rank_at-requires-clause-live g c =
-    if_live_from g.P.Inx.PtrInxCore.number (g.K.Knots.knots c.climb.knots) c.child-sibling.result
+    if_named g.P.Inx.PtrInxCore.number (λ i. IsSome (g.K.Knots.knots c.climb.knots i)) c.child-sibling.result
     (let h = grown_under _ _ _ _ _ _ c.read-below.ensures (ap (option_map g.P.Inx.PtrInxCore.number) c.in-Some.is)
     (c.climb.invariant.0 c.requires.grown.0 c.requires.grown.1) in sibling_lives _ _ _ _ _
     _ _ _ h (climb_reads _ _ _ _ _ _ _ _ _ c.read-below.ensures (ap (option_map g.P.Inx.PtrInxCore.number) c.in-Some.is) c.read-above.ensures c.side_of-side.ensures.left

@@ -1,11 +1,11 @@
 use Rattle.std.proofs.Common.{◌-◌, ◌<◌, ℕ, List, refl, ap, arith}
-use Rattle.std.specs.Option.{option_map}
-use Rattle.rank_tree.proofs.NameLemmas.{if_live_from, if_named}
+use Rattle.std.specs.Option.{IsSome, option_map}
+use Rattle.rank_tree.proofs.NameLemmas.{if_named}
 use Rattle.rank_tree.specs.Named.{named}
 use Rattle.rank_tree.specs.Store.{rank_in}
 use Rattle.rank_tree.specs.Repair.{Broken}
 use Rattle.rank_tree.specs.SpotLaws.{spot_low}
-use Rattle.rank_tree.specs.MendLaws.{MendReads, Lowered, Higher, Sibling, broken_lives, broken_reads, broken_ends, broken_lower, broken_sibling, mend_reads, not_fit, not_fit_at, mend_higher, higher_some, mend_lower, sibling_short, sets_lives}
+use Rattle.rank_tree.specs.MendLaws.{MendReads, Lowered, Higher, Sibling, broken_lives, broken_reads, broken_ends, broken_lower, broken_sibling, mend_reads, not_fit, mend_higher, higher_some, mend_lower, sibling_short, sets_lives}
 use Rattle.rank_tree.proofs.removal_repair.mend.Goals.{After-rank_at-right, After-set_rank, After-child, In-Some, After-set_rank-3}
 use Rattle.rank_tree.proofs.removal_repair.mend.Goals as goal
 
@@ -28,7 +28,6 @@ falls : (g : _) (c : After-set_rank g) (w : List ℕ)
 falls g c w h =
     let m = read g (goal.at.After-set_rank g c).After-rank_at-right w h in
     broken_lower _ _ _ _ _ c.read-above.ensures (c.set_rank.ensures.does _ c.read-above.ensures) w h (omega arith) (omega arith)
-    (not_fit_at _ _ _ _ h _ _ _ m (not_fit _ _ _ _ c.is_fit.ensures c.if-is_fit.false))
 
 -- the higher child is one lower, and the other three
 higher : (g : _) (c : After-child g) (w : List ℕ)
@@ -66,12 +65,12 @@ read-above-requires-clause-live g c = broken_lives _ _ _ _ c.requires.1
 
 pub rank_at-left-requires-clause-live : goal.rank_at-left-requires-clause-live
 rank_at-left-requires-clause-live g c =
-    if_live_from g.P.Inx.PtrInxCore.number (g.K.Knots.knots c.args.knots.now) c.read-above.result.left
+    if_named g.P.Inx.PtrInxCore.number (λ i. IsSome (g.K.Knots.knots c.args.knots.now i)) c.read-above.result.left
     (broken_reads _ _ _ _ c.read-above.ensures _ c.requires.1).left_lives
 
 pub rank_at-right-requires-clause-live : goal.rank_at-right-requires-clause-live
 rank_at-right-requires-clause-live g c =
-    if_live_from g.P.Inx.PtrInxCore.number (g.K.Knots.knots c.args.knots.now) c.read-above.result.right
+    if_named g.P.Inx.PtrInxCore.number (λ i. IsSome (g.K.Knots.knots c.args.knots.now i)) c.read-above.result.right
     (broken_reads _ _ _ _ c.read-above.ensures _ c.requires.1).right_lives
 
 pub is_fit-requires-clause-low_left : goal.is_fit-requires-clause-low_left
