@@ -9,6 +9,7 @@ use crate::hexadecimal;
 use crate::ptr::{PtrInx, PtrInxCore};
 use std::fmt;
 use std::num::{NonZeroU8, NonZeroU16, NonZeroU32, NonZeroU64, NonZeroU128, NonZeroUsize};
+use unreached::unreached;
 
 impl PtrInxCore for NonZeroU8 {
     ghost number = { non_zero_u8_get };
@@ -33,7 +34,10 @@ impl PtrInxCore for NonZeroU8 {
     }
 
     fn try_into_usize(self) -> Option<NonZeroUsize> {
-        NonZeroUsize::new(self.get() as usize)
+        match NonZeroUsize::new(self.get() as usize) {
+            Some(number) => Some(number),
+            None => unreached!(),
+        }
     }
 
     fn max_index() -> Self {
@@ -77,7 +81,10 @@ impl PtrInxCore for NonZeroU16 {
     }
 
     fn try_into_usize(self) -> Option<NonZeroUsize> {
-        NonZeroUsize::new(self.get() as usize)
+        match NonZeroUsize::new(self.get() as usize) {
+            Some(number) => Some(number),
+            None => unreached!(),
+        }
     }
 
     fn max_index() -> Self {
@@ -121,7 +128,10 @@ impl PtrInxCore for NonZeroU32 {
     }
 
     fn try_into_usize(self) -> Option<NonZeroUsize> {
-        NonZeroUsize::new(self.get() as usize)
+        match NonZeroUsize::new(self.get() as usize) {
+            Some(number) => Some(number),
+            None => unreached!(),
+        }
     }
 
     fn max_index() -> Self {
@@ -162,7 +172,10 @@ impl PtrInxCore for NonZeroU64 {
     }
 
     fn try_into_usize(self) -> Option<NonZeroUsize> {
-        NonZeroUsize::new(self.get() as usize)
+        match NonZeroUsize::new(self.get() as usize) {
+            Some(number) => Some(number),
+            None => unreached!(),
+        }
     }
 
     fn max_index() -> Self {
