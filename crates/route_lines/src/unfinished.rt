@@ -79,6 +79,6 @@ pub fn split_line(bytes: &[u8]) -> Option<(&[u8], &[u8])>
         × HasNoLineEnd cut.0.now) }
     ensures none { IfNone result (HasNoLineEnd bytes.now) }
 {
-    let end = bytes.iter().position(|byte| *byte == b'\n')?;
+    let end = memchr::memchr(b'\n', bytes)?;
     Some((&bytes[..end], &bytes[end + 1..]))
 }
