@@ -25,6 +25,12 @@ goes Less v = v.left
 goes Equal v = None
 goes Greater v = v.right
 
+-- at a node without children no answer leads on
+pub goes_nowhere : (d : Ordering) (v : Knot) → v.left ≡ None → v.right ≡ None → goes d v ≡ None
+goes_nowhere Less v left right = left
+goes_nowhere Equal v left right = refl
+goes_nowhere Greater v left right = right
+
 All-push : {X : Type 0} (P : X → Type 0) (xs : List X) (x : X) → AllByRecursion P xs → P x → AllByRecursion P (xs ++ x ∷ [])
 All-push P [] x all h = (h, tt)
 All-push P (y ∷ ys) x all h = (all.0, All-push P ys x all.1 h)

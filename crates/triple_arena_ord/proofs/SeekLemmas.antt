@@ -1,5 +1,5 @@
 -- A search by key over the nodes of an arena.
-use Rattle.std.proofs.Common.{◌≡◌, ◌≢◌, ℕ, ◌+◌, ◌*◌, ◌^◌, ◌<◌, ◌≤◌, ◌∷◌, Option, Some, None, IsSome, IfSome, refl, sym, ap, ◌∙◌, subst, arith, inl, inr}
+use Rattle.std.proofs.Common.{◌≡◌, ◌≢◌, ℕ, ◌+◌, ◌*◌, ◌^◌, ◌<◌, ◌≤◌, ◌∷◌, Option, Some, None, IsSome, IfSome, is_some, false, refl, sym, ap, ◌∙◌, subst, arith, inl, inr}
 use Rattle.std.specs.Option.{option_map}
 use Rattle.std.proofs.lemmas.Bool.{cases_eq, cases_lt}
 use Rattle.std.specs.Cmp.{IsTotalOrder}
@@ -13,11 +13,12 @@ use Rattle.counted_search.specs.Searches.{most_comparisons}
 use Rattle.counted_search.specs.SearchLaws.{most_comparisons-greatest}
 use Rattle.rank_tree.specs.Tree.{Tree, leaf, node, walk, rank_of, size}
 use Rattle.rank_tree.specs.Shape.{count}
-use Rattle.rank_tree.specs.Search.{AllIn, Before, IsParted, IsAnswer, IsFreeAt}
+use Rattle.rank_tree.specs.Store.{Store}
+use Rattle.rank_tree.specs.Search.{AllIn, Before, IsParted, IsAnswer, IsFreeAt, asked_down}
 use Rattle.triple_arena_ord.specs.Ordered.{Ordered, IsOrdered, IsAscending, tree_in, order_in, entry_in, size_in, asked_of, asked_at}
 use Rattle.rank_tree.specs.BoundLaws.{size_bound}
 use Rattle.rank_tree.specs.ClimbLaws.{size-walk}
-use Rattle.rank_tree.specs.DescentLaws.{Descent, Here, descent_begins, descent_free, step_down, AllIn-front, AllIn-back, AllIn-append, AllIn-map, parted-after, parted-before}
+use Rattle.rank_tree.specs.DescentLaws.{Descent, Here, descent_begins, descent_ends, descent_asked, descent_free, step_down, AllIn-front, AllIn-back, AllIn-append, AllIn-map, parted-after, parted-before}
 use Rattle.rank_tree.specs.FrameLaws.{one-other, one-same}
 use Rattle.triple_arena_ord.proofs.NameLemmas.{if_answered}
 use Rattle.triple_arena_ord.proofs.LiveLemmas.{counted_entry, entry_counted}
@@ -71,6 +72,17 @@ unequal f (node l x r_k r) (Some p) is not parted = by p.1 refl
         subst (AllIn (λ y. f y ≢ Equal)) (sym places.is) (AllIn-append (λ y. f y ≢ Equal) places.before (p.0 ∷ places.after)
         (AllIn-map (λ y. Before (f y) (f p.0)) (λ y. f y ≢ Equal) (λ y z u. let w = z.greater here in absurd (cc)) places.before down)
         ((λ u. absurd (cc)), AllIn-map (λ y. f y ≡ Less) (λ y. f y ≢ Equal) (λ y z u. absurd (cc)) places.after (places.greater refl)))
+
+pub no_child : {A B : Type 0} (f : A → B) (o : Option A) → is_some o ≡ false → option_map f o ≡ None
+no_child f None e = refl
+no_child f (Some a) e = absurd (cc)
+
+-- a search ends at a node without children, whichever way its answer leads
+pub leaf_ends : (n : Store) (f : ℕ → Ordering) (whole : Tree) (i : ℕ) (v : Knot) (asked : ℕ) → Here n f whole i v asked → v.left ≡ None → v.right ≡ None
+    → (d : Ordering) → f i ≡ d → IsAnswer f whole (Some (i, d)) × (asked + 1 ≡ asked_down f whole)
+leaf_ends n f whole i v asked h left right Less e = (descent_ends n f whole v.left _ (asked + 1) left (h.left e), descent_asked n f whole v.left _ (asked + 1) left (h.left e))
+leaf_ends n f whole i v asked h left right Equal e = (h.stop e, h.all_asked e)
+leaf_ends n f whole i v asked h left right Greater e = (descent_ends n f whole v.right _ (asked + 1) right (h.right e), descent_asked n f whole v.right _ (asked + 1) right (h.right e))
 
 -- the ticks of a search are few
 pub few : {I T : Type 0} (number : I → ℕ) (o : Ordered I T) (old new : ℕ) → IsOrdered number o → new ≤ old + rank_of (tree_in number o) → new ≤ old + most_comparisons (size_in o)

@@ -39,14 +39,19 @@ where
             Some(entry) => entry,
             None => unreached!(),
         };
+        let left = node.p_tree0;
+        let right = node.p_tree1;
         probes.tick();
         let p = P::_from_raw(i, generation);
         let answer = f(p, &node.t);
         place = Some((p, answer));
+        if left.is_none() && right.is_none() {
+            return place;
+        }
         link = match answer {
-            Ordering::Less => node.p_tree0,
+            Ordering::Less => left,
             Ordering::Equal => None,
-            Ordering::Greater => node.p_tree1,
+            Ordering::Greater => right,
         };
     }
     place

@@ -7,14 +7,14 @@ use triple_arena_chain::IndexLink;
 /// the rank.
 #[derive(Clone, Drop)]
 pub struct IndexNode<I: PtrInxCore, T> {
-    /// The item.
-    pub t: T,
-    /// The index of the parent.
-    pub p_back: Option<I>,
     /// The index of the left child.
     pub p_tree0: Option<I>,
     /// The index of the right child.
     pub p_tree1: Option<I>,
+    /// The item.
+    pub t: T,
+    /// The index of the parent.
+    pub p_back: Option<I>,
     /// The rank: 1 for a node without children.
     pub rank: u8,
 }

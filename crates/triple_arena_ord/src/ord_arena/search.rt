@@ -29,16 +29,17 @@ impl<P: PtrCore, T: SimpleOrdItem + Drop, S: OrdSlots<P, T>> SimpleOrdArena<P, T
         'down: while let Some(i) = link {
             probes.tick();
             let node = self.chains.get_inx_unwrap(i);
+            let left = node.p_tree0;
+            let right = node.p_tree1;
             let answer = k.cmp(node.t.key());
             if answer.is_eq() {
                 return Some((i, answer));
             }
             place = Some((i, answer));
-            link = if answer.is_lt() {
-                node.p_tree0
-            } else {
-                node.p_tree1
-            };
+            if left.is_none() && right.is_none() {
+                return place;
+            }
+            link = if answer.is_lt() { left } else { right };
         }
         place
     }

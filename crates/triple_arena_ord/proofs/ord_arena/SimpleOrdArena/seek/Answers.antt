@@ -9,7 +9,7 @@ use Rattle.rank_tree.specs.Knot.{Knot}
 use Rattle.triple_arena_ord.specs.Node.{knots_in}
 use Rattle.triple_arena_ord.specs.Ordered.{asked_at}
 use Rattle.rank_tree.specs.DescentLaws.{Descent, falls_down, descent_ends, descent_asked, descent_lives}
-use Rattle.triple_arena_ord.proofs.SeekLemmas.{Step, seek_begins, seek_step, seek_ends}
+use Rattle.triple_arena_ord.proofs.SeekLemmas.{Step, seek_begins, seek_step, seek_ends, no_child, leaf_ends}
 use Rattle.triple_arena_ord.proofs.ord_arena.SimpleOrdArena.seek.Goals.{After-cmp-answer}
 use Rattle.triple_arena_ord.proofs.ord_arena.SimpleOrdArena.seek.Goals as goal
 
@@ -51,6 +51,21 @@ step g c =
 asked : (g : _) (c : After-cmp-answer g)
     → asked_at g.T.Key.Ord.cmp g.T.SimpleOrdItem.key_of c.args.k.now c.args.self.now (g.P.Inx.PtrInxCore.number c.in-Some.i) ≡ c.cmp-answer.result
 asked g c = (step g c).is ∙ ap (g.T.Key.Ord.cmp c.args.k.now) (sym c.key.ensures) ∙ sym c.cmp-answer.ensures
+
+pub returns-then-is_none-2-clause-answer : goal.returns-then-is_none-2-clause-answer
+returns-then-is_none-2-clause-answer g c =
+    let at = (goal.at.returns-then-is_none-2-clause-answer g c).After-cmp-answer in
+    let number = g.P.Inx.PtrInxCore.number in
+    (leaf_ends _ _ _ _ _ _ (step g at).here (no_child number _ c.if-is_none.ensures) (no_child number _ c.if-is_none-2.ensures) _ (asked g at)).0
+
+pub returns-then-is_none-2-clause-ticks : goal.returns-then-is_none-2-clause-ticks
+returns-then-is_none-2-clause-ticks g c =
+    let at = (goal.at.returns-then-is_none-2-clause-ticks g c).After-cmp-answer in
+    let number = g.P.Inx.PtrInxCore.number in
+    let before = c.down.invariant.1.0 in
+    let ticked = c.tick.ensures in
+    let all = (leaf_ends _ _ _ _ _ _ (step g at).here (no_child number _ c.if-is_none.ensures) (no_child number _ c.if-is_none-2.ensures) _ (asked g at)).1 in
+    omega (arith, before, ticked, all)
 
 pub down-init : goal.down-init
 down-init g c = (
