@@ -12,7 +12,7 @@ import sys
 sys.dont_write_bytecode = True
 
 from arena_rules import (
-    Arena, Direct, Heap, POINTERS, Refused, Room, SLOTS_OF_AN_ARRAY, done, either, option, result, told)
+    Arena, Direct, Heap, POINTERS, Refused, Room, SLOTS_OF_AN_ARRAY, done, either, option, result, some, told)
 
 NAMES_OF_AN_ARRAY = 4
 # The pointer types that the program has arrays for.
@@ -108,6 +108,17 @@ def walk_and_insert(arena, value, i):
     return answers + [result(lambda: arena.insert(value)), 'None']
 
 
+def free_links(arena, i):
+    """The free indexes before and after this one, in the order in which the free indexes are taken."""
+    if arena.slots < i:
+        return '"no such slot"'
+    if i in arena.entries:
+        return 'None'
+    around = [None, *arena.free, None]
+    at = around.index(i)
+    return some(f'({option(around[at - 1])}, {option(around[at + 1])})')
+
+
 def of_arena(arena, verb, x, y):
     """The answers of a call that an arena has alone."""
     if verb in ('insert', 'insert_reallocating', 'insert_within_capacity'):
@@ -126,6 +137,8 @@ def of_arena(arena, verb, x, y):
         return [told(arena.step_counter(), '()')]
     if verb == 'freelist_root':
         return [option(arena.free[0] if arena.free else None)]
+    if verb == 'free_links':
+        return [free_links(arena, arena.pointers.index(x))]
     if verb == 'canonicalize_freelist':
         return done(arena.free.sort())
     if verb == 'remove_free_end_slots':
@@ -322,12 +335,13 @@ CHANGES = [
 OF_ARENAS = ['insert'] * 10 + ['insert_within_capacity', 'insert_reallocating'] * 3 + [
     'entry_insert', 'entry_insert_reallocating', 'entry_insert_within_capacity'] * 2 + [
     'walk_and_insert', 'inc_generation', 'generation', 'set_generation', 'freelist_root', 'freelist_root',
-    'freelist_root', 'canonicalize_freelist', 'remove_free_end_slots']
+    'freelist_root', 'canonicalize_freelist', 'remove_free_end_slots'] + ['free_links'] * 3
 OF_DIRECT = ['direct_insert'] * 14 + ['pop_free_end_slots'] * 2
 SELDOM = ['clear', 'compress', 'drain', 'walk_and_remove']
 POINTS = {'remove', 'invalidate', 'set', 'get', 'contains', 'swap'}
 AT_INDEX = {
-    'remove_inx', 'get_inx', 'get_inx_unwrap', 'walk_from', 'walk_back_from', 'reallocate_min_capacity', 'drain'}
+    'remove_inx', 'get_inx', 'get_inx_unwrap', 'walk_from', 'walk_back_from', 'reallocate_min_capacity', 'drain',
+    'free_links'}
 
 
 class Random:

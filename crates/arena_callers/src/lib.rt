@@ -11,6 +11,7 @@ mod copies;
 mod direct;
 mod each;
 mod entries;
+mod free_list;
 mod further;
 mod generic;
 mod mirrors;

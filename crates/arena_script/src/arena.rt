@@ -65,12 +65,29 @@ fn reads<P: ShownPtr, S: ArenaSlots<P, u64>>(
         "generation" => transcript.answer(line, &arena.generation()),
         "freelist_root" => transcript.answer(line, &arena.freelist_root()),
         "slots" => transcript.answer(line, &arena.backing().len()),
+        "free_links" => free_links(arena, transcript, call),
         "ptrs" => ptrs(arena, transcript, line),
         "vals" => vals(arena, transcript, line),
         "iter" => iter(arena, transcript, line),
         _ => return false,
     }
     true
+}
+
+// Tells which free indexes the slot at an index names.
+fn free_links<P: ShownPtr, S: ArenaSlots<P, u64>>(
+    arena: &Arena<P, u64, S>,
+    transcript: &mut Transcript,
+    call: &Call<'_>,
+) {
+    let slot = match call.index::<P::Inx>().try_into_usize() {
+        Some(i) => arena.backing().get(i),
+        None => None,
+    };
+    match slot {
+        Some(slot) => transcript.answer(call.line, &slot.free_links()),
+        None => transcript.answer(call.line, &"no such slot"),
+    }
 }
 
 fn ptrs<P: PtrCore + Debug, S: ArenaSlots<P, u64>>(

@@ -15,7 +15,7 @@ use Rattle.triple_arena.specs.ContentLaws.{entry_at_slot}
 use Rattle.triple_arena.specs.LiveEntries.{listed_from, listed-length, live_entries}
 use Rattle.triple_arena.specs.Compression.{renewed, Move, index_of, entry_of_listed, generation_of, value_of, IsCompact, compacted, live_values, entry_before, entry_after, IsMapped}
 use Rattle.triple_arena.specs.SlotCompression.{Compacts}
-use Rattle.triple_arena.proofs.FreeListLemmas.{sound_of}
+use Rattle.triple_arena.proofs.FreeListLemmas.{none_free, sound_of}
 
 module _ {X : Type 0} where
   pub set_here : (xs ys : List X) (x y : X) (k : ℕ) → k ≡ length xs → set (xs ++ x ∷ ys) k y ≡ xs ++ y ∷ ys
@@ -359,7 +359,7 @@ module _ {P T F : Type 0} (index generation : P → ℕ) (step : F → P → T �
       let live = d.live in
       let all = d.all in
       let own = length-map es' entry_of in
-      let left = sound_of es' len None [] room (omega arith) (omega arith) refl (omega arith) in
+      let left = sound_of es' len None [] room (omega arith) (omega arith) (none_free es') (omega arith) in
       let new = content_of es' room g None in
       let values : map entry_of es' ≡ map (λ t. Some (g, t)) (live_values new) =
       k.slots ∙ sym (given_values g k.moves) ∙ ap (λ l. map (λ t. Some (g, t)) (map value_of l)) k.after in

@@ -11,7 +11,7 @@ use Rattle.triple_arena_stack.specs.Room.{Room, capacity}
 use Rattle.triple_arena.specs.ArenaRoom.{room_with}
 use Rattle.triple_arena.specs.Entries.{generation_at, look_up}
 use Rattle.triple_arena.specs.Slot.{Slot, entry_of}
-use Rattle.triple_arena.specs.Layout.{content_of, IsChain, IsSound}
+use Rattle.triple_arena.specs.Layout.{content_of, IsFreeList, IsSound}
 use Rattle.triple_arena.specs.Content.{Content, entry_at, live_count, some_counter, vacant_from, reallocated, cleared}
 use Rattle.triple_arena.specs.FreeListLaws.{vacant-counted}
 use Rattle.triple_arena.specs.Changes.{IsNew}
@@ -19,7 +19,7 @@ use Rattle.triple_arena.specs.Compression.{index_of, listed_under}
 use Rattle.triple_arena.specs.LiveEntries.{listed_from, listed-length, live_entries, entry-listed, live_entries-length}
 use Rattle.triple_arena.specs.Copy.{last_listed, spread, copied, Call, Calls, IsMappedCopy, IsRefusedCopy, IsCopy}
 use Rattle.triple_arena.proofs.CompressionLemmas.{listed-push, get_here}
-use Rattle.triple_arena.proofs.FreeListLemmas.{sound_of}
+use Rattle.triple_arena.proofs.FreeListLemmas.{none_free, sound_of}
 
 last_of_push : {A : Type 0} (o : Option A) (xs : List A) (x : A) → last_or o (xs ++ x ∷ []) ≡ Some x
 last_of_push o [] x = refl
@@ -273,13 +273,13 @@ module _ {T : Type 0} where
   pub spread_listed : (xs : List (Option (ℕ × T))) → length xs ≡ last_listed (listed_from 1 xs) → spread 1 (listed_from 1 xs) ≡ xs
   spread_listed xs last = spread_from 1 0 1 xs (omega arith) (omega arith) (omega arith)
 
-  none_vacant : (es : List (Slot T)) (l : List ℕ) → length l ≡ 0 → IsChain es None l
-  none_vacant es [] none = refl
+  none_vacant : (es : List (Slot T)) (l : List ℕ) → length l ≡ 0 → IsFreeList es None l
+  none_vacant es [] none = none_free es
   none_vacant es (i ∷ l) none = absurd (omega arith)
 
   -- where all slots are live, none is on the list of free slots
   pub all_live : (es : List (Slot T)) (live : ℕ) → live ≡ count_by is_some (map entry_of es) → live ≡ length es
-      → IsChain es None (vacant_from 1 (map entry_of es))
+      → IsFreeList es None (vacant_from 1 (map entry_of es))
   all_live es live counted all =
       let total = vacant-counted 1 (map entry_of es) in
       let sizes = length-map es entry_of in
@@ -319,7 +319,7 @@ module _ {P U T A F : Type 0} (index generation : P → ℕ) (step : F → P →
       {len g : ℕ} {head : Option ℕ} {room : Room}
       → IsMappedCopy index generation step f (listed_from 1 (map shown source)) (listed_from 1 (map entry_of es))
       → length es ≡ length source → length source ≡ last_listed (listed_from 1 (map shown source)) → len ≡ count_by is_some (map entry_of es)
-      → map entry_of es' ≡ map entry_of es → IsChain es' head (vacant_from 1 (map entry_of es))
+      → map entry_of es' ≡ map entry_of es → IsFreeList es' head (vacant_from 1 (map entry_of es))
       → length source ≤ capacity c.room → room ≡ c.room → g ≡ unwrap_or counter c.counter
       → CopiedArena f (listed_from 1 (map shown source)) c counter es' len head room (content_of es' room g head)
   copied_arena shown source {f} c counter es es' {len} {g} {head} {room} m whole last lives same chain fits room_is counter_is =

@@ -1,18 +1,21 @@
 -- The list of free slots, and how each change of the slots keeps it.
-use Rattle.std.proofs.Common.{◌≡◌, ◌≢◌, ℕ, zero, suc, ◌+◌, ◌-◌, ◌<◌, ◌≤◌, List, [], ◌∷◌, ◌++◌, map, length, get_or, set, take, Option, Some, None, is_some, count_by, cond, slice_get, refl, sym, ap, subst, ◌∙◌, arith, length-set}
+use Rattle.std.proofs.Common.{◌≡◌, ◌≢◌, ◌==◌, if◌then◌else◌, inl, inr, ℕ, zero, suc, ◌+◌, ◌-◌, ◌<◌, ◌≤◌, List, [], ◌∷◌, ◌++◌, map, length, get_or, set, take, Option, Some, None, is_some, count_by, cond, slice_get, refl, sym, ap, subst, ◌∙◌, arith, length-set}
 use Rattle.std.proofs.lemmas.List.{map-set, map_push, length-map, length_push, get_or-map, get_or-set_same, get_or-set_other}
 use Rattle.std.proofs.lemmas.List.Sums.{sum_by-set, sum_by_push}
-use Rattle.std.proofs.lemmas.Option.{slice_get_within, slice_get-get_or, get_or_from_slice_get}
-use Rattle.triple_arena.specs.Slot.{Slot, free, used, entry_of, link_of, value_of, with_slot_value, with_slot_generation}
+use Rattle.std.proofs.lemmas.Option.{slice_get_within, get_or_from_slice_get}
+use Rattle.triple_arena.specs.FreeLinks.{Ends, first_or, Stands, with_prev_at}
+use Rattle.triple_arena.specs.Slot.{Slot, free, used, entry_of, links_of, value_of, with_slot_value, with_slot_generation}
 use Rattle.std.proofs.Common.{IsSome, Bor, option_copied, true, false, true≢false, eqb}
 use Rattle.std.specs.Option.{option_map}
 use Rattle.std.proofs.lemmas.Bool.{eq-eqb, ne_eqb}
+use Rattle.std.proofs.lemmas.Bool.Decides.{eqb_tells}
 use Rattle.std.proofs.Math.Seq.{take-append_seam}
 use Rattle.triple_arena_stack.specs.Room.{Room, capacity}
 use Rattle.triple_arena.specs.Content.{Content, entry_at, get, live_count, arena_capacity, inserted, vacated, with_value, with_generation, Lacks, AllVacant, IsWellFormed}
 use Rattle.triple_arena.specs.Entries.{value_if}
 use Rattle.triple_arena.specs.ContentLaws.{entry_at_slot}
-use Rattle.triple_arena.specs.Layout.{links, content_of, IsChain, IsSound}
+use Rattle.triple_arena.specs.Layout.{links, content_of, links_at, IsFreeList, IsSound}
+use Rattle.triple_arena.proofs.FreeLinkLemmas.{first_differs, first_links, once, none_off, prev_same, stands_all, put_first, first_gone}
 
 -- an option that is there
 pub the_some : {X : Type 0} (o : Option X) → IsSome o → (x : X) × (o ≡ Some x)
@@ -34,85 +37,104 @@ module _ {T : Type 0} where
   slot_absent (x ∷ es) zero e = absurd (cc)
   slot_absent (x ∷ es) (suc k) e = slot_absent es k e
 
+  -- a free slot at an index, with these links
+  pub record FreeAt (es : List (Slot T)) (i : ℕ) (v : Ends) : Type 0 where
+    pub positive : 0 < i
+    pub found : slice_get es (i - 1) ≡ Some (free v.0 v.1)
+    pub within : i ≤ length es
+
+  free_slot : (es : List (Slot T)) (k : ℕ) (v : Ends) → get_or (map links_of es) k None ≡ Some v → slice_get es k ≡ Some (free v.0 v.1)
+  free_slot [] k v found = absurd (cc)
+  free_slot (free p n ∷ es) zero v found =
+      let pair : (p, n) ≡ v = cc in
+      ap (λ (w : Ends). Some (free w.0 w.1)) pair
+  free_slot (used g t ∷ es) zero v found = absurd (cc)
+  free_slot (x ∷ es) (suc k) v found = free_slot es k v found
+
+  pub free_at : (es : List (Slot T)) (i : ℕ) (v : Ends) → links_at es i ≡ Some v → FreeAt es i v
+  free_at es zero v found = absurd (cc)
+  free_at es (suc k) v found =
+      let back : suc k - 1 ≡ k = omega arith in
+      let there = ap (slice_get es) back ∙ free_slot es k v found in
+      record { positive = omega arith; found = there; within = omega (arith, slice_get_within es (suc k - 1) _ there) }
+
+  -- the links at an index are those of its slot
+  pub links_of_slot : (es : List (Slot T)) (i : ℕ) (x : Slot T) → 0 < i → slice_get es (i - 1) ≡ Some x → links_at es i ≡ links_of x
+  links_of_slot es zero x positive found = absurd (omega arith)
+  links_of_slot es (suc k) x positive found =
+      let back : k ≡ suc k - 1 = omega arith in
+      let there : slice_get es k ≡ Some x = ap (slice_get es) back ∙ found in
+      get_or-map links_of es k x None (slice_get_within es k x there) ∙ ap links_of (get_or_from_slice_get es k x x there)
+
+  -- the links after a write of a slot
+  pub links-set : (es : List (Slot T)) (i : ℕ) (x : Slot T) → 0 < i → i - 1 < length es → (j : ℕ)
+      → links_at (set es (i - 1) x) j ≡ (if j == i then links_of x else links_at es j)
+  links-set es i x positive within zero = rw (ne_eqb 0 i (λ e. omega (arith, positive, e))) refl
+  links-set es i x positive within (suc k) =
+      let sizes = length-map es links_of in
+      rw (map-set links_of es (i - 1) x) (elim (eqb_tells (suc k) i) [
+        | inl same ↦
+            let at : k ≡ i - 1 = omega (arith, same.1) in
+            rw (same.0, at) (get_or-set_same (map links_of es) (i - 1) (links_of x) None (omega (arith, within, sizes)))
+        | inr other ↦
+            let differs : k ≢ i - 1 = λ e. other.1 (omega (arith, e, positive)) in
+            rw other.0 (get_or-set_other (map links_of es) (i - 1) k (links_of x) None differs)
+      ])
+
+  -- a slot behind the slots adds its own links
+  links_front : (es : List (Slot T)) (x : Slot T) (k : ℕ) → k < length es → get_or (map links_of (es ++ x ∷ [])) k None ≡ get_or (map links_of es) k None
+  links_front [] x k below = absurd (omega (arith, below))
+  links_front (e ∷ es) x zero below = refl
+  links_front (e ∷ es) x (suc k) below = links_front es x k (omega (arith, below))
+
+  pub links-push : (es : List (Slot T)) (x : Slot T) (j : ℕ) → j ≤ length es → links_at (es ++ x ∷ []) j ≡ links_at es j
+  links-push es x zero below = refl
+  links-push es x (suc k) below = links_front es x k (omega (arith, below))
+
+  links_used : (es : List (Slot T)) (g : ℕ) (t : T) (k : ℕ) → get_or (map links_of (es ++ used g t ∷ [])) k None ≡ get_or (map links_of es) k None
+  links_used [] g t zero = refl
+  links_used [] g t (suc k) = refl
+  links_used (e ∷ es) g t zero = refl
+  links_used (e ∷ es) g t (suc k) = links_used es g t k
+
+  -- and none if it is live
+  pub links-push_used : (es : List (Slot T)) (g : ℕ) (t : T) (j : ℕ) → links_at (es ++ used g t ∷ []) j ≡ links_at es j
+  links-push_used es g t zero = refl
+  links-push_used es g t (suc k) = links_used es g t k
+
+  -- no slot is free
+  pub none_free : (es : List (Slot T)) → IsFreeList es None []
+  none_free es = record { first = refl; stands = tt }
+
+  chain_links : (es : List (Slot T)) (n : ℕ) (b : Option ℕ) (l : List ℕ) → length l ≤ n → Stands (links_at es) b l None
+      → links es n (first_or l None) ≡ l
+  chain_links es zero b [] h s = refl
+  chain_links es zero b (i ∷ l) h s = absurd (omega (arith, h))
+  chain_links es (suc n) b [] h s = refl
+  chain_links es (suc n) b (i ∷ l) h s =
+      let f = free_at es i (b, first_or l None) s.0 in
+      let read : get_or es (i - 1) (free None None) ≡ free b (first_or l None) = get_or_from_slice_get es (i - 1) _ (free None None) f.found in
+      rw read (ap (λ xs. i ∷ xs) (chain_links es n (Some i) l (omega (arith, h)) s.1))
+
   -- the links from a head are the list of free slots
-  pub chain_links : (es : List (Slot T)) (n : ℕ) (head : Option ℕ) (l : List ℕ) → length l ≤ n → IsChain es head l → links es n head ≡ l
-  chain_links es zero head [] h c = refl
-  chain_links es zero head (i ∷ l) h c = absurd (omega arith)
-  chain_links es (suc n) head [] h c = rw c
-  chain_links es (suc n) head (i ∷ l) h c =
-      let read : get_or es (i - 1) (free None) ≡ free c.2.0 = get_or_from_slice_get es (i - 1) _ (free None) c.2.1 in
-      rw (c.0, read) (ap (λ xs. i ∷ xs) (chain_links es n c.2.0 l (omega arith) c.2.2))
+  pub list_links : (es : List (Slot T)) (n : ℕ) (head : Option ℕ) (l : List ℕ) → length l ≤ n → IsFreeList es head l → links es n head ≡ l
+  list_links es n head l fits f = ap (links es n) f.first ∙ chain_links es n None l fits f.stands
 
-  -- a head has one list at most
-  chain_unique : (es : List (Slot T)) (head : Option ℕ) (l m : List ℕ) → IsChain es head l → IsChain es head m → l ≡ m
-  chain_unique es head [] [] c d = refl
-  chain_unique es head [] (j ∷ m) c d = absurd (let e = d.0 in cc)
-  chain_unique es head (i ∷ l) [] c d = absurd (let e = c.0 in cc)
-  chain_unique es head (i ∷ l) (j ∷ m) c d =
-      let first = c.0 in
-      let second = d.0 in
-      let same : i ≡ j = cc in
-      let one = c.2.1 in
-      let two = d.2.1 in
-      let next : d.2.0 ≡ c.2.0 = cc in
-      let rest : l ≡ m = chain_unique es c.2.0 l m c.2.2 (subst (λ h. IsChain es h m) next d.2.2) in
-      cc
+  -- a free slot is one of the slots
+  pub free_within : (es : List (Slot T)) (i : ℕ) → IsSome (links_at es i) → i ≤ length es
+  free_within es i some = let o = the_some (links_at es i) some in (free_at es i o.0 o.1).within
 
-  -- the first of a list comes once
-  pub off_shorter : (es : List (Slot T)) (i : ℕ) (m : List ℕ) (head : Option ℕ) (l : List ℕ) → IsChain es (Some i) m → length l < length m
-      → IsChain es head l → Lacks l i
-  off_shorter es i m head [] first h c = tt
-  off_shorter es i m head (j ∷ l) first h c =
-      let differs : j ≢ i =
-      λ same. let again : IsChain es (Some i) (j ∷ l) = subst (λ x. IsChain es x (j ∷ l)) (c.0 ∙ ap Some same) c in
-      omega (arith, ap length (chain_unique es (Some i) (j ∷ l) m again first)) in
-      (differs, off_shorter es i m c.2.0 l first (omega arith) c.2.2)
+  pub slot_free : (es : List (Slot T)) (i : ℕ) (x : Slot T) → 0 < i → Some x ≡ slice_get es (i - 1) → IsSome (links_at es i) → IsSome (links_of x)
+  slot_free es i x positive found some = subst IsSome (links_of_slot es i x positive (sym found)) some
 
-  -- a live slot is on no list
-  pub used_is_off : (es : List (Slot T)) (i g : ℕ) (t : T) → slice_get es (i - 1) ≡ Some (used g t) → (head : Option ℕ) (l : List ℕ)
-      → IsChain es head l → Lacks l i
-  used_is_off es i g t found head [] c = tt
-  used_is_off es i g t found head (j ∷ l) c =
-      let differs : j ≢ i =
-      λ same. let listed : slice_get es (i - 1) ≡ Some (free c.2.0) = subst (λ x. slice_get es (x - 1) ≡ Some (free c.2.0)) same c.2.1 in
-      cc in
-      (differs, used_is_off es i g t found c.2.0 l c.2.2)
-
-  get_of_set : (es : List (Slot T)) (k i : ℕ) (x y : Slot T) → k ≢ i → slice_get es k ≡ Some x → slice_get (set es i y) k ≡ Some x
-  get_of_set es k i x y differs found =
-      slice_get-get_or (set es i y) k y (omega (arith, length-set es i y, slice_get_within es k x found))
-      ∙ ap Some (get_or-set_other es i k y y differs ∙ get_or_from_slice_get es k x y found)
-
-  -- a write at an index off the list keeps the list
-  pub chain_set : (es : List (Slot T)) (i : ℕ) (x : Slot T) (head : Option ℕ) (l : List ℕ) → 0 < i → Lacks l i → IsChain es head l
-      → IsChain (set es (i - 1) x) head l
-  chain_set es i x head [] h off c = c
-  chain_set es i x head (j ∷ l) h off c =
-      let positive = c.1 in
-      let differs : j - 1 ≢ i - 1 = λ same. off.0 (omega arith) in
-      (c.0, c.1, (c.2.0, get_of_set es (j - 1) (i - 1) _ x differs c.2.1, chain_set es i x c.2.0 l h off.1 c.2.2))
-
-  get_of_push : (es : List (Slot T)) (k : ℕ) (x y : Slot T) → slice_get es k ≡ Some x → slice_get (es ++ y ∷ []) k ≡ Some x
-  get_of_push [] k x y found = absurd (cc)
-  get_of_push (e ∷ es) zero x y found = found
-  get_of_push (e ∷ es) (suc k) x y found = get_of_push es k x y found
-
-  -- a push keeps the list
-  pub chain_push : (es : List (Slot T)) (y : Slot T) (head : Option ℕ) (l : List ℕ) → IsChain es head l → IsChain (es ++ y ∷ []) head l
-  chain_push es y head [] c = c
-  chain_push es y head (j ∷ l) c = (c.0, c.1, (c.2.0, get_of_push es (j - 1) _ y c.2.1, chain_push es y c.2.0 l c.2.2))
-
-  get_of_pop : (rest : List (Slot T)) (k g : ℕ) (t : T) (next : Option ℕ) → slice_get (rest ++ used g t ∷ []) k ≡ Some (free next)
-      → slice_get rest k ≡ Some (free next)
-  get_of_pop [] zero g t next found = absurd (cc)
-  get_of_pop [] (suc k) g t next found = absurd (cc)
-  get_of_pop (e ∷ rest) zero g t next found = found
-  get_of_pop (e ∷ rest) (suc k) g t next found = get_of_pop rest k g t next found
-
-  -- a pop of a live slot keeps the list
-  pub chain_pop : (rest : List (Slot T)) (g : ℕ) (t : T) (head : Option ℕ) (l : List ℕ) → IsChain (rest ++ used g t ∷ []) head l → IsChain rest head l
-  chain_pop rest g t head [] c = c
-  chain_pop rest g t head (j ∷ l) c = (c.0, c.1, (c.2.0, get_of_pop rest (j - 1) g t _ c.2.1, chain_pop rest g t c.2.0 l c.2.2))
+  -- the first of a list is free after a write elsewhere
+  pub first_free : (es : List (Slot T)) (i : ℕ) (new : Slot T) (b : Option ℕ) (l : List ℕ) → 0 < i → i - 1 < length es → Stands (links_at es) b l None
+      → Lacks l i → (j : ℕ) → first_or l None ≡ Some j → IsSome (links_at (set es (i - 1) new) j)
+  first_free es i new b l positive within s off j is =
+      let w = first_links (links_at es) b l s j is in
+      let differs : j ≢ i = λ same. first_differs l i off (is ∙ ap Some same) in
+      let stays : links_at (set es (i - 1) new) j ≡ links_at es j = links-set es i new positive within j ∙ rw (ne_eqb j i differs) refl in
+      ap is_some (stays ∙ w.1)
 
   -- the slots are sound, and the free indexes are these
   pub record Fits (es : List (Slot T)) (len : ℕ) (head : Option ℕ) (l : List ℕ) (room : Room) : Type 0 where
@@ -120,11 +142,11 @@ module _ {T : Type 0} where
     pub free_is : links es (length es) head ≡ l
 
   pub sound_of : (es : List (Slot T)) (len : ℕ) (head : Option ℕ) (l : List ℕ) (room : Room) → len ≡ count_by is_some (map entry_of es)
-      → len + length l ≡ length es → IsChain es head l → length es ≤ capacity room → Fits es len head l room
-  sound_of es len head l room counted total chain fits =
-      let e = chain_links es (length es) head l (omega arith) chain in
+      → len + length l ≡ length es → IsFreeList es head l → length es ≤ capacity room → Fits es len head l room
+  sound_of es len head l room counted total listed fits =
+      let e = list_links es (length es) head l (omega arith) listed in
       record {
-        sound = record { counted = counted; total = rw e total; chain = rw e chain; fits = fits };
+        sound = record { counted = counted; total = rw e total; listed = rw e listed; fits = fits };
         free_is = e;
       }
 
@@ -142,20 +164,25 @@ module _ {T : Type 0} where
   count_push : (es : List (Slot T)) (g : ℕ) (t : T) → count_by is_some (map entry_of (es ++ used g t ∷ [])) ≡ count_by is_some (map entry_of es) + 1
   count_push es g t = rw (map_push entry_of es (used g t)) (sum_by_push (λ o. cond (is_some o) 1 0) (map entry_of es) (Some (g, t)))
 
+  -- the same slots in another room
+  pub resized : {es es' : List (Slot T)} {len : ℕ} {head : Option ℕ} {room room' : Room} → IsSound es len head room → es' ≡ es → length es ≤ capacity room'
+      → IsSound es' len head room'
+  resized s same fits = rw same record { counted = s.counted; total = s.total; listed = s.listed; fits = fits }
+
   -- with no head every slot is live
   pub full_at_none : (es : List (Slot T)) (len : ℕ) (room : Room) → IsSound es len None room → len ≡ length es
-  full_at_none es len room s = by_list (links es (length es) None) s.total s.chain
+  full_at_none es len room s = by_list (links es (length es) None) s.total s.listed.first
     where
-      by_list : (l : List ℕ) → len + length l ≡ length es → IsChain es None l → len ≡ length es
-      by_list [] total c = omega arith
-      by_list (i ∷ l) total c = absurd (let e = c.0 in cc)
+      by_list : (l : List ℕ) → len + length l ≡ length es → None ≡ first_or l None → len ≡ length es
+      by_list [] total none = omega arith
+      by_list (i ∷ l) total none = absurd (cc)
 
   pub push_fits : (es : List (Slot T)) (len g : ℕ) (t : T) (room : Room) → length es < capacity room → IsSound es len None room
       → Fits (es ++ used g t ∷ []) (len + 1) None [] room
   push_fits es len g t room below s =
       let full = full_at_none es len room s in
       let longer = length_push es (used g t) in
-      sound_of (es ++ used g t ∷ []) (len + 1) None [] room (omega (arith, count_push es g t, s.counted)) (omega (arith, longer)) refl (omega
+      sound_of (es ++ used g t ∷ []) (len + 1) None [] room (omega (arith, count_push es g t, s.counted)) (omega (arith, longer)) (none_free _) (omega
       (arith, longer, below))
 
   -- with no head there is room behind the slots, where there is room at all
@@ -171,67 +198,107 @@ module _ {T : Type 0} where
   -- a head is the first of the free indexes, and its slot is free
   pub record Heads (es : List (Slot T)) (len i : ℕ) : Type 0 where
     pub rest : List ℕ
-    pub next : Option ℕ
-    pub positive : 0 < i
-    pub found : slice_get es (i - 1) ≡ Some (free next)
+    pub slot : FreeAt es i (None, first_or rest None)
     pub free_is : links es (length es) (Some i) ≡ i ∷ rest
     pub total : len + (length rest + 1) ≡ length es
-    pub chain : IsChain es next rest
+    pub stands : Stands (links_at es) None (i ∷ rest) None
 
   pub head_of : (es : List (Slot T)) (len i : ℕ) (room : Room) → IsSound es len (Some i) room → Heads es len i
-  head_of es len i room s = by_list (links es (length es) (Some i)) refl s.total s.chain
+  head_of es len i room s = by_list (links es (length es) (Some i)) refl s.total s.listed
     where
-      by_list : (l : List ℕ) → links es (length es) (Some i) ≡ l → len + length l ≡ length es → IsChain es (Some i) l → Heads es len i
-      by_list [] e total c = absurd (cc)
-      by_list (j ∷ l) e total c =
-          let first = c.0 in
+      by_list : (l : List ℕ) → links es (length es) (Some i) ≡ l → len + length l ≡ length es → IsFreeList es (Some i) l → Heads es len i
+      by_list [] e total f = absurd (let none = f.first in cc)
+      by_list (j ∷ l) e total f =
+          let first = f.first in
           let same : j ≡ i = cc in
+          let stands = subst (λ k. Stands (links_at es) None (k ∷ l) None) same f.stands in
           record {
             rest = l;
-            next = c.2.0;
-            positive = subst (λ x. 0 < x) same c.1;
-            found = subst (λ x. slice_get es (x - 1) ≡ Some (free c.2.0)) same c.2.1;
+            slot = free_at es i (None, first_or l None) stands.0;
             free_is = e ∙ ap (λ x. x ∷ l) same;
             total = omega arith;
-            chain = c.2.2;
+            stands = stands;
           }
 
   -- the head is one of the slots
   pub head_within : {es : List (Slot T)} {len i : ℕ} {head : Option ℕ} {room : Room} → head ≡ Some i → IsSound es len head room → i ≤ length es
-  head_within {es} {len} {i} {room} is s =
-      let h = head_of es len i room (rw is at s) in
-      let positive = h.positive in
-      omega (arith, slice_get_within es (i - 1) _ h.found)
+  head_within {es} {len} {i} {room} is s = (head_of es len i room (rw is at s)).slot.within
 
-  pub fill_fits : (es : List (Slot T)) (len i g : ℕ) (t : T) (room : Room) → IsSound es len (Some i) room → (h : Heads es len i)
-      → Fits (set es (i - 1) (used g t)) (len + 1) h.next h.rest room
-  fill_fits es len i g t room s h =
-      let first : IsChain es (Some i) (i ∷ h.rest) = (refl, h.positive, (h.next, h.found, h.chain)) in
-      let off : Lacks h.rest i = off_shorter es i (i ∷ h.rest) h.next h.rest first (omega arith) h.chain in
-      let sizes = length-set es (i - 1) (used g t) in
-      sound_of (set es (i - 1) (used g t)) (len + 1) h.next h.rest room
-      (omega (arith, count-set es (i - 1) (free h.next) (used g t) h.found, s.counted))
-      (omega (arith, sizes, h.total))
-      (chain_set es i (used g t) h.next h.rest h.positive off h.chain)
-      (omega (arith, sizes, s.fits))
+  -- its slot is free, and what follows it is one of the slots
+  pub head_links : {es : List (Slot T)} {len i : ℕ} {head : Option ℕ} {room : Room} {old : Slot T} → head ≡ Some i → IsSound es len head room
+      → slice_get es (i - 1) ≡ Some old → IsSome (links_of old)
+  head_links {es} {len} {i} {room} {old} is s found =
+      let h = (head_of es len i room (rw is at s)).slot.found in
+      let rest = (head_of es len i room (rw is at s)).rest in
+      let same : old ≡ free None (first_or rest None) = cc in
+      rw same refl
+
+  -- what follows it is free after a write of the first free slot
+  pub next_free : {es es' : List (Slot T)} {len i : ℕ} {head next : Option ℕ} {room : Room} {old : Slot T} (new : Slot T) → head ≡ Some i → IsSound es len head room
+      → slice_get es (i - 1) ≡ Some old → option_map (λ (l : Ends). l.1) (links_of old) ≡ Some next → es' ≡ set es (i - 1) new → (j : ℕ)
+      → next ≡ Some j → IsSome (links_at es' j)
+  next_free {es} {es'} {len} {i} {next} {room} {old} new is s found given written j at =
+      let h = head_of es len i room (rw is at s) in
+      let there = h.slot.found in
+      let same : old ≡ free None (first_or h.rest None) = cc in
+      let both : Some (first_or h.rest None) ≡ Some next = rw same at given in
+      let next_is : next ≡ first_or h.rest None = cc in
+      let positive = h.slot.positive in
+      let within = h.slot.within in
+      let off = once (links_at es) None i h.rest h.stands in
+      subst (λ xs. IsSome (links_at xs j)) (sym written)
+      (first_free es i new (Some i) h.rest positive (omega (arith, positive, within)) h.stands.1 off j (sym next_is ∙ at))
+
+  -- where a slot is free there is room
+  pub free_is_room : {es : List (Slot T)} {len i : ℕ} {head : Option ℕ} {room : Room} {g : ℕ} {c : Content T} → head ≡ Some i → IsSound es len head room
+      → content_of es room g head ≡ c → live_count c < arena_capacity c
+  free_is_room {es} {len} {i} {room = room} is s seen =
+      let h = head_of es len i room (rw is at s) in
+      let total = h.total in
+      let fits = s.fits in
+      let counted = s.counted in
+      let below : count_by is_some (map entry_of es) < capacity room = omega (arith, total, fits, counted) in
+      rw (← seen) below
 
   -- the slots are sound, and this is what they are seen as
   pub record Becomes (es : List (Slot T)) (len : ℕ) (head : Option ℕ) (room : Room) (g : ℕ) (c : Content T) : Type 0 where
     pub sound : IsSound es len head room
     pub content : content_of es room g head ≡ c
 
-  -- a live slot in the place of the first free one
-  pub filled : {es es' : List (Slot T)} {len i : ℕ} {head head' : Option ℕ} {room room' : Room} {g : ℕ} {t : T} {old new : Slot T} {c : Content T}
-      → head ≡ Some i → IsSound es len head room → slice_get es (i - 1) ≡ Some old → head' ≡ link_of old → es' ≡ set es (i - 1) new → new ≡ used g t
-      → room' ≡ room → content_of es room g head ≡ c → Becomes es' (len + 1) head' room' g (inserted c t)
-  filled {es} {len} {i} {room} {g} {t} {old} is sound found next written filling kept seen =
+  -- a live slot in the place of the first free one, and the next free one is the first
+  pub filled : {es es1 es' : List (Slot T)} {len i : ℕ} {head next head' : Option ℕ} {room room' : Room} {g : ℕ} {t : T} {old new : Slot T} {c : Content T}
+      → head ≡ Some i → IsSound es len head room → slice_get es (i - 1) ≡ Some old → option_map (λ (l : Ends). l.1) (links_of old) ≡ Some next
+      → es1 ≡ set es (i - 1) new → new ≡ used g t → ((j : ℕ) → links_at es' j ≡ with_prev_at (links_at es1) next None j)
+      → map entry_of es' ≡ map entry_of es1 → head' ≡ next → room' ≡ room → content_of es room g head ≡ c → Becomes es' (len + 1) head' room' g (inserted c t)
+  filled {es} {es1} {es'} {len} {i} {next = next} {room = room} {g = g} {t = t} {old = old} is sound found given written filling linked entries first kept seen =
       let s = rw is at sound in
       let h = head_of es len i room s in
-      let listed = h.found in
-      let same : old ≡ free h.next = cc in
-      let fits = fill_fits es len i g t room s h in
-      rw (written, filling, next, same, kept, ← seen, is)
-      record { sound = fits.sound; content = rw (h.free_is, fits.free_is, map-set entry_of es (i - 1) (used g t)) }
+      let there = h.slot.found in
+      let positive = h.slot.positive in
+      let same : old ≡ free None (first_or h.rest None) = cc in
+      let both : Some (first_or h.rest None) ≡ Some next = rw same at given in
+      let next_is : next ≡ first_or h.rest None = cc in
+      let put : es1 ≡ set es (i - 1) (used g t) = written ∙ ap (set es (i - 1)) filling in
+      let within = h.slot.within in
+      let others : (k : ℕ) → k ≢ i → links_at es' k ≡ with_prev_at (links_at es) (first_or h.rest None) None k =
+      λ k other. linked k ∙ ap (λ o. with_prev_at (links_at es1) o None k) next_is
+      ∙ prev_same (links_at es1) (links_at es) (first_or h.rest None) None k
+      (ap (λ xs. links_at xs k) put ∙ links-set es i (used g t) positive (omega (arith, positive, within)) k ∙ rw (ne_eqb k i other) refl) in
+      let stands = first_gone (links_at es) (links_at es') i h.rest h.stands others in
+      let sizes = length-set es (i - 1) (used g t) in
+      let there1 = length-map es1 entry_of in
+      let there2 = length-map es' entry_of in
+      let long = ap length entries in
+      let size1 = ap length put in
+      let counted = count-set es (i - 1) (free None (first_or h.rest None)) (used g t) there in
+      let live : count_by is_some (map entry_of es') ≡ count_by is_some (map entry_of (set es (i - 1) (used g t))) =
+      ap (count_by is_some) entries ∙ ap (λ xs. count_by is_some (map entry_of xs)) put in
+      let left = sound_of es' (len + 1) next h.rest room (omega (arith, counted, live, s.counted)) (omega
+      (arith, sizes, there1, there2, long, size1, h.total)) (record { first = next_is; stands = stands }) (omega
+      (arith, sizes, there1, there2, long, size1, s.fits)) in
+      let slots : map entry_of es' ≡ set (map entry_of es) (i - 1) (Some (g, t)) = entries ∙ ap (map entry_of) put ∙ map-set entry_of es (i - 1) (used g t) in
+      rw (first, kept, ← seen, is)
+      record { sound = left.sound; content = rw (h.free_is, left.free_is, slots) refl }
 
   -- a live slot behind full slots
   pub pushed : {es es' : List (Slot T)} {len : ℕ} {head : Option ℕ} {room room' : Room} {g : ℕ} {t : T} {new : Slot T} {c : Content T} → head ≡ None
@@ -246,13 +313,13 @@ module _ {T : Type 0} where
       rw (written, filling, kept, ← seen, is)
       record {
         sound = fits.sound;
-        content = rw (chain_links es (length es) None [] (omega arith) refl, fits.free_is, map_push entry_of es (used g t));
+        content = rw (list_links es (length es) None [] (omega arith) (none_free es), fits.free_is, map_push entry_of es (used g t));
       }
 
   -- a live index has a live slot
   pub live_slot : (es : List (Slot T)) (k g : ℕ) (t : T) → get_or (map entry_of es) k None ≡ Some (g, t) → slice_get es k ≡ Some (used g t)
   live_slot [] k g t found = absurd (cc)
-  live_slot (free next ∷ es) zero g t found = absurd (cc)
+  live_slot (free prev next ∷ es) zero g t found = absurd (cc)
   live_slot (used h u ∷ es) zero g t found =
       let pair : (h, u) ≡ (g, t) = cc in
       ap (λ (x : ℕ × T). Some (used x.0 x.1)) pair
@@ -320,8 +387,10 @@ module _ {T : Type 0} where
       let whole : es ≡ es' ++ used e.0 e.1 ∷ [] = rw (← same) split in
       let counted = sound.counted ∙ ap (λ xs. count_by is_some (map entry_of xs)) whole ∙ count_push es' e.0 e.1 in
       let l = links es (length es) head in
-      let chain : IsChain es' head l = chain_pop es' e.0 e.1 head l (subst (λ xs. IsChain xs head l) whole sound.chain) in
-      let left = sound_of es' (len - 1) head l room (omega arith) (omega arith) chain (omega arith) in
+      let linked : (k : ℕ) → links_at es' k ≡ links_at es k = λ k. sym (ap (λ xs. links_at xs k) whole ∙ links-push_used es' e.0 e.1 k) in
+      let listed : IsFreeList es' head l =
+      record { first = sound.listed.first; stands = stands_all (links_at es) (links_at es') linked None None l sound.listed.stands } in
+      let left = sound_of es' (len - 1) head l room (omega arith) (omega arith) listed (omega arith) in
       let test : eqb i (length (map entry_of es)) ≡ true = eq-eqb _ _ (omega (arith, length-map es entry_of)) in
       let front : take (i - 1) (map entry_of es) ≡ map entry_of es' =
       rw (whole, at, map_push entry_of es' (used e.0 e.1), ← length-map es' entry_of) (take-append_seam (map entry_of es') (Some (e.0, e.1) ∷ [])) in
@@ -332,11 +401,23 @@ module _ {T : Type 0} where
         entry_is = same;
       }
 
-  -- a slot becomes the next one to be taken
-  pub freed : {es es' : List (Slot T)} {len i : ℕ} {head head' : Option ℕ} {room room' : Room} {g : ℕ} {old new : Slot T} {e : ℕ × T} {c : Content T}
+  -- the head is free after a write of a live slot
+  pub head_free : {es es' : List (Slot T)} {len : ℕ} (i : ℕ) {head : Option ℕ} {room : Room} {g : ℕ} {e : ℕ × T} {c : Content T} (new : Slot T) → IsSound es len head room
+      → content_of es room g head ≡ c → entry_at c i ≡ Some e → es' ≡ set es (i - 1) new → (j : ℕ) → head ≡ Some j → IsSome (links_at es' j)
+  head_free {es} {es'} i {head = head} {e = e} new sound seen is written j at =
+      let f = finds head seen is in
+      let l = links es (length es) head in
+      let within = slice_get_within es (i - 1) _ f.found in
+      let off = none_off (links_at es) None l i sound.listed.stands (links_of_slot es i (used e.0 e.1) f.positive f.found) in
+      subst (λ xs. IsSome (links_at xs j)) (sym written)
+      (first_free es i new None l f.positive within sound.listed.stands off j (sym sound.listed.first ∙ at))
+
+  -- a slot becomes the next one to be taken, and the first free one stands behind it
+  pub freed : {es es1 es' : List (Slot T)} {len i : ℕ} {head head' : Option ℕ} {room room' : Room} {g : ℕ} {old new : Slot T} {e : ℕ × T} {c : Content T}
       → IsSound es len head room → (i ≡ length es → ⊥) → content_of es room g head ≡ c → entry_at c i ≡ Some e → slice_get es (i - 1) ≡ Some old
-      → es' ≡ set es (i - 1) new → new ≡ free head → head' ≡ Some i → room' ≡ room → Leaves es' (len - 1) head' room' g (vacated c i) old e
-  freed {es} {len} {i} {head} {room} {old} {e} sound inner seen is was written emptied first kept =
+      → es1 ≡ set es (i - 1) new → new ≡ free None head → head' ≡ Some i → ((j : ℕ) → links_at es' j ≡ with_prev_at (links_at es1) head head' j)
+      → map entry_of es' ≡ map entry_of es1 → room' ≡ room → Leaves es' (len - 1) head' room' g (vacated c i) old e
+  freed {es} {es1} {es'} {len} {i} {head} {head'} {room} {old = old} {e = e} sound inner seen is was written emptied first linked entries kept =
       let f = finds head seen is in
       let found = f.found in
       let positive = f.positive in
@@ -345,24 +426,43 @@ module _ {T : Type 0} where
       let total = sound.total in
       let fits = sound.fits in
       let within = slice_get_within es (i - 1) _ found in
-      let counted = count-set es (i - 1) (used e.0 e.1) (free head) found in
+      let put : es1 ≡ set es (i - 1) (free None head) = written ∙ ap (set es (i - 1)) emptied in
+      let counted = count-set es (i - 1) (used e.0 e.1) (free None head) found in
       let before = sound.counted in
-      let sizes = length-set es (i - 1) (free head) in
-      let off = used_is_off es i e.0 e.1 found head l sound.chain in
-      let linked : slice_get (set es (i - 1) (free head)) (i - 1) ≡ Some (free head) =
-      slice_get-get_or _ (i - 1) (free head) (omega arith) ∙ ap Some (get_or-set_same es (i - 1) (free head) (free head) within) in
-      let chain : IsChain (set es (i - 1) (free head)) (Some i) (i ∷ l) = (
-        refl,
-        positive,
-        (head, linked, chain_set es i (free head) head l positive off sound.chain),
-      ) in
-      let left = sound_of (set es (i - 1) (free head)) (len - 1) (Some i) (i ∷ l) room (omega arith) (omega arith) chain (omega arith) in
-      let test : eqb i (length (map entry_of es)) ≡ false = ne_eqb _ _ (λ at. inner (at ∙ length-map es entry_of)) in
-      rw (written, emptied, first, kept)
+      let sizes = length-set es (i - 1) (free None head) in
+      let there1 = length-map es1 entry_of in
+      let there2 = length-map es' entry_of in
+      let long = ap length entries in
+      let size1 = ap length put in
+      let live : count_by is_some (map entry_of es') ≡ count_by is_some (map entry_of (set es (i - 1) (free None head))) =
+      ap (count_by is_some) entries ∙ ap (λ xs. count_by is_some (map entry_of xs)) put in
+      let at : (k : ℕ) → links_at es1 k ≡ (if k == i then Some (None, head) else links_at es k) =
+      λ k. ap (λ xs. links_at xs k) put ∙ links-set es i (free None head) positive within k in
+      let off = none_off (links_at es) None l i sound.listed.stands (links_of_slot es i (used e.0 e.1) positive found) in
+      let stands = put_first (links_at es) (links_at es') (links_at es1) head i l sound.listed.stands sound.listed.first off
+      (at i ∙ rw (eq-eqb i i refl) refl) (λ k other. at k ∙ rw (ne_eqb k i other) refl)
+      (λ k. linked k ∙ ap (λ o. with_prev_at (links_at es1) head o k) first) in
+      let left = sound_of es' (len - 1) (Some i) (i ∷ l) room (omega arith) (omega arith) (record { first = refl; stands = stands }) (omega arith) in
+      let test : eqb i (length (map entry_of es)) ≡ false = ne_eqb _ _ (λ last. inner (last ∙ length-map es entry_of)) in
+      let slots : map entry_of es' ≡ set (map entry_of es) (i - 1) None = entries ∙ ap (map entry_of) put ∙ map-set entry_of es (i - 1) (free None head) in
+      rw (first, kept)
       record {
         sound = left.sound;
-        content = rw (← seen, test, left.free_is, map-set entry_of es (i - 1) (free head));
+        content = rw (← seen, test, left.free_is, slots) refl;
         entry_is = same;
+      }
+
+  -- a live slot that stays live keeps the list
+  pub list_set : (es : List (Slot T)) (i g h : ℕ) (t w : T) (head : Option ℕ) (l : List ℕ) → 0 < i → slice_get es (i - 1) ≡ Some (used g t)
+      → IsFreeList es head l → IsFreeList (set es (i - 1) (used h w)) head l
+  list_set es i g h t w head l positive found f =
+      record {
+        first = f.first;
+        stands = stands_all (links_at es) _ (λ k. links-set es i (used h w) positive (slice_get_within es (i - 1) _ found) k
+            ∙ elim (eqb_tells k i) [
+              | inl same ↦ rw same.0 (sym (ap (links_at es) same.1 ∙ links_of_slot es i (used g t) positive found))
+              | inr other ↦ rw other.0 refl
+            ]) None None l f.stands;
       }
 
   -- a live slot has another value
@@ -380,9 +480,8 @@ module _ {T : Type 0} where
       let counted = count-set es (i - 1) (used e.0 e.1) (used e.0 w) found in
       let before = sound.counted in
       let sizes = length-set es (i - 1) (used e.0 w) in
-      let off = used_is_off es i e.0 e.1 found head l sound.chain in
-      let left = sound_of (set es (i - 1) (used e.0 w)) len head l room (omega arith) (omega arith) (chain_set es i (used e.0 w) head l positive off
-      sound.chain) (omega arith) in
+      let left = sound_of (set es (i - 1) (used e.0 w)) len head l room (omega arith) (omega arith)
+      (list_set es i e.0 e.0 e.1 w head l positive found sound.listed) (omega arith) in
       rw (written, kept, same)
       record {
         sound = left.sound;
@@ -405,9 +504,8 @@ module _ {T : Type 0} where
       let counted = count-set es (i - 1) (used e.0 e.1) (used h e.1) found in
       let before = sound.counted in
       let sizes = length-set es (i - 1) (used h e.1) in
-      let off = used_is_off es i e.0 e.1 found head l sound.chain in
-      let left = sound_of (set es (i - 1) (used h e.1)) len head l room (omega arith) (omega arith) (chain_set es i (used h e.1) head l positive off
-      sound.chain) (omega arith) in
+      let left = sound_of (set es (i - 1) (used h e.1)) len head l room (omega arith) (omega arith)
+      (list_set es i e.0 h e.1 e.1 head l positive found sound.listed) (omega arith) in
       rw (written, changed, kept, same)
       record {
         sound = left.sound;
@@ -415,16 +513,17 @@ module _ {T : Type 0} where
         entry_is = refl;
       }
 
-  all_vacant : (es : List (Slot T)) (c : Content T) (head : Option ℕ) (l : List ℕ) → c.slots ≡ map entry_of es → IsChain es head l → AllVacant c l
-  all_vacant es c head [] same chain = tt
-  all_vacant es c head (i ∷ l) same chain =
-      let within = slice_get_within es (i - 1) _ chain.2.1 in
-      let positive = chain.1 in
+  all_vacant : (es : List (Slot T)) (c : Content T) (b : Option ℕ) (l : List ℕ) → c.slots ≡ map entry_of es → Stands (links_at es) b l None → AllVacant c l
+  all_vacant es c b [] same s = tt
+  all_vacant es c b (i ∷ l) same s =
+      let f = free_at es i _ s.0 in
+      let positive = f.positive in
+      let within = f.within in
       let sizes = ap length same ∙ length-map es entry_of in
-      let read = get_or-map entry_of es (i - 1) (free None) None within ∙ ap entry_of (get_or_from_slice_get es (i - 1) _ (free None) chain.2.1) in
-      let first : IsChain es (Some i) (i ∷ l) = (refl, chain.1, chain.2) in (
+      let read = get_or-map entry_of es (i - 1) (free None None) None (omega (arith, positive, within))
+      ∙ ap entry_of (get_or_from_slice_get es (i - 1) _ (free None None) f.found) in (
         record { positive = positive; within = omega arith; vacant = entry_at_slot c i positive ∙ rw same read },
-        (off_shorter es i (i ∷ l) chain.2.0 l first (omega arith) chain.2.2, all_vacant es c chain.2.0 l same chain.2.2),
+        (once (links_at es) b i l s, all_vacant es c (Some i) l same s.1),
       )
 
   -- sound slots are seen as a content that is well formed
@@ -433,7 +532,7 @@ module _ {T : Type 0} where
   formed {es} {head} {room} {g} sound seen =
       rw (← seen)
       record {
-        free = all_vacant es (content_of es room g head) head (links es (length es) head) refl sound.chain;
+        free = all_vacant es (content_of es room g head) None (links es (length es) head) refl sound.listed.stands;
         counted = omega (arith, sound.counted, sound.total, length-map es entry_of);
         fits = omega (arith, sound.fits, length-map es entry_of);
       }
@@ -462,11 +561,11 @@ module _ {T : Type 0} where
 
   -- an allocated slot has the value of its entry
   pub value_some : (s : Slot T) → IsSome (entry_of s) → IsSome (value_of s)
-  value_some (free next) some = some
+  value_some (free prev next) some = some
   value_some (used g t) some = refl
 
   pub value_of_entry : (s : Slot T) → option_map (λ (e : ℕ × T). e.1) (entry_of s) ≡ value_of s
-  value_of_entry (free next) = refl
+  value_of_entry (free prev next) = refl
   value_of_entry (used g t) = refl
 
   -- what stands at an index by its slot
@@ -481,5 +580,5 @@ module _ {T : Type 0} where
       ap (entry_at c) (sym same) ∙ entry_of_slot es head seen positive (sym read ∙ some)
 
   pub entry_some : (s : Slot T) → IsSome (value_of s) → IsSome (entry_of s)
-  entry_some (free next) some = some
+  entry_some (free prev next) some = some
   entry_some (used g t) some = refl

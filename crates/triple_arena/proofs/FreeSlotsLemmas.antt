@@ -1,85 +1,59 @@
--- The list of free slots put in order, turned over, and cut.
-use Rattle.std.proofs.Common.{◌≡◌, ℕ, zero, suc, ◌+◌, ◌-◌, ◌<◌, ◌≤◌, List, [], ◌∷◌, ◌++◌, map, length, reverse, get_or, set, take, drop, filter, Bool, true, false, leb, IsSome, Option, Some, None, slice_get, is_some, count_by, inl, inr, refl, sym, ap, subst, ◌∙◌, arith, append_assoc, append-nil, length-set, drop-cons, drop_of_length-le, le-leb}
-use Rattle.std.specs.Option.{option_map}
-use Rattle.std.proofs.lemmas.Bool.Decides.{leb_tells}
-use Rattle.std.proofs.lemmas.List.{reverse-append, reverse-reverse, get_or-map, get_or-set_same, length-map, length-reverse, take-map}
-use Rattle.std.proofs.lemmas.List.Elements.{filter-append}
-use Rattle.std.proofs.lemmas.List.Sums.{length-filter, count_by-le-length}
-use Rattle.std.proofs.lemmas.Option.{slice_get_within, slice_get-get_or, get_or_from_slice_get}
+-- The list of free slots put in order, shown, and without the slots at the end.
+use Rattle.std.proofs.Common.{◌≡◌, ◌≢◌, ◌==◌, if◌then◌else◌, ℕ, zero, suc, ◌+◌, ◌-◌, ◌<◌, ◌≤◌, List, [], ◌∷◌, ◌++◌, map, length, get_or, set, take, drop, filter, cond, Bool, true, false, true≢false, leb, ltb, IsSome, Option, Some, None, slice_get, is_some, count_by, inl, inr, refl, sym, ap, subst, ◌∙◌, arith, length-set, length-append, drop-cons, drop_of_length-le, get_or-take, length-take-le}
+use Rattle.std.proofs.Math.Seq.{take-append_seam}
+use Rattle.std.specs.Option.{option_map, option_to_list}
+use Rattle.std.proofs.lemmas.Bool.{eq-eqb, ne_eqb, lt-ltb}
+use Rattle.std.proofs.lemmas.Bool.Decides.{leb_tells, eqb_tells}
+use Rattle.std.proofs.lemmas.List.{get_or-map, length-map, length_push, map_push}
+use Rattle.std.proofs.lemmas.List.Sums.{sum_by_push}
+use Rattle.std.proofs.lemmas.Option.{slice_get_within, get_or_from_slice_get}
 use Rattle.triple_arena_stack.specs.Room.{Room, capacity}
-use Rattle.triple_arena.specs.Slot.{Slot, free, used, entry_of, link_of, value_of, with_link}
-use Rattle.triple_arena.specs.Layout.{links, content_of, IsChain, IsSound}
-use Rattle.triple_arena.specs.Content.{Content, entry_at, last_index, without_free_end, vacant_from, canonicalized, Lacks}
+use Rattle.triple_arena.specs.FreeLinks.{Ends, first_or, Stands, neighbors, renext, reprev, with_next_at, with_prev_at}
+use Rattle.triple_arena.specs.Slot.{Slot, free, used, entry_of, links_of, free_links, index_up_to, value_of, with_links, with_prev, with_next}
+use Rattle.triple_arena.specs.Layout.{links, content_of, links_at, head_after, without_last, IsFreeList, IsSound}
+use Rattle.triple_arena.specs.Content.{Content, entry_at, arena_capacity, last_index, without_free_end, vacant_from, canonicalized, Lacks, IsVacant, AllVacant}
+use Rattle.triple_arena.specs.ContentLaws.{entry_at_slot}
 use Rattle.triple_arena.specs.Walk.{Finds}
-use Rattle.triple_arena.specs.FreeListLaws.{last_index-unique, live-without_free_end, slots-without_free_end, formed-without_free_end, vacant-counted, vacant-lacks}
-use Rattle.triple_arena.proofs.FreeListLemmas.{Becomes, chain_links, off_shorter, chain_set, sound_of, formed}
+use Rattle.triple_arena.specs.FreeListLaws.{last_index-is, last_index-unique, vacant-counted, vacant-lacks, vacant-fit}
+use Rattle.triple_arena.proofs.FreeLinkLemmas.{next_stays, on_or_off, AllUpTo, below_greatest, neighbors_shown, listed_neighbors, once-front, once-back, put_first, taken, head_taken, prev_same, prev_links, next_links}
+use Rattle.triple_arena.proofs.FreeListLemmas.{first_free, Becomes, free_at, links_of_slot, links-set, links-push, list_set, none_free, entry_of_slot, sound_of, formed}
 use Rattle.triple_arena.proofs.WalkLemmas.{none_past}
 
--- what is left of a list lacks what is done
-abbrev pub Apart : List ℕ → List ℕ → Type 0
-Apart [] done = Unit {0}
-Apart (i ∷ rest) done = Lacks done i × Apart rest done
-
-apart_none : (l : List ℕ) → Apart l []
-apart_none [] = tt
-apart_none (i ∷ l) = (tt, apart_none l)
-
-apart_more : (l done : List ℕ) (i : ℕ) → Lacks l i → Apart l done → Apart l (i ∷ done)
-apart_more [] done i lacks apart = tt
-apart_more (j ∷ l) done i lacks apart = ((λ same. lacks.0 (sym same), apart.0), apart_more l done i lacks.1 apart.1)
-
-reverse_cons : (i : ℕ) (l done : List ℕ) → reverse (i ∷ l) ++ done ≡ reverse l ++ i ∷ done
-reverse_cons i l done = ap (λ m. m ++ done) (reverse-append (i ∷ []) l) ∙ append_assoc (reverse l) (i ∷ []) done
-
--- none of these is past a number
-abbrev AllUpTo : ℕ → List ℕ → Type 0
-AllUpTo n [] = Unit {0}
-AllUpTo n (i ∷ l) = (i ≤ n) × AllUpTo n l
-
-filter_up_to : (n : ℕ) (l : List ℕ) → AllUpTo n (filter (λ i. leb i n) l)
-filter_up_to n [] = tt
-filter_up_to n (i ∷ l) =
-    let rest = filter_up_to n l in
-    elim (leb_tells i n) [
-      | inl below ↦ rw below.0 (below.1, rest)
-      | inr above ↦ rw above.0 rest
-    ]
-
-filter-filter : (p : ℕ → Bool) (l : List ℕ) → filter p (filter p l) ≡ filter p l
-filter-filter p [] = refl
-filter-filter p (i ∷ l) = by_test (p i) refl (filter-filter p l)
+-- what passes one test passes another
+filter_inside : (p q : ℕ → Bool) → ((j : ℕ) → p j ≡ true → q j ≡ true) → (l : List ℕ) → filter p (filter q l) ≡ filter p l
+filter_inside p q each [] = refl
+filter_inside p q each (i ∷ l) = by_test (p i) refl (q i) refl (filter_inside p q each l)
   where
-    by_test : (b : Bool) → p i ≡ b → filter p (filter p l) ≡ filter p l → filter p (filter p (i ∷ l)) ≡ filter p (i ∷ l)
-    by_test true passes rest = rw passes (rw passes (ap (λ m. i ∷ m) rest))
-    by_test false fails rest = rw fails rest
+    by_test : (b : Bool) → p i ≡ b → (b' : Bool) → q i ≡ b' → filter p (filter q l) ≡ filter p l → filter p (filter q (i ∷ l)) ≡ filter p (i ∷ l)
+    by_test true passes true also rest = rw (also, passes) (ap (λ m. i ∷ m) rest)
+    by_test true passes false fails rest = absurd (true≢false (sym (each i passes) ∙ fails))
+    by_test false fails true also rest = rw (also, fails) rest
+    by_test false fails false also rest = rw (also, fails) rest
 
-filter-reverse : (p : ℕ → Bool) (l : List ℕ) → filter p (reverse l) ≡ reverse (filter p l)
-filter-reverse p [] = refl
-filter-reverse p (i ∷ l) =
-    ap (filter p) (reverse-append (i ∷ []) l)
-    ∙ filter-append p (reverse l) (i ∷ [])
-    ∙ ap (λ m. m ++ filter p (i ∷ [])) (filter-reverse p l)
-    ∙ by_test (p i) refl
-  where
-    by_test : (b : Bool) → p i ≡ b → reverse (filter p l) ++ filter p (i ∷ []) ≡ reverse (filter p (i ∷ l))
-    by_test true passes = rw passes (sym (reverse-append (i ∷ []) (filter p l)))
-    by_test false fails = rw fails (append-nil (reverse (filter p l)))
+-- where there is no index nothing is written
+pub no_prev : (e : ℕ → Option Ends) (at prev : Option ℕ) → at ≡ None → (j : ℕ) → e j ≡ with_prev_at e at prev j
+no_prev e at prev none j = rw none refl
 
--- a list that is turned over twice has its order
-turned_twice : (p : ℕ → Bool) (l : List ℕ) → reverse (filter p (reverse (filter p l))) ≡ filter p l
-turned_twice p l = ap reverse (filter-reverse p (filter p l)) ∙ reverse-reverse (filter p (filter p l)) ∙ filter-filter p l
-
-filter_yes : (p : ℕ → Bool) (i : ℕ) (l : List ℕ) → p i ≡ true → filter p (i ∷ l) ≡ i ∷ filter p l
-filter_yes p i l passes = rw passes refl
-
-filter_no : (p : ℕ → Bool) (i : ℕ) (l : List ℕ) → p i ≡ false → filter p (i ∷ l) ≡ filter p l
-filter_no p i l fails = rw fails refl
+pub no_next : (e : ℕ → Option Ends) (at next : Option ℕ) → at ≡ None → (j : ℕ) → e j ≡ with_next_at e at next j
+no_next e at next none j = rw none refl
 
 module _ {T : Type 0} where
-  -- another link leaves the entries as they are
-  entry-with_link : (x : Slot T) (next : Option ℕ) → entry_of (with_link x next) ≡ entry_of x
-  entry-with_link (free own) next = refl
-  entry-with_link (used g t) next = refl
+  -- other links leave the entry as it is
+  entry-with_prev : (x : Slot T) (prev : Option ℕ) → entry_of (with_prev x prev) ≡ entry_of x
+  entry-with_prev (free p n) prev = refl
+  entry-with_prev (used g t) prev = refl
+
+  entry-with_next : (x : Slot T) (next : Option ℕ) → entry_of (with_next x next) ≡ entry_of x
+  entry-with_next (free p n) next = refl
+  entry-with_next (used g t) next = refl
+
+  links-with_prev : (x : Slot T) (prev : Option ℕ) → links_of (with_prev x prev) ≡ reprev prev (links_of x)
+  links-with_prev (free p n) prev = refl
+  links-with_prev (used g t) prev = refl
+
+  links-with_next : (x : Slot T) (next : Option ℕ) → links_of (with_next x next) ≡ renext next (links_of x)
+  links-with_next (free p n) next = refl
+  links-with_next (used g t) next = refl
 
   entries_kept : (es : List (Slot T)) (k : ℕ) (x y : Slot T) → slice_get es k ≡ Some x → entry_of y ≡ entry_of x → map entry_of (set es k y) ≡ map entry_of es
   entries_kept [] k x y found same = absurd (cc)
@@ -88,10 +62,40 @@ module _ {T : Type 0} where
       ap (λ e. e ∷ map entry_of es) (same ∙ ap entry_of (sym is))
   entries_kept (z ∷ es) (suc k) x y found same = ap (λ l. entry_of z ∷ l) (entries_kept es k x y found same)
 
-  linked : (es : List (Slot T)) (k : ℕ) (x y : Slot T) → slice_get es k ≡ Some x → slice_get (set es k y) k ≡ Some y
-  linked es k x y found =
-      let within = slice_get_within es k x found in
-      slice_get-get_or (set es k y) k y (omega (arith, within, length-set es k y)) ∙ ap Some (get_or-set_same es k y y within)
+  -- what a write of one link of a slot changes and keeps
+  pub prev_written : (es : List (Slot T)) {es' : List (Slot T)} {i : ℕ} {at : Option ℕ} (prev : Option ℕ) {x y : Slot T} → at ≡ Some i → 0 < i → Some x ≡ slice_get es (i - 1)
+      → y ≡ with_prev x prev → es' ≡ set es (i - 1) y → (j : ℕ) → links_at es' j ≡ with_prev_at (links_at es) at prev j
+  prev_written es {es'} {i} {at} prev {x} {y} is positive found changed written j =
+      let within = slice_get_within es (i - 1) x (sym found) in
+      ap (λ xs. links_at xs j) written
+      ∙ links-set es i y positive within j
+      ∙ rw is (elim (eqb_tells j i) [
+        | inl same ↦
+            rw same.0 (ap links_of changed ∙ links-with_prev x prev ∙ ap (reprev prev) (sym (ap (links_at es) same.1 ∙ links_of_slot es i x positive (sym found))))
+        | inr other ↦ rw other.0 refl
+      ])
+
+  pub next_written : (es : List (Slot T)) {es' : List (Slot T)} {i : ℕ} {at : Option ℕ} (next : Option ℕ) {x y : Slot T} → at ≡ Some i → 0 < i → Some x ≡ slice_get es (i - 1)
+      → y ≡ with_next x next → es' ≡ set es (i - 1) y → (j : ℕ) → links_at es' j ≡ with_next_at (links_at es) at next j
+  next_written es {es'} {i} {at} next {x} {y} is positive found changed written j =
+      let within = slice_get_within es (i - 1) x (sym found) in
+      ap (λ xs. links_at xs j) written
+      ∙ links-set es i y positive within j
+      ∙ rw is (elim (eqb_tells j i) [
+        | inl same ↦
+            rw same.0 (ap links_of changed ∙ links-with_next x next ∙ ap (renext next) (sym (ap (links_at es) same.1 ∙ links_of_slot es i x positive (sym found))))
+        | inr other ↦ rw other.0 refl
+      ])
+
+  pub entries-prev : (es : List (Slot T)) {es' : List (Slot T)} (i : ℕ) {x y : Slot T} (prev : Option ℕ) → Some x ≡ slice_get es (i - 1) → y ≡ with_prev x prev
+      → es' ≡ set es (i - 1) y → map entry_of es' ≡ map entry_of es
+  entries-prev es i {x} {y} prev found changed written =
+      ap (map entry_of) written ∙ entries_kept es (i - 1) x y (sym found) (ap entry_of changed ∙ entry-with_prev x prev)
+
+  pub entries-next : (es : List (Slot T)) {es' : List (Slot T)} (i : ℕ) {x y : Slot T} (next : Option ℕ) → Some x ≡ slice_get es (i - 1) → y ≡ with_next x next
+      → es' ≡ set es (i - 1) y → map entry_of es' ≡ map entry_of es
+  entries-next es i {x} {y} next found changed written =
+      ap (map entry_of) written ∙ entries_kept es (i - 1) x y (sym found) (ap entry_of changed ∙ entry-with_next x next)
 
   entry_there : (old es : List (Slot T)) (k : ℕ) (x : Slot T) → map entry_of es ≡ map entry_of old → slice_get es k ≡ Some x
       → get_or (map entry_of old) k None ≡ entry_of x
@@ -104,12 +108,12 @@ module _ {T : Type 0} where
   pub record Risen (old es : List (Slot T)) (head : Option ℕ) (left : ℕ) : Type 0 where
     pub entries : map entry_of es ≡ map entry_of old
     pub within : left ≤ length es
-    pub chain : IsChain es head (vacant_from (left + 1) (drop left (map entry_of old)))
+    pub listed : IsFreeList es head (vacant_from (left + 1) (drop left (map entry_of old)))
 
   pub risen_none : {es : List (Slot T)} {n : ℕ} → n ≡ length es → Risen es es None n
   risen_none {es} {n} all =
       let sizes = length-map es entry_of in
-      record { entries = refl; within = omega (arith, all); chain = rw (drop_of_length-le (map entry_of es) {i = n} (omega (arith, all, sizes))) refl }
+      record { entries = refl; within = omega (arith, all); listed = rw (drop_of_length-le (map entry_of es) {i = n} (omega (arith, all, sizes))) (none_free es) }
 
   vacant_free : (xs : List (Option (ℕ × T))) (n left : ℕ) → left ≡ n + 1 → n < length xs → get_or xs n None ≡ None
       → vacant_from (n + 1) (drop n xs) ≡ left ∷ vacant_from (left + 1) (drop left xs)
@@ -127,70 +131,76 @@ module _ {T : Type 0} where
       ∙ ap (λ k. vacant_from (n + 1 + 1) (drop k xs)) next
       ∙ ap (λ k. vacant_from (k + 1) (drop left xs)) (sym at)
 
+  -- the head is free, also after a write of the slot before them
+  pub risen_first : {old es es1 : List (Slot T)} {head : Option ℕ} {left i : ℕ} {x : Slot T} (y : Slot T) → Risen old es head left → i ≡ left → 0 < i
+      → Some x ≡ slice_get es (i - 1) → es1 ≡ set es (i - 1) y → (j : ℕ) → head ≡ Some j → IsSome (links_at es1 j)
+  risen_first {old} {es} {head = head} {left} {i} {x} y r at positive found written j is =
+      let lacks = vacant-lacks (left + 1) i (drop left (map entry_of old)) (omega (arith, at)) in
+      subst (λ xs. IsSome (links_at xs j)) (sym written)
+      (first_free es i y None _ positive (slice_get_within es (i - 1) x (sym found)) r.listed.stands lacks j (sym r.listed.first ∙ is))
+
   -- the slot before them is linked to them where it is free
-  pub risen_free : {old es es' : List (Slot T)} {head head' : Option ℕ} {left i n : ℕ} {x : Slot T} → Risen old es head left → i ≡ left → 0 < i
-      → Some x ≡ slice_get es (i - 1) → value_of x ≡ None → es' ≡ set es (i - 1) (with_link x head) → head' ≡ Some i → n ≡ left - 1
+  pub risen_free : {old es es1 es' : List (Slot T)} {head first head' : Option ℕ} {left i n : ℕ} {x : Slot T} → Risen old es head left → i ≡ left → 0 < i
+      → Some x ≡ slice_get es (i - 1) → value_of x ≡ None → es1 ≡ set es (i - 1) (with_links x None head) → first ≡ Some i
+      → ((j : ℕ) → links_at es' j ≡ with_prev_at (links_at es1) head first j) → map entry_of es' ≡ map entry_of es1 → head' ≡ first → n ≡ left - 1
       → Risen old es' head' n
-  risen_free {x = used g t} r at positive found none written first less = absurd (cc)
-  risen_free {old} {es} {es'} {head} {left} {i} {n} {x = free next} r at positive found none written first less =
+  risen_free {x = used g t} r at positive found none written first linked entries next less = absurd (cc)
+  risen_free {old} {es} {es1} {es'} {head} {first} {head'} {left} {i} {n} {x = free prev own} r at positive found none written is linked entries next less =
       let back : i - 1 ≡ n = omega (arith, at, less) in
       let one : left ≡ n + 1 = omega (arith, at, less, positive) in
-      let there : slice_get es n ≡ Some (free next) = ap (slice_get es) (sym back) ∙ sym found in
-      let put : es' ≡ set es (left - 1) (free head) = written ∙ ap (λ k. set es (k - 1) (free head)) at in
-      let less' : left - 1 ≡ n = sym less in
-      let below = slice_get_within es n (free next) there in
-      let sizes = length-set es (left - 1) (free head) in
+      let there : slice_get es n ≡ Some (free prev own) = ap (slice_get es) (sym back) ∙ sym found in
+      let below = slice_get_within es n (free prev own) there in
+      let below_i : i - 1 < length es = omega (arith, below, back) in
       let counted = length-map es entry_of in
       let whole = ap length r.entries in
       let rest = vacant_from (left + 1) (drop left (map entry_of old)) in
-      let lacks = vacant-lacks (left + 1) left (drop left (map entry_of old)) (omega arith) in
-      let up : 0 < left = omega (arith, positive, at) in
-      let here : slice_get es (left - 1) ≡ Some (free next) = ap (slice_get es) less' ∙ there in
-      let chain : IsChain (set es (left - 1) (free head)) (Some left) (left ∷ rest) =
-      (refl, up, (head, linked es (left - 1) (free next) (free head) here, chain_set es left (free head) head rest up lacks r.chain)) in
-      let listed = vacant_free (map entry_of old) n left one (omega (arith, below, counted, whole))
-      (entry_there old es n (free next) r.entries there) in
-      rw (put, first, at)
+      let lacks : Lacks rest i = vacant-lacks (left + 1) i (drop left (map entry_of old)) (omega (arith, at)) in
+      let put : (k : ℕ) → links_at es1 k ≡ (if k == i then Some (None, head) else links_at es k) =
+      λ k. ap (λ xs. links_at xs k) written ∙ links-set es i (free None head) positive below_i k in
+      let stands = put_first (links_at es) (links_at es') (links_at es1) head i rest r.listed.stands r.listed.first lacks
+      (put i ∙ rw (eq-eqb i i refl) refl) (λ k other. put k ∙ rw (ne_eqb k i other) refl)
+      (λ k. linked k ∙ ap (λ o. with_prev_at (links_at es1) head o k) is) in
+      let listed : vacant_from (n + 1) (drop n (map entry_of old)) ≡ i ∷ rest =
+      vacant_free (map entry_of old) n left one (omega (arith, below, counted, whole)) (entry_there old es n (free prev own) r.entries there)
+      ∙ ap (λ k. k ∷ rest) (sym at) in
+      let kept = entries ∙ ap (map entry_of) written ∙ entries_kept es (i - 1) (free prev own) (free None head) (sym found) refl ∙ r.entries in
+      let sizes = ap length kept ∙ sym whole in
+      let long = length-map es' entry_of in
       record {
-        entries = entries_kept es (left - 1) (free next) (free head) here refl ∙ r.entries;
-        within = omega (arith, sizes, below);
-        chain = rw listed chain;
+        entries = kept;
+        within = omega (arith, sizes, long, counted, below);
+        listed = rw listed (record { first = next ∙ is; stands = stands });
       }
 
   -- and is passed where it is not
   pub risen_used : {old es es' : List (Slot T)} {head head' : Option ℕ} {left i n : ℕ} {x : Slot T} → Risen old es head left → i ≡ left → 0 < i
-      → Some x ≡ slice_get es (i - 1) → (value_of x ≡ None → ⊥) → es' ≡ set es (i - 1) (with_link x head) → head' ≡ head → n ≡ left - 1
+      → Some x ≡ slice_get es (i - 1) → (value_of x ≡ None → ⊥) → es' ≡ set es (i - 1) (with_links x None head) → head' ≡ head → n ≡ left - 1
       → Risen old es' head' n
-  risen_used {x = free next} r at positive found some written kept less = absurd (some refl)
-  risen_used {old} {es} {es'} {head} {left} {i} {n} {x = used g t} r at positive found some written kept less =
+  risen_used {x = free prev own} r at positive found some written kept less = absurd (some refl)
+  risen_used {old} {es} {es'} {head} {head'} {left} {i} {n} {x = used g t} r at positive found some written kept less =
       let back : i - 1 ≡ n = omega (arith, at, less) in
       let one : left ≡ n + 1 = omega (arith, at, less, positive) in
       let there : slice_get es n ≡ Some (used g t) = ap (slice_get es) (sym back) ∙ sym found in
-      let put : es' ≡ set es (left - 1) (used g t) = written ∙ ap (λ k. set es (k - 1) (used g t)) at in
-      let less' : left - 1 ≡ n = sym less in
       let below = slice_get_within es n (used g t) there in
-      let sizes = length-set es (left - 1) (used g t) in
+      let sizes = length-set es (i - 1) (used g t) in
       let counted = length-map es entry_of in
       let whole = ap length r.entries in
-      let rest = vacant_from (left + 1) (drop left (map entry_of old)) in
-      let lacks = vacant-lacks (left + 1) left (drop left (map entry_of old)) (omega arith) in
-      let up : 0 < left = omega (arith, positive, at) in
-      let here : slice_get es (left - 1) ≡ Some (used g t) = ap (slice_get es) less' ∙ there in
-      let chain : IsChain (set es (left - 1) (used g t)) head rest = chain_set es left (used g t) head rest up lacks r.chain in
+      let list : IsFreeList (set es (i - 1) (used g t)) head (vacant_from (left + 1) (drop left (map entry_of old))) =
+      list_set es i g g t t head _ positive (sym found) r.listed in
       let listed = vacant_used (map entry_of old) n left (g, t) one (omega (arith, below, counted, whole))
       (entry_there old es n (used g t) r.entries there) in
-      rw (put, kept)
+      rw (written, kept)
       record {
-        entries = entries_kept es (left - 1) (used g t) (used g t) here refl ∙ r.entries;
+        entries = entries_kept es (i - 1) (used g t) (used g t) (sym found) refl ∙ r.entries;
         within = omega (arith, sizes, below);
-        chain = rw listed chain;
+        listed = rw listed list;
       }
 
   -- the slots with this list are seen as the content whose free indexes rise
   pub ordered : {es es' : List (Slot T)} {len : ℕ} {head head' : Option ℕ} {room room' : Room} {g : ℕ} {c : Content T} → IsSound es len head room
-      → content_of es room g head ≡ c → map entry_of es' ≡ map entry_of es → IsChain es' head' (vacant_from 1 (map entry_of es)) → room' ≡ room
+      → content_of es room g head ≡ c → map entry_of es' ≡ map entry_of es → IsFreeList es' head' (vacant_from 1 (map entry_of es)) → room' ≡ room
       → Becomes es' len head' room' g (canonicalized c)
-  ordered {es} {es'} {len} {head'} {room} sound seen same chain kept =
+  ordered {es} {es'} {len} {head'} {room} sound seen same listed kept =
       let counted = sound.counted in
       let vacant = vacant-counted 1 (map entry_of es) in
       let sizes = length-map es entry_of in
@@ -198,7 +208,7 @@ module _ {T : Type 0} where
       let whole = ap length same in
       let live = ap (count_by is_some) same in
       let fits = sound.fits in
-      let s = sound_of es' len head' (vacant_from 1 (map entry_of es)) room (counted ∙ sym live) (omega (arith, counted, vacant, sizes, sizes', whole)) chain
+      let s = sound_of es' len head' (vacant_from 1 (map entry_of es)) room (counted ∙ sym live) (omega (arith, counted, vacant, sizes, sizes', whole)) listed
       (omega (arith, fits, sizes, sizes', whole)) in
       rw kept
       record { sound = s.sound; content = rw (← seen, s.free_is, same) refl }
@@ -232,239 +242,296 @@ module _ {T : Type 0} where
         live = λ positive. absurd (omega (arith, positive));
       })
 
-  -- of the free indexes `all`, those that are not left are linked in the other order, without those past `last`
-  pub record Turned (last : ℕ) (all : List ℕ) (old es : List (Slot T)) (left turned : Option ℕ) : Type 0 where
-    pub rest : List ℕ
-    pub done : List ℕ
-    pub entries : map entry_of es ≡ map entry_of old
-    pub unturned : IsChain es left rest
-    pub chain : IsChain es turned done
-    pub apart : Apart rest done
-    pub split : reverse (filter (λ i. leb i last) rest) ++ done ≡ reverse (filter (λ i. leb i last) all)
-    pub fits : length rest ≤ length es
+  -- a slot past all has no links
+  links_past : (es : List (Slot T)) (k : ℕ) → length es ≤ k → get_or (map links_of es) k None ≡ None
+  links_past [] k past = refl
+  links_past (x ∷ es) zero past = absurd (omega (arith, past))
+  links_past (x ∷ es) (suc k) past = links_past es k (omega (arith, past))
 
-  links_fit : (es : List (Slot T)) (n : ℕ) (head : Option ℕ) → length (links es n head) ≤ n
-  links_fit es zero head = omega arith
-  links_fit es (suc n) None = omega arith
-  links_fit es (suc n) (Some i) = let rest = links_fit es n (link_of (get_or es (i - 1) (free None))) in omega (arith, rest)
+  links_at_past : (es : List (Slot T)) (j : ℕ) → length es < j → links_at es j ≡ None
+  links_at_past es zero past = absurd (omega (arith, past))
+  links_at_past es (suc k) past = links_past es k (omega (arith, past))
 
-  pub turned_none : {last : ℕ} {es : List (Slot T)} {head : Option ℕ} → IsChain es head (links es (length es) head)
-      → Turned last (links es (length es) head) es es head None
-  turned_none {es} {head} chain =
-      record {
-        rest = links es (length es) head;
-        done = [];
-        entries = refl;
-        unturned = chain;
-        chain = refl;
-        apart = apart_none (links es (length es) head);
-        split = append-nil _;
-        fits = links_fit es (length es) head;
-      }
-
-  -- the next one that is left: its slot is free
-  pub record Left (es : List (Slot T)) (rest : List ℕ) (i : ℕ) : Type 0 where
-    pub others : List ℕ
-    pub next : Option ℕ
-    pub rest_is : rest ≡ i ∷ others
-    pub positive : 0 < i
-    pub found : slice_get es (i - 1) ≡ Some (free next)
-    pub chain : IsChain es next others
-    pub once : Lacks others i
-
-  left_of : (es : List (Slot T)) (head : Option ℕ) (rest : List ℕ) (i : ℕ) → head ≡ Some i → IsChain es head rest → Left es rest i
-  left_of es head [] i is chain = absurd (cc)
-  left_of es head (j ∷ rest) i is chain =
-      let first = chain.0 in
-      let same : j ≡ i = cc in
-      let whole : IsChain es (Some j) (j ∷ rest) = (refl, chain.1, chain.2) in
-      record {
-        others = rest;
-        next = chain.2.0;
-        rest_is = ap (λ k. k ∷ rest) same;
-        positive = subst (λ k. 0 < k) same chain.1;
-        found = subst (λ k. slice_get es (k - 1) ≡ Some (free chain.2.0)) same chain.2.1;
-        chain = chain.2.2;
-        once = subst (Lacks rest) same (off_shorter es j (j ∷ rest) chain.2.0 rest whole (omega arith) chain.2.2);
-      }
-
-  -- one more is done, and fewer are left
-  pub record Turns (last : ℕ) (all : List ℕ) (old es es' : List (Slot T)) (left left' turned' : Option ℕ) : Type 0 where
-    pub turned : Turned last all old es' left' turned'
-    pub fewer : length (links es' (length es') left') < length (links es (length es) left)
-
-  pub turned_next : {last : ℕ} {all : List ℕ} {old es es' : List (Slot T)} {left left' turned turned' : Option ℕ} {i : ℕ} {x y : Slot T}
-      → Turned last all old es left turned → left ≡ Some i → Some x ≡ slice_get es (i - 1) → left' ≡ link_of x → i ≤ last
-      → Some y ≡ slice_get es (i - 1) → es' ≡ set es (i - 1) (with_link y turned) → turned' ≡ Some i → Turns last all old es es' left left' turned'
-  turned_next {last} {es} {es'} {left} {left'} {turned} {i} {x} {y} t is found next below again relinked first =
-      let l = left_of es left t.rest i is t.unturned in
-      let there : x ≡ free l.next = let h = l.found in cc in
-      let same : y ≡ free l.next = let h = l.found in cc in
-      let written : es' ≡ set es (i - 1) (free turned) = relinked ∙ ap (λ z. set es (i - 1) (with_link z turned)) same in
-      let to : left' ≡ l.next = next ∙ ap link_of there in
-      let apart : Apart (i ∷ l.others) t.done = subst (λ m. Apart m t.done) l.rest_is t.apart in
-      let sizes = length-set es (i - 1) (free turned) in
-      let whole = ap length l.rest_is in
-      let fits = t.fits in
-      let unturned : IsChain (set es (i - 1) (free turned)) l.next l.others = chain_set es i (free turned) l.next l.others l.positive l.once l.chain in
-      let chain : IsChain (set es (i - 1) (free turned)) (Some i) (i ∷ t.done) = (
-        refl,
-        l.positive,
-        (turned, linked es (i - 1) (free l.next) (free turned) l.found, chain_set es i (free turned) turned t.done l.positive apart.0 t.chain),
-      ) in
-      let passes : leb i last ≡ true = le-leb i last below in
-      let before = chain_links es (length es) left t.rest fits t.unturned in
-      let after =
-      chain_links (set es (i - 1) (free turned)) (length (set es (i - 1) (free turned))) l.next l.others (omega (arith, sizes, whole, fits))
-      unturned in
-      let less = ap length before in
-      let more = ap length after in
-      rw (written, first, to)
-      record {
-        turned = record {
-          rest = l.others;
-          done = i ∷ t.done;
-          entries = entries_kept es (i - 1) (free l.next) (free turned) l.found refl ∙ t.entries;
-          unturned = unturned;
-          chain = chain;
-          apart = apart_more l.others t.done i l.once apart.1;
-          split = sym (reverse_cons i (filter (λ k. leb k last) l.others) t.done)
-              ∙ ap (λ m. reverse m ++ t.done) (sym (filter_yes (λ k. leb k last) i l.others passes))
-              ∙ ap (λ m. reverse (filter (λ k. leb k last) m) ++ t.done) (sym l.rest_is)
-              ∙ t.split;
-          fits = omega (arith, sizes, whole, fits);
-        };
-        fewer = omega (arith, less, more, whole);
-      }
-
-  -- one past `last` is left out
-  pub turned_past : {last : ℕ} {all : List ℕ} {old es : List (Slot T)} {left left' turned : Option ℕ} {i : ℕ} {x : Slot T}
-      → Turned last all old es left turned → left ≡ Some i → Some x ≡ slice_get es (i - 1) → left' ≡ link_of x → last < i
-      → Turns last all old es es left left' turned
-  turned_past {last} {es} {left} {left'} {turned} {i} {x} t is found next beyond =
-      let l = left_of es left t.rest i is t.unturned in
-      let there : x ≡ free l.next = let h = l.found in cc in
-      let to : left' ≡ l.next = next ∙ ap link_of there in
-      let apart : Apart (i ∷ l.others) t.done = subst (λ m. Apart m t.done) l.rest_is t.apart in
-      let whole = ap length l.rest_is in
-      let fits = t.fits in
-      let fails : leb i last ≡ false = elim (leb_tells i last) [ inl below ↦ absurd (omega (arith, below.1, beyond)) | inr above ↦ above.0 ] in
-      let before = chain_links es (length es) left t.rest fits t.unturned in
-      let after = chain_links es (length es) l.next l.others (omega (arith, whole, fits)) l.chain in
-      let less = ap length before in
-      let more = ap length after in
-      rw to
-      record {
-        turned = record {
-          rest = l.others;
-          done = t.done;
-          entries = t.entries;
-          unturned = l.chain;
-          chain = t.chain;
-          apart = apart.1;
-          split = ap (λ m. reverse m ++ t.done) (sym (filter_no (λ k. leb k last) i l.others fails))
-              ∙ ap (λ m. reverse (filter (λ k. leb k last) m) ++ t.done) (sym l.rest_is)
-              ∙ t.split;
-          fits = omega (arith, whole, fits);
-        };
-        fewer = omega (arith, less, more, whole);
-      }
-
-  -- an index that is left is one of the slots
-  pub left_within : {last : ℕ} {all : List ℕ} {old es : List (Slot T)} {left turned : Option ℕ} {i : ℕ} → Turned last all old es left turned
-      → left ≡ Some i → i ≤ length es
-  left_within {es} {left} {i} t is =
-      let l = left_of es left t.rest i is t.unturned in
-      let within = slice_get_within es (i - 1) (free l.next) l.found in
-      let positive = l.positive in
-      omega (arith, within, positive)
-
-  -- none is left
-  pub turned_all : {last : ℕ} {all : List ℕ} {old es : List (Slot T)} {left turned : Option ℕ} → Turned last all old es left turned → left ≡ None
-      → IsChain es turned (reverse (filter (λ i. leb i last) all))
-  turned_all {last} {all} {es} {left} {turned} t none = by_rest t.rest t.unturned t.split
+  pub links_of_none : (es : List (Slot T)) (i : ℕ) → slice_get es (i - 1) ≡ None → links_at es i ≡ None
+  links_of_none es zero found = refl
+  links_of_none es (suc k) found =
+      let back : k ≡ suc k - 1 = omega arith in
+      absent es k (ap (slice_get es) back ∙ found)
     where
-      by_rest : (rest : List ℕ) → IsChain es left rest → reverse (filter (λ i. leb i last) rest) ++ t.done ≡ reverse (filter (λ i. leb i last) all)
-          → IsChain es turned (reverse (filter (λ i. leb i last) all))
-      by_rest [] chain split = subst (IsChain es turned) split t.chain
-      by_rest (i ∷ rest) chain split = absurd (let first = chain.0 in cc)
+      absent : (xs : List (Slot T)) (m : ℕ) → slice_get xs m ≡ None → get_or (map links_of xs) m None ≡ None
+      absent [] m none = refl
+      absent (x ∷ xs) zero none = absurd (cc)
+      absent (x ∷ xs) (suc m) none = absent xs m none
 
-  -- and has a slot
-  pub left_slot : {last : ℕ} {all : List ℕ} {old es : List (Slot T)} {left turned : Option ℕ} {i : ℕ} → Turned last all old es left turned
-      → left ≡ Some i → slice_get es (i - 1) ≡ None → ⊥
-  left_slot {es} {left} {i} t is none =
-      let l = left_of es left t.rest i is t.unturned in
-      let found = l.found in
-      absurd (cc)
+  -- a free slot is a free index
+  vacant_at : (es : List (Slot T)) {room : Room} {g : ℕ} (head : Option ℕ) {c : Content T} (i : ℕ) (v : Ends) → content_of es room g head ≡ c
+      → links_at es i ≡ Some v → IsVacant c i
+  vacant_at es {room} {g} head {c} i v seen at =
+      let f = free_at es i v at in
+      let sizes = ap (λ d. length d.slots) seen in
+      let long = length-map es entry_of in
+      record {
+        positive = f.positive;
+        within = omega (arith, f.within, sizes, long);
+        vacant = entry_of_slot es head seen f.positive f.found;
+      }
 
-  -- the list that is turned over can be turned over again
-  pub chain_again : (es es' : List (Slot T)) (head turned : Option ℕ) (p : ℕ → Bool) → map entry_of es' ≡ map entry_of es
-      → IsChain es' turned (reverse (filter p (links es (length es) head)))
-      → links es' (length es') turned ≡ reverse (filter p (links es (length es) head))
-  chain_again es es' head turned p same chain =
+  -- each free slot is on the list
+  pub each_listed : (es : List (Slot T)) (len : ℕ) (head : Option ℕ) (room : Room) (i : ℕ) (v : Ends) → IsSound es len head room → links_at es i ≡ Some v
+      → Lacks (links es (length es) head) i → ⊥
+  each_listed es len head room i v sound at off =
+      let c = content_of es room 0 head in
+      let f = formed sound refl in
+      let vacant : IsVacant c i = vacant_at es head i v refl at in
+      let all : AllVacant c (i ∷ c.free) = (vacant, (off, f.free)) in
+      let fit = vacant-fit c (i ∷ c.free) 1 c.slots all (λ j w listed.
+      (omega (arith, w.positive), (omega (arith, w.within), sym (entry_at_slot c j w.positive) ∙ w.vacant))) in
+      let counted = vacant-counted 1 c.slots in
+      let sum = f.counted in
+      omega (arith, fit, counted, sum)
+
+  -- what a slot names as its neighbors are those of its index on the list of the free indexes
+  pub shown_links : {es : List (Slot T)} {len : ℕ} {head : Option ℕ} {room : Room} {g : ℕ} {c : Content T} (greatest i : ℕ) (slot : Slot T)
+      → IsSound es len head room → content_of es room g head ≡ c → arena_capacity c ≤ greatest → 0 < i → slice_get es (i - 1) ≡ Some slot
+      → free_links greatest slot ≡ neighbors c.free i
+  shown_links {es} {len} {head} {room} {c = c} greatest i slot sound seen fits positive found =
       let l = links es (length es) head in
-      let fits = links_fit es (length es) head in
-      let fewer = length-filter p l in
-      let bound = count_by-le-length p l in
-      let kept = length-reverse (filter p l) in
-      let sizes = ap length same in
+      let free : c.free ≡ l = ap (λ d. d.free) (sym seen) in
+      let f = formed sound seen in
+      let room_is = ap (λ d. capacity d.room) seen in
+      let up_to : (m : List ℕ) → AllVacant c m → AllUpTo greatest m = all_up_to in
+      let is : links_of slot ≡ neighbors l i =
+      sym (links_of_slot es i slot positive found)
+      ∙ listed_neighbors (links_at es) None l i sound.listed.stands (λ off. by_links (links_at es i) refl off) in
+      ap (option_map (λ (v : Ends). (index_up_to greatest v.0, index_up_to greatest v.1))) is
+      ∙ neighbors_shown greatest None l i (λ x none. absurd (cc)) (subst (AllUpTo greatest) free (up_to c.free f.free))
+      ∙ ap (λ m. neighbors m i) (sym free)
+    where
+      all_up_to : (m : List ℕ) → AllVacant c m → AllUpTo greatest m
+      all_up_to [] all = tt
+      all_up_to (x ∷ m) all =
+          let fit = (formed sound seen).fits in
+          (omega (arith, all.0.within, fit, fits), all_up_to m all.1.1)
+
+      by_links : (o : Option Ends) → links_at es i ≡ o → Lacks (links es (length es) head) i → links_at es i ≡ None
+      by_links None e off = e
+      by_links (Some v) e off = absurd (each_listed es len head room i v sound e off)
+
+  -- where the last slot is live, or there is none, the last index is live
+  pub last_live : (es : List (Slot T)) {room : Room} {g : ℕ} (head : Option ℕ) {c : Content T} → content_of es room g head ≡ c
+      → links_at es (length es) ≡ None → last_index c ≡ length c.slots
+  last_live es {room} {g} head {c} seen none =
+      let long = length-map es entry_of in
+      let sizes = ap (λ d. length d.slots) seen in
+      last_index-unique c (length c.slots) (record {
+        within = omega arith;
+        past = λ j above. none_past c j above;
+        live = λ positive.
+            let inner : length es - 1 < length es = omega (arith, positive, long, sizes) in
+            let all : length c.slots ≡ length es = omega (arith, long, sizes) in
+            let slot = there es (length es - 1) inner in
+            let used = links_of_slot es (length es) slot.0 (omega (arith, inner)) slot.1 in
+            subst (λ n. IsSome (entry_at c n)) (sym all)
+            (rw (entry_of_slot es head seen (omega (arith, inner)) slot.1) (is_used slot.0 (sym used ∙ none)));
+      })
+    where
+      there : (xs : List (Slot T)) (k : ℕ) → k < length xs → (x : Slot T) × (slice_get xs k ≡ Some x)
+      there [] k below = absurd (omega (arith, below))
+      there (x ∷ xs) zero below = (x, refl)
+      there (x ∷ xs) (suc k) below = there xs k (omega (arith, below))
+
+      is_used : (x : Slot T) → links_of x ≡ None → IsSome (entry_of x)
+      is_used (free p n) none = absurd (cc)
+      is_used (used g t) none = refl
+
+  pub last_vacant : (es : List (Slot T)) {room : Room} {g : ℕ} (head : Option ℕ) {c : Content T} {n : ℕ} {v : Ends} → content_of es room g head ≡ c
+      → n ≡ length es → Some v ≡ links_at es n → IsVacant c (length c.slots)
+  last_vacant es head {c = c} {n} {v} seen all at =
+      let long = length-map es entry_of in
+      let sizes = ap (λ d. length d.slots) seen in
+      let same : n ≡ length c.slots = omega (arith, all, long, sizes) in
+      subst (IsVacant c) same (vacant_at es head n v seen (sym at))
+
+  -- the neighbors of a free slot are free
+  pub prev_free : {es : List (Slot T)} {len : ℕ} (n : ℕ) {head : Option ℕ} {room : Room} {v : Ends} → IsSound es len head room → Some v ≡ links_at es n
+      → (j : ℕ) → v.0 ≡ Some j → IsSome (links_at es j)
+  prev_free {es} {len} n {head} {room} {v} sound at j is =
+      elim (on_or_off (links es (length es) head) n) [
+        | inr off ↦ absurd (each_listed es len head room n v sound (sym at) off)
+        | inl on ↦
+            let stands = subst (λ l. Stands (links_at es) None l None) on.is sound.listed.stands in
+            let p = prev_links (links_at es) None on.front on.back n v j stands (sym at) is (λ x none. absurd (cc)) in
+            ap is_some p.1
+      ]
+
+  pub next_free : {es : List (Slot T)} (es1 : List (Slot T)) {len : ℕ} (n : ℕ) {head : Option ℕ} {room : Room} {v : Ends} → IsSound es len head room
+      → Some v ≡ links_at es n → ((j : ℕ) → links_at es1 j ≡ with_next_at (links_at es) v.0 v.1 j) → (j : ℕ) → v.1 ≡ Some j → IsSome (links_at es1 j)
+  next_free {es} es1 {len} n {head} {room} {v} sound at linked j is =
+      elim (on_or_off (links es (length es) head) n) [
+        | inr off ↦ absurd (each_listed es len head room n v sound (sym at) off)
+        | inl on ↦
+            let stands = subst (λ l. Stands (links_at es) None l None) on.is sound.listed.stands in
+            let p = next_links (links_at es) None on.front on.back n v j stands (sym at) is in
+            subst IsSome (sym (linked j)) (next_stays (links_at es) v.0 v.1 j p.0 p.1)
+      ]
+
+  none_counts : (o : Option (ℕ × T)) → o ≡ None → cond (is_some o) 1 0 ≡ zero
+  none_counts None none = refl
+  none_counts (Some e) none = absurd (cc)
+
+  -- there is a last slot, also after writes
+  pub has_last : (es es1 es2 : List (Slot T)) {n : ℕ} → n ≡ length es → 0 < n → map entry_of es1 ≡ map entry_of es → map entry_of es2 ≡ map entry_of es1
+      → 0 < length es2
+  has_last es es1 es2 all positive one two =
+      let longs = ap length (two ∙ one) in
       let here = length-map es entry_of in
-      let there = length-map es' entry_of in
-      chain_links es' (length es') turned (reverse (filter p l)) (omega (arith, fits, fewer, bound, kept, sizes, here, there)) chain
+      let there = length-map es2 entry_of in
+      omega (arith, all, positive, longs, here, there)
 
-  -- the first slots have the list of the indexes among them
-  slice_get-take : (es : List (Slot T)) (n k : ℕ) → k < n → slice_get (take n es) k ≡ slice_get es k
-  slice_get-take es zero k below = absurd (omega (arith, below))
-  slice_get-take [] (suc n) k below = refl
-  slice_get-take (x ∷ es) (suc n) zero below = refl
-  slice_get-take (x ∷ es) (suc n) (suc k) below = slice_get-take es n k (omega (arith, below))
+  count_none : (xs : List (Option (ℕ × T))) (o : Option (ℕ × T)) → o ≡ None → count_by is_some (xs ++ o ∷ []) ≡ count_by is_some xs
+  count_none xs o none =
+      let sum = sum_by_push (λ x. cond (is_some x) 1 0) xs o in
+      let zero_is = none_counts o none in
+      omega (arith, sum, zero_is)
 
-  chain_take : (es : List (Slot T)) (n : ℕ) (head : Option ℕ) (l : List ℕ) → AllUpTo n l → IsChain es head l → IsChain (take n es) head l
-  chain_take es n head [] up_to chain = chain
-  chain_take es n head (i ∷ l) up_to chain =
-      let positive = chain.1 in
-      let below : i - 1 < n = omega (arith, positive, up_to.0) in
-      (chain.0, positive, (chain.2.0, slice_get-take es n (i - 1) below ∙ chain.2.1, chain_take es n chain.2.0 l up_to.1 chain.2.2))
+  end_of : (xs : List (Option (ℕ × T))) (o : Option (ℕ × T)) → get_or (xs ++ o ∷ []) (length xs) None ≡ o
+  end_of [] o = refl
+  end_of (x ∷ xs) o = end_of xs o
 
-  -- the slots up to the last live one, with the list of those of them that are free
-  pub cut : {es : List (Slot T)} (es' : List (Slot T)) {es'' : List (Slot T)} {len last : ℕ} {head head' : Option ℕ} {room room' : Room} {g : ℕ}
-      {c : Content T} {l : List ℕ}
-      → IsSound es len head room → content_of es room g head ≡ c → last ≡ last_index c → map entry_of es' ≡ map entry_of es
-      → l ≡ reverse (filter (λ i. leb i last) (links es (length es) head)) → IsChain es' head' (reverse (filter (λ i. leb i last) l))
-      → es'' ≡ take last es' → room' ≡ room → Becomes es'' len head' room' g (without_free_end c)
-  cut {es} es' {len} {last} {head} {head'} {room} {c} sound seen is same turned chain kept stays =
-      let all = links es (length es) head in
-      let p : ℕ → Bool = λ i. leb i last in
-      let listed : IsChain es' head' (filter p all) = subst (IsChain es' head') (ap (λ m. reverse (filter p m)) turned ∙ turned_twice p all) chain in
-      let whole = formed sound seen in
-      let after = formed-without_free_end c whole in
-      let live = live-without_free_end c in
-      let sizes = slots-without_free_end c in
-      let slots : c.slots ≡ map entry_of es = ap (λ d. d.slots) (sym seen) in
-      let free : c.free ≡ all = ap (λ d. d.free) (sym seen) in
-      let room_is : c.room ≡ room = ap (λ d. d.room) (sym seen) in
-      let front : map entry_of (take last es') ≡ (without_free_end c).slots =
-      sym (take-map entry_of last es') ∙ ap (take last) (same ∙ sym slots) ∙ ap (λ n. take n c.slots) is in
-      let rest : filter p all ≡ (without_free_end c).free =
-      ap (filter p) (sym free) ∙ ap (λ n. filter (λ i. leb i n) c.free) is in
-      let count = sound.counted in
-      let before = ap (count_by is_some) slots in
-      let now = ap (count_by is_some) front in
-      let few = length-map (take last es') entry_of in
-      let long = ap length front in
-      let many = ap length rest in
-      let counted = after.counted in
-      let fits = after.fits in
-      let bound = ap capacity room_is in
-      let s = sound_of (take last es') len head' (filter p all) room (omega (arith, count, before, now, live)) (omega (
-        arith,
-        count,
-        before,
-        live,
-        counted,
-        many,
-        few,
-        long,
-      )) (chain_take es' last head' (filter p all) (filter_up_to last all) listed) (omega (arith, few, long, fits, bound)) in
-      rw (kept, stays)
-      record { sound = s.sound; content = rw (front, s.free_is, rest, ← seen) refl }
+  -- the last slot goes, which is free, and its neighbors are joined
+  pub last_popped : {es : List (Slot T)} (es1 : List (Slot T)) {es2 es3 : List (Slot T)} {len n : ℕ} {head head' : Option ℕ} {room room' : Room} {g : ℕ} {c : Content T} {v : Ends}
+      (x : Option (Slot T))
+      → IsSound es len head room → content_of es room g head ≡ c → n ≡ length es → Some v ≡ links_at es n
+      → ((j : ℕ) → links_at es1 j ≡ with_next_at (links_at es) v.0 v.1 j) → map entry_of es1 ≡ map entry_of es
+      → ((j : ℕ) → links_at es2 j ≡ with_prev_at (links_at es1) v.1 v.0 j) → map entry_of es2 ≡ map entry_of es1
+      → head' ≡ head_after head v.0 v.1 → IsSome x → es2 ≡ es3 ++ option_to_list x → room' ≡ room
+      → Becomes es3 len head' room' g (without_last c)
+  last_popped es1 None sound seen all at linked1 entries1 linked2 entries2 first some split kept = absurd (true≢false (sym some))
+  last_popped {es} es1 {es2} {es3} {len} {n} {head} {head'} {room} {g = g} {c = c} {v = v} (Some y) sound seen all at linked1 entries1 linked2 entries2 first some split kept =
+      let l = links es (length es) head in
+      let same = entries2 ∙ entries1 in
+      let long = length-map es entry_of in
+      let long2 = length-map es2 entry_of in
+      let longs = ap length same in
+      let pushed = length_push es3 y in
+      let sizes : length es2 ≡ length es3 + 1 = ap length split ∙ pushed in
+      let short : length es3 + 1 ≡ length es = omega (arith, long, long2, longs, sizes) in
+      let f = free_at es n v (sym at) in
+      let whole : map entry_of es ≡ map entry_of es3 ++ entry_of y ∷ [] = sym same ∙ ap (map entry_of) split ∙ map_push entry_of es3 y in
+      let last : length es3 ≡ n - 1 = omega (arith, short, all) in
+      let inner : n - 1 < length es = omega (arith, all, f.positive) in
+      let read : get_or (map entry_of es) (n - 1) None ≡ None =
+      get_or-map entry_of es (n - 1) (free None None) None inner ∙ ap entry_of (get_or_from_slice_get es (n - 1) _ (free None None) f.found) in
+      let none : entry_of y ≡ None =
+      sym (end_of (map entry_of es3) (entry_of y)) ∙ ap (λ k. get_or (map entry_of es3 ++ entry_of y ∷ []) k None) (length-map es3 entry_of ∙ last)
+      ∙ ap (λ xs. get_or xs (n - 1) None) (sym whole) ∙ read in
+      elim (on_or_off l n) [
+        | inr off ↦ absurd (each_listed es len head room n v sound (sym at) off)
+        | inl on ↦
+            let stands = subst (λ m. Stands (links_at es) None m None) on.is sound.listed.stands in
+            let rest = on.front ++ on.back in
+            let written : (k : ℕ) → k ≢ n → links_at es3 k ≡ with_prev_at (with_next_at (links_at es) v.0 v.1) v.1 v.0 k =
+            λ k other.
+            (elim (leb_tells k (length es3)) [
+              | inl below ↦ sym (ap (λ xs. links_at xs k) split ∙ links-push es3 y k below.1)
+              | inr above ↦ links_at_past es3 k above.1 ∙ sym (links_at_past es2 k (omega (arith, above.1, other, sizes, short, all)))
+            ])
+            ∙ linked2 k ∙ prev_same (links_at es1) (with_next_at (links_at es) v.0 v.1) v.1 v.0 k (linked1 k) in
+            let left_stands = taken (links_at es) (links_at es3) on.front on.back n v.0 v.1 stands (sym at) written in
+            let left_first = first ∙ head_taken (links_at es) on.front on.back n head v.0 v.1 stands (sym at) (sound.listed.first ∙ ap (λ m. first_or m None) on.is) in
+            let up_to : AllUpTo n l = listed_up_to es n None l all sound.listed.stands in
+            let below : filter (λ j. ltb j n) l ≡ rest =
+            ap (filter (λ j. ltb j n)) on.is ∙ below_greatest n on.front on.back (subst (AllUpTo n) on.is up_to)
+            (once-front (links_at es) None on.front n on.back stands) (once-back (links_at es) None on.front n on.back stands) in
+            let counts : length l ≡ length rest + 1 =
+            ap length on.is ∙ omega (arith, length-append on.front (n ∷ on.back), length-append on.front on.back) in
+            let live : count_by is_some (map entry_of es3) ≡ count_by is_some (map entry_of es) =
+            sym (ap (count_by is_some) whole ∙ count_none (map entry_of es3) (entry_of y) none) in
+            let counted = sound.counted in
+            let total = sound.total in
+            let fits = sound.fits in
+            let s = sound_of es3 len head' rest room (counted ∙ sym live) (omega (arith, total, counts, short))
+            (record { first = left_first; stands = left_stands }) (omega (arith, fits, short)) in
+            let front : map entry_of es3 ≡ take (length (map entry_of es) - 1) (map entry_of es) =
+            let size : length (map entry_of es) - 1 ≡ length (map entry_of es3) = omega (arith, long, short, length-map es3 entry_of) in
+            sym (ap (λ k. take k (map entry_of es)) size ∙ ap (take (length (map entry_of es3))) whole
+            ∙ take-append_seam (map entry_of es3) (entry_of y ∷ [])) in
+            let to_n : n ≡ length (map entry_of es) = omega (arith, all, long) in
+            let free : rest ≡ filter (λ j. ltb j (length (map entry_of es))) l = sym below ∙ ap (λ k. filter (λ j. ltb j k) l) to_n in
+            rw kept
+            record {
+              sound = s.sound;
+              content = rw (← seen, s.free_is) (ap (λ xs. record { slots = xs; counter = g; free = rest; room = room }) front
+                  ∙ ap (λ m. record { slots = take (length (map entry_of es) - 1) (map entry_of es); counter = g; free = m; room = room }) free);
+            }
+      ]
+    where
+      listed_up_to : (xs : List (Slot T)) (m : ℕ) (b : Option ℕ) (k : List ℕ) → m ≡ length xs → Stands (links_at xs) b k None → AllUpTo m k
+      listed_up_to xs m b [] all s = tt
+      listed_up_to xs m b (i ∷ k) all s = (omega (arith, (free_at xs i _ s.0).within, all), listed_up_to xs m (Some i) k all s.1)
+
+  -- the free slots at the end go one after another
+  take_past : (xs : List (Option (ℕ × T))) (n k : ℕ) → n ≤ k → get_or (take n xs) k None ≡ None
+  take_past xs zero k above = refl
+  take_past [] (suc n) k above = refl
+  take_past (x ∷ xs) (suc n) zero above = absurd (omega (arith, above))
+  take_past (x ∷ xs) (suc n) (suc k) above = take_past xs n k (omega (arith, above))
+
+  take_less : (n m : ℕ) (xs : List (Option (ℕ × T))) → n ≤ m → take n (take m xs) ≡ take n xs
+  take_less zero m xs less = refl
+  take_less (suc n) zero xs less = absurd (omega (arith, less))
+  take_less (suc n) (suc m) [] less = refl
+  take_less (suc n) (suc m) (x ∷ xs) less = ap (λ ys. x ∷ ys) (take_less n m xs (omega (arith, less)))
+
+  entry-without_last : (c : Content T) → IsVacant c (length c.slots) → (j : ℕ) → entry_at (without_last c) j ≡ entry_at c j
+  entry-without_last c vacant zero = refl
+  entry-without_last c vacant (suc k) =
+      elim (leb_tells (length c.slots - 1) k) [
+        | inl past ↦
+            take_past c.slots (length c.slots - 1) k past.1
+            ∙ sym (elim (leb_tells (length c.slots) k) [
+              | inl beyond ↦ none_past c (suc k) (omega (arith, beyond.1))
+              | inr inner ↦
+                  let at : suc k ≡ length c.slots = omega (arith, past.1, inner.1) in
+                  ap (entry_at c) at ∙ vacant.vacant
+            ])
+        | inr inner ↦ get_or-take (length c.slots - 1) c.slots k None (omega (arith, inner.1))
+      ]
+
+  pub without_last-end : (c : Content T) → IsVacant c (length c.slots) → without_free_end (without_last c) ≡ without_free_end c
+  without_last-end c vacant =
+      let n = length c.slots in
+      let d = without_last c in
+      let here = last_index-is c in
+      let sizes : length d.slots ≡ n - 1 = length-take-le (n - 1) c.slots (omega arith) in
+      let positive = vacant.positive in
+      let within : last_index c ≤ n - 1 =
+      elim (eqb_tells (last_index c) n) [
+        | inl same ↦
+            let some = here.live (omega (arith, same.1, positive)) in
+            let none : entry_at c (last_index c) ≡ None = ap (entry_at c) same.1 ∙ vacant.vacant in
+            absurd (true≢false (sym (rw none at some)))
+        | inr other ↦ omega (arith, here.within, other.1)
+      ] in
+      let last : last_index d ≡ last_index c =
+      last_index-unique d (last_index c) (record {
+        within = omega (arith, within, sizes);
+        past = λ j above. entry-without_last c vacant j ∙ here.past j above;
+        live = λ some. rw (entry-without_last c vacant (last_index c)) (here.live some);
+      }) in
+      let slots : take (last_index d) d.slots ≡ take (last_index c) c.slots =
+      ap (λ k. take k d.slots) last ∙ take_less (last_index c) (n - 1) c.slots within in
+      let free : filter (λ i. leb i (last_index d)) d.free ≡ filter (λ i. leb i (last_index c)) c.free =
+      ap (λ k. filter (λ i. leb i k) d.free) last
+      ∙ filter_inside (λ i. leb i (last_index c)) (λ i. ltb i n) (λ j passes. lt-ltb j n (omega (arith, below_of j passes, within, positive))) c.free in
+      ap (λ xs. record c { slots = xs; free = filter (λ i. leb i (last_index d)) d.free }) slots
+      ∙ ap (λ m. record c { slots = take (last_index c) c.slots; free = m }) free
+    where
+      below_of : (j : ℕ) → leb j (last_index c) ≡ true → j ≤ last_index c
+      below_of j test = elim (leb_tells j (last_index c)) [ inl below ↦ below.1 | inr above ↦ absurd (true≢false (sym test ∙ above.0)) ]
+
+  -- and there are fewer of them
+  pub without_last-fewer : (c : Content T) → IsVacant c (length c.slots) → length (without_last c).slots < length c.slots
+  without_last-fewer c vacant =
+      let sizes = length-take-le (length c.slots - 1) c.slots (omega arith) in
+      omega (arith, sizes, vacant.positive)

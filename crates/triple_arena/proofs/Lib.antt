@@ -3,6 +3,7 @@ pub mod FreeSlotsLemmas
 pub mod ExchangeLemmas
 pub mod EntriesLemmas
 pub mod WalkLemmas
+pub mod FreeLinkLemmas
 mod AdvancerLemmas
 mod CompressionLemmas
 mod TransferLemmas

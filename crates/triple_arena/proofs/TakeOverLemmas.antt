@@ -15,7 +15,7 @@ use Rattle.triple_arena.specs.Compression.{value_of, compacted}
 use Rattle.triple_arena.specs.Transfer.{IsFilled}
 use Rattle.triple_arena.specs.DirectContent.{DirectContent, as_content, of_content, entry_at as entry_of_direct, live_count as live_of_direct, live_entries as entries_of_direct, no_counter}
 use Rattle.triple_arena.specs.DirectLayout.{direct_of, IsSound as IsSoundDirect}
-use Rattle.triple_arena.proofs.FreeListLemmas.{sound_of}
+use Rattle.triple_arena.proofs.FreeListLemmas.{none_free, sound_of}
 use Rattle.triple_arena.proofs.TransferLemmas.{Rowed}
 
 module _ {T : Type 0} where
@@ -32,7 +32,7 @@ module _ {T : Type 0} where
       let all = r.all in
       let live = r.live in
       let wide = ap capacity kept in
-      let left = sound_of es len None [] room (omega arith) (omega arith) refl (omega arith) in
+      let left = sound_of es len None [] room (omega arith) (omega arith) (none_free es) (omega arith) in
       let new = content_of es room g None in
       let shape : List (Option (ℕ × T)) → List ℕ → Room → Content T = λ s l x. record { slots = s; counter = g; free = l; room = x } in
       record {

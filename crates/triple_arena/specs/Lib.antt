@@ -1,4 +1,6 @@
 pub mod ArenaRoom
+pub mod OptionalInx
+pub mod FreeLinks
 pub mod Slot
 pub mod SlotState
 pub mod Steps

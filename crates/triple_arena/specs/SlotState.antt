@@ -1,20 +1,18 @@
 -- How a slot keeps what it holds. No public clause cites this module.
 use Rattle.std.specs.Prelude.{ℕ, Option, Some, None}
-use Rattle.std.specs.Int.NonZero.{non_zero_usize_get}
-use Rattle.std.specs.Option.{option_map}
 use Rattle.triple_arena.specs.Slot.{Slot, free, used}
 use Rattle.triple_arena.specs.declared.slot.SlotState.{SlotState}
 use Rattle.triple_arena.specs.declared.slot.SlotState.TheVariants.{Free, Used}
 
 module _ {G T : Type 0} where
   abbrev pub slot_of : (G → ℕ) → SlotState G T → Slot T
-  slot_of number (Free next) = free (option_map non_zero_usize_get next)
+  slot_of number (Free prev next) = free prev next
   slot_of number (Used g t) = used (number g) t
 
   abbrev pub state_value : SlotState G T → Option T
-  state_value (Free next) = None
+  state_value (Free prev next) = None
   state_value (Used g t) = Some t
 
   abbrev pub with_state_value : SlotState G T → T → SlotState G T
-  with_state_value (Free next) _ = Free next
+  with_state_value (Free prev next) _ = Free prev next
   with_state_value (Used g _) t = Used g t

@@ -1,10 +1,12 @@
 //! The generational arena.
-ghost use Rattle.std.specs.Prelude.{◌≡◌, ◌≤◌, [], length, map, ⊤};
+ghost use Rattle.std.specs.Prelude.{◌≡◌, ◌<◌, ◌≤◌, ℕ, [], Some, length, map, ⊤};
 ghost use Rattle.std.specs.Int.NonZero.{non_zero_usize_get};
 ghost use Rattle.triple_arena_ptr.specs.Generation.{second_generation};
 ghost use Rattle.triple_arena_ptr.specs.Index.{max_index_of};
 ghost use Rattle.triple_arena.specs.ArenaRoom.{room_of};
-ghost use Rattle.triple_arena.specs.Slot.{entry_of};
+ghost use Rattle.triple_arena.specs.Slot.{Slot, entry_of, free_links};
+ghost use Rattle.triple_arena.specs.FreeLinks.{neighbors};
+ghost use Rattle.triple_arena_stack.specs.Stack.{item_at};
 ghost use Rattle.triple_arena.specs.Content.{live_count, empty, IsWellFormed};
 
 mod calls;
@@ -26,6 +28,7 @@ mod room;
 mod text;
 mod transfer;
 
+use crate::optional_inx::OptionalInx;
 use crate::{ArenaSlot, ArenaSlots};
 pub(crate) use compression::{compact, keep_first, take_entry};
 pub use entry::{ArenaInsertEntries, ArenaInsertEntry, ArenaInsertEntryTrait};
@@ -52,15 +55,13 @@ pub struct Arena<P: PtrCore, T: Drop, S: ArenaSlots<P, T>> {
     slots: S,
     counter: P::Gen,
     // The first free index.
-    head: Option<NonZeroUsize>,
+    head: OptionalInx,
     // How many slots are live.
     len: usize,
     values: PhantomData<T>,
 }
 
 impl<P: PtrCore, T: Drop, S: ArenaSlots<P, T>> Model for Arena<P, T, S> {
-    ghost use Rattle.std.specs.Int.NonZero.{non_zero_usize_get};
-    ghost use Rattle.std.specs.Option.{option_map};
     ghost use Rattle.triple_arena.specs.ArenaRoom.{room_of};
     ghost use Rattle.triple_arena.specs.Content.{Content, content_code};
     ghost use Rattle.triple_arena.specs.Layout.{content_of, IsSound};
@@ -70,9 +71,9 @@ impl<P: PtrCore, T: Drop, S: ArenaSlots<P, T>> Model for Arena<P, T, S> {
     ghost coded = { content_code T.code };
 
     ghost view = { λ a. content_of (S.items a.slots) (room_of P.Inx.greatest (S.room a.slots))
-        (P.Gen.number a.counter) (option_map non_zero_usize_get a.head) };
+        (P.Gen.number a.counter) a.head };
 
-    ghost invariant = { λ a. IsSound (S.items a.slots) a.len (option_map non_zero_usize_get a.head)
+    ghost invariant = { λ a. IsSound (S.items a.slots) a.len a.head
         (room_of P.Inx.greatest (S.room a.slots)) };
 }
 
@@ -126,7 +127,7 @@ impl<P: PtrCore, T: Drop, S: ArenaSlots<P, T>> Arena<P, T, S> {
         Arena {
             slots,
             counter: P::Gen::two(),
-            head: None,
+            head: OptionalInx::none(),
             len: 0,
             values: PhantomData,
         }
@@ -155,11 +156,16 @@ impl<P: PtrCore, T: Drop, S: ArenaSlots<P, T>> Arena<P, T, S> {
         self.slots.len()
     }
 
-    /// The stack that the slots are kept in.
+    /// The stack that the slots are kept in. `free_links` of a slot answers the neighbors of its index on the list of the
+    /// free indexes, which stand in the order in which insertions take them.
     pub fn backing(&self) -> &S
         ensures entries { map entry_of (S.items result.now) ≡ self.now.slots }
+        ensures links { (i : ℕ) (slot : Slot T) → 0 < i → item_at (S.items result.now) i ≡ Some slot
+            → free_links P.Inx.greatest slot ≡ neighbors self.now.free i }
         ensures room { room_of P.Inx.greatest (S.room result.now) ≡ self.now.room }
     {
+        // The slots are within the capacity, and so are their indexes.
+        let _ = self.own_capacity();
         &self.slots
     }
 }

@@ -146,11 +146,6 @@ pub trait ArenaTrait<P: PtrCore, T: Drop> {
         ensures value { option_map P.Gen.number result ≡ counter self.now }
         ensures counted { IfSome result (λ g. IsGeneration P.Gen.last (P.Gen.number g)) };
 
-    /// The value that `p` points to, if it is live.
-    fn get(&self, p: P) -> Option<&T>
-        ensures { option_copied result ≡ value_if (P.generation p)
-            (entry_at self.now (P.index p)) };
-
     /// The generation and the value at an index, if it is live.
     fn get_inx(&self, i: P::Inx) -> Option<(P::Gen, &T)>
         ensures { option_map (λ e. (P.Gen.number e.0, e.1.now)) result
@@ -163,13 +158,6 @@ pub trait ArenaTrait<P: PtrCore, T: Drop> {
             (with_value self.old (P.Inx.number i))) }
         ensures value { option_map (λ e. e.1) (entry_at self.old (P.Inx.number i))
             ≡ Some result.now };
-
-    /// The value that `p` points to for writing, if it is live.
-    fn get_mut(&mut self, p: P) -> Option<&mut T>
-        ensures* writes_back { sem 𝓛 (LendsIf Self.row T.row self.entry result
-            (with_value self.old (P.index p)) self.old) }
-        ensures value { option_copied_mut result
-            ≡ value_if (P.generation p) (entry_at self.old (P.index p)) };
 
     /// The pointer to the entry with the least index, or `None` where no index is live.
     fn find_first_inx_ptr(&self) -> Option<P>
@@ -200,19 +188,6 @@ pub trait ArenaTrait<P: PtrCore, T: Drop> {
             → j ≤ (walk result).high }
         ensures falling_from { rev ≡ true
             → (walk result).high ≡ min (P.Inx.number i) (2 ^ 64 - 1) };
-
-    /// Removes the value that `p` points to, and steps the counter, where there is one. It answers `InvalidPtr`, and
-    /// changes nothing, where `p` points to none.
-    fn remove(&mut self, p: P) -> InvalidationResult<T>
-        ensures value { option_map value_of (answer_of result)
-            ≡ value_if (P.generation p) (entry_at self.old (P.index p)) }
-        ensures overflow { IfSome (answer_of result)
-            (λ a. overflowed a ≡ counter_wraps P.Gen.last (counter self.old)) }
-        ensures removed { OnSome (answer_of result) (IsRemoved entry_at live_count counter room
-            P.Gen.last (P.index p) self.old self.new) }
-        ensures exact { OnSome (answer_of result) (is_removed self.old (P.index p) self.new) }
-        ensures formed { is_formed self.new }
-        ensures invalid { IfNone (answer_of result) (self.new ≡ self.old) };
 
     /// Removes the entry at an index, and steps the counter, where there is one. It answers `InvalidPtr`, and changes
     /// nothing, where the index is not live.
@@ -353,6 +328,58 @@ pub trait ArenaTrait<P: PtrCore, T: Drop> {
         ensures formed { is_formed self.new }
     {
         self.compress_with(reset, |_, value, _| value)
+    }
+
+    /// The value that `p` points to, if it is live.
+    final fn get(&self, p: P) -> Option<&T>
+        ensures { option_copied result ≡ value_if (P.generation p)
+            (entry_at self.now (P.index p)) }
+    {
+        match self.get_inx(p.inx()) {
+            Some((generation, value)) if generation == p.generation() => Some(value),
+            _ => None,
+        }
+    }
+
+    /// The value that `p` points to for writing, if it is live.
+    final fn get_mut(&mut self, p: P) -> Option<&mut T>
+        ensures* writes_back { sem 𝓛 (LendsIf Self.row T.row self.entry result
+            (with_value self.old (P.index p)) self.old) }
+        ensures value { option_copied_mut result
+            ≡ value_if (P.generation p) (entry_at self.old (P.index p)) }
+    {
+        if self.get(p).is_some() {
+            Some(self.get_inx_mut_unwrap(p.inx()))
+        } else {
+            None
+        }
+    }
+
+    /// Removes the value that `p` points to, and steps the counter, if there is one. If `p` points
+    /// to none, it answers `InvalidPtr` and changes nothing.
+    final fn remove(&mut self, p: P) -> InvalidationResult<T>
+        ensures value { option_map value_of (answer_of result)
+            ≡ value_if (P.generation p) (entry_at self.old (P.index p)) }
+        ensures overflow { IfSome (answer_of result)
+            (λ a. overflowed a ≡ counter_wraps P.Gen.last (counter self.old)) }
+        ensures removed { OnSome (answer_of result) (IsRemoved entry_at live_count counter room
+            P.Gen.last (P.index p) self.old self.new) }
+        ensures exact { OnSome (answer_of result) (is_removed self.old (P.index p) self.new) }
+        ensures formed { is_formed self.new }
+        ensures invalid { IfNone (answer_of result) (self.new ≡ self.old) }
+    {
+        // The arena is well-formed.
+        let _ = self.len();
+        if !self.contains(p) {
+            return InvalidationResult::InvalidPtr;
+        }
+        match self.remove_inx(p.inx()) {
+            InvalidationResult::Success((_, t)) => InvalidationResult::Success(t),
+            InvalidationResult::GenerationOverflow((_, t)) => {
+                InvalidationResult::GenerationOverflow(t)
+            }
+            InvalidationResult::InvalidPtr => unreached!(),
+        }
     }
 
     /// Whether there is no entry.

@@ -21,9 +21,10 @@ pub trait DisjointableArenaTrait<P: PtrCore, T: Drop>: ArenaTrait<P, T> {
         ensures exact { self.new ≡ exchanged self.old (P.Inx.number i) (P.Inx.number j) }
         ensures formed { Self.is_formed self.new };
 
-    /// Exchanges the values that `p` and `q` point to, as `swap_inx` does. It answers `IndexOutOfBounds` where one of
-    /// them points to none, and else `OverlappingIndices` where they are one. Either leaves the arena as it was.
-    fn swap(&mut self, p: P, q: P) -> Result<(), GetDisjointMutError>
+    /// Exchanges the values that `p` and `q` point to, as `swap_inx` does. It answers
+    /// `IndexOutOfBounds` if one of them points to none, and else `OverlappingIndices` if they are
+    /// one. Either leaves the arena as it was.
+    final fn swap(&mut self, p: P, q: P) -> Result<(), GetDisjointMutError>
         ensures variant { IsOk result
             ↔ (IsSome (value_if (P.generation p) (Self.entry_at self.old (P.index p)))
             × IsSome (value_if (P.generation q) (Self.entry_at self.old (P.index q)))
@@ -36,5 +37,17 @@ pub trait DisjointableArenaTrait<P: PtrCore, T: Drop>: ArenaTrait<P, T> {
             Self.room (P.index p) (P.index q) self.old self.new) }
         ensures exact { OnOk result (self.new ≡ exchanged self.old (P.index p) (P.index q)) }
         ensures formed { Self.is_formed self.new }
-        ensures err { OnErr result (self.new ≡ self.old) };
+        ensures err { OnErr result (self.new ≡ self.old) }
+    {
+        // The arena is well-formed.
+        let _ = self.len();
+        if !self.contains(p) || !self.contains(q) {
+            return Err(GetDisjointMutError::IndexOutOfBounds);
+        }
+        if p.inx() == q.inx() {
+            return Err(GetDisjointMutError::OverlappingIndices);
+        }
+        self.swap_inx(p.inx(), q.inx());
+        Ok(())
+    }
 }

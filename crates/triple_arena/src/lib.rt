@@ -53,6 +53,7 @@ mod drain;
 mod insert_trait;
 mod iterators;
 pub mod laws;
+mod optional_inx;
 mod part;
 mod slot;
 mod slots;

@@ -3,18 +3,20 @@ ghost use Rattle.std.specs.Prelude.{◌≡◌, ◌≢◌, ◌≤◌, ℕ, length
 ghost use Rattle.std.specs.Borrow.{Lends, sem};
 ghost use Rattle.std.specs.Int.NonZero.{non_zero_usize_get};
 ghost use Rattle.std.specs.Option.{option_map};
-ghost use Rattle.triple_arena.specs.Slot.{Slot, entry_of, free, used, value_of, link_of, with_link, with_slot_value, with_slot_generation};
+ghost use Rattle.triple_arena.specs.Slot.{Slot, entry_of, free, used, value_of, links_of, index_up_to, free_links as free_links_of, with_links, with_prev, with_next, with_slot_value, with_slot_generation};
 ghost use Rattle.triple_arena_stack.specs.Stack.{item_at, with_item};
 ghost use Rattle.triple_arena.specs.Entries.{value_if};
 
+use crate::optional_inx::OptionalInx;
 use std::marker::Model;
 use std::mem;
 use std::num::NonZeroUsize;
-use triple_arena_ptr::{PtrCore, PtrGenCore};
+use triple_arena_ptr::{PtrCore, PtrGenCore, PtrInxCore};
 use triple_arena_stack::{NonZeroInxGenericStack, get_disjoint_mut};
 use unreached::unreached;
 
-/// A slot of an arena: free, with a link to the next free one, or allocated, with a generation and a value.
+/// A slot of an arena: free, with links to the free ones before and after it, or allocated, with a generation and a
+/// value.
 #[derive(Drop)]
 pub struct ArenaSlot<P: PtrCore, T> {
     state: SlotState<P::Gen, T>,
@@ -22,7 +24,8 @@ pub struct ArenaSlot<P: PtrCore, T> {
 
 #[derive(Drop)]
 enum SlotState<G, T> {
-    Free(Option<NonZeroUsize>),
+    // The free index before it, and the one after it.
+    Free(OptionalInx, OptionalInx),
     Used(G, T),
 }
 
@@ -49,7 +52,7 @@ impl<G, T> ValueMut<T> for SlotState<G, T> {
     fn value_mut(&mut self) -> &mut T {
         match self {
             SlotState::Used(_, value) => value,
-            SlotState::Free(_) => unreached!(),
+            SlotState::Free(_, _) => unreached!(),
         }
     }
 }
@@ -79,11 +82,11 @@ impl<P: PtrCore, T> Model for ArenaSlot<P, T> {
 }
 
 impl<P: PtrCore, T> ArenaSlot<P, T> {
-    pub(crate) fn free(next: Option<NonZeroUsize>) -> Self
-        ensures { result ≡ free (option_map non_zero_usize_get next) }
+    pub(crate) fn free(prev: OptionalInx, next: OptionalInx) -> Self
+        ensures { result ≡ free prev next }
     {
         ArenaSlot {
-            state: SlotState::Free(next),
+            state: SlotState::Free(prev, next),
         }
     }
 
@@ -101,7 +104,7 @@ impl<P: PtrCore, T> ArenaSlot<P, T> {
     {
         match &self.state {
             SlotState::Used(generation, value) => Some((*generation, value)),
-            SlotState::Free(_) => None,
+            SlotState::Free(_, _) => None,
         }
     }
 
@@ -111,7 +114,7 @@ impl<P: PtrCore, T> ArenaSlot<P, T> {
     {
         match &mut self.state {
             SlotState::Used(own, _) => *own = generation,
-            SlotState::Free(_) => {}
+            SlotState::Free(_, _) => {}
         }
     }
 
@@ -121,7 +124,7 @@ impl<P: PtrCore, T> ArenaSlot<P, T> {
     {
         match &self.state {
             SlotState::Used(_, value) => Some(value),
-            SlotState::Free(_) => None,
+            SlotState::Free(_, _) => None,
         }
     }
 
@@ -137,44 +140,83 @@ impl<P: PtrCore, T> ArenaSlot<P, T> {
                     None
                 }
             }
-            SlotState::Free(_) => None,
+            SlotState::Free(_, _) => None,
         }
     }
 
-    // The link, if the slot is free.
-    pub(crate) fn next(&self) -> Option<NonZeroUsize>
-        ensures { option_map non_zero_usize_get result ≡ link_of self.now }
+    // The links, if the slot is free.
+    pub(crate) fn links(&self) -> Option<(OptionalInx, OptionalInx)>
+        ensures { result ≡ links_of self.now }
     {
         match &self.state {
             SlotState::Used(_, _) => None,
-            SlotState::Free(next) => *next,
+            SlotState::Free(prev, next) => Some((*prev, *next)),
         }
     }
 
-    // Gives a free slot another link, and says whether the slot is free.
-    pub(crate) fn relink(&mut self, next: Option<NonZeroUsize>) -> bool
-        ensures value { self.new ≡ with_link self.old (option_map non_zero_usize_get next) }
+    /// If the slot is free, the free index before it in the order in which the free indexes are taken, and the one
+    /// after it, as the slot itself holds them. [`crate::Arena::backing`] says which they are.
+    pub fn free_links(&self) -> Option<(Option<P::Inx>, Option<P::Inx>)>
+        ensures { option_map (λ l. (option_map P.Inx.number l.0, option_map P.Inx.number l.1))
+            result ≡ free_links_of P.Inx.greatest self.now }
+    {
+        match &self.state {
+            SlotState::Used(_, _) => None,
+            SlotState::Free(prev, next) => Some((index_of::<P>(*prev), index_of::<P>(*next))),
+        }
+    }
+
+    // Gives a free slot other links, and says whether the slot is free.
+    pub(crate) fn relink(&mut self, prev: OptionalInx, next: OptionalInx) -> bool
+        ensures value { self.new ≡ with_links self.old prev next }
         ensures free { IsTrue result ↔ (value_of self.old ≡ None) }
     {
         match &mut self.state {
             SlotState::Used(_, _) => false,
-            SlotState::Free(own) => {
-                *own = next;
+            SlotState::Free(own_prev, own_next) => {
+                *own_prev = prev;
+                *own_next = next;
                 true
             }
         }
     }
 
-    // The link, if the slot is free.
-    pub(crate) fn into_next(self) -> Option<NonZeroUsize>
+    // Gives the slot, which must be free, another link to the one before.
+    pub(crate) fn set_prev(&mut self, prev: OptionalInx)
+        requires free { IsSome (links_of self.old) }
+        requires no_more { ⊤ }
+        ensures { self.new ≡ with_prev self.old prev }
+    {
+        match &mut self.state {
+            SlotState::Used(_, _) => unreached!(),
+            SlotState::Free(own, _) => *own = prev,
+        }
+    }
+
+    // Gives the slot, which must be free, another link to the one after.
+    pub(crate) fn set_next(&mut self, next: OptionalInx)
+        requires free { IsSome (links_of self.old) }
+        requires no_more { ⊤ }
+        ensures { self.new ≡ with_next self.old next }
+    {
+        match &mut self.state {
+            SlotState::Used(_, _) => unreached!(),
+            SlotState::Free(_, own) => *own = next,
+        }
+    }
+
+    // The link to the next one. The slot must be free.
+    pub(crate) fn into_next(self) -> OptionalInx
     where
         T: Drop,
-        ensures { option_map non_zero_usize_get result ≡ link_of self }
+        requires free { IsSome (links_of self) }
+        requires no_more { ⊤ }
+        ensures { option_map (λ l. l.1) (links_of self) ≡ Some result }
     {
         let ArenaSlot { state } = self;
         match state {
-            SlotState::Used(_, _) => None,
-            SlotState::Free(next) => next,
+            SlotState::Used(_, _) => unreached!(),
+            SlotState::Free(_, next) => next,
         }
     }
 
@@ -187,8 +229,18 @@ impl<P: PtrCore, T> ArenaSlot<P, T> {
         let ArenaSlot { state } = self;
         match state {
             SlotState::Used(generation, value) => (generation, value),
-            SlotState::Free(_) => unreached!(),
+            SlotState::Free(_, _) => unreached!(),
         }
+    }
+}
+
+// The index with this number, if the pointer type has it.
+fn index_of<P: PtrCore>(i: OptionalInx) -> Option<P::Inx>
+    ensures { option_map P.Inx.number result ≡ index_up_to P.Inx.greatest i }
+{
+    match i.get() {
+        Some(i) => P::Inx::try_from_usize(i),
+        None => None,
     }
 }
 
@@ -207,7 +259,7 @@ impl<P: PtrCore, T> EntrySlot<P, T> for ArenaSlot<P, T> {
         let ArenaSlot { state } = self;
         match state {
             SlotState::Used(generation, value) => Some((generation, value)),
-            SlotState::Free(_) => None,
+            SlotState::Free(_, _) => None,
         }
     }
 }
@@ -259,10 +311,10 @@ pub(crate) fn exchange_values<T, L: ValueMut<T> + Drop, S: NonZeroInxGenericStac
 }
 
 impl<P: PtrCore, T> Default for ArenaSlot<P, T> {
-    ghost is_default = { λ s. s ≡ free None };
+    ghost is_default = { λ s. s ≡ free None None };
 
-    /// A free slot without a link.
+    /// A free slot without links.
     fn default() -> Self {
-        ArenaSlot::free(None)
+        ArenaSlot::free(OptionalInx::none(), OptionalInx::none())
     }
 }

@@ -15,6 +15,7 @@ use crate::arena::compression::{compact, renewal};
 use crate::arena::reading::ValueAtMut;
 use crate::arena::removal::equal_uncounted;
 use crate::arena::{Arena, max_index};
+use crate::optional_inx::OptionalInx;
 use crate::{ArenaSlot, ArenaSlots, ArenaTrait, CompactArenaTrait};
 use triple_arena_ptr::{
     InvalidationOption, InvalidationResult, PtrCore, PtrGenCore, PtrInxCore, ReallocationError,
@@ -124,13 +125,6 @@ impl<P: PtrCore, T: Drop, S: ArenaSlots<P, T>> ArenaTrait<P, T> for Arena<P, T, 
         Some(self.counter)
     }
 
-    fn get(&self, p: P) -> Option<&T> {
-        match self.get_inx(p.inx()) {
-            Some((generation, value)) if generation == p.generation() => Some(value),
-            _ => None,
-        }
-    }
-
     fn get_inx(&self, i: P::Inx) -> Option<(P::Gen, &T)> {
         // The number of slots is a `usize`, so no index past that is live.
         let _ = self.slots.len();
@@ -152,13 +146,6 @@ impl<P: PtrCore, T: Drop, S: ArenaSlots<P, T>> ArenaTrait<P, T> for Arena<P, T, 
         }
     }
 
-    fn get_mut(&mut self, p: P) -> Option<&mut T> {
-        match self.live_index(p) {
-            Some(i) => Some(self.value_at_mut(i)),
-            None => None,
-        }
-    }
-
     fn find_first_inx_ptr(&self) -> Option<P> {
         self.first_of_all()
     }
@@ -173,18 +160,6 @@ impl<P: PtrCore, T: Drop, S: ArenaSlots<P, T>> ArenaTrait<P, T> for Arena<P, T, 
 
     fn advancer_inx(&self, i: P::Inx, rev: bool) -> PtrAdvancer<P> {
         PtrAdvancer::from_index(i, self.slot_count(), rev)
-    }
-
-    fn remove(&mut self, p: P) -> InvalidationResult<T> {
-        // The arena is well-formed before.
-        self.recall_formed();
-        match self.live_index(p) {
-            Some(i) => {
-                let ((_, t), wrapped) = self.remove_at(i);
-                valid(answer(wrapped, t))
-            }
-            None => InvalidationResult::InvalidPtr,
-        }
     }
 
     fn remove_inx(&mut self, i: P::Inx) -> InvalidationResult<(P::Gen, T)> {
@@ -244,7 +219,7 @@ impl<P: PtrCore, T: Drop, S: ArenaSlots<P, T>> ArenaTrait<P, T> for Arena<P, T, 
         let (generation, wrapped) = renewal(self.counter, reset);
         compact(&mut self.slots, Some(generation), reset, map);
         self.counter = generation;
-        self.head = None;
+        self.head = OptionalInx::none();
         // The arena is well-formed after.
         self.recall_formed();
         answer(wrapped, ())

@@ -7,7 +7,7 @@ ghost use Rattle.triple_arena_stack.specs.Room.{capacity, IsBeyond};
 ghost use Rattle.triple_arena.specs.ArenaRoom.{room_of};
 ghost use Rattle.triple_arena.specs.Content.{entry_at, live_count, some_counter, empty, arena_capacity, reallocated, cleared, vacant_from, IsWellFormed};
 ghost use Rattle.triple_arena.specs.Copy.{last_listed, copied as copied_of, MayRefuse, IsMappedCopy, IsRefusedCopy, IsUnmadeCopy};
-ghost use Rattle.triple_arena.specs.Layout.{IsChain};
+ghost use Rattle.triple_arena.specs.Layout.{IsFreeList};
 ghost use Rattle.triple_arena.specs.LiveEntries.{listed_from, live_entries};
 ghost use Rattle.triple_arena.specs.Slot.{entry_of};
 
@@ -15,6 +15,7 @@ use crate::arena::Arena;
 use crate::arena::free_slots::link_rising;
 use crate::copy::{append_copies, up_to_last};
 use crate::iterators::LentEntry;
+use crate::optional_inx::OptionalInx;
 use crate::{ArenaCloneFromWith, ArenaCloneSource, ArenaSlot, ArenaSlots, ArenaTrait};
 use std::num::NonZeroUsize;
 use triple_arena_ptr::{AllocError, PtrCore, ReallocationError};
@@ -155,19 +156,16 @@ impl<P: PtrCore, T: Drop, S: ArenaSlots<P, T>> Arena<P, T, S> {
 }
 
 // Links the free slots by rising index, and answers the first one. Of the slots, `live` are allocated.
-fn link_free<P: PtrCore, T: Drop, S: ArenaSlots<P, T>>(
-    slots: &mut S,
-    live: usize,
-) -> Option<NonZeroUsize>
+fn link_free<P: PtrCore, T: Drop, S: ArenaSlots<P, T>>(slots: &mut S, live: usize) -> OptionalInx
     requires { live ≡ count_by is_some (list_map entry_of (S.items slots.old)) }
     ensures entries { list_map entry_of (S.items slots.new)
         ≡ list_map entry_of (S.items slots.old) }
-    ensures chain { IsChain (S.items slots.new) (option_map non_zero_usize_get result)
+    ensures listed { IsFreeList (S.items slots.new) result
         (vacant_from 1 (list_map entry_of (S.items slots.old))) }
     ensures room { S.room slots.new ≡ S.room slots.old }
 {
     if live == slots.len() {
-        return None;
+        return OptionalInx::none();
     }
     link_rising(slots)
 }

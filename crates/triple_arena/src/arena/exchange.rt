@@ -8,7 +8,7 @@ use crate::arena::Arena;
 use crate::slot::exchange_values;
 use crate::{ArenaSlots, DisjointableArenaTrait};
 use std::num::NonZeroUsize;
-use triple_arena_ptr::{GetDisjointMutError, PtrCore};
+use triple_arena_ptr::PtrCore;
 use unreached::unreached;
 
 impl<P: PtrCore, T: Drop, S: ArenaSlots<P, T>> DisjointableArenaTrait<P, T> for Arena<P, T, S> {
@@ -25,19 +25,6 @@ impl<P: PtrCore, T: Drop, S: ArenaSlots<P, T>> DisjointableArenaTrait<P, T> for 
             }
             _ => unreached!(),
         }
-    }
-
-    fn swap(&mut self, p: P, q: P) -> Result<(), GetDisjointMutError> {
-        // The arena is well-formed before.
-        self.recall_formed();
-        let (Some(i), Some(j)) = (self.live_index(p), self.live_index(q)) else {
-            return Err(GetDisjointMutError::IndexOutOfBounds);
-        };
-        if i == j {
-            return Err(GetDisjointMutError::OverlappingIndices);
-        }
-        self.exchange_at(i, j);
-        Ok(())
     }
 }
 

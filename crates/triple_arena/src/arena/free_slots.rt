@@ -1,15 +1,15 @@
 //! The free slots: the list of them, its order, and those at the end.
-ghost use Rattle.std.specs.Prelude.{◌≡◌, ◌≤◌, Some, None, length, map as list_map, filter, reverse, nat_le, slice_get};
+ghost use Rattle.std.specs.Prelude.{◌≡◌, ◌≤◌, ℕ, Some, IsSome, IsTrue, IsFalse, length, map as list_map, slice_get, ⊤};
 ghost use Rattle.std.specs.Int.NonZero.{non_zero_usize_get};
 ghost use Rattle.std.specs.Option.{option_map};
+ghost use Rattle.triple_arena.specs.FreeLinks.{with_prev_at, with_next_at};
 ghost use Rattle.triple_arena.specs.Slot.{entry_of};
-ghost use Rattle.triple_arena.specs.Layout.{links, IsChain};
-ghost use Rattle.triple_arena.specs.Content.{without_free_end, vacant_from, canonicalized, IsWellFormed};
+ghost use Rattle.triple_arena.specs.Layout.{links_at, head_after, without_last, IsFreeList};
+ghost use Rattle.triple_arena.specs.Content.{without_free_end, vacant_from, canonicalized, last_index, IsVacant, IsWellFormed};
 
 use crate::ArenaSlots;
-use crate::advancer::LivePointers;
 use crate::arena::Arena;
-use crate::arena::compression::keep_first;
+use crate::optional_inx::OptionalInx;
 use std::num::NonZeroUsize;
 use triple_arena_ptr::{PtrCore, PtrInxCore};
 
@@ -20,7 +20,7 @@ impl<P: PtrCore, T: Drop, S: ArenaSlots<P, T>> Arena<P, T, S> {
     {
         // Each slot has an index of the pointer type.
         let _ = self.own_capacity();
-        match self.head {
+        match self.head.get() {
             Some(head) => P::Inx::try_from_usize(head),
             None => None,
         }
@@ -32,18 +32,32 @@ impl<P: PtrCore, T: Drop, S: ArenaSlots<P, T>> Arena<P, T, S> {
         ensures value { self.new ≡ without_free_end self.old }
         ensures formed { IsWellFormed self.new }
     {
-        // The arena is well-formed before.
-        self.recall_formed();
-        let last = self.last_index();
-        if last == self.slot_count() {
-            return;
-        }
-        // Turned over twice, the list has its order again.
-        let turned = turn_over(&mut self.slots, self.head, last);
-        self.head = turn_over(&mut self.slots, turned, last);
-        keep_first(&mut self.slots, last);
+        while self.pop_free_slot() {}
         // The arena is well-formed after.
         self.recall_formed();
+    }
+
+    // Takes out the last slot, if it is free, by its own links, and says whether it is.
+    fn pop_free_slot(&mut self) -> bool
+        ensures popped { IsTrue result → self.new ≡ without_last self.old }
+        ensures free { IsTrue result → IsVacant self.old (length self.old.slots) }
+        ensures kept { IsFalse result → self.new ≡ self.old }
+        ensures live { IsFalse result → last_index self.old ≡ length self.old.slots }
+        ensures formed { IsWellFormed self.old }
+    {
+        // The arena is well-formed before.
+        self.recall_formed();
+        let Some(last) = NonZeroUsize::new(self.slots.len()) else {
+            return false;
+        };
+        let Some(links) = links_in(&self.slots, last) else {
+            return false;
+        };
+        set_next_at(&mut self.slots, links.0, links.1);
+        set_prev_at(&mut self.slots, links.1, links.0);
+        self.head = head_without(self.head, links.0, links.1);
+        drop(self.slots.pop());
+        true
     }
 
     /// Orders the free indexes, so that insertions take the smallest one first.
@@ -58,54 +72,83 @@ impl<P: PtrCore, T: Drop, S: ArenaSlots<P, T>> Arena<P, T, S> {
 }
 
 // Links the free slots by rising index, and answers the first one.
-pub(crate) fn link_rising<P: PtrCore, T: Drop, S: ArenaSlots<P, T>>(
-    slots: &mut S,
-) -> Option<NonZeroUsize>
+pub(crate) fn link_rising<P: PtrCore, T: Drop, S: ArenaSlots<P, T>>(slots: &mut S) -> OptionalInx
     ensures entries { list_map entry_of (S.items slots.new)
         ≡ list_map entry_of (S.items slots.old) }
-    ensures chain { IsChain (S.items slots.new) (option_map non_zero_usize_get result)
+    ensures listed { IsFreeList (S.items slots.new) result
         (vacant_from 1 (list_map entry_of (S.items slots.old))) }
     ensures room { S.room slots.new ≡ S.room slots.old }
 {
-    let mut head = None;
+    let mut head = OptionalInx::none();
     let mut left = slots.len();
     while let Some(i) = NonZeroUsize::new(left) {
-        if slots.item_mut(i).relink(head) {
-            head = Some(i);
+        if slots.item_mut(i).relink(OptionalInx::none(), head) {
+            let first = OptionalInx::some(i);
+            set_prev_at(slots, head, first);
+            head = first;
         }
         left -= 1;
     }
     head
 }
 
-// Links the free slots from `head` on in the other order, without those past `last`, and answers the first one.
-fn turn_over<P: PtrCore, T: Drop, S: ArenaSlots<P, T>>(
+// The links of the slot at `i`, if it is free.
+fn links_in<P: PtrCore, T: Drop, S: ArenaSlots<P, T>>(
+    slots: &S,
+    i: NonZeroUsize,
+) -> Option<(OptionalInx, OptionalInx)>
+    ensures { result ≡ links_at (S.items slots.now) (non_zero_usize_get i) }
+{
+    match slots.get(i) {
+        Some(slot) => slot.links(),
+        None => None,
+    }
+}
+
+// Gives the slot at this index, if it is one, another link to the one before. The slot must be free.
+pub(crate) fn set_prev_at<P: PtrCore, T: Drop, S: ArenaSlots<P, T>>(
     slots: &mut S,
-    head: Option<NonZeroUsize>,
-    last: usize,
-) -> Option<NonZeroUsize>
-    requires { IsChain (S.items slots.old) (option_map non_zero_usize_get head)
-        (links (S.items slots.old) (length (S.items slots.old))
-        (option_map non_zero_usize_get head)) }
+    at: OptionalInx,
+    prev: OptionalInx,
+)
+    requires free { (i : ℕ) → at ≡ Some i → IsSome (links_at (S.items slots.old) i) }
+    requires no_more { ⊤ }
+    ensures links { (i : ℕ) → links_at (S.items slots.new) i
+        ≡ with_prev_at (links_at (S.items slots.old)) at prev i }
     ensures entries { list_map entry_of (S.items slots.new)
         ≡ list_map entry_of (S.items slots.old) }
-    ensures chain { IsChain (S.items slots.new) (option_map non_zero_usize_get result)
-        (reverse (filter (λ i. nat_le i last) (links (S.items slots.old)
-        (length (S.items slots.old)) (option_map non_zero_usize_get head)))) }
     ensures room { S.room slots.new ≡ S.room slots.old }
 {
-    let mut left = head;
-    let mut turned = None;
-    while let Some(i) = left {
-        let next = match slots.get(i) {
-            Some(slot) => slot.next(),
-            None => unreachable!(),
-        };
-        if i.get() <= last {
-            let _ = slots.item_mut(i).relink(turned);
-            turned = Some(i);
-        }
-        left = next;
+    if let Some(i) = at.get() {
+        slots.item_mut(i).set_prev(prev);
     }
-    turned
+}
+
+// Gives the slot at this index, if it is one, another link to the one after. The slot must be free.
+fn set_next_at<P: PtrCore, T: Drop, S: ArenaSlots<P, T>>(
+    slots: &mut S,
+    at: OptionalInx,
+    next: OptionalInx,
+)
+    requires free { (i : ℕ) → at ≡ Some i → IsSome (links_at (S.items slots.old) i) }
+    requires no_more { ⊤ }
+    ensures links { (i : ℕ) → links_at (S.items slots.new) i
+        ≡ with_next_at (links_at (S.items slots.old)) at next i }
+    ensures entries { list_map entry_of (S.items slots.new)
+        ≡ list_map entry_of (S.items slots.old) }
+    ensures room { S.room slots.new ≡ S.room slots.old }
+{
+    if let Some(i) = at.get() {
+        slots.item_mut(i).set_next(next);
+    }
+}
+
+// The first free index after a slot with these links has left the list.
+fn head_without(head: OptionalInx, prev: OptionalInx, next: OptionalInx) -> OptionalInx
+    ensures { result ≡ head_after head prev next }
+{
+    match prev.get() {
+        Some(_) => head,
+        None => next,
+    }
 }

@@ -4,7 +4,9 @@ ghost use Rattle.triple_arena.specs.Changes.{IsInserted};
 ghost use Rattle.triple_arena.specs.Content.{entry_at, some_counter, live_count, arena_capacity, next_index as next_of, inserted as inserted_of, grown_if_full as grown_of, IsWellFormed};
 ghost use Rattle.triple_arena.specs.ContentLaws.{next-with_value};
 
+use crate::arena::free_slots::set_prev_at;
 use crate::arena::{Arena, pointer_at};
+use crate::optional_inx::OptionalInx;
 use crate::{ArenaInsertTrait, ArenaSlot, ArenaSlots};
 use std::mem;
 use std::num::NonZeroUsize;
@@ -48,7 +50,7 @@ impl<P: PtrCore, T: Drop, S: ArenaSlots<P, T>> Arena<P, T, S> {
     {
         // The slots are within the capacity, and that is a `usize`.
         let _ = self.slots.capacity();
-        if let Some(index) = self.head {
+        if let Some(index) = self.head.get() {
             return pointer_at(index, self.counter);
         }
         match NonZeroUsize::new(self.slots.len() + 1) {
@@ -68,10 +70,12 @@ impl<P: PtrCore, T: Drop, S: ArenaSlots<P, T>> Arena<P, T, S> {
         // The slots are within the capacity, so one more can be counted.
         let _ = self.slots.len();
         let slot = ArenaSlot::used(self.counter, t);
-        match self.head {
+        match self.head.get() {
             Some(index) => {
                 let old = mem::replace(self.slots.item_mut(index), slot);
-                self.head = old.into_next();
+                let next = old.into_next();
+                set_prev_at(&mut self.slots, next, OptionalInx::none());
+                self.head = next;
                 self.len += 1;
                 pointer_at(index, self.counter)
             }

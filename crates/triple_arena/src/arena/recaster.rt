@@ -15,6 +15,7 @@ ghost use Rattle.triple_arena.specs.SlotRecaster.{CompactsNoting};
 use crate::advancer::LivePointers;
 use crate::arena::compression::{keep_first, put_entry, renewal, take_entry};
 use crate::arena::{Arena, pointer_at};
+use crate::optional_inx::OptionalInx;
 use crate::{ArenaSlots, ArenaTrait, DirectArena, DirectSlots};
 use std::num::NonZeroUsize;
 use triple_arena_ptr::{PtrCore, ReallocationError};
@@ -80,7 +81,7 @@ impl<P: PtrCore, T: Drop, S: ArenaSlots<P, T>> Arena<P, T, S> {
         let (generation, _) = renewal(self.counter, reset);
         compact_noting(&mut self.slots, generation, map);
         self.counter = generation;
-        self.head = None;
+        self.head = OptionalInx::none();
         // The arena is well-formed after.
         self.recall_formed();
     }

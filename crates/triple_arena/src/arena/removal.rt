@@ -5,7 +5,9 @@ ghost use Rattle.triple_arena_ptr.specs.Generation.{next_wraps};
 ghost use Rattle.triple_arena.specs.Changes.{IsRemoved};
 ghost use Rattle.triple_arena.specs.Content.{entry_at, some_counter, live_count, with_generation, vacated, removed, emptied, IsWellFormed};
 
+use crate::arena::free_slots::set_prev_at;
 use crate::arena::{Arena, pointer_at};
+use crate::optional_inx::OptionalInx;
 use crate::{ArenaSlot, ArenaSlots};
 use std::mem;
 use std::num::NonZeroUsize;
@@ -51,8 +53,11 @@ impl<P: PtrCore, T: Drop, S: ArenaSlots<P, T>> Arena<P, T, S> {
                 None => unreached!(),
             }
         } else {
-            let slot = mem::replace(self.slots.item_mut(i), ArenaSlot::free(self.head));
-            self.head = Some(i);
+            let first = OptionalInx::some(i);
+            let free = ArenaSlot::free(OptionalInx::none(), self.head);
+            let slot = mem::replace(self.slots.item_mut(i), free);
+            set_prev_at(&mut self.slots, self.head, first);
+            self.head = first;
             self.len -= 1;
             slot.into_entry()
         }
@@ -75,7 +80,7 @@ impl<P: PtrCore, T: Drop, S: ArenaSlots<P, T>> Arena<P, T, S> {
         ensures value { self.new ≡ emptied self.old }
     {
         self.slots.clear();
-        self.head = None;
+        self.head = OptionalInx::none();
         self.len = 0;
     }
 }

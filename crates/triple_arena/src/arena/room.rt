@@ -50,10 +50,24 @@ impl<P: PtrCore, T: Drop, S: ArenaSlots<P, T>> Arena<P, T, S> {
         ensures refusal { IsRefusal S.takes_memory (live_count self.old) self.old.room result }
         ensures err { OnErr result (self.new ≡ self.old) }
     {
+        if self.has_free_slot() {
+            return Ok(());
+        }
         if self.live() < self.own_capacity() {
             return Ok(());
         }
         self.grow()
+    }
+
+    // Whether a slot is free, so that there is room.
+    #[inline]
+    fn has_free_slot(&self) -> bool
+        ensures { IsTrue result → live_count self.now < arena_capacity self.now }
+    {
+        match self.head.get() {
+            Some(_) => true,
+            None => false,
+        }
     }
 
     // The growth, which few insertions need.

@@ -7,6 +7,7 @@ ghost use Rattle.triple_arena.specs.LiveEntries.{live_entries};
 ghost use Rattle.triple_arena.specs.Transfer.{filled as filled_of, IsTransferred, IsFilled, IsGivenUp};
 
 use crate::arena::Arena;
+use crate::optional_inx::OptionalInx;
 use crate::slot::EntrySlot;
 use crate::transfer::{ArenaTransferSource, ArenaTransferTrait, move_entries};
 use crate::{ArenaSlots, ArenaTrait};
@@ -33,7 +34,7 @@ impl<Q: PtrCore, U: Drop, R: ArenaSlots<Q, U>> ArenaTransferSource<Q, U> for Are
             Some(counter) => self.counter = counter,
             None => unreachable!(),
         }
-        self.head = None;
+        self.head = OptionalInx::none();
         self.len = 0;
         // The arena is well-formed after.
         self.recall_formed();
@@ -95,7 +96,7 @@ impl<P: PtrCore, T: Drop, S: ArenaSlots<P, T>> Arena<P, T, S> {
         self.slots.clear();
         source.give_up(&mut self.slots, generation, map);
         self.counter = generation;
-        self.head = None;
+        self.head = OptionalInx::none();
         self.len = len;
         // The arena is well-formed after.
         self.recall_formed();

@@ -118,13 +118,6 @@ impl<P: PtrCore, T: Drop, S: DirectSlots<P, T>> ArenaTrait<P, T> for DirectArena
         None
     }
 
-    fn get(&self, p: P) -> Option<&T> {
-        match self.get_inx(p.inx()) {
-            Some((generation, value)) if generation == p.generation() => Some(value),
-            _ => None,
-        }
-    }
-
     fn get_inx(&self, i: P::Inx) -> Option<(P::Gen, &T)> {
         // The number of slots is a `usize`, so no index past that is live.
         let _ = self.slots.len();
@@ -146,13 +139,6 @@ impl<P: PtrCore, T: Drop, S: DirectSlots<P, T>> ArenaTrait<P, T> for DirectArena
         }
     }
 
-    fn get_mut(&mut self, p: P) -> Option<&mut T> {
-        match self.live_index(p) {
-            Some(i) => Some(self.value_at_mut(i)),
-            None => None,
-        }
-    }
-
     fn find_first_inx_ptr(&self) -> Option<P> {
         self.first_of_all()
     }
@@ -167,15 +153,6 @@ impl<P: PtrCore, T: Drop, S: DirectSlots<P, T>> ArenaTrait<P, T> for DirectArena
 
     fn advancer_inx(&self, i: P::Inx, rev: bool) -> PtrAdvancer<P> {
         PtrAdvancer::from_index(i, self.slot_count(), rev)
-    }
-
-    fn remove(&mut self, p: P) -> InvalidationResult<T> {
-        // The arena is well-formed before.
-        self.recall_formed();
-        match self.live_index(p) {
-            Some(i) => InvalidationResult::Success(self.remove_at(i).1),
-            None => InvalidationResult::InvalidPtr,
-        }
     }
 
     fn remove_inx(&mut self, i: P::Inx) -> InvalidationResult<(P::Gen, T)> {

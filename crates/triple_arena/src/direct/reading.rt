@@ -21,8 +21,11 @@ impl<P: PtrCore, T: Drop, S: DirectSlots<P, T>> DirectArena<P, T, S> {
         // The number of slots is a `usize`, so no index past that is live.
         let _ = self.slots.len();
         match p.inx().try_into_usize() {
-            Some(i) if self.get(p).is_some() => Some(i),
-            _ => None,
+            Some(i) => match self.get_inx(p.inx()) {
+                Some((generation, _)) if generation == p.generation() => Some(i),
+                _ => None,
+            },
+            None => None,
         }
     }
 

@@ -114,13 +114,6 @@ impl<P: PtrCore, T: Drop, S: ChainSlots<P, T>> ArenaTrait<P, T> for ChainArena<P
         self.arena.singular_generation()
     }
 
-    fn get(&self, p: P) -> Option<&T> {
-        match self.arena.get(p) {
-            Some(link) => Some(&link.t),
-            None => None,
-        }
-    }
-
     fn get_inx(&self, i: P::Inx) -> Option<(P::Gen, &T)> {
         match self.arena.get_inx(i) {
             Some((generation, link)) => Some((generation, &link.t)),
@@ -130,14 +123,6 @@ impl<P: PtrCore, T: Drop, S: ChainSlots<P, T>> ArenaTrait<P, T> for ChainArena<P
 
     fn get_inx_mut_unwrap(&mut self, i: P::Inx) -> &mut T {
         &mut self.arena.get_inx_mut_unwrap(i).t
-    }
-
-    fn get_mut(&mut self, p: P) -> Option<&mut T> {
-        if self.arena.get(p).is_some() {
-            Some(self.get_inx_mut_unwrap(p.inx()))
-        } else {
-            None
-        }
     }
 
     fn find_first_inx_ptr(&self) -> Option<P> {
@@ -154,16 +139,6 @@ impl<P: PtrCore, T: Drop, S: ChainSlots<P, T>> ArenaTrait<P, T> for ChainArena<P
 
     fn advancer_inx(&self, i: P::Inx, rev: bool) -> PtrAdvancer<P> {
         self.arena.advancer_inx(i, rev)
-    }
-
-    fn remove(&mut self, p: P) -> InvalidationResult<T> {
-        match self.remove_link_no_gen(p) {
-            InvalidationResult::Success(link) => InvalidationResult::Success(link.t),
-            InvalidationResult::GenerationOverflow(link) => {
-                InvalidationResult::GenerationOverflow(link.t)
-            }
-            InvalidationResult::InvalidPtr => InvalidationResult::InvalidPtr,
-        }
     }
 
     fn remove_inx(&mut self, i: P::Inx) -> InvalidationResult<(P::Gen, T)> {

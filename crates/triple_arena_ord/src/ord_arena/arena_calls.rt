@@ -140,13 +140,6 @@ impl<P: PtrCore, T: Drop, S: OrdSlots<P, T>> ArenaTrait<P, T> for SimpleOrdArena
         self.chains.singular_generation()
     }
 
-    fn get(&self, p: P) -> Option<&T> {
-        match self.chains.get(p) {
-            Some(node) => Some(&node.t),
-            None => None,
-        }
-    }
-
     fn get_inx(&self, i: P::Inx) -> Option<(P::Gen, &T)> {
         match self.chains.get_inx(i) {
             Some((generation, node)) => Some((generation, &node.t)),
@@ -156,14 +149,6 @@ impl<P: PtrCore, T: Drop, S: OrdSlots<P, T>> ArenaTrait<P, T> for SimpleOrdArena
 
     fn get_inx_mut_unwrap(&mut self, i: P::Inx) -> &mut T {
         &mut self.chains.get_inx_mut_unwrap(i).t
-    }
-
-    fn get_mut(&mut self, p: P) -> Option<&mut T> {
-        if self.chains.contains(p) {
-            Some(self.get_inx_mut_unwrap(p.inx()))
-        } else {
-            None
-        }
     }
 
     fn find_first_inx_ptr(&self) -> Option<P> {
@@ -180,23 +165,6 @@ impl<P: PtrCore, T: Drop, S: OrdSlots<P, T>> ArenaTrait<P, T> for SimpleOrdArena
 
     fn advancer_inx(&self, i: P::Inx, rev: bool) -> PtrAdvancer<P> {
         self.chains.advancer_inx(i, rev)
-    }
-
-    #[inline(always)]
-    fn remove(&mut self, p: P) -> InvalidationResult<T> {
-        if !self.chains.contains(p) {
-            self.recall_formed();
-            return InvalidationResult::InvalidPtr;
-        }
-        let taken = self.remove_live(p.inx());
-        self.recall_formed();
-        match taken {
-            InvalidationResult::Success((_, t)) => InvalidationResult::Success(t),
-            InvalidationResult::GenerationOverflow((_, t)) => {
-                InvalidationResult::GenerationOverflow(t)
-            }
-            InvalidationResult::InvalidPtr => InvalidationResult::InvalidPtr,
-        }
     }
 
     fn remove_inx(&mut self, i: P::Inx) -> InvalidationResult<(P::Gen, T)> {

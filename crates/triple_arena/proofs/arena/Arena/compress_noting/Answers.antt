@@ -13,7 +13,7 @@ compact_noting-requires-clause-reaches g c k entry found =
 
 pub invariant_of-self : goal.invariant_of-self
 invariant_of-self g c =
-    (compressed_arena c.compact_noting.ensures.moved.moved c.self.invariant c.self.view_is
+    rw c.none-self-inside.ensures (compressed_arena c.compact_noting.ensures.moved.moved c.self.invariant c.self.view_is
     (ap (room_of g.P.Inx.PtrInxCore.greatest) c.compact_noting.ensures.room) c.renewal-generation.ensures.next).sound
 
 pub returns-clause-recaster : goal.returns-clause-recaster
@@ -21,7 +21,7 @@ returns-clause-recaster g c = rw (← c.self.view_is) (is_recaster _ _ c.compact
 
 pub returns-clause-compressed : goal.returns-clause-compressed
 returns-clause-compressed g c =
-    (compressed_arena c.compact_noting.ensures.moved.moved c.self.invariant c.self.view_is
+    rw c.none-self-inside.ensures (compressed_arena c.compact_noting.ensures.moved.moved c.self.invariant c.self.view_is
     (ap (room_of g.P.Inx.PtrInxCore.greatest) c.compact_noting.ensures.room) c.renewal-generation.ensures.next).compressed
 
 pub returns-clause-values : goal.returns-clause-values
@@ -32,7 +32,7 @@ returns-clause-values g c =
 
 pub returns-clause-exact : goal.returns-clause-exact
 returns-clause-exact g c =
-    (compressed_arena c.compact_noting.ensures.moved.moved c.self.invariant c.self.view_is
+    rw c.none-self-inside.ensures (compressed_arena c.compact_noting.ensures.moved.moved c.self.invariant c.self.view_is
     (ap (room_of g.P.Inx.PtrInxCore.greatest) c.compact_noting.ensures.room) c.renewal-generation.ensures.next).exact
     ∙ ap (λ values. compacted (renewed g.P.Gen.PtrGenCore.last c.args.reset c.args.self.now.counter) values c.args.self.now)
     (returns-clause-values g c)

@@ -1,8 +1,9 @@
-use Rattle.std.proofs.Common.{Some, sym, ap, refl, ◌∙◌}
+use Rattle.std.proofs.Common.{Some, sym, ap, ◌∙◌}
 use Rattle.std.specs.Int.NonZero.{non_zero_usize_get}
 use Rattle.triple_arena_stack.specs.Stack.{with_item}
 use Rattle.triple_arena.specs.ArenaRoom.{room_of}
-use Rattle.triple_arena.proofs.FreeListLemmas.{popped, freed, the_some, entry_of_slot}
+use Rattle.triple_arena.specs.Slot.{free}
+use Rattle.triple_arena.proofs.FreeListLemmas.{popped, freed, head_free, the_some, entry_of_slot}
 use Rattle.triple_arena.proofs.arena.Arena.take_at.Goals as goal
 
 pub invariant_of-self : goal.invariant_of-self
@@ -10,6 +11,12 @@ invariant_of-self g c =
     let live = the_some _ c.requires in
     (popped c.self.invariant (sym c.get.ensures.value ∙ c.if-get-len.true ∙ c.len.ensures.value) c.self.view_is live.1
     c.in-Some.ensures.items (ap (room_of g.P.Inx.PtrInxCore.greatest) c.pop.ensures.room)).sound
+
+pub set_prev_at-requires-clause-free : goal.set_prev_at-requires-clause-free
+set_prev_at-requires-clause-free g c =
+    head_free (non_zero_usize_get c.args.i) c.replace-slot.new.dest c.self.invariant c.self.view_is (the_some _ c.requires).1
+    (g.met.S.NonZeroInxGenericStack.items_with_items c.self.inside.slots
+    (with_item (g.S.NonZeroInxGenericStack.items c.self.inside.slots) (non_zero_usize_get c.args.i) c.replace-slot.new.dest))
 
 pub into_entry-requires-else-get-len-clause-used : goal.into_entry-requires-else-get-len-clause-used
 into_entry-requires-else-get-len-clause-used g c =
@@ -22,9 +29,9 @@ invariant_of-self-else-get-len g c =
     c.self.view_is live.1 (sym c.item_mut.ensures.value ∙ ap Some (sym c.replace-slot.ensures.value))
     (g.met.S.NonZeroInxGenericStack.items_with_items c.self.inside.slots
     (with_item (g.S.NonZeroInxGenericStack.items c.self.inside.slots) (non_zero_usize_get c.args.i) c.replace-slot.new.dest))
-    (c.replace-slot.ensures.after ∙ c.free.ensures) refl
-    (ap (room_of g.P.Inx.PtrInxCore.greatest)
-    (g.met.S.NonZeroInxGenericStack.room_with_items c.self.inside.slots
+    (c.replace-slot.ensures.after ∙ c.free-free.ensures ∙ ap (λ o. free o c.self.inside.head) c.none.ensures) c.some-first.ensures
+    c.set_prev_at.ensures.links c.set_prev_at.ensures.entries
+    (ap (room_of g.P.Inx.PtrInxCore.greatest) (c.set_prev_at.ensures.room ∙ g.met.S.NonZeroInxGenericStack.room_with_items c.self.inside.slots
     (with_item (g.S.NonZeroInxGenericStack.items c.self.inside.slots) (non_zero_usize_get c.args.i) c.replace-slot.new.dest)))).sound
 
 pub returns-in-Some-clause-value : goal.returns-in-Some-clause-value
@@ -40,9 +47,9 @@ returns-else-get-len-clause-value g c =
     c.self.view_is live.1 (sym c.item_mut.ensures.value ∙ ap Some (sym c.replace-slot.ensures.value))
     (g.met.S.NonZeroInxGenericStack.items_with_items c.self.inside.slots
     (with_item (g.S.NonZeroInxGenericStack.items c.self.inside.slots) (non_zero_usize_get c.args.i) c.replace-slot.new.dest))
-    (c.replace-slot.ensures.after ∙ c.free.ensures) refl
-    (ap (room_of g.P.Inx.PtrInxCore.greatest)
-    (g.met.S.NonZeroInxGenericStack.room_with_items c.self.inside.slots
+    (c.replace-slot.ensures.after ∙ c.free-free.ensures ∙ ap (λ o. free o c.self.inside.head) c.none.ensures) c.some-first.ensures
+    c.set_prev_at.ensures.links c.set_prev_at.ensures.entries
+    (ap (room_of g.P.Inx.PtrInxCore.greatest) (c.set_prev_at.ensures.room ∙ g.met.S.NonZeroInxGenericStack.room_with_items c.self.inside.slots
     (with_item (g.S.NonZeroInxGenericStack.items c.self.inside.slots) (non_zero_usize_get c.args.i) c.replace-slot.new.dest)))).content
 
 pub returns-else-get-len-clause-entry : goal.returns-else-get-len-clause-entry

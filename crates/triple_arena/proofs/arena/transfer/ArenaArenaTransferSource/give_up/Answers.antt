@@ -1,5 +1,4 @@
 use Rattle.std.proofs.Common.{sym, ap, ◌∙◌}
-use Rattle.std.specs.Int.NonZero.{non_zero_usize_get}
 use Rattle.std.specs.Option.{option_map}
 use Rattle.triple_arena.specs.ArenaRoom.{room_of}
 use Rattle.triple_arena.specs.Drains.{drained}
@@ -13,9 +12,9 @@ returns-clause-moved g c = rw (← c.self.view_is) c.move_entries-counter.ensure
 pub returns-clause-exact : goal.returns-clause-exact
 returns-clause-exact g c =
     let moved = c.move_entries-counter.ensures in
-    given_up g.Q.Gen.PtrGenCore.last (option_map non_zero_usize_get c.self.inside.head) (g.R.NonZeroInxGenericStack.items c.self.inside.slots)
+    rw c.none-self-inside.ensures (given_up g.Q.Gen.PtrGenCore.last c.self.inside.head (g.R.NonZeroInxGenericStack.items c.self.inside.slots)
     c.self.view_is moved.emptied (ap (room_of g.Q.Inx.PtrInxCore.greatest) moved.from_room)
-    (sym (ap (option_map g.Q.Gen.PtrGenCore.number) c.in-Some.is) ∙ moved.counter)
+    (sym (ap (option_map g.Q.Gen.PtrGenCore.number) c.in-Some.is) ∙ moved.counter))
 
 pub returns-clause-given_up : goal.returns-clause-given_up
 returns-clause-given_up g c =
