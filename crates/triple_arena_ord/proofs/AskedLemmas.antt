@@ -178,7 +178,7 @@ module _ {I T P F : Type 0} (number : I → ℕ) (index generation : P → ℕ) 
               (λ more w. rw u (record { front = walk l; back = walk r; is = ap (λ y. walk l ++ y ∷ walk r) xi }, w))
 
   pub asking_ends : (whole : Tree) (f : F) (link : Option ℕ) (place : Option (P × Ordering)) (g : F) (old new : ℕ) → Asking whole f link place g old new → link ≡ None
-      → IsAsked index generation step (items_among entry) (walk whole) f place old new × (new ≤ old + rank_of whole)
+      → (asked : IsAsked index generation step (items_among entry) (walk whole) f place old new) × (asked.last ≡ g) × (new ≤ old + rank_of whole)
   asking_ends whole f link place g old new a none = (
     record {
       questions = a.questions;
@@ -189,6 +189,7 @@ module _ {I T P F : Type 0} (number : I → ℕ) (index generation : P → ℕ) 
       ends = a.ends;
       ticks = a.ticks;
     },
+    refl,
     let ticks = a.ticks in let over = a.left_over in omega (arith, ticks, over),
   )
     where

@@ -12,11 +12,12 @@ use triple_arena::{ArenaTrait, PtrCore};
 use triple_arena_ptr::Probes;
 use unreached::unreached;
 
-/// Asks `f` on the way down from the root, and says what it answered last, and where.
+/// Asks `f` on the way down from the root, and says what it answered last, and where. It is left in
+/// the state that its last answer left.
 pub(crate) fn ask_down<P, T, A, F>(
     arena: &A,
     root: Option<P::Inx>,
-    mut f: F,
+    f: &mut F,
     probes: &mut Probes,
 ) -> Option<(P, Ordering)>
 where
@@ -25,10 +26,11 @@ where
     A: ArenaTrait<P, IndexNode<P::Inx, T>>,
     F: FnMut(P, &T) -> Ordering,
     requires whole { IsWhole (knots_among P.Inx.number (A.entry_at arena.now)) (option_map P.Inx.number root) }
-    requires callable { F.IsAlwaysCallable f }
-    ensures asked { IsAsked P.index P.generation F.step (items_among (A.entry_at arena.now))
+    requires callable { F.IsAlwaysCallable f.old }
+    ensures asked { (asked : IsAsked P.index P.generation F.step
+        (items_among (A.entry_at arena.now))
         (walk (tree_of (knots_among P.Inx.number (A.entry_at arena.now)) (option_map P.Inx.number root)))
-        f result probes.old probes.new }
+        f.old result probes.old probes.new) × (asked.last ≡ f.new) }
     ensures bound { probes.new ≤ probes.old
         + rank_of (tree_of (knots_among P.Inx.number (A.entry_at arena.now)) (option_map P.Inx.number root)) }
 {

@@ -22,12 +22,39 @@ impl<P: PtrCore, T: Drop, S: OrdSlots<P, T>> SimpleOrdArena<P, T, S> {
     ///
     /// Where the answers hang on the pointer and the item alone, and go from `Greater` over `Equal` to `Less` along the list,
     /// the entry is one at which `f` answers `Equal`, or else one beside the gap.
-    pub fn find_similar_with_counted<F>(&self, f: F, probes: &mut Probes) -> Option<(P, Ordering)>
+    pub fn find_similar_with_counted<F>(
+        &self,
+        mut f: F,
+        probes: &mut Probes,
+    ) -> Option<(P, Ordering)>
     where
         F: FnMut(P, &T) -> Ordering,
         requires { F.IsAlwaysCallable f }
         ensures asked { IsAsked P.index P.generation F.step (entry_in self.now) (order_in P.Inx.number self.now)
             f result probes.old probes.new }
+        ensures similar { (side : ℕ → ℕ × T → Way) → AnswersBy P.index P.generation F.step side
+            → IsSimilar P.index P.generation P.Inx.number (answer_at side self.now)
+            (IsParted (answer_at side self.now) (order_in P.Inx.number self.now)) result self.now }
+        ensures rank { probes.new ≤ probes.old + rank_of (tree_in P.Inx.number self.now) }
+        ensures bound { probes.new ≤ probes.old + most_comparisons (size_in self.now) }
+        ensures ordered { IsOrdered P.Inx.number self.now }
+    {
+        self.find_similar_by_counted(&mut f, probes)
+    }
+
+    /// The same with a closure that is lent. It is left in the state that its last answer left, so
+    /// that what it noted of the questions is known.
+    pub fn find_similar_by_counted<F>(
+        &self,
+        f: &mut F,
+        probes: &mut Probes,
+    ) -> Option<(P, Ordering)>
+    where
+        F: FnMut(P, &T) -> Ordering,
+        requires { F.IsAlwaysCallable f.old }
+        ensures asked { (asked : IsAsked P.index P.generation F.step (entry_in self.now)
+            (order_in P.Inx.number self.now) f.old result probes.old probes.new)
+            × (asked.last ≡ f.new) }
         ensures similar { (side : ℕ → ℕ × T → Way) → AnswersBy P.index P.generation F.step side
             → IsSimilar P.index P.generation P.Inx.number (answer_at side self.now)
             (IsParted (answer_at side self.now) (order_in P.Inx.number self.now)) result self.now }

@@ -12,7 +12,7 @@ returns-then-is_none-2-clause-asked g c =
     let ends = goes_nowhere c.f-answer.result (knot_of number c.in-Some-get_inx.entry.1.now) (no_child number _ c.if-is_none.ensures) (no_child number _ c.if-is_none-2.ensures) in
     let asked = asking_step number _ _ _ _ _ _ _ _ _ _ _ c.down.invariant.1 (number c.in-Some.i) (ap (option_map number) c.in-Some.is) _ _ at
     _ c._from_raw-p.ensures.has_index c._from_raw-p.ensures.has_generation _ refl _ _ c.f-answer.ensures _ (sym ends) _ c.tick.ensures in
-    (asking_ends _ _ _ _ _ _ _ _ _ _ _ _ asked.goes_on refl).0
+    let ended = asking_ends _ _ _ _ _ _ _ _ _ _ _ _ asked.goes_on refl in (ended.0, ended.1)
 
 pub down-init : goal.down-init
 down-init g c = (search of_calls, asking_begins _ _ _ _ _ _ _ _ c.requires.whole)
@@ -45,7 +45,7 @@ down-preserved g c =
     (search of_calls, asked.goes_on)
 
 pub returns-clause-asked : goal.returns-clause-asked
-returns-clause-asked g c = (asking_ends _ _ _ _ _ _ _ _ _ _ _ _ c.down.invariant.1 (ap (option_map g.P.Inx.PtrInxCore.number) c.in_default.is)).0
+returns-clause-asked g c = let ended = asking_ends _ _ _ _ _ _ _ _ _ _ _ _ c.down.invariant.1 (ap (option_map g.P.Inx.PtrInxCore.number) c.in_default.is) in (ended.0, ended.1)
 
 pub returns-clause-bound : goal.returns-clause-bound
-returns-clause-bound g c = (asking_ends _ _ _ _ _ _ _ _ _ _ _ _ c.down.invariant.1 (ap (option_map g.P.Inx.PtrInxCore.number) c.in_default.is)).1
+returns-clause-bound g c = (asking_ends _ _ _ _ _ _ _ _ _ _ _ _ c.down.invariant.1 (ap (option_map g.P.Inx.PtrInxCore.number) c.in_default.is)).2
