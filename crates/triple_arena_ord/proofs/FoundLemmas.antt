@@ -11,6 +11,7 @@ use Rattle.rank_tree.specs.Shape.{root_of, count}
 use Rattle.rank_tree.specs.Search.{IsParted, Places, IsAnswer}
 use Rattle.triple_arena_ord.specs.Near.{IsStop}
 use Rattle.triple_arena_ord.specs.Asked.{Question, IsAsked, AnswersBy, answer_of, answer_at, found_by}
+use Rattle.triple_arena_ord.specs.AskedLaws.{answers_behind}
 use Rattle.triple_arena_ord.specs.Found.{IsFound, IsSimilar}
 use Rattle.triple_arena_ord.specs.Ordered.{Ordered, IsOrdered, tree_in, order_in, entry_in, size_in}
 use Rattle.rank_tree.specs.ClimbLaws.{size-walk}
@@ -77,7 +78,7 @@ module _ {I T P : Type 0} (number : I → ℕ) (index generation : P → ℕ) (f
 -- what a closure was asked, where its answers are those of a function
 module _ {I T P F : Type 0} (number : I → ℕ) (index generation : P → ℕ) (step : F → P → Bor T → Ordering → F → Type 0) (o : Ordered I T) (is : IsOrdered number o)
     (g : F) (last : Option (P × Ordering)) (old new : ℕ) (asked : IsAsked index generation step (entry_in o) (order_in number o) g last old new)
-    (side : ℕ → ℕ × T → Ordering) (by : AnswersBy index generation step side) where
+    (side : ℕ → ℕ × T → Ordering) (by : AnswersBy index generation step g side) where
   abbrev way_of : List (Question P T) → List (ℕ × Ordering)
   way_of questions = map (λ (q : Question P T). (index q.pointer, q.answer)) questions
 
@@ -87,11 +88,14 @@ module _ {I T P F : Type 0} (number : I → ℕ) (index generation : P → ℕ) 
   abbrev Listed : List (Question P T) → Type 0
   Listed questions = AllByRecursion (λ (q : Question P T). entry_in o (index q.pointer) ≡ Some (generation q.pointer, q.lent.now)) questions
 
-  agree : (questions : List (Question P T)) (h k : F) → FoldsTo (λ g (q : Question P T) h. step g q.pointer q.lent q.answer h) h questions k → Listed questions
+  agree : (questions : List (Question P T)) (h k : F) → AnswersBy index generation step h side
+      → FoldsTo (λ g (q : Question P T) h. step g q.pointer q.lent q.answer h) h questions k → Listed questions
       → AllByRecursion (λ (a : ℕ × Ordering). answer_at side o a.0 ≡ a.1) (way_of questions)
-  agree [] h k made all = tt
-  agree (q ∷ questions) h k made all =
-      (ap (answer_of side (index q.pointer)) all.0 ∙ sym (by h q.pointer q.lent q.answer made.0 made.1), agree questions made.0 k made.2 all.1)
+  agree [] h k by made all = tt
+  agree (q ∷ questions) h k by made all = (
+    ap (answer_of side (index q.pointer)) all.0 ∙ sym (by h ([], refl) q.pointer q.lent q.answer made.0 made.1),
+    agree questions made.0 k (answers_behind index generation step side h q.pointer q.lent q.answer made.0 made.1 by) made.2 all.1,
+  )
 
   last_same : (r : Option (P × Ordering)) (questions : List (Question P T))
       → option_map {U = ℕ × Ordering} (λ x. (index x.0, x.1)) (last_or r (answers_of questions)) ≡ last_or (option_map {U = ℕ × Ordering} (λ x. (index x.0, x.1)) r) (way_of questions)
@@ -113,7 +117,7 @@ module _ {I T P F : Type 0} (number : I → ℕ) (index generation : P → ℕ) 
   same = ap (option_map {U = ℕ × Ordering} (λ x. (index x.0, x.1))) asked.ends ∙ last_same None asked.questions
 
   answer : IsAnswer f (tree_in number o) (last_or None (way_of asked.questions))
-  answer = way_answers f (tree_in number o) (way_of asked.questions) asked.way (agree asked.questions g asked.last asked.made asked.entries)
+  answer = way_answers f (tree_in number o) (way_of asked.questions) asked.way (agree asked.questions g asked.last by asked.made asked.entries)
 
   live : IfSome last Lives
   live = subst (λ r. IfSome r Lives) (sym asked.ends) (last_lives None asked.questions tt asked.entries)

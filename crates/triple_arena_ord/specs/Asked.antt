@@ -36,9 +36,15 @@ module _ {P T F : Type 0} (index generation : P → ℕ) (step : F → P → Bor
     pub ends : result ≡ last_or None (map (λ (q : Question P T). (q.pointer, q.answer)) questions)
     pub ticks : new_ticks ≡ old_ticks + length questions
 
-  -- the answers hang on the pointer and the item alone
-  abbrev pub AnswersBy : (ℕ → ℕ × T → Ordering) → Type 0
-  AnswersBy side = (g : F) (p : P) (t : Bor T) (d : Ordering) (h : F) → step g p t d h → d ≡ side (index p) (generation p, t.now)
+  -- a closure in the state f comes to the state g by being asked
+  abbrev pub Reaches : F → F → Type 0
+  Reaches f g = (questions : List (Question P T))
+      × FoldsTo (λ g q h. step g q.pointer q.lent q.answer h) f questions g
+
+  -- from the state f on, the answers hang on the pointer and the item alone
+  abbrev pub AnswersBy : F → (ℕ → ℕ × T → Ordering) → Type 0
+  AnswersBy f side = (g : F) → Reaches f g → (p : P) (t : Bor T) (d : Ordering) (h : F) → step g p t d h
+      → d ≡ side (index p) (generation p, t.now)
 
 -- the pointer to the entry that ended the questions
 abbrev pub found_by : {P : Type 0} → Option (P × Ordering) → Option P

@@ -1,11 +1,12 @@
--- Where the questions of a search end.
+-- Where the questions of a search end, and what each of them keeps of the closure that is asked.
 use Rattle.std.proofs.Common.{◌≡◌, ◌≢◌, ℕ, List, [], ◌∷◌, ◌++◌, append_assoc, Option, Some, None, refl, sym, ap, ◌∙◌, subst}
-use Rattle.std.specs.List.{AllByRecursion}
+use Rattle.std.specs.Borrow.{Bor}
+use Rattle.std.specs.List.{FoldsTo, AllByRecursion}
 use Rattle.std.specs.declared.cmp.Ordering.{Ordering}
 use Rattle.std.specs.declared.cmp.Ordering.TheVariants.{Less, Equal, Greater}
 use Rattle.triple_arena_chain.specs.Chains.{first_or, last_or}
 use Rattle.triple_arena_chain.specs.ChainLaws.{first_or-append, last_or-append}
-use Rattle.triple_arena_ord.specs.Asked.{left_by, IsWay}
+use Rattle.triple_arena_ord.specs.Asked.{left_by, IsWay, Question, Reaches, AnswersBy}
 
 -- the last index that was asked and answered Greater, and the last that answered Less
 abbrev pub lower_by : Ordering → Option ℕ → ℕ → Option ℕ
@@ -74,3 +75,33 @@ pub way_ends : (asked : List (ℕ × Ordering)) (w : List ℕ) → IsWay asked w
 way_ends asked w way all =
     let c = cut_by asked w None None way all in
     record { low = c.low; high = c.high; is = c.is; last = c.last; first = c.first }
+
+module _ {P T F : Type 0} (index generation : P → ℕ) (step : F → P → Bor T → Ordering → F → Type 0) where
+  -- what each question keeps holds of each state that is reached, as that a closure captured this key
+  pub reached_kept : (K : F → Type 0)
+      → ((g : F) (p : P) (t : Bor T) (d : Ordering) (h : F) → K g → step g p t d h → K h)
+      → (f g : F) → K f → Reaches index generation step f g → K g
+  reached_kept K keeps f g at reached = along reached.0 f g at reached.1
+    where
+      along : (questions : List (Question P T)) (f g : F) → K f
+          → FoldsTo (λ g q h. step g q.pointer q.lent q.answer h) f questions g → K g
+      along [] f g at made = subst K made at
+      along (q ∷ questions) f g at made =
+          along questions made.0 g (keeps f q.pointer q.lent q.answer made.0 at made.1) made.2
+
+  -- a closure that keeps what its answers hang on answers so from its first state on
+  pub answers_kept : (K : F → Type 0) (side : ℕ → ℕ × T → Ordering)
+      → ((g : F) (p : P) (t : Bor T) (d : Ordering) (h : F) → K g → step g p t d h
+          → K h × (d ≡ side (index p) (generation p, t.now)))
+      → (f : F) → K f → AnswersBy index generation step f side
+  answers_kept K side tells f at g reached p t d h s =
+      let keeps = reached_kept K (λ g p t d h k s. (tells g p t d h k s).0) in
+      (tells g p t d h (keeps f g at reached) s).1
+
+  -- and so do the answers behind a question
+  pub answers_behind : (side : ℕ → ℕ × T → Ordering) (f : F) (p : P) (t : Bor T) (d : Ordering) (h : F)
+      → step f p t d h → AnswersBy index generation step f side
+      → AnswersBy index generation step h side
+  answers_behind side f p t d h s by g reached =
+      let q : Question P T = record { pointer = p; lent = t; answer = d } in
+      by g (q ∷ reached.0, (h, s, reached.1))

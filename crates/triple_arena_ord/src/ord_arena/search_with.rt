@@ -20,8 +20,10 @@ impl<P: PtrCore, T: Drop, S: OrdSlots<P, T>> SimpleOrdArena<P, T, S> {
     /// with the answer; `None` where there is no entry. Each question is a tick, and there are no more than the rank of the root,
     /// and so no more than `find_key_counted` says.
     ///
-    /// Where the answers hang on the pointer and the item alone, and go from `Greater` over `Equal` to `Less` along the list,
-    /// the entry is one at which `f` answers `Equal`, or else one beside the gap.
+    /// Where the answers hang on the pointer and the item alone, in each state that `f` comes to from
+    /// this one, and go from `Greater` over `Equal` to `Less` along the list, the entry is one at
+    /// which `f` answers `Equal`, or else one beside the gap. So `f` may capture what it keeps, as a
+    /// key.
     pub fn find_similar_with_counted<F>(
         &self,
         mut f: F,
@@ -32,7 +34,7 @@ impl<P: PtrCore, T: Drop, S: OrdSlots<P, T>> SimpleOrdArena<P, T, S> {
         requires { F.IsAlwaysCallable f }
         ensures asked { IsAsked P.index P.generation F.step (entry_in self.now) (order_in P.Inx.number self.now)
             f result probes.old probes.new }
-        ensures similar { (side : ℕ → ℕ × T → Way) → AnswersBy P.index P.generation F.step side
+        ensures similar { (side : ℕ → ℕ × T → Way) → AnswersBy P.index P.generation F.step f side
             → IsSimilar P.index P.generation P.Inx.number (answer_at side self.now)
             (IsParted (answer_at side self.now) (order_in P.Inx.number self.now)) result self.now }
         ensures rank { probes.new ≤ probes.old + rank_of (tree_in P.Inx.number self.now) }
@@ -55,7 +57,7 @@ impl<P: PtrCore, T: Drop, S: OrdSlots<P, T>> SimpleOrdArena<P, T, S> {
         ensures asked { (asked : IsAsked P.index P.generation F.step (entry_in self.now)
             (order_in P.Inx.number self.now) f.old result probes.old probes.new)
             × (asked.last ≡ f.new) }
-        ensures similar { (side : ℕ → ℕ × T → Way) → AnswersBy P.index P.generation F.step side
+        ensures similar { (side : ℕ → ℕ × T → Way) → AnswersBy P.index P.generation F.step f.old side
             → IsSimilar P.index P.generation P.Inx.number (answer_at side self.now)
             (IsParted (answer_at side self.now) (order_in P.Inx.number self.now)) result self.now }
         ensures rank { probes.new ≤ probes.old + rank_of (tree_in P.Inx.number self.now) }
@@ -72,7 +74,7 @@ impl<P: PtrCore, T: Drop, S: OrdSlots<P, T>> SimpleOrdArena<P, T, S> {
         requires { F.IsAlwaysCallable f }
         ensures asked { (ticks : ℕ) × IsAsked P.index P.generation F.step (entry_in self.now) (order_in P.Inx.number self.now)
             f result 0 ticks × (ticks ≤ rank_of (tree_in P.Inx.number self.now)) × (ticks ≤ most_comparisons (size_in self.now)) }
-        ensures similar { (side : ℕ → ℕ × T → Way) → AnswersBy P.index P.generation F.step side
+        ensures similar { (side : ℕ → ℕ × T → Way) → AnswersBy P.index P.generation F.step f side
             → IsSimilar P.index P.generation P.Inx.number (answer_at side self.now)
             (IsParted (answer_at side self.now) (order_in P.Inx.number self.now)) result self.now }
     {
@@ -87,7 +89,7 @@ impl<P: PtrCore, T: Drop, S: OrdSlots<P, T>> SimpleOrdArena<P, T, S> {
         requires { F.IsAlwaysCallable f }
         ensures asked { (last : Option (P × Way)) × IsAsked P.index P.generation F.step (entry_in self.now)
             (order_in P.Inx.number self.now) f last probes.old probes.new × (result ≡ found_by last) }
-        ensures found { (side : ℕ → ℕ × T → Way) → AnswersBy P.index P.generation F.step side
+        ensures found { (side : ℕ → ℕ × T → Way) → AnswersBy P.index P.generation F.step f side
             → IsFound P.index P.generation (answer_at side self.now)
             (IsParted (answer_at side self.now) (order_in P.Inx.number self.now)) result self.now }
         ensures rank { probes.new ≤ probes.old + rank_of (tree_in P.Inx.number self.now) }
@@ -110,7 +112,7 @@ impl<P: PtrCore, T: Drop, S: OrdSlots<P, T>> SimpleOrdArena<P, T, S> {
         ensures asked { (ticks : ℕ) × (last : Option (P × Way)) × IsAsked P.index P.generation F.step (entry_in self.now)
             (order_in P.Inx.number self.now) f last 0 ticks × (result ≡ found_by last)
             × (ticks ≤ rank_of (tree_in P.Inx.number self.now)) × (ticks ≤ most_comparisons (size_in self.now)) }
-        ensures found { (side : ℕ → ℕ × T → Way) → AnswersBy P.index P.generation F.step side
+        ensures found { (side : ℕ → ℕ × T → Way) → AnswersBy P.index P.generation F.step f side
             → IsFound P.index P.generation (answer_at side self.now)
             (IsParted (answer_at side self.now) (order_in P.Inx.number self.now)) result self.now }
     {
