@@ -239,13 +239,26 @@ class Arena:
         after = self.name(self.order[n]) if n < len(self.order) else None
         return f'Between({option(before)}, {option(after)})'
 
+    def noted(self, k, first):
+        """The first entry with a key, with the one before it; or the last whose key is not above, with the one behind."""
+        if not self.ascends():
+            return 'Anywhere'
+        noted = [n for n, key in enumerate(self.keys()) if (key == k if first else key <= k)]
+        if not noted:
+            return 'Nowhere'
+        n = noted[0] if first else noted[-1] + 1
+        beside = [self.name(i) for i in self.order]
+        return f'Between({option(beside[n - 1] if n else None)}, {option(beside[n] if n < len(beside) else None)})'
+
     def search(self, verb, k, num, i, g):
         """The place, and the note on comparisons, or None where there is no such search."""
         verb = verb.removesuffix('_counted')
         if verb in ('find_key', 'find_with'):
             return self.place(k, False), self.work()
-        if verb in ('find_similar_key', 'find_similar_with'):
+        if verb in ('find_similar_key', 'find_similar_with', 'find_similar_by'):
             return self.place(k, True), self.work()
+        if verb in ('find_first_noted', 'find_last_noted'):
+            return self.noted(k, verb == 'find_first_noted'), self.work()
         if verb == 'find_key_linear':
             found = self.live(i, g) and self.ascends() and self.equals(k)
             return self.place(k, False), self.work_along(i, k, num) if found else self.work()
@@ -591,7 +604,8 @@ def turns(header):
 
 KINDS = ('normal', 'nonhereditary', 'linear', 'nonhereditary_linear')
 SEARCHES = [f'{verb}{form}' for verb in ('find_key', 'find_similar_key', 'find_key_linear', 'find_similar_key_linear', 'find_with', 'find_similar_with')
-            for form in ('', '_counted')]
+            for form in ('', '_counted')] + ['find_similar_by_counted']
+NOTED = ['find_first_noted', 'find_last_noted']
 # The arenas of each script, and its calls: those that are made often, and others.
 ARENAS = {
     'lists': [('P0', 'heap'), ('P3', 'heap'), ('N3', 'heap'), ('P0', 'array'), ('P1', 'array'), ('P5', 'array')],
@@ -637,7 +651,7 @@ def a_line(r, script, s, most):
             return f'insert_inx_manual:{way}', [k, v, i]
         return f'{r.choice(FORMS)}:manual_{way}', [k, v, i, 0, int(r.random() < 0.2)]
     if verb == 'search':
-        return r.choice(SEARCHES), [k, num, i, g]
+        return r.choice(SEARCHES + NOTED), [k, num, i, g]
     if verb == 'repair':
         # The keys are made to ascend again, one a line.
         keys = s.keys()

@@ -68,6 +68,14 @@ pub trait Finds<P, K> {
 
     fn similar_with_counted(&self, n: u64) -> Found<P>;
 
+    fn similar_by_counted(&self, n: u64) -> Found<P>;
+
+    /// By what a closure notes that is lent: the first entry with the key, as the one behind a gap.
+    fn first_noted(&self, n: u64) -> Found<P>;
+
+    /// The same: the last entry whose key is not above, as the one before a gap.
+    fn last_noted(&self, n: u64) -> Found<P>;
+
     /// Goes left at each entry but at that of the pointer: it finds the first one.
     fn with_the_pointer(&self, start: P) -> Found<P>;
 }
@@ -105,6 +113,9 @@ fn search_with<P: PtrCore, K, A: Finds<P, K>>(
         "find_with_counted" => Some(arena.with_counted(n)),
         "find_similar_with" => Some(arena.similar_with(n)),
         "find_similar_with_counted" => Some(arena.similar_with_counted(n)),
+        "find_similar_by_counted" => Some(arena.similar_by_counted(n)),
+        "find_first_noted" => Some(arena.first_noted(n)),
+        "find_last_noted" => Some(arena.last_noted(n)),
         "find_with_the_pointer" => Some(arena.with_the_pointer(start)),
         _ => None,
     }

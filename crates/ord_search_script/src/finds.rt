@@ -93,6 +93,58 @@ impl<P: PtrCore + PartialEq, K: CountingKey, S: OrdSlots<P, Item<K>>> Finds<P, K
         Found::similar(found, probes.count(), asked.get())
     }
 
+    fn similar_by_counted(&self, n: u64) -> Found<P> {
+        let mut asked = 0u64;
+        let mut probes = Probes::new();
+        let found = self.arena.find_similar_by_counted(
+            &mut |_p: P, item: &Item<K>| -> Ordering {
+                asked = asked.wrapping_add(1);
+                n.cmp(&item.k().n())
+            },
+            &mut probes,
+        );
+        Found::similar(found, probes.count(), asked)
+    }
+
+    fn first_noted(&self, n: u64) -> Found<P> {
+        let mut asked = 0u64;
+        let mut noted = None;
+        let mut probes = Probes::new();
+        self.arena.find_similar_by_counted(
+            &mut |p: P, item: &Item<K>| -> Ordering {
+                asked = asked.wrapping_add(1);
+                match item.k().n().cmp(&n) {
+                    Ordering::Less => Ordering::Greater,
+                    Ordering::Equal => {
+                        noted = Some((p, Ordering::Less));
+                        Ordering::Less
+                    }
+                    Ordering::Greater => Ordering::Less,
+                }
+            },
+            &mut probes,
+        );
+        Found::similar(noted, probes.count(), asked)
+    }
+
+    fn last_noted(&self, n: u64) -> Found<P> {
+        let mut asked = 0u64;
+        let mut noted = None;
+        let mut probes = Probes::new();
+        self.arena.find_similar_by_counted(
+            &mut |p: P, item: &Item<K>| -> Ordering {
+                asked = asked.wrapping_add(1);
+                if item.k().n() > n {
+                    return Ordering::Less;
+                }
+                noted = Some((p, Ordering::Greater));
+                Ordering::Greater
+            },
+            &mut probes,
+        );
+        Found::similar(noted, probes.count(), asked)
+    }
+
     fn with_the_pointer(&self, start: P) -> Found<P> {
         let asked = Cell::new(0u64);
         let found = self.arena.find_with(|p, _| {
