@@ -396,7 +396,8 @@ fn main() -> io::Result<()> {
         marks: 0,
         last: 0,
         by_key: BTreeMap::new(),
-        items: HashMap::with_capacity(rooms[0] + rooms[1] + rooms[2]),
+        // It grows, as a user's would.
+        items: HashMap::new(),
     };
     let (mut input, mut output) = (io::stdin().lock(), io::stdout().lock());
     let (mut line, mut reply) = (Vec::new(), Vec::new());
