@@ -1,8 +1,11 @@
 //! usage: chains slab|list queue|turn|rotate|walk|iterate|fill|renumber|transfer|clone STEPS, with the operations of the Rattle program `bench`, over a
 //! doubly linked list in a slab by hand, or over std's `LinkedList`.
+mod timed;
+
 use std::collections::LinkedList;
 use std::env;
 use std::process::ExitCode;
+use timed::Entries;
 
 /// How many links there are before the steps.
 const LEN: usize = 4096;
@@ -248,8 +251,53 @@ fn in_list(operation: &str, steps: usize) -> Option<u64> {
     Some(sum)
 }
 
+/// Links of one list, each of which is put in behind one that is there. The first one in is the first of the list. A link
+/// without a next one is read and removed without its value, as in the Rattle program.
+struct Numbered {
+    slab: Slab,
+    places: Vec<usize>,
+    sequence: timed::Sequence,
+}
+
+impl Entries for Numbered {
+    fn make(len: usize) -> Self {
+        Numbered { slab: Slab::new(), places: vec![NONE; len], sequence: timed::Sequence::new() }
+    }
+
+    #[inline(always)]
+    fn put(&mut self, n: usize) -> Option<u64> {
+        let before = if n == 0 { NONE } else { *self.places.get(self.sequence.below(n))? };
+        let place = self.slab.insert_after(before, n as u64);
+        *self.places.get_mut(n)? = place;
+        Some(n as u64)
+    }
+
+    #[inline(always)]
+    fn read(&self, n: usize) -> Option<u64> {
+        let link = self.slab.links.get(*self.places.get(n)?)?;
+        if link.next == NONE { None } else { link.value }
+    }
+
+    #[inline(always)]
+    fn take(&mut self, n: usize) -> Option<u64> {
+        let (next, value) = self.slab.remove(*self.places.get(n)?)?;
+        if next == NONE { None } else { Some(value) }
+    }
+
+    fn walk(&self, laps: &mut timed::Laps) -> u64 {
+        timed::walk(self.slab.along(), laps)
+    }
+
+    fn renumber(&mut self) {
+        self.slab = self.slab.renumbered();
+    }
+}
+
 fn main() -> ExitCode {
     let args: Vec<String> = env::args().collect();
+    if let [_, word, words @ ..] = args.as_slice() && word == "timed" && timed::run::<Numbered>(words).is_some() {
+        return ExitCode::SUCCESS;
+    }
     let sum = match args.as_slice() {
         [_, kind, operation, steps] => steps.parse().ok().and_then(|steps| match kind.as_str() {
             "slab" => in_slab(operation, steps),
@@ -265,6 +313,7 @@ fn main() -> ExitCode {
         }
         None => {
             eprintln!("usage: chains slab|list queue|turn|rotate|walk|iterate STEPS, chains slab fill|renumber|transfer|clone STEPS");
+            eprintln!("       chains timed insert|remove|walk|renumber|canonical_walk LEN STEPS");
             ExitCode::from(2)
         }
     }

@@ -2,10 +2,12 @@
 //! `bench`, over the plain arena, or over that of `slotmap` where it is built with `--cfg slotmap`.
 #[cfg_attr(slotmap, path = "slotmap.rs")]
 mod arena;
+mod timed;
 
 use arena::{Arena, Pointer};
 use std::env;
 use std::process::ExitCode;
+use timed::Entries;
 
 /// How many pointers a table has.
 const TABLE: usize = 4096;
@@ -201,6 +203,41 @@ fn read_table(steps: usize) -> u64 {
     sum
 }
 
+/// An arena, and where its entries are by their numbers.
+struct Numbered {
+    arena: Arena<u64>,
+    pointers: Vec<Pointer>,
+}
+
+impl Entries for Numbered {
+    fn make(len: usize) -> Self {
+        Numbered { arena: Arena::new(), pointers: vec![Pointer::invalid(); len] }
+    }
+
+    #[inline(always)]
+    fn put(&mut self, n: usize) -> Option<u64> {
+        let pointer = self.arena.insert(n as u64);
+        *self.pointers.get_mut(n)? = pointer;
+        Some(n as u64)
+    }
+
+    #[inline(always)]
+    fn read(&self, n: usize) -> Option<u64> {
+        self.arena.get(*self.pointers.get(n)?).copied()
+    }
+
+    #[inline(always)]
+    fn take(&mut self, n: usize) -> Option<u64> {
+        self.arena.remove(*self.pointers.get(n)?)
+    }
+
+    fn walk(&self, laps: &mut timed::Laps) -> u64 {
+        timed::walk(self.arena.iter().map(|(_, value)| *value), laps)
+    }
+
+    fn renumber(&mut self) {}
+}
+
 fn run(operation: &str, steps: usize) -> Option<u64> {
     match operation {
         "insert" => Some(filled(steps).1.len() as u64),
@@ -221,6 +258,9 @@ fn run(operation: &str, steps: usize) -> Option<u64> {
 
 fn main() -> ExitCode {
     let args: Vec<String> = env::args().collect();
+    if let [_, word, words @ ..] = args.as_slice() && word == "timed" && timed::run::<Numbered>(words).is_some() {
+        return ExitCode::SUCCESS;
+    }
     let sum = match args.as_slice() {
         [_, operation, steps] => steps.parse().ok().and_then(|steps| run(operation, steps)),
         _ => None,
@@ -232,6 +272,7 @@ fn main() -> ExitCode {
         }
         None => {
             eprintln!("usage: plain insert|remove|remove_inx|get|write|advance|iterate|clone|drain|churn|loop STEPS");
+            eprintln!("       plain timed insert|find|remove|churn|walk LEN STEPS");
             ExitCode::from(2)
         }
     }

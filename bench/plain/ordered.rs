@@ -1,8 +1,11 @@
 //! usage: ordered map|slab insert|find|remove|cancel|walk|renumber|transfer|clone LEN STEPS, with the operations of the Rattle program `bench`, over
 //! std's `BTreeMap` from keys to values, or over one from keys to the indexes of a slab that holds the entries.
+mod timed;
+
 use std::collections::BTreeMap;
 use std::env;
 use std::process::ExitCode;
+use timed::{Entries, with};
 
 /// The key that is put in as the nth. No two are the same, and they come shuffled.
 fn key(n: usize) -> u64 {
@@ -10,11 +13,6 @@ fn key(n: usize) -> u64 {
     let z = (z ^ (z >> 30)).wrapping_mul(0xbf58_476d_1ce4_e5b9);
     let z = (z ^ (z >> 27)).wrapping_mul(0x94d0_49bb_1331_11eb);
     z ^ (z >> 31)
-}
-
-/// A checksum with a number more.
-fn with(sum: u64, number: u64) -> u64 {
-    sum.wrapping_mul(31).wrapping_add(number)
 }
 
 /// No slot.
@@ -245,8 +243,106 @@ fn in_slab(operation: &str, len: usize, steps: usize) -> Option<u64> {
     Some(sum)
 }
 
+impl Entries for BTreeMap<u64, u64> {
+    fn make(_len: usize) -> Self {
+        BTreeMap::new()
+    }
+
+    #[inline(always)]
+    fn put(&mut self, n: usize) -> Option<u64> {
+        self.insert(key(n), n as u64);
+        Some(n as u64)
+    }
+
+    #[inline(always)]
+    fn read(&self, n: usize) -> Option<u64> {
+        self.get(&key(n)).copied()
+    }
+
+    #[inline(always)]
+    fn take(&mut self, n: usize) -> Option<u64> {
+        self.remove(&key(n))
+    }
+
+    fn walk(&self, laps: &mut timed::Laps) -> u64 {
+        timed::walk(self.values().copied(), laps)
+    }
+
+    fn renumber(&mut self) {
+        *self = std::mem::take(self).into_iter().collect();
+    }
+}
+
+/// Entries in a slab, which are removed by their indexes there, or by their keys.
+struct Numbered<const BY_INDEX: bool> {
+    slab: Slab,
+    places: Vec<usize>,
+}
+
+impl<const BY_INDEX: bool> Entries for Numbered<BY_INDEX> {
+    fn make(len: usize) -> Self {
+        Numbered { slab: Slab::new(), places: vec![NONE; len] }
+    }
+
+    #[inline(always)]
+    fn put(&mut self, n: usize) -> Option<u64> {
+        let place = self.slab.insert(key(n), n as u64);
+        *self.places.get_mut(n)? = place;
+        Some(n as u64)
+    }
+
+    #[inline(always)]
+    fn read(&self, n: usize) -> Option<u64> {
+        self.slab.value(*self.slab.indexes.get(&key(n))?)
+    }
+
+    #[inline(always)]
+    fn take(&mut self, n: usize) -> Option<u64> {
+        if BY_INDEX {
+            let (key, value) = self.slab.take(*self.places.get(n)?)?;
+            self.slab.indexes.remove(&key);
+            Some(value)
+        } else {
+            let index = self.slab.indexes.remove(&key(n))?;
+            Some(self.slab.take(index)?.1)
+        }
+    }
+
+    fn walk(&self, laps: &mut timed::Laps) -> u64 {
+        timed::walk(self.slab.values(), laps)
+    }
+
+    fn renumber(&mut self) {
+        self.slab = self.slab.renumbered();
+    }
+}
+
+/// Times an operation, if these are words for that. A map has no other reference to an entry than its key.
+fn time(words: &[String]) -> Option<()> {
+    let [word, kind, words @ ..] = words else {
+        return None;
+    };
+    if word != "timed" {
+        return None;
+    }
+    let is_cancel = words.first().is_some_and(|operation| operation == "cancel");
+    let mut words = words.to_vec();
+    if is_cancel {
+        words[0] = "remove".to_string();
+    }
+    match kind.as_str() {
+        "map" => timed::run::<BTreeMap<u64, u64>>(&words),
+        "slab" if is_cancel => timed::run::<Numbered<true>>(&words),
+        "slab" => timed::run::<Numbered<false>>(&words),
+        _ => None,
+    }
+}
+
 fn main() -> ExitCode {
     let args: Vec<String> = env::args().collect();
+    if time(&args[1..]).is_some() {
+        return ExitCode::SUCCESS;
+    }
     let sum = match args.as_slice() {
         [_, kind, operation, len, steps] => match (len.parse(), steps.parse()) {
             (Ok(len), Ok(steps)) => match kind.as_str() {
@@ -265,6 +361,7 @@ fn main() -> ExitCode {
         }
         None => {
             eprintln!("usage: ordered map|slab insert|find|remove|cancel|walk|renumber|transfer|clone LEN STEPS");
+            eprintln!("       ordered timed map|slab insert|find|remove|cancel|churn|walk|renumber|canonical_find|canonical_walk LEN STEPS");
             ExitCode::from(2)
         }
     }

@@ -1,12 +1,15 @@
 //! The operations on an arena, as `bench/plain/main.rs` has them. They are generic in traits without clauses, which are proved
 //! in far less time, and which a known arena meets once.
 use crate::sequence::{Sequence, with};
+use crate::timed::{self, Entries, Laps, note, table};
 use std::alloc::Global;
 use triple_arena::{Arena, ArenaInsertTrait, ArenaSlot, ArenaSlots, ArenaTrait, NonZeroInxVec};
 use triple_arena_ptr::{Advancer, InvalidationResult, P0, PtrCore, ReallocationError};
 
 // `bench/run` also builds the program over `P3`.
 type Pointer = P0;
+
+type Slots = NonZeroInxVec<ArenaSlot<Pointer, u64>, Global>;
 
 /// Runs so many steps of an operation, and answers a checksum.
 ///
@@ -15,7 +18,7 @@ type Pointer = P0;
 /// and `loop` is their loop alone. `advance` and `iterate` walk over that arena again and again. `clone` copies an arena with so
 /// many entries, `drain` empties it. A step of `churn` reads one entry, and removes another or inserts one where it is gone.
 pub fn run(operation: &str, alloc: Global, steps: usize) -> Option<Result<u64, ReallocationError>> {
-    run_over::<NonZeroInxVec<ArenaSlot<Pointer, u64>, Global>>(operation, alloc, steps)
+    run_over::<Slots>(operation, alloc, steps)
 }
 
 // Over this kind of stack.
@@ -25,6 +28,16 @@ fn run_over<S: ArenaSlots<Pointer, u64, Alloc = Global>>(
     steps: usize,
 ) -> Option<Result<u64, ReallocationError>> {
     run_in::<Arena<Pointer, u64, S>>(operation, alloc, steps)
+}
+
+/// Times an operation on so many entries.
+pub fn time(
+    rt: &HostRuntime,
+    operation: &str,
+    len: usize,
+    steps: usize,
+) -> anyhow::Result<Option<u64>> {
+    timed::run::<Numbered<Arena<Pointer, u64, Slots>>>(rt, operation, len, steps)
 }
 
 // What the operations do with an arena of any kind. What a step calls is inlined, and so it takes no more instructions than at
@@ -129,6 +142,9 @@ trait Copied: Drop {
     // A checksum of the values, so many of them.
     fn go_over(&self, left: &mut usize, sum: u64) -> u64;
 
+    // A checksum of all values.
+    fn go_over_timed(&self, laps: &mut Laps<'_>) -> u64;
+
     fn copy(&self, alloc: Global) -> Result<Self, ReallocationError>;
 }
 
@@ -146,9 +162,62 @@ impl<P: PtrCore, S: ArenaSlots<P, u64, Alloc = Global>> Copied for Arena<P, u64,
         sum
     }
 
+    fn go_over_timed(&self, laps: &mut Laps<'_>) -> u64 {
+        let mut sum = 0u64;
+        let mut left = laps.start();
+        for (_, value) in self {
+            sum = with(sum, *value);
+            left = laps.step(left);
+        }
+        sum
+    }
+
     fn copy(&self, alloc: Global) -> Result<Self, ReallocationError> {
         self.clone(alloc)
     }
+}
+
+// An arena, and where its entries are by their numbers.
+#[derive(Drop)]
+struct Numbered<A> {
+    arena: A,
+    pointers: Vec<Pointer>,
+}
+
+impl<A: Measured<Pointer> + Copied> Entries for Numbered<A> {
+    fn make(alloc: Global, len: usize) -> Option<Self> {
+        Some(Numbered {
+            arena: A::make(alloc),
+            pointers: table(alloc, len)?,
+        })
+    }
+
+    #[inline(always)]
+    fn put(&mut self, n: usize) -> Option<u64> {
+        let pointer = self.arena.put(n as u64).ok()?;
+        note(&mut self.pointers, n, pointer);
+        Some(n as u64)
+    }
+
+    #[inline(always)]
+    fn read(&self, n: usize) -> Option<u64> {
+        self.arena.read(*self.pointers.get(n)?)
+    }
+
+    #[inline(always)]
+    fn take(&mut self, n: usize) -> Option<u64> {
+        match self.arena.take(*self.pointers.get(n)?) {
+            InvalidationResult::Success(value) => Some(value),
+            _ => None,
+        }
+    }
+
+    fn walk(&self, laps: &mut Laps<'_>) -> u64 {
+        self.arena.go_over_timed(laps)
+    }
+
+    // A walk goes by the indexes.
+    fn renumber(&mut self) {}
 }
 
 // In this kind of arena. Each operation is compiled for itself, so that another one does not change what it takes.

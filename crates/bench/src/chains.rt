@@ -1,11 +1,14 @@
 //! The operations on links in chains, as `bench/plain/chains.rs` has them. They are generic in a trait without clauses, as those
 //! on an arena are.
 use crate::sequence::{Sequence, with};
+use crate::timed::{self, Entries, Laps, note, table};
 use std::alloc::Global;
 use triple_arena::{Advancer, ArenaSlot, ArenaTrait, NonZeroInxVec, P0, PtrCore};
 use triple_arena_chain::{
     ChainArena, ChainArenaTrait, ChainInsertionError, ChainSlots, LinkInsertKind, LinkNoGen,
 };
+
+type Slots = NonZeroInxVec<ArenaSlot<P0, LinkNoGen<P0, u64>>, Global>;
 
 /// Runs so many steps of an operation, and answers a checksum.
 ///
@@ -16,9 +19,27 @@ pub fn run(
     alloc: Global,
     steps: usize,
 ) -> Option<Result<u64, ChainInsertionError>> {
-    run_over::<P0, NonZeroInxVec<ArenaSlot<P0, LinkNoGen<P0, u64>>, Global>>(
-        operation, alloc, steps,
-    )
+    run_over::<P0, Slots>(operation, alloc, steps)
+}
+
+/// Times an operation on so many links of one list, each of which is put in behind one that is there.
+pub fn time(
+    rt: &HostRuntime,
+    operation: &str,
+    len: usize,
+    steps: usize,
+) -> anyhow::Result<Option<u64>> {
+    time_over::<P0, Slots>(rt, operation, len, steps)
+}
+
+// Over this kind of stack.
+fn time_over<P: PtrCore, S: ChainSlots<P, u64, Alloc = Global>>(
+    rt: &HostRuntime,
+    operation: &str,
+    len: usize,
+    steps: usize,
+) -> anyhow::Result<Option<u64>> {
+    timed::run::<Numbered<P, ChainArena<P, u64, S>>>(rt, operation, len, steps)
 }
 
 // Over this kind of stack.
@@ -67,6 +88,9 @@ trait Measured<P: Copy, I: Copy>: Drop {
 
     // A checksum of the list of the link with the least index, which is its start.
     fn along(&self) -> u64;
+
+    // The same, which is timed.
+    fn along_timed(&self, laps: &mut Laps<'_>) -> u64;
 
     fn renumber(&mut self);
 
@@ -163,6 +187,22 @@ impl<P: PtrCore, S: ChainSlots<P, u64, Alloc = Global>> Measured<P, P::Inx>
         sum
     }
 
+    fn along_timed(&self, laps: &mut Laps<'_>) -> u64 {
+        let mut sum = 0u64;
+        let Some(first) = self.find_first_inx_ptr() else {
+            return sum;
+        };
+        let Some(mut links) = self.iter_chain(first) else {
+            return sum;
+        };
+        let mut left = laps.start();
+        while let Some((_, link)) = links.next() {
+            sum = with(sum, link.t);
+            left = laps.step(left);
+        }
+        sum
+    }
+
     #[inline(always)]
     fn renumber(&mut self) {
         let _ = self.compress_canonical(false);
@@ -187,6 +227,54 @@ impl<P: PtrCore, S: ChainSlots<P, u64, Alloc = Global>> Measured<P, P::Inx>
             Ok(copy) => Ok(copy),
             Err(_) => Err(ChainInsertionError::AllocError),
         }
+    }
+}
+
+// Links of one list, and where they are by their numbers.
+#[derive(Drop)]
+struct Numbered<P, A> {
+    chains: A,
+    pointers: Vec<P>,
+    sequence: Sequence,
+}
+
+impl<P: PtrCore, A: Measured<P, P::Inx>> Entries for Numbered<P, A> {
+    fn make(alloc: Global, len: usize) -> Option<Self> {
+        Some(Numbered {
+            chains: A::make(alloc),
+            pointers: table(alloc, len)?,
+            sequence: Sequence::new(),
+        })
+    }
+
+    #[inline(always)]
+    fn put(&mut self, n: usize) -> Option<u64> {
+        let place = if n == 0 {
+            Place::Apart
+        } else {
+            Place::Behind(*self.pointers.get(self.sequence.below(n))?)
+        };
+        let pointer = self.chains.put(place, n as u64).ok()?;
+        note(&mut self.pointers, n, pointer);
+        Some(n as u64)
+    }
+
+    #[inline(always)]
+    fn read(&self, n: usize) -> Option<u64> {
+        Some(self.chains.read(A::index(*self.pointers.get(n)?))?.1)
+    }
+
+    #[inline(always)]
+    fn take(&mut self, n: usize) -> Option<u64> {
+        Some(self.chains.take(A::index(*self.pointers.get(n)?))?.1)
+    }
+
+    fn walk(&self, laps: &mut Laps<'_>) -> u64 {
+        self.chains.along_timed(laps)
+    }
+
+    fn renumber(&mut self) {
+        self.chains.renumber();
     }
 }
 

@@ -6,8 +6,8 @@ mod arenas;
 mod chains;
 mod ordered;
 mod sequence;
+mod timed;
 
-use std::alloc::Global;
 use std::env;
 use std::process::ExitCode;
 
@@ -20,13 +20,7 @@ fn main(rt: HostRuntime) -> anyhow::Result<ExitCode> {
     let second = args.next().and_then(|word| word.parse::<usize>().ok());
     let sum = match (layer, operation, first) {
         (Some(layer), Some(operation), Some(first)) => {
-            run(
-                rt.alloc(),
-                layer.as_str(),
-                operation.as_str(),
-                first,
-                second,
-            )?
+            run(&rt, layer.as_str(), operation.as_str(), first, second)?
         }
         _ => None,
     };
@@ -39,7 +33,10 @@ fn main(rt: HostRuntime) -> anyhow::Result<ExitCode> {
             eprintln!(rt;
                 "usage: bench arena insert|remove|remove_inx|get|write|advance|iterate|clone|drain|churn|loop STEPS\n       \
                 bench chains queue|turn|rotate|walk|iterate|fill|renumber|transfer|clone STEPS\n       \
-                bench ord insert|find|remove|cancel|walk|renumber|transfer|clone|most|all LEN STEPS"
+                bench ord insert|find|remove|cancel|walk|renumber|transfer|clone|most|all LEN STEPS\n       \
+                bench timed-arena|timed-chains|timed-ord insert|find|remove|churn|walk LEN STEPS\n       \
+                bench timed-chains|timed-ord renumber|canonical_find|canonical_walk LEN STEPS\n       \
+                bench timed-ord cancel LEN STEPS"
             )?;
             Ok(ExitCode::from(2))
         }
@@ -48,16 +45,21 @@ fn main(rt: HostRuntime) -> anyhow::Result<ExitCode> {
 
 // The checksum of an operation, if there is one of that name: after so many steps, or over so many entries and then so many steps.
 fn run(
-    alloc: Global,
+    rt: &HostRuntime,
     layer: &str,
     operation: &str,
     first: usize,
     second: Option<usize>,
 ) -> anyhow::Result<Option<u64>> {
     match (layer, second) {
-        ("arena", None) => Ok(arenas::run(operation, alloc, first).transpose()?),
-        ("chains", None) => Ok(chains::run(operation, alloc, first).transpose()?),
-        ("ord", Some(steps)) => Ok(ordered::run(operation, alloc, first, steps).transpose()?),
+        ("arena", None) => Ok(arenas::run(operation, rt.alloc(), first).transpose()?),
+        ("chains", None) => Ok(chains::run(operation, rt.alloc(), first).transpose()?),
+        ("ord", Some(steps)) => {
+            Ok(ordered::run(operation, rt.alloc(), first, steps).transpose()?)
+        }
+        ("timed-arena", Some(steps)) => arenas::time(rt, operation, first, steps),
+        ("timed-chains", Some(steps)) => chains::time(rt, operation, first, steps),
+        ("timed-ord", Some(steps)) => ordered::time(rt, operation, first, steps),
         _ => Ok(None),
     }
 }

@@ -1,6 +1,7 @@
 //! The operations on an ordered arena, as `bench/plain/ordered.rs` has them. They are generic in a trait without clauses, as
 //! those on an arena are.
 use crate::sequence::with;
+use crate::timed::{self, Entries, Laps, note, table};
 use std::alloc::Global;
 use triple_arena::{ArenaSlot, ArenaTrait, InvalidationResult, NonZeroInxVec, P0, PtrCore};
 use triple_arena_chain::LinkNoGen;
@@ -27,6 +28,29 @@ pub fn run(
     steps: usize,
 ) -> Option<Result<u64, OrdInsertionError>> {
     run_over::<P0, Slots>(operation, alloc, len, steps)
+}
+
+/// Times an operation on so many entries. `cancel` is a removal by the pointer, and all others look up keys.
+pub fn time(
+    rt: &HostRuntime,
+    operation: &str,
+    len: usize,
+    steps: usize,
+) -> anyhow::Result<Option<u64>> {
+    time_over::<P0, Slots>(rt, operation, len, steps)
+}
+
+// Over this kind of stack.
+fn time_over<P: PtrCore, S: OrdSlots<P, Item, Alloc = Global>>(
+    rt: &HostRuntime,
+    operation: &str,
+    len: usize,
+    steps: usize,
+) -> anyhow::Result<Option<u64>> {
+    match operation {
+        "cancel" => timed::run::<Numbered<P, Ordered<P, S>, true>>(rt, "remove", len, steps),
+        _ => timed::run::<Numbered<P, Ordered<P, S>, false>>(rt, operation, len, steps),
+    }
 }
 
 // Over this kind of stack.
@@ -61,6 +85,9 @@ trait Measured<P>: Drop {
 
     // A checksum of all values in their order.
     fn values(&self) -> u64;
+
+    // The same, which is timed.
+    fn values_timed(&self, laps: &mut Laps<'_>) -> u64;
 
     fn renumber(&mut self);
 
@@ -135,6 +162,16 @@ impl<P: PtrCore, S: OrdSlots<P, Item, Alloc = Global>> Measured<P> for Ordered<P
         sum
     }
 
+    fn values_timed(&self, laps: &mut Laps<'_>) -> u64 {
+        let mut sum = 0u64;
+        let mut left = laps.start();
+        for (_, item) in self.iter_ordered() {
+            sum = with(sum, *item.v());
+            left = laps.step(left);
+        }
+        sum
+    }
+
     #[inline(always)]
     fn renumber(&mut self) {
         let _ = self.compress_canonical(false);
@@ -161,6 +198,51 @@ impl<P: PtrCore, S: OrdSlots<P, Item, Alloc = Global>> Measured<P> for Ordered<P
         let mut probes = Probes::new();
         let _ = self.find_key_counted(&key, &mut probes);
         probes.count()
+    }
+}
+
+// An ordered arena, and where its entries are by their numbers. They are removed by pointers, or by keys.
+#[derive(Drop)]
+struct Numbered<P, A, const BY_POINTER: bool> {
+    arena: A,
+    pointers: Vec<P>,
+}
+
+impl<P: PtrCore, A: Measured<P>, const BY_POINTER: bool> Entries for Numbered<P, A, BY_POINTER> {
+    fn make(alloc: Global, len: usize) -> Option<Self> {
+        Some(Numbered {
+            arena: A::make(alloc),
+            pointers: table(alloc, len)?,
+        })
+    }
+
+    #[inline(always)]
+    fn put(&mut self, n: usize) -> Option<u64> {
+        let pointer = self.arena.put(key(n), n as u64).ok()?;
+        note(&mut self.pointers, n, pointer);
+        Some(n as u64)
+    }
+
+    #[inline(always)]
+    fn read(&self, n: usize) -> Option<u64> {
+        self.arena.read(key(n))
+    }
+
+    #[inline(always)]
+    fn take(&mut self, n: usize) -> Option<u64> {
+        if BY_POINTER {
+            self.arena.cancel(*self.pointers.get(n)?)
+        } else {
+            self.arena.take(key(n))
+        }
+    }
+
+    fn walk(&self, laps: &mut Laps<'_>) -> u64 {
+        self.arena.values_timed(laps)
+    }
+
+    fn renumber(&mut self) {
+        self.arena.renumber();
     }
 }
 

@@ -28,6 +28,12 @@ impl Sequence {
     {
         (self.number() >> 52) as usize
     }
+
+    /// A number below this one, which has at most 32 bits.
+    #[inline(always)]
+    pub fn below(&mut self, bound: usize) -> usize {
+        ((self.number() >> 32).wrapping_mul(bound as u64) >> 32) as usize
+    }
 }
 
 /// A checksum with a number more.

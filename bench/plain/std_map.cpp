@@ -1,0 +1,130 @@
+// std_map OPERATION LEN STEPS: times steps on a `std::map`, a thousand at a time, as `timed.rs` does for std's `BTreeMap`.
+#include <chrono>
+#include <cstdint>
+#include <cstdio>
+#include <cstdlib>
+#include <map>
+#include <string>
+#include <vector>
+
+using Clock = std::chrono::steady_clock;
+using Map = std::map<uint64_t, uint64_t>;
+
+static const size_t PIECE = 1000, FAR = 7919;
+
+static uint64_t key(uint64_t n) {
+    uint64_t z = n * 0x9e3779b97f4a7c15;
+    z = (z ^ (z >> 30)) * 0xbf58476d1ce4e5b9;
+    z = (z ^ (z >> 27)) * 0x94d049bb133111eb;
+    return z ^ (z >> 31);
+}
+
+// What each thousand steps took, in nanoseconds.
+struct Laps {
+    Clock::time_point begin;
+    std::vector<uint64_t> times;
+
+    size_t start() {
+        begin = Clock::now();
+        return PIECE;
+    }
+
+    size_t step(size_t left) {
+        if (left > 1) return left - 1;
+        times.push_back(std::chrono::duration_cast<std::chrono::nanoseconds>(Clock::now() - begin).count());
+        return start();
+    }
+};
+
+struct Sequence {
+    uint64_t state = 1;
+
+    size_t below(size_t bound) {
+        state = state * 6364136223846793005 + 1442695040888963407;
+        return (state >> 32) * bound >> 32;
+    }
+};
+
+// A map, and where its entries are by their numbers.
+struct Numbered {
+    Map map;
+    std::vector<Map::iterator> places;
+
+    uint64_t put(size_t n) {
+        places[n] = map.emplace(key(n), n).first;
+        return n;
+    }
+
+    bool read(size_t n, uint64_t &value) const {
+        auto place = map.find(key(n));
+        if (place == map.end()) return false;
+        value = place->second;
+        return true;
+    }
+
+    bool take(size_t n, uint64_t &value) {
+        auto place = map.find(key(n));
+        if (place == map.end()) return false;
+        value = place->second;
+        map.erase(place);
+        return true;
+    }
+};
+
+// Calls `step` with each number and with one of a far order; what it answers goes into a checksum.
+template <typename Step>
+static uint64_t go(Laps &laps, size_t len, size_t steps, Step step) {
+    size_t stride = len == 0 ? 0 : FAR % len, far = 0, left = laps.start();
+    uint64_t sum = 0;
+    for (size_t n = 0; n < steps; n++) {
+        sum = sum * 31 + step(n, far);
+        far += stride;
+        if (far >= len) far -= len;
+        left = laps.step(left);
+    }
+    return sum;
+}
+
+int main(int count, char **words) {
+    if (count != 4) return 2;
+    std::string operation = words[1];
+    size_t len = atol(words[2]), steps = atol(words[3]);
+    // What goes out of scope would take its time; the program ends without it.
+    Numbered &entries = *new Numbered;
+    entries.places.resize(len, entries.map.end());
+    Laps laps;
+    laps.times.reserve(steps / PIECE + 1);
+    uint64_t sum = 0, value = 0;
+    if (operation == "insert") {
+        sum = go(laps, len, steps, [&](size_t n, size_t) { return entries.put(n); });
+    } else {
+        for (size_t n = 0; n < len; n++) entries.put(n);
+    }
+    if (operation == "find") {
+        sum = go(laps, len, steps, [&](size_t, size_t far) { return entries.read(far, value) ? value : 0; });
+    } else if (operation == "remove") {
+        sum = go(laps, len, steps, [&](size_t, size_t far) { return entries.take(far, value) ? value : 0; });
+    } else if (operation == "cancel") {
+        sum = go(laps, len, steps, [&](size_t, size_t far) {
+            value = entries.places[far]->second;
+            entries.map.erase(entries.places[far]);
+            return value;
+        });
+    } else if (operation == "churn") {
+        Sequence sequence;
+        sum = go(laps, len, steps, [&](size_t, size_t) {
+            uint64_t read = 0;
+            entries.read(sequence.below(len), read);
+            size_t n = sequence.below(len);
+            return read + (entries.take(n, value) ? value : entries.put(n));
+        });
+    } else if (operation == "walk" && steps > 0) {
+        size_t left = laps.start();
+        for (auto &entry : entries.map) {
+            sum = sum * 31 + entry.second;
+            left = laps.step(left);
+        }
+    }
+    for (uint64_t time : laps.times) printf("%lu\n", time);
+    printf("%lu\n", sum);
+}
