@@ -1,7 +1,8 @@
-//! leaps: reads the trace of `valgrind --tool=lackey --trace-mem=yes`, and prints how many instructions and leaps it has.
+//! leaps: reads the trace of `valgrind --tool=lackey --trace-mem=yes`, and prints how many
+//! instructions and leaps it has.
 //!
-//! A leap is a miss of the second cache for which a processor waits: the line lies within three of none of the last eight
-//! that were missed, so that nothing fetched it beforehand. The caches have 48 KiB and 1 MiB.
+//! A leap is a miss of the second cache for which a processor waits: the line lies within three of
+//! none of the last eight that were missed. The caches have 48 KiB and 1 MiB.
 use std::io::{self, BufRead, BufReader};
 
 const LINE: u64 = 64;

@@ -272,7 +272,7 @@ fn main() -> ExitCode {
         }
         None => {
             eprintln!("usage: plain insert|remove|remove_inx|get|write|advance|iterate|clone|drain|churn|loop STEPS");
-            eprintln!("       plain timed insert|find|remove|churn|walk LEN STEPS");
+            eprintln!("       plain timed insert|find|remove|churn|walk LEN STEPS PASSES");
             ExitCode::from(2)
         }
     }

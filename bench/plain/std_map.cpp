@@ -1,4 +1,5 @@
-// std_map OPERATION LEN STEPS: times steps on a `std::map`, a thousand at a time, as `timed.rs` does for std's `BTreeMap`.
+// std_map OPERATION LEN STEPS PASSES: times steps on a `std::map`, a thousand at a time, as `timed.rs`
+// does for a `BTreeMap`.
 #include <chrono>
 #include <cstdint>
 #include <cstdio>
@@ -31,17 +32,9 @@ struct Laps {
 
     size_t step(size_t left) {
         if (left > 1) return left - 1;
-        times.push_back(std::chrono::duration_cast<std::chrono::nanoseconds>(Clock::now() - begin).count());
+        auto time = std::chrono::duration_cast<std::chrono::nanoseconds>(Clock::now() - begin);
+        times.push_back(time.count());
         return start();
-    }
-};
-
-struct Sequence {
-    uint64_t state = 1;
-
-    size_t below(size_t bound) {
-        state = state * 6364136223846793005 + 1442695040888963407;
-        return (state >> 32) * bound >> 32;
     }
 };
 
@@ -85,46 +78,48 @@ static uint64_t go(Laps &laps, size_t len, size_t steps, Step step) {
     return sum;
 }
 
-int main(int count, char **words) {
-    if (count != 4) return 2;
-    std::string operation = words[1];
-    size_t len = atol(words[2]), steps = atol(words[3]);
-    // What goes out of scope would take its time; the program ends without it.
-    Numbered &entries = *new Numbered;
+// Fills a map, and carries out so many steps of an operation.
+static uint64_t pass(Laps &laps, const std::string &operation, size_t len, size_t steps) {
+    Numbered entries;
     entries.places.resize(len, entries.map.end());
-    Laps laps;
-    laps.times.reserve(steps / PIECE + 1);
     uint64_t sum = 0, value = 0;
     if (operation == "insert") {
-        sum = go(laps, len, steps, [&](size_t n, size_t) { return entries.put(n); });
-    } else {
-        for (size_t n = 0; n < len; n++) entries.put(n);
+        return go(laps, len, steps, [&](size_t n, size_t) { return entries.put(n); });
     }
+    for (size_t n = 0; n < len; n++) entries.put(n);
     if (operation == "find") {
-        sum = go(laps, len, steps, [&](size_t, size_t far) { return entries.read(far, value) ? value : 0; });
-    } else if (operation == "remove") {
-        sum = go(laps, len, steps, [&](size_t, size_t far) { return entries.take(far, value) ? value : 0; });
-    } else if (operation == "cancel") {
-        sum = go(laps, len, steps, [&](size_t, size_t far) {
+        return go(laps, len, steps, [&](size_t, size_t far) {
+            return entries.read(far, value) ? value : 0;
+        });
+    }
+    if (operation == "remove") {
+        return go(laps, len, steps, [&](size_t, size_t far) {
+            return entries.take(far, value) ? value : 0;
+        });
+    }
+    if (operation == "cancel") {
+        return go(laps, len, steps, [&](size_t, size_t far) {
             value = entries.places[far]->second;
             entries.map.erase(entries.places[far]);
             return value;
         });
-    } else if (operation == "churn") {
-        Sequence sequence;
-        sum = go(laps, len, steps, [&](size_t, size_t) {
-            uint64_t read = 0;
-            entries.read(sequence.below(len), read);
-            size_t n = sequence.below(len);
-            return read + (entries.take(n, value) ? value : entries.put(n));
-        });
-    } else if (operation == "walk" && steps > 0) {
+    }
+    if (operation == "walk" && steps > 0) {
         size_t left = laps.start();
         for (auto &entry : entries.map) {
             sum = sum * 31 + entry.second;
             left = laps.step(left);
         }
     }
+    return sum;
+}
+
+int main(int count, char **words) {
+    if (count != 5) return 2;
+    size_t len = atol(words[2]), steps = atol(words[3]), passes = atol(words[4]);
+    Laps laps;
+    uint64_t sum = 0;
+    for (size_t n = 0; n < passes; n++) sum = pass(laps, words[1], len, steps);
     for (uint64_t time : laps.times) printf("%lu\n", time);
     printf("%lu\n", sum);
 }

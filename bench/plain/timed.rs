@@ -1,4 +1,4 @@
-//! Times steps on many entries, a thousand at a time, as `timed.rt` of the Rattle program `bench` does.
+//! Times steps on many entries, a thousand at a time, as `timed.rt` of the Rattle program `bench`.
 use std::time::Instant;
 
 /// Entries that go by numbers from 0 on.
@@ -77,25 +77,20 @@ pub fn with(sum: u64, number: u64) -> u64 {
     sum.wrapping_mul(31).wrapping_add(number)
 }
 
-/// Carries out the words OPERATION LEN STEPS: prints a line for each thousand steps and then a checksum.
+/// Carries out the words OPERATION LEN STEPS PASSES: a line for each thousand steps, and a checksum.
 pub fn run<T: Entries>(words: &[String]) -> Option<()> {
-    let [operation, len, steps] = words else {
+    let [operation, len, steps, passes] = words else {
         return None;
     };
     let (len, steps) = (len.parse().ok()?, steps.parse().ok()?);
-    let mut entries = T::make(len);
     let mut laps = Laps {
         start: Instant::now(),
-        times: Vec::with_capacity(steps / PIECE + 1),
+        times: Vec::new(),
     };
-    let sum = if operation == "insert" {
-        go::<T, INSERT>(&mut entries, &mut laps, len, steps)
-    } else {
-        for n in 0..len {
-            entries.put(n);
-        }
-        filled(&mut entries, &mut laps, operation, len, steps)?
-    };
+    let mut sum = 0;
+    for _ in 0..passes.parse::<usize>().ok()? {
+        sum = pass::<T>(&mut laps, operation, len, steps)?;
+    }
     for time in laps.times {
         println!("{time}");
     }
@@ -103,8 +98,25 @@ pub fn run<T: Entries>(words: &[String]) -> Option<()> {
     Some(())
 }
 
+fn pass<T: Entries>(laps: &mut Laps, operation: &str, len: usize, steps: usize) -> Option<u64> {
+    let mut entries = T::make(len);
+    if operation == "insert" {
+        return Some(go::<T, INSERT>(&mut entries, laps, len, steps));
+    }
+    for n in 0..len {
+        entries.put(n);
+    }
+    filled(&mut entries, laps, operation, len, steps)
+}
+
 /// An operation on entries that are there.
-fn filled<T: Entries>(entries: &mut T, laps: &mut Laps, operation: &str, len: usize, steps: usize) -> Option<u64> {
+fn filled<T: Entries>(
+    entries: &mut T,
+    laps: &mut Laps,
+    operation: &str,
+    len: usize,
+    steps: usize,
+) -> Option<u64> {
     let operation = match operation.strip_prefix("canonical_") {
         Some(operation) => {
             entries.renumber();
@@ -137,7 +149,12 @@ const REMOVE: usize = 2;
 const CHURN: usize = 3;
 
 #[inline(never)]
-fn go<T: Entries, const OPERATION: usize>(entries: &mut T, laps: &mut Laps, len: usize, steps: usize) -> u64 {
+fn go<T: Entries, const OPERATION: usize>(
+    entries: &mut T,
+    laps: &mut Laps,
+    len: usize,
+    steps: usize,
+) -> u64 {
     let stride = if len == 0 { 0 } else { FAR % len };
     let mut far = 0;
     let mut sequence = Sequence::new();

@@ -36,8 +36,9 @@ pub fn time(
     operation: &str,
     len: usize,
     steps: usize,
+    passes: usize,
 ) -> anyhow::Result<Option<u64>> {
-    timed::run::<Numbered<Arena<Pointer, u64, Slots>>>(rt, operation, len, steps)
+    timed::run::<Numbered<Arena<Pointer, u64, Slots>>>(rt, operation, len, steps, passes)
 }
 
 // What the operations do with an arena of any kind. What a step calls is inlined, and so it takes no more instructions than at

@@ -22,14 +22,16 @@ pub fn run(
     run_over::<P0, Slots>(operation, alloc, steps)
 }
 
-/// Times an operation on so many links of one list, each of which is put in behind one that is there.
+/// Times an operation on so many links of one list, each of which is put in behind one that is
+/// there.
 pub fn time(
     rt: &HostRuntime,
     operation: &str,
     len: usize,
     steps: usize,
+    passes: usize,
 ) -> anyhow::Result<Option<u64>> {
-    time_over::<P0, Slots>(rt, operation, len, steps)
+    time_over::<P0, Slots>(rt, operation, len, steps, passes)
 }
 
 // Over this kind of stack.
@@ -38,8 +40,9 @@ fn time_over<P: PtrCore, S: ChainSlots<P, u64, Alloc = Global>>(
     operation: &str,
     len: usize,
     steps: usize,
+    passes: usize,
 ) -> anyhow::Result<Option<u64>> {
-    timed::run::<Numbered<P, ChainArena<P, u64, S>>>(rt, operation, len, steps)
+    timed::run::<Numbered<P, ChainArena<P, u64, S>>>(rt, operation, len, steps, passes)
 }
 
 // Over this kind of stack.

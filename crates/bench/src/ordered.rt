@@ -30,14 +30,16 @@ pub fn run(
     run_over::<P0, Slots>(operation, alloc, len, steps)
 }
 
-/// Times an operation on so many entries. `cancel` is a removal by the pointer, and all others look up keys.
+/// Times an operation on so many entries. `cancel` is a removal by the pointer, and all others look
+/// up keys.
 pub fn time(
     rt: &HostRuntime,
     operation: &str,
     len: usize,
     steps: usize,
+    passes: usize,
 ) -> anyhow::Result<Option<u64>> {
-    time_over::<P0, Slots>(rt, operation, len, steps)
+    time_over::<P0, Slots>(rt, operation, len, steps, passes)
 }
 
 // Over this kind of stack.
@@ -46,10 +48,13 @@ fn time_over<P: PtrCore, S: OrdSlots<P, Item, Alloc = Global>>(
     operation: &str,
     len: usize,
     steps: usize,
+    passes: usize,
 ) -> anyhow::Result<Option<u64>> {
     match operation {
-        "cancel" => timed::run::<Numbered<P, Ordered<P, S>, true>>(rt, "remove", len, steps),
-        _ => timed::run::<Numbered<P, Ordered<P, S>, false>>(rt, operation, len, steps),
+        "cancel" => timed::run::<Numbered<P, Ordered<P, S>, true>>(
+            rt, "remove", len, steps, passes,
+        ),
+        _ => timed::run::<Numbered<P, Ordered<P, S>, false>>(rt, operation, len, steps, passes),
     }
 }
 
@@ -201,7 +206,8 @@ impl<P: PtrCore, S: OrdSlots<P, Item, Alloc = Global>> Measured<P> for Ordered<P
     }
 }
 
-// An ordered arena, and where its entries are by their numbers. They are removed by pointers, or by keys.
+// An ordered arena, and where its entries are by their numbers. They are removed by pointers, or
+// by keys.
 #[derive(Drop)]
 struct Numbered<P, A, const BY_POINTER: bool> {
     arena: A,

@@ -1,5 +1,5 @@
-//! Times steps on many entries, a thousand at a time: such a piece is mostly over before another program gets the processor.
-//! The operations stand once, for arenas, chains and ordered arenas.
+//! Times steps on many entries, a thousand at a time: such a piece is mostly over before another
+//! program gets the processor. The operations stand once, for arenas, chains and ordered arenas.
 use crate::sequence::{Sequence, with};
 use std::alloc::Global;
 use std::time::Instant;
@@ -40,16 +40,7 @@ pub struct Laps<'a> {
     times: Vec<u64>,
 }
 
-impl<'a> Laps<'a> {
-    fn new(rt: &'a HostRuntime, steps: usize) -> Option<Self> {
-        let times = Vec::with_capacity(rt.alloc(), steps / PIECE + 1).ok()?;
-        Some(Laps {
-            rt,
-            start: None,
-            times,
-        })
-    }
-
+impl Laps<'_> {
     /// The number of steps that a piece starts with.
     pub fn start(&mut self) -> usize {
         self.start = Instant::now(self.rt).ok();
@@ -78,35 +69,50 @@ impl<'a> Laps<'a> {
     }
 }
 
-/// Puts in so many entries, times so many steps of an operation, prints a line for each thousand and answers a checksum.
+/// Runs so many passes of so many steps of an operation, prints a line for each thousand steps, and
+/// answers the checksum of the last pass.
 ///
-/// `insert` is the filling alone. `find` reads entries, and `remove` removes them, in a far order. A step of `churn` reads one
-/// entry, and removes another or puts it back. `walk` and `renumber` go over all, if there are steps. With `canonical_` before
-/// it, an operation runs on entries that are renumbered.
+/// Each pass puts in so many entries. `insert` is that alone. `find` reads entries, and `remove`
+/// removes them, in a far order. A step of `churn` reads one entry, and removes another or puts it
+/// back. `walk` and `renumber` go over all, if there are steps. With `canonical_` before it, an
+/// operation runs on entries that are renumbered.
 pub fn run<T: Entries>(
     rt: &HostRuntime,
     operation: &str,
     len: usize,
     steps: usize,
+    passes: usize,
 ) -> anyhow::Result<Option<u64>> {
-    let Some(mut entries) = T::make(rt.alloc(), len) else {
-        return Ok(None);
+    let mut laps = Laps {
+        rt,
+        start: None,
+        times: Vec::new(rt.alloc()),
     };
-    let Some(mut laps) = Laps::new(rt, steps) else {
-        return Ok(None);
-    };
-    let sum = if operation == "insert" {
-        Some(go::<T, INSERT>(&mut entries, &mut laps, len, steps))
-    } else {
-        for n in 0..len {
-            let _ = entries.put(n);
-        }
-        filled(&mut entries, &mut laps, operation, len, steps)
-    };
+    let mut sum = None;
+    for _ in 0..passes {
+        sum = pass::<T>(rt.alloc(), &mut laps, operation, len, steps);
+    }
     for time in laps.times.iter() {
         println!(rt; "{time}")?;
     }
     Ok(sum)
+}
+
+fn pass<T: Entries>(
+    alloc: Global,
+    laps: &mut Laps<'_>,
+    operation: &str,
+    len: usize,
+    steps: usize,
+) -> Option<u64> {
+    let mut entries = T::make(alloc, len)?;
+    if operation == "insert" {
+        return Some(go::<T, INSERT>(&mut entries, laps, len, steps));
+    }
+    for n in 0..len {
+        let _ = entries.put(n);
+    }
+    filled(&mut entries, laps, operation, len, steps)
 }
 
 // An operation on entries that are there.
@@ -192,7 +198,8 @@ fn churn<T: Entries>(entries: &mut T, sequence: &mut Sequence, len: usize) -> Op
     Some(read.wrapping_add(changed))
 }
 
-/// Where the pointers of so many entries go. All is written, so that an insertion meets no fresh page of it.
+/// Where the pointers of so many entries go. All is written, so that an insertion meets no fresh
+/// page of it.
 pub fn table<P: PtrCore>(alloc: Global, len: usize) -> Option<Vec<P>> {
     let mut pointers = Vec::with_capacity(alloc, len).ok()?;
     for _ in 0..len {
