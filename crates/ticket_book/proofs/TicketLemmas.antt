@@ -24,6 +24,13 @@ use Rattle.ticket_book.specs.Tickets.{Entry, TicketsRise, lookup}
 pub some_same : {X : Type 0} (x y : X) → Some x ≡ Some y → x ≡ y
 some_same x y e = cc
 
+-- an entry that stands under a generation is found by it
+pub found_there : (at : ℕ → Option (ℕ × Entry)) (i g h : ℕ) (e : Entry) → at i ≡ Some (h, e)
+    → option_map (λ (x : ℕ × Entry). x.0) (at i) ≡ Some g → Some e ≡ value_if g (at i)
+found_there at i g h e is live =
+    let same : h ≡ g = some_same h g (sym (ap (option_map (λ (x : ℕ × Entry). x.0)) is) ∙ live) in
+    sym (ap (value_if g) is ∙ rw (eq-eqb h g same) refl)
+
 -- ---- a list of entries
 
 -- an entry is found under its ticket

@@ -73,7 +73,10 @@ impl<P: PtrCore, S: OrdSlots<P, Entry<P>>> TicketBook<P, S> {
         // The list is as it must be.
         let _ = self.arena.len();
         match self.arena.find_key_counted(&ticket, probes) {
-            Some(p) => self.arena.get(p),
+            Some(p) => match self.arena.get_inx(p.inx()) {
+                Some(found) => Some(found.1),
+                None => unreached!(),
+            },
             None => None,
         }
     }
