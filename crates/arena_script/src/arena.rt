@@ -7,7 +7,7 @@ use script::{Call, ShownPtr, Transcript, generation};
 use std::fmt::Debug;
 use triple_arena::{
     Arena, ArenaInsertEntries, ArenaInsertEntryTrait, ArenaSlots, ArenaTrait, Ptr, PtrCore,
-    ReallocationError,
+    PtrInxCore, ReallocationError,
 };
 
 impl<P: Ptr, S: ArenaSlots<P, u64>> Player for Arena<P, u64, S> {

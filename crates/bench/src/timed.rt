@@ -63,7 +63,8 @@ impl Laps<'_> {
     fn lap(&mut self) {
         if let Some(start) = self.start {
             if let Ok(time) = start.elapsed(self.rt) {
-                let _ = self.times.push(time.as_nanos() as u64);
+                let nanos = u64::try_from(time.as_nanos()).unwrap_or(u64::MAX);
+                let _ = self.times.push(nanos);
             }
         }
     }
