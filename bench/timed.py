@@ -28,9 +28,8 @@ PROGRAMS = {
 }
 OPERATIONS = {
     'arena': ['insert', 'find', 'remove', 'churn', 'walk'],
-    'chains': ['insert', 'remove', 'walk', 'canonical_walk', 'renumber'],
-    'ord': ['insert', 'find', 'remove', 'cancel', 'walk', 'canonical_find', 'canonical_walk',
-            'renumber'],
+    'chains': ['insert', 'remove', 'walk', 'canonical_walk'],
+    'ord': ['insert', 'find', 'remove', 'cancel', 'walk', 'canonical_find', 'canonical_walk'],
     'store': ['places', 'all', 'churn', 'refused'],
 }
 # What is traced: a trace is slow, and these wait for memory most.
@@ -44,7 +43,7 @@ TRACES = {
 # its key, and so `cancel` has a slab beside it, which is there for that alone.
 NEVER = {('BTreeMap', 'cancel')}
 NEVER |= {('with slab', it) for it in OPERATIONS['ord'] if it != 'cancel'}
-NEVER |= {('std::map', it) for it in ('canonical_find', 'canonical_walk', 'renumber')}
+NEVER |= {('std::map', it) for it in ('canonical_find', 'canonical_walk')}
 
 
 def shown(number):
@@ -69,7 +68,7 @@ class Layer:
         command = self.command(program, operation, entries, entries, passes)
         said = subprocess.run(command, check=True, capture_output=True, text=True).stdout
         *times, checksum = said.split()
-        pieces = 1 if operation == 'renumber' else entries // 1000
+        pieces = entries // 1000
         if len(times) != pieces * passes:
             sys.exit(f'bench/run: {program[0]} {operation} {entries} was not timed')
         return [min(int(it) for it in times[at::pieces]) for at in range(pieces)], checksum

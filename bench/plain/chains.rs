@@ -313,7 +313,7 @@ fn main() -> ExitCode {
         }
         None => {
             eprintln!("usage: chains slab|list queue|turn|rotate|walk|iterate STEPS, chains slab fill|renumber|transfer|clone STEPS");
-            eprintln!("       chains timed insert|remove|walk|renumber|canonical_walk LEN STEPS PASSES");
+            eprintln!("       chains timed insert|remove|walk|canonical_walk LEN STEPS PASSES");
             ExitCode::from(2)
         }
     }

@@ -361,7 +361,7 @@ fn main() -> ExitCode {
         }
         None => {
             eprintln!("usage: ordered map|slab insert|find|remove|cancel|walk|renumber|transfer|clone LEN STEPS");
-            eprintln!("       ordered timed map|slab insert|find|remove|cancel|churn|walk|renumber|canonical_find|canonical_walk LEN STEPS PASSES");
+            eprintln!("       ordered timed map|slab insert|find|remove|cancel|churn|walk|canonical_find|canonical_walk LEN STEPS PASSES");
             ExitCode::from(2)
         }
     }

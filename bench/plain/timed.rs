@@ -128,14 +128,8 @@ fn filled<T: Entries>(
         "find" => Some(go::<T, FIND>(entries, laps, len, steps)),
         "remove" => Some(go::<T, REMOVE>(entries, laps, len, steps)),
         "churn" => Some(go::<T, CHURN>(entries, laps, len, steps)),
-        _ if steps == 0 => Some(0),
+        "walk" if steps == 0 => Some(0),
         "walk" => Some(entries.walk(laps)),
-        "renumber" => {
-            laps.start();
-            entries.renumber();
-            laps.lap();
-            Some(0)
-        }
         _ => None,
     }
 }

@@ -43,7 +43,7 @@ fn main(rt: HostRuntime) -> anyhow::Result<ExitCode> {
                 bench chains queue|turn|rotate|walk|iterate|fill|renumber|transfer|clone STEPS\n       \
                 bench ord insert|find|remove|cancel|walk|renumber|transfer|clone|most|all LEN STEPS\n       \
                 bench timed-arena|timed-chains|timed-ord insert|find|remove|churn|walk LEN STEPS PASSES\n       \
-                bench timed-chains|timed-ord renumber|canonical_walk LEN STEPS PASSES\n       \
+                bench timed-chains|timed-ord canonical_walk LEN STEPS PASSES\n       \
                 bench timed-ord cancel|canonical_find LEN STEPS PASSES"
             )?;
             Ok(ExitCode::from(2))

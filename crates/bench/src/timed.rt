@@ -75,8 +75,8 @@ impl Laps<'_> {
 ///
 /// Each pass puts in so many entries. `insert` is that alone. `find` reads entries, and `remove`
 /// removes them, in a far order. A step of `churn` reads one entry, and removes another or puts it
-/// back. `walk` and `renumber` go over all, if there are steps. With `canonical_` before it, an
-/// operation runs on entries that are renumbered.
+/// back. `walk` goes over all, if there are steps. With `canonical_` before it, an operation runs on
+/// entries that are renumbered.
 pub fn run<T: Entries>(
     rt: &HostRuntime,
     operation: &str,
@@ -135,14 +135,8 @@ fn filled<T: Entries>(
         "find" => Some(go::<T, FIND>(entries, laps, len, steps)),
         "remove" => Some(go::<T, REMOVE>(entries, laps, len, steps)),
         "churn" => Some(go::<T, CHURN>(entries, laps, len, steps)),
-        _ if steps == 0 => Some(0),
+        "walk" if steps == 0 => Some(0),
         "walk" => Some(entries.walk(laps)),
-        "renumber" => {
-            laps.start();
-            entries.renumber();
-            laps.lap();
-            Some(0)
-        }
         _ => None,
     }
 }
