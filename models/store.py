@@ -243,11 +243,13 @@ class Writer:
 
     def line(self):
         verbs = ['place'] * 4 + ['start', 'walk', 'join'] * 3 + ['extend', 'swap'] * 4
-        verbs += ['cut', 'mark', 'show', 'floor', 'find', 'after', 'before', 'all', 'pack'] + ['remove'] * 4
+        verbs += ['word', 'cut', 'mark', 'show', 'floor', 'find', 'after', 'before', 'all', 'pack']
+        verbs += ['remove'] * 4
         verb = self.random.choice(verbs)
         fields = {
             'place': lambda: [self.key(), self.word()] + self.hint(),
-            'find': lambda: [self.key()], 'floor': lambda: [self.key()], 'all': lambda: [], 'pack': lambda: [],
+            'word': lambda: [self.ticket('place'), self.word()], 'all': lambda: [], 'pack': lambda: [],
+            'find': lambda: [self.key()], 'floor': lambda: [self.key()],
             'after': lambda: [self.ticket('place')], 'before': lambda: [self.ticket('place')],
             'start': lambda: [self.ticket('place')], 'extend': lambda: [self.ticket('stop'), self.ticket('place')],
             'join': self.end, 'cut': lambda: [self.linked()], 'swap': lambda: [self.linked(), self.linked()],

@@ -8,8 +8,9 @@ LAST_TICKET = 2**64 - 1
 NUMBER = '(0|[1-9][0-9]*)'
 WORD = '([a-z0-9]{1,16})'
 # The fields of each line behind its verb: n is a number and w a word.
-FORMS = {'show': 'n', 'find': 'n', 'floor': 'n', 'after': 'n', 'before': 'n', 'all': '', 'start': 'n', 'extend': 'nn',
-         'join': 'nn', 'cut': 'n', 'swap': 'nn', 'walk': 'n', 'mark': 'nn', 'place': 'nw', 'remove': 'n', 'pack': ''}
+FORMS = {'place': 'nw', 'word': 'nw', 'show': 'n', 'find': 'n', 'floor': 'n', 'after': 'n', 'before': 'n', 'all': '',
+         'remove': 'n', 'start': 'n', 'extend': 'nn', 'join': 'nn', 'cut': 'n', 'swap': 'nn', 'walk': 'n', 'mark': 'nn',
+         'pack': ''}
 
 
 class Refused(Exception):
@@ -67,22 +68,24 @@ class Store:
         self.last += 1
         return self.last
 
-    def by_key(self):
-        """The tickets of the places in the order of their keys."""
-        return sorted(self.place, key=lambda t: self.place[t][0])
+    def in_order(self):
+        """The tickets of the places in the order of their keys, and under one key in their own."""
+        return sorted(self.place, key=lambda t: (self.place[t][0], t))
 
     # ---- lines: each answers the lines of its reply
 
     def do_place(self, key, word, near):
         if near is not None:
             self.wanted(near, 'place')
-        for t, (k, old) in self.place.items():
-            if k == key:
-                self.place[t] = (key, word)
-                return [f'{t} old {old}']
         t = self.ticket('place')
         self.place[t] = (key, word)
         return [str(t)]
+
+    def do_word(self, t, word):
+        self.wanted(t, 'place')
+        key, old = self.place[t]
+        self.place[t] = (key, word)
+        return [f'old {old}']
 
     def do_show(self, t):
         kind = self.wanted(t, 'place', 'stop', 'mark')
@@ -98,15 +101,15 @@ class Store:
         return str(ticket) if ticket in living else 'gone'
 
     def do_find(self, key):
-        return [str(next((t for t, (k, _) in self.place.items() if k == key), 'none'))]
+        return [str(min((t for t, (k, _) in self.place.items() if k == key), default='none'))]
 
     def do_floor(self, key):
-        below = [t for t in self.by_key() if self.place[t][0] <= key]
+        below = [t for t in self.in_order() if self.place[t][0] <= key]
         return [str(below[-1]) if below else 'none']
 
     def beside(self, t, step):
         self.wanted(t, 'place')
-        order = self.by_key()
+        order = self.in_order()
         at = order.index(t) + step
         return [str(order[at]) if 0 <= at < len(order) else 'none']
 
@@ -117,7 +120,7 @@ class Store:
         return self.beside(t, -1)
 
     def do_all(self):
-        return ['%d %d %s' % (t, *self.place[t]) for t in self.by_key()] + ['end']
+        return ['%d %d %s' % (t, *self.place[t]) for t in self.in_order()] + ['end']
 
     def do_start(self, place):
         self.wanted(place, 'place')

@@ -2,14 +2,14 @@
 use Rattle.std.proofs.Common.{◌≡◌, ap, refl, Bool, true, false, ◌||◌, ◌==◌, ℕ, ◌+◌, ◌≤◌, ◌++◌, ◌∷◌, List, [], Option, Some, None, Err, cond, nat_lt, option_map, arith}
 use Rattle.std.specs.Option.{option_or, ok_or}
 use Rattle.std.proofs.lemmas.Bool.{ne_eqb, ltb-false, le-ltb}
-use Rattle.route_lines.specs.Calls.{put, place_holder, stop_holder, clear_mark, clear_mark_stop, started, after_start, extended, after_extend, joined, parted, swapped, marked, after_mark, after_place, after_removed}
+use Rattle.route_lines.specs.Calls.{place_holder, stop_holder, clear_mark, clear_mark_stop, started, after_start, extended, after_extend, joined, parted, swapped, marked, after_mark, placed, after_place, after_word, after_removed}
 use Rattle.route_lines.specs.Changes.{changed}
 use Rattle.route_lines.specs.Routes.{has_ticket, linear, put_behind, linked, unlinked, exchanged}
 use Rattle.route_lines.specs.Sound.{holders, IsSound}
-use Rattle.route_lines.specs.State.{State, Place, Stop, Route, Mark, place, stop, mark, with_key, stop_list, place_of, stop_of, mark_of, holder, is_full_of_places, is_full_of_stops, is_full_of_marks}
+use Rattle.route_lines.specs.State.{State, Place, Stop, Route, Mark, place, stop, mark, stop_list, place_of, stop_of, mark_of, holder, is_full_of_places, is_full_of_stops, is_full_of_marks}
 use Rattle.route_lines.specs.Text.{Line, after_lines}
 use Rattle.route_lines.specs.declared.change.Change.{Change}
-use Rattle.route_lines.specs.declared.change.Change.TheVariants.{Open, Place as PlaceChange, Start, Extend, Join, Cut, Swap, Mark as MarkChange, Remove}
+use Rattle.route_lines.specs.declared.change.Change.TheVariants.{Open, Place as PlaceChange, Word as WordChange, Start, Extend, Join, Cut, Swap, Mark as MarkChange, Remove}
 use Rattle.route_lines.specs.declared.refusal.Refusal.TheVariants.{Unknown, Gone}
 use Rattle.route_lines.proofs.CutLemmas.{total-append, none_found, not_found}
 use Rattle.route_lines.proofs.EndedLemmas.{gone_if_none}
@@ -33,21 +33,16 @@ new_apart : (last k : ℕ) → k ≤ last → one_if (last + 1 == k) ≡ 0
 new_apart last k less = ap one_if (ne_eqb (last + 1) k (λ e. omega (arith, e, less)))
 
 GivesOn-place : (s : State) (key : ℕ) (word : List ℕ) → GivesOn s (after_place s key word)
-GivesOn-place s key word = at (with_key key s.places) refl
-  where
-    new : Place
-    new = record { ticket = s.last + 1; key = key; word = word }
+GivesOn-place s key word = keeps_unless_refused (GivesOn s) s (placed s) _ (given_before s) (λ t e.
+    let ticket = next_ticket-ok s (is_full_of_places s) t e in
+    record {
+      last = omega (arith, ticket.1);
+      none_more = λ k less. omega (arith, count-put (λ p. p.ticket == k) (record { ticket = t; key = key; word = word }) s.places, ap {B = ℕ} (λ i. cond (i == k) 1 0) ticket.1, new_apart s.last k less);
+    })
 
-    full : (b : Bool) → GivesOn s (cond b s (record s { last = s.last + 1; places = put new s.places }))
-    full true = given_before s
-    full false = record {
-      last = omega arith;
-      none_more = λ k less. omega (arith, count-put (λ p. p.ticket == k) new s.places, new_apart s.last k less);
-    }
-
-    at : (o : Option Place) → with_key key s.places ≡ o → GivesOn s (after_place s key word)
-    at None e = rw e (full (is_full_of_places s))
-    at (Some p) e = rw e (record { last = omega arith; none_more = λ k less. omega (arith, count-reworded key word k s.places) })
+GivesOn-word : (s : State) (t : ℕ) (word : List ℕ) → GivesOn s (after_word s t word)
+GivesOn-word s t word =
+    keeps_unless_refused (GivesOn s) s (place_holder s t) _ (given_before s) (λ p e. record { last = omega arith; none_more = λ k less. omega (arith, count-reworded t word k s.places) })
 
 GivesOn-more_stops : (s : State) (new : Stop) (routes : List Route) → new.ticket ≡ s.last + 1 → IsMore s new routes → GivesOn s (record s { last = new.ticket; routes = routes })
 GivesOn-more_stops s new routes is more = record {
@@ -105,6 +100,7 @@ GivesOn-remove s t sound =
 GivesOn-changed : (s : State) (change : Change) → GoesOn change → IsSound s → GivesOn s (changed s change)
 GivesOn-changed s (Open places stops marks last) on sound = absurd on
 GivesOn-changed s (PlaceChange key word) on sound = GivesOn-place s key word
+GivesOn-changed s (WordChange t word) on sound = GivesOn-word s t word
 GivesOn-changed s (Start at) on sound = GivesOn-start s at sound
 GivesOn-changed s (Extend t at) on sound = GivesOn-extend s t at sound
 GivesOn-changed s (Join t u) on sound =

@@ -9,7 +9,7 @@ use Rattle.std.proofs.lemmas.Slice.Eq.{bytes_eq-Decides}
 use Rattle.std.specs.List.{AllByRecursion, position_or_len, join_with_byte, list_all}
 use Rattle.std.specs.Str.{bytes_eq}
 use Rattle.route_lines.specs.declared.command.Command.{Command}
-use Rattle.route_lines.specs.declared.command.Command.TheVariants.{Place, Show, Find, Floor, After, Before, All as Every, Remove, Start, Extend, Join, Cut, Swap, Walk, Mark, Pack}
+use Rattle.route_lines.specs.declared.command.Command.TheVariants.{Place, Word, Show, Find, Floor, After, Before, All as Every, Remove, Start, Extend, Join, Cut, Swap, Walk, Mark, Pack}
 use Rattle.route_lines.specs.Grammar.{SpellsNumber, SpellsNumbers, Spells, command_by, lone_verbs, number_verbs, numbers_verbs, command_of, command_of_fields, fields_of, command_of_number, command_of_numbers, command_of_one_field, command_of_two_fields, command_of_three_fields, command_of_five_fields}
 use Rattle.route_lines.specs.Number.{IsNumber, number_of}
 use Rattle.route_lines.specs.Word.{IsWord, is_word, is_word_byte, word_of}
@@ -116,13 +116,23 @@ Spells-from_three_fields verb first second command =
       text.0,
       ap (λ v. v ++ 32 ∷ (first ++ 32 ∷ second)) same ∙ ap (λ f. codes "place" ++ 32 ∷ (f ++ 32 ∷ second)) number.1
           ∙ ap (λ w. codes "place" ++ 32 ∷ (decimal key.0 ++ 32 ∷ w)) text.1,
+    )) (by_verb verb (codes "word") line _ _ command (λ same found.
+    let ticket = followed _ (number_of first) command found in
+    let number = number_of-found first ticket.0 ticket.1 in
+    let word = mapped (λ w. Word ticket.0 w) (word_of second) command ticket.2 in
+    let text = word_of-found second word.0 word.1 in
+    subst (Spells line) (sym word.2) (
+      number.0,
+      text.0,
+      ap (λ v. v ++ 32 ∷ (first ++ 32 ∷ second)) same ∙ ap (λ f. codes "word" ++ 32 ∷ (f ++ 32 ∷ second)) number.1
+          ∙ ap (λ w. codes "word" ++ 32 ∷ (decimal ticket.0 ++ 32 ∷ w)) text.1,
     )) (λ found.
     let front = followed _ (number_of first) command found in
     let back = followed _ (number_of second) command front.2 in
     let number = number_of-found first front.0 front.1 in
     let other = number_of-found second back.0 back.1 in
     subst (λ f. Spells (verb ++ 32 ∷ f) command) (ap (λ f. f ++ 32 ∷ decimal back.0) (sym number.1) ∙ ap (λ f. first ++ 32 ∷ f) (sym other.1))
-    (Spells-from_numbers verb front.0 back.0 command number.0 other.0 back.2))
+    (Spells-from_numbers verb front.0 back.0 command number.0 other.0 back.2)))
 
 Spells-from_five_fields : (verb first second third fourth : List ℕ) (command : Command) → command_of_five_fields verb first second third fourth ≡ Some command
     → Spells (verb ++ 32 ∷ (first ++ 32 ∷ (second ++ 32 ∷ (third ++ 32 ∷ fourth)))) command
@@ -208,18 +218,22 @@ by_number line verb n command words spells front found =
     ∙ ap (option_and_then (command_of_number verb)) (number_of-some (decimal n) n spells.0 refl)
     ∙ found
 
-by_numbers : (line verb : List ℕ) (m n : ℕ) (command : Command) → list_all is_word_byte verb ≡ true → bytes_eq verb (codes "place") ≡ false → SpellsNumbers line (verb ++ 32 ∷ []) m n
+by_numbers : (line verb : List ℕ) (m n : ℕ) (command : Command) → list_all is_word_byte verb ≡ true → bytes_eq verb (codes "place") ≡ false → bytes_eq verb (codes "word") ≡ false → SpellsNumbers line (verb ++ 32 ∷ []) m n
     → verb ++ 32 ∷ (decimal m ++ 32 ∷ decimal n) ≡ (verb ++ 32 ∷ []) ++ decimal m ++ 32 ∷ decimal n → command_of_numbers verb m n ≡ Some command → command_of line ≡ Some command
 unfolding command_of
-by_numbers line verb m n command words other spells front found =
+by_numbers line verb m n command words no_place no_word spells front found =
     ap command_of_fields (fields_of-verb_numbers line verb m n words spells.0 spells.1 (spells.2 ∙ sym front))
-    ∙ ap (λ test. cond test (place_of (decimal m) (decimal n)) (numbers (decimal m) (decimal n))) other
+    ∙ ap (λ test. cond test (place_of (decimal m) (decimal n)) (cond (bytes_eq verb (codes "word")) (word_at (decimal m) (decimal n)) (numbers (decimal m) (decimal n)))) no_place
+    ∙ ap (λ test. cond test (word_at (decimal m) (decimal n)) (numbers (decimal m) (decimal n))) no_word
     ∙ ap (λ o. option_and_then (λ k. option_and_then (command_of_numbers verb k) (number_of (decimal n))) o) (number_of-some (decimal m) m spells.0 refl)
     ∙ ap (option_and_then (command_of_numbers verb m)) (number_of-some (decimal n) n spells.1 refl)
     ∙ found
   where
     place_of : List ℕ → List ℕ → Option Command
     place_of first second = option_and_then (λ key. option_map (λ word. Place key word None) (word_of second)) (number_of first)
+
+    word_at : List ℕ → List ℕ → Option Command
+    word_at first second = option_and_then (λ ticket. option_map (λ word. Word ticket word) (word_of second)) (number_of first)
 
     numbers : List ℕ → List ℕ → Option Command
     numbers first second = option_and_then (λ k. option_and_then (command_of_numbers verb k) (number_of second)) (number_of first)
@@ -238,10 +252,10 @@ command_of-spelled line (Remove ticket) spells = by_number line (codes "remove")
 command_of-spelled line (Start place) spells = by_number line (codes "start") place (Start place) refl spells refl refl
 command_of-spelled line (Cut stop) spells = by_number line (codes "cut") stop (Cut stop) refl spells refl refl
 command_of-spelled line (Walk stop) spells = by_number line (codes "walk") stop (Walk stop) refl spells refl refl
-command_of-spelled line (Extend stop place) spells = by_numbers line (codes "extend") stop place (Extend stop place) refl refl spells refl refl
-command_of-spelled line (Join stop next) spells = by_numbers line (codes "join") stop next (Join stop next) refl refl spells refl refl
-command_of-spelled line (Swap stop other) spells = by_numbers line (codes "swap") stop other (Swap stop other) refl refl spells refl refl
-command_of-spelled line (Mark place stop) spells = by_numbers line (codes "mark") place stop (Mark place stop) refl refl spells refl refl
+command_of-spelled line (Extend stop place) spells = by_numbers line (codes "extend") stop place (Extend stop place) refl refl refl spells refl refl
+command_of-spelled line (Join stop next) spells = by_numbers line (codes "join") stop next (Join stop next) refl refl refl spells refl refl
+command_of-spelled line (Swap stop other) spells = by_numbers line (codes "swap") stop other (Swap stop other) refl refl refl spells refl refl
+command_of-spelled line (Mark place stop) spells = by_numbers line (codes "mark") place stop (Mark place stop) refl refl refl spells refl refl
 command_of-spelled line (Place key word None) spells =
     ap (λ l. command_of_fields (fields_of l)) spells.2
     ∙ ap command_of_fields (
@@ -250,6 +264,14 @@ command_of-spelled line (Place key word None) spells =
     )
     ∙ ap (option_and_then (λ k. option_map (λ w. Place k w None) (word_of word))) (number_of-some _ key spells.0 refl)
     ∙ ap (λ test. option_map (λ w. Place key w None) (cond test (Some word) None)) spells.1
+command_of-spelled line (Word ticket word) spells =
+    ap (λ l. command_of_fields (fields_of l)) spells.2
+    ∙ ap command_of_fields (
+    fields_of-cons (codes "word") (decimal ticket ++ 32 ∷ word) refl
+    ∙ ap (λ fs. codes "word" ∷ fs) (fields_of-cons (decimal ticket) word (word_bytes-decimal ticket spells.0) ∙ ap (λ fs. decimal ticket ∷ fs) (word_alone word spells.1))
+    )
+    ∙ ap (option_and_then (λ t. option_map (λ w. Word t w) (word_of word))) (number_of-some _ ticket spells.0 refl)
+    ∙ ap (λ test. option_map (λ w. Word ticket w) (cond test (Some word) None)) spells.1
 command_of-spelled line (Place key word (Some near)) spells =
     ap (λ l. command_of_fields (fields_of l)) spells.3
     ∙ ap command_of_fields (
@@ -303,6 +325,7 @@ one_line first second (Extend stop place) a b = a.2 ∙ sym b.2
 one_line first second (Join stop next) a b = a.2 ∙ sym b.2
 one_line first second (Swap stop other) a b = a.2 ∙ sym b.2
 one_line first second (Mark place stop) a b = a.2 ∙ sym b.2
+one_line first second (Word ticket word) a b = a.2 ∙ sym b.2
 one_line first second (Place key word None) a b = a.2 ∙ sym b.2
 one_line first second (Place key word (Some near)) a b = a.3 ∙ sym b.3
 
@@ -336,6 +359,11 @@ line_text line (Mark place stop) spells = text_of_numbers line (codes "mark ") p
 line_text line (Place key word None) spells =
     let verb : LineText 6 (codes "place ") = record { bytes = refl; short = lit≤ tt; some = lit≤ tt } in
     let number = LineText-append verb (LineText-number key spells.0) in
+    subst (LineText 69) (sym spells.2)
+    (LineText-weaker (lit≤ tt) (LineText-append number (LineText-append LineText-space (LineText-word word spells.1))))
+line_text line (Word ticket word) spells =
+    let verb : LineText 5 (codes "word ") = record { bytes = refl; short = lit≤ tt; some = lit≤ tt } in
+    let number = LineText-append verb (LineText-number ticket spells.0) in
     subst (LineText 69) (sym spells.2)
     (LineText-weaker (lit≤ tt) (LineText-append number (LineText-append LineText-space (LineText-word word spells.1))))
 line_text line (Place key word (Some near)) spells =

@@ -2,6 +2,7 @@ pub mod AlongLemmas
 pub mod CommandLineLemmas
 pub mod CutLemmas
 pub mod EndedLemmas
+pub mod FirstPlaceLemmas
 pub mod GoneLemmas
 pub mod GrammarLemmas
 pub mod LineTextLemmas

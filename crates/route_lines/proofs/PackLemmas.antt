@@ -5,7 +5,7 @@ use Rattle.route_lines.specs.Reply.{ended, reply, next}
 use Rattle.route_lines.specs.State.{State}
 use Rattle.route_lines.specs.Text.{Line, command_in, replies, answered, is_pack, after_lines}
 use Rattle.route_lines.specs.declared.command.Command.{Command}
-use Rattle.route_lines.specs.declared.command.Command.TheVariants.{Place, Show, Find, Floor, After, Before, All, Remove, Start, Extend, Join, Cut, Swap, Walk, Mark, Pack}
+use Rattle.route_lines.specs.declared.command.Command.TheVariants.{Place, Word, Show, Find, Floor, After, Before, All, Remove, Start, Extend, Join, Cut, Swap, Walk, Mark, Pack}
 
 -- a `pack` is answered `ok` and keeps the state
 record IsPacked (s : State) (o : Option Command) : Type 0 where
@@ -18,6 +18,7 @@ packed s line e = at (command_in line) refl
     at : (o : Option Command) → command_in line ≡ o → IsPacked s (command_in line)
     at None f = let no : is_pack line ≡ false = rw f refl in cc
     at (Some (Place key word near)) f = let no : is_pack line ≡ false = rw f refl in cc
+    at (Some (Word ticket word)) f = let no : is_pack line ≡ false = rw f refl in cc
     at (Some (Show ticket)) f = let no : is_pack line ≡ false = rw f refl in cc
     at (Some (Find key)) f = let no : is_pack line ≡ false = rw f refl in cc
     at (Some (Floor key)) f = let no : is_pack line ≡ false = rw f refl in cc

@@ -6,7 +6,7 @@ use Rattle.std.proofs.lemmas.List.{length-map, map-append}
 use Rattle.route_lines.specs.Calls.{unless_is, clear_stop, clear_route}
 use Rattle.route_lines.specs.Number.{IsNumber}
 use Rattle.route_lines.specs.Routes.{has_ticket, first_ticket}
-use Rattle.route_lines.specs.Sound.{KeysRise, RoutesRise, MarksRise, total, count_of, IsWritten, AreWritten}
+use Rattle.route_lines.specs.Sound.{IsBefore, PlacesRise, RoutesRise, MarksRise, total, count_of, IsWritten, AreWritten}
 use Rattle.route_lines.specs.State.{Place, Stop, Route, Mark, stop_list}
 use Rattle.route_lines.proofs.CutLemmas.{all_filter, length-total}
 
@@ -53,12 +53,12 @@ find-filter {X} ticket t k (x ∷ xs) = at (ticket x == t) (ticket x == k) (k ==
     at false true false ea eb ec h = rw eb refl
     at false false c ea eb ec h = rw eb h
 
-pub KeysRise-filter : (test : Place → Bool) (places : List Place) → KeysRise places → KeysRise (filter test places)
-KeysRise-filter test [] h = tt
-KeysRise-filter test (p ∷ places) h = at (test p) (KeysRise-filter test places h.1)
+pub PlacesRise-filter : (test : Place → Bool) (places : List Place) → PlacesRise places → PlacesRise (filter test places)
+PlacesRise-filter test [] h = tt
+PlacesRise-filter test (p ∷ places) h = at (test p) (PlacesRise-filter test places h.1)
   where
-    at : (b : Bool) → KeysRise (filter test places) → KeysRise (cond b (p ∷ filter test places) (filter test places))
-    at true rise = (all_filter (λ q. p.key < q.key) test places h.0, rise)
+    at : (b : Bool) → PlacesRise (filter test places) → PlacesRise (cond b (p ∷ filter test places) (filter test places))
+    at true rise = (all_filter (IsBefore p) test places h.0, rise)
     at false rise = rise
 
 pub MarksRise-filter : (test : Mark → Bool) (marks : List Mark) → MarksRise marks → MarksRise (filter test marks)

@@ -1,21 +1,20 @@
 -- The lines of a reply, and how long they are.
-use Rattle.std.proofs.Common.{lit≤, ◌≡◌, ◌∙◌, sym, ap, subst, refl, Bool, true, false, ◌||◌, ◌==◌, ℕ, ◌+◌, ◌<◌, ◌≤◌, List, [], ◌∷◌, ◌++◌, length, Option, Some, None, IfSome, Result, Ok, Err, IfOk, cond, flat_map, option_map, decimal, codes, nat_lt, nat_le, reverse, append_assoc, append-nil, find, arith}
+use Rattle.std.proofs.Common.{lit≤, ◌≡◌, ◌∙◌, sym, ap, subst, refl, Bool, true, false, ◌||◌, ◌==◌, ℕ, ◌<◌, ◌≤◌, List, [], ◌∷◌, ◌++◌, length, Option, Some, None, IfSome, Result, Ok, Err, IfOk, cond, flat_map, option_map, decimal, codes, nat_lt, nat_le, reverse, append_assoc, append-nil, find, arith}
 use Rattle.std.proofs.lemmas.List.Elements.{All-nil}
 use Rattle.std.specs.List.{AllByRecursion}
 use Rattle.std.specs.Option.{option_or, ok_or}
-use Rattle.route_lines.specs.Calls.{place_holder, stop_holder, and_then, next_ticket, placed, placed_near, shown, found, floor_of, place_after, place_before, started, extended, joined, parted, swapped, walked, marked, removed}
+use Rattle.route_lines.specs.Calls.{place_holder, stop_holder, and_then, next_ticket, placed, placed_near, worded, shown, found, floor_of, place_after, place_before, started, extended, joined, parted, swapped, walked, marked, removed}
 use Rattle.route_lines.specs.Cuts.{before, behind, first_item, last_item}
 use Rattle.route_lines.specs.Number.{IsNumber}
-use Rattle.route_lines.specs.Reply.{ended, reply, refusal_line, reference_text, placed_line, shown_line, found_line, ticket_line, done_line, neighbor_line, place_line, places_text, stop_line, stops_text, walk_text}
+use Rattle.route_lines.specs.Reply.{ended, reply, refusal_line, reference_text, old_line, shown_line, found_line, ticket_line, done_line, neighbor_line, place_line, places_text, stop_line, stops_text, walk_text}
 use Rattle.route_lines.specs.Routes.{walk_from}
 use Rattle.route_lines.specs.Sound.{IsSound, IsNumbered}
-use Rattle.route_lines.specs.State.{State, Place, Stop, Mark, Item, place, stop, mark, with_key, stop_list, holder, is_full_of_places, last_ticket}
+use Rattle.route_lines.specs.State.{State, Place, Stop, Mark, Item, place, stop, mark, with_key, stop_list, holder, last_ticket}
 use Rattle.route_lines.specs.Text.{whole_lines, rest_of}
 use Rattle.route_lines.specs.Unfinished.{Cuts, HasNoLineEnd}
 use Rattle.route_lines.specs.Word.{IsWord}
 use Rattle.route_lines.specs.declared.command.Command.{Command}
-use Rattle.route_lines.specs.declared.command.Command.TheVariants.{Place as PlaceLine, Show, Find, Floor, After, Before, All, Remove, Start, Extend, Join, Cut, Swap, Walk, Mark as MarkLine, Pack}
-use Rattle.route_lines.specs.declared.placed.Placed.TheVariants.{New}
+use Rattle.route_lines.specs.declared.command.Command.TheVariants.{Place as PlaceLine, Word as WordLine, Show, Find, Floor, After, Before, All, Remove, Start, Extend, Join, Cut, Swap, Walk, Mark as MarkLine, Pack}
 use Rattle.route_lines.specs.declared.refusal.Refusal.{Refusal}
 use Rattle.route_lines.specs.declared.refusal.Refusal.TheVariants.{Unknown, Gone, Kind, No, Full}
 use Rattle.route_lines.proofs.CutLemmas.{all_weaker, all_reverse, all_before, all_behind, first_in, last_in, found_in}
@@ -88,20 +87,6 @@ place_text p parts =
 
 -- ---- a reply
 
-placed_text : (s : State) (key : ℕ) (word : List ℕ) → IsSound s → IsNumbered s → LineText 58 (placed_line (placed s key word))
-placed_text s key word sound numbered = at (with_key key s.places) refl (found_in PlaceParts (λ p. p.key == key) s.places (sound_parts s sound numbered))
-  where
-    fresh : (b : Bool) → is_full_of_places s ≡ b → LineText 58 (placed_line (cond b (Err Full) (Ok (New (s.last + 1)))))
-    fresh true e = refusal_text Full
-    fresh false e = number_text (s.last + 1) (ticket_left s.last _ e numbered.last)
-
-    at : (o : Option Place) → with_key key s.places ≡ o → IfSome o PlaceParts → LineText 58 (placed_line (placed s key word))
-    at None e parts = rw e (fresh (is_full_of_places s) refl)
-    at (Some p) e parts =
-        let old : LineText 5 (codes " old ") = record { bytes = refl; short = lit≤ tt; some = lit≤ tt } in
-        let ticket = LineText-append (LineText-number p.ticket parts.ticket) old in
-        rw e (LineText-weaker (lit≤ tt) (LineText-append ticket (LineText-word p.word parts.word)))
-
 -- a place that is found by its neighbor, or by its key
 found_line_text : (o : Option Place) → IfSome o PlaceParts → LineText 58 (found_line (option_map (λ p. p.ticket) o))
 found_line_text None parts = record { bytes = refl; short = lit≤ tt; some = lit≤ tt }
@@ -147,6 +132,18 @@ shown_text s ticket sound numbered = at (holder s ticket) refl (holder_parts s t
         rw e (LineText-weaker (lit≤ tt) (LineText-append front (reference_short m.stop parts.1)))
     at (Err refusal) e parts = rw e (refusal_text refusal)
 
+worded_text : (s : State) (ticket : ℕ) → IsSound s → IsNumbered s → LineText 58 (old_line (worded s ticket))
+worded_text s ticket sound numbered = at (holder s ticket) refl (holder_parts s ticket sound numbered)
+  where
+    old : LineText 4 (codes "old ")
+    old = record { bytes = refl; short = lit≤ tt; some = lit≤ tt }
+
+    at : (r : Result Item Refusal) → holder s ticket ≡ r → IfOk r ItemParts → LineText 58 (old_line (worded s ticket))
+    at (Ok (place p)) e parts = rw e (LineText-weaker (lit≤ tt) (LineText-append old (LineText-word p.word parts.word)))
+    at (Ok (stop t)) e parts = rw e (refusal_text Kind)
+    at (Ok (mark m)) e parts = rw e (refusal_text Kind)
+    at (Err refusal) e parts = rw e (refusal_text refusal)
+
 places_short : (ps : List Place) → AllByRecursion PlaceParts ps → ShortLines (places_text ps)
 places_short [] parts = ShortLines-one (codes "end") (record { bytes = refl; short = lit≤ tt; some = lit≤ tt })
 places_short (p ∷ ps) parts =
@@ -189,13 +186,6 @@ before_text s ticket sound numbered = at (place_holder s ticket)
     at (Ok p) = found_line_text next parts
     at (Err refusal) = refusal_text refusal
 
-placed_near_text : (s : State) (key : ℕ) (word : List ℕ) (near : ℕ) → IsSound s → IsNumbered s → LineText 58 (placed_line (placed_near s key word near))
-placed_near_text s key word near sound numbered = at (place_holder s near)
-  where
-    at : (r : Result Place Refusal) → LineText 58 (placed_line (and_then r (λ p. placed s key word)))
-    at (Ok p) = placed_text s key word sound numbered
-    at (Err refusal) = refusal_text refusal
-
 -- an answer that is a new ticket, or that says that a line is carried out
 ticket_text : (r : Result ℕ Refusal) → IfOk r IsNumber → LineText 58 (ticket_line r)
 ticket_text (Ok ticket) small = number_text ticket small
@@ -215,6 +205,12 @@ next_number s is_full numbered = at (is_full || (s.last == last_ticket)) refl
 if_ok-then : {X Y : Type 0} (P : Y → Type 0) (r : Result X Refusal) (test : X → Result Y Refusal) → ((x : X) → IfOk (test x) P) → IfOk (and_then r test) P
 if_ok-then P (Ok x) test h = h x
 if_ok-then P (Err refusal) test h = tt
+
+placed_number : (s : State) → IsNumbered s → IfOk (placed s) IsNumber
+placed_number s numbered = next_number s _ numbered
+
+placed_near_number : (s : State) (near : ℕ) → IsNumbered s → IfOk (placed_near s near) IsNumber
+placed_near_number s near numbered = if_ok-then IsNumber (place_holder s near) _ (λ p. placed_number s numbered)
 
 started_number : (s : State) (at : ℕ) → IsNumbered s → IfOk (started s at) IsNumber
 started_number s at numbered = if_ok-then IsNumber (place_holder s at) _ (λ p. next_number s _ numbered)
@@ -262,8 +258,9 @@ walk_short s t sound numbered = at (stop_holder s t)
 
 pub ShortLines-reply : (s : State) (command : Option Command) → IsSound s → IsNumbered s → ShortLines (reply s command)
 ShortLines-reply s None sound numbered = ShortLines-one (codes "bad") (record { bytes = refl; short = lit≤ tt; some = lit≤ tt })
-ShortLines-reply s (Some (PlaceLine key word None)) sound numbered = ShortLines-one (placed_line (placed s key word)) (placed_text s key word sound numbered)
-ShortLines-reply s (Some (PlaceLine key word (Some near))) sound numbered = ShortLines-one (placed_line (placed_near s key word near)) (placed_near_text s key word near sound numbered)
+ShortLines-reply s (Some (PlaceLine key word None)) sound numbered = ShortLines-one (ticket_line (placed s)) (ticket_text (placed s) (placed_number s numbered))
+ShortLines-reply s (Some (PlaceLine key word (Some near))) sound numbered = ShortLines-one (ticket_line (placed_near s near)) (ticket_text (placed_near s near) (placed_near_number s near numbered))
+ShortLines-reply s (Some (WordLine t word)) sound numbered = ShortLines-one (old_line (worded s t)) (worded_text s t sound numbered)
 ShortLines-reply s (Some (Show ticket)) sound numbered = ShortLines-one (shown_line (shown s ticket)) (shown_text s ticket sound numbered)
 ShortLines-reply s (Some (Find key)) sound numbered = ShortLines-one (found_line (found s key)) (found_text s key sound numbered)
 ShortLines-reply s (Some (Floor key)) sound numbered = ShortLines-one (found_line (floor_of s key)) (floor_text s key sound numbered)

@@ -4,8 +4,8 @@ use Rattle.std.specs.List.{AllByRecursion}
 use Rattle.std.specs.Option.{ok_or}
 use Rattle.std.proofs.lemmas.Bool.{false≢true, eq-eqb, eqb-true, ltb-true, ltb-false, leb-false}
 use Rattle.std.proofs.lemmas.List.{length-map}
-use Rattle.route_lines.specs.State.{Rooms, State, Place, Stop, Route, Mark, Item, place, stop, mark, with_key, stop_list, living, holder, empty, is_full_of_places, is_full_of_stops, is_full_of_marks, last_ticket}
-use Rattle.route_lines.specs.Calls.{put, reworded, place_holder, stop_holder, and_then, next_ticket, unless_refused, after_place, started, after_start, extended, after_extend, joined, after_join, parted, after_cut, swapped, after_swap, marked, after_mark, clear_mark, clear_mark_stop, without_place, without_stop, without_mark, after_removed}
+use Rattle.route_lines.specs.State.{Rooms, State, Place, Stop, Route, Mark, Item, place, stop, mark, stop_list, living, holder, empty, is_full_of_places, is_full_of_stops, is_full_of_marks, last_ticket}
+use Rattle.route_lines.specs.Calls.{put, reworded, place_holder, stop_holder, and_then, next_ticket, unless_refused, placed, after_place, after_word, started, after_start, extended, after_extend, joined, after_join, parted, after_cut, swapped, after_swap, marked, after_mark, clear_mark, clear_mark_stop, without_place, without_stop, without_mark, after_removed}
 use Rattle.route_lines.specs.Changes.{changed}
 use Rattle.route_lines.specs.Grammar.{command_of}
 use Rattle.route_lines.specs.Reply.{next}
@@ -13,17 +13,17 @@ use Rattle.route_lines.specs.Routes.{has_ticket, linear, put_behind, linked, unl
 use Rattle.route_lines.specs.Text.{Line, whole, unended, command_in, after_lines}
 use Rattle.route_lines.specs.Word.{IsWord}
 use Rattle.route_lines.specs.Number.{IsNumber}
-use Rattle.route_lines.specs.Sound.{KeysRise, MarksRise, total, count_of, holders, AreWritten, IsSound, IsNumbered, IsPossible}
+use Rattle.route_lines.specs.Sound.{IsBefore, PlacesRise, MarksRise, total, count_of, holders, AreWritten, IsSound, IsNumbered, IsPossible}
 use Rattle.route_lines.specs.declared.change.Change.{Change}
-use Rattle.route_lines.specs.declared.change.Change.TheVariants.{Open, Place as PlaceChange, Start, Extend, Join, Cut, Swap, Mark as MarkChange, Remove}
+use Rattle.route_lines.specs.declared.change.Change.TheVariants.{Open, Place as PlaceChange, Word as WordChange, Start, Extend, Join, Cut, Swap, Mark as MarkChange, Remove}
 use Rattle.route_lines.specs.declared.command.Command.{Command}
-use Rattle.route_lines.specs.declared.command.Command.TheVariants.{Place as PlaceLine, Show, Find, Floor, After, Before, All, Remove as RemoveLine, Start as StartLine, Extend as ExtendLine, Join as JoinLine, Cut as CutLine, Swap as SwapLine, Walk, Mark as MarkLine, Pack}
+use Rattle.route_lines.specs.declared.command.Command.TheVariants.{Place as PlaceLine, Word as WordLine, Show, Find, Floor, After, Before, All, Remove as RemoveLine, Start as StartLine, Extend as ExtendLine, Join as JoinLine, Cut as CutLine, Swap as SwapLine, Walk, Mark as MarkLine, Pack}
 use Rattle.route_lines.specs.declared.refusal.Refusal.{Refusal}
 use Rattle.route_lines.specs.declared.refusal.Refusal.TheVariants.{Unknown, Gone, Kind}
 use Rattle.route_lines.proofs.CutLemmas.{all_weaker, all_append, all_filter, total-append, length-total}
 use Rattle.route_lines.proofs.GrammarLemmas.{command_of-found}
 use Rattle.route_lines.proofs.NewStopLemmas.{none_above, stop_list-more, AreWritten-more, total-put_behind, all_put_behind, AreWritten-put_behind}
-use Rattle.route_lines.proofs.RemovedLemmas.{total-filter, length-filter, KeysRise-filter, MarksRise-filter, all_map, total-map, MarksRise-map, number-unless_is, all_cleared, total-cleared, length-cleared, AreWritten-cleared}
+use Rattle.route_lines.proofs.RemovedLemmas.{total-filter, length-filter, PlacesRise-filter, MarksRise-filter, all_map, total-map, MarksRise-map, number-unless_is, all_cleared, total-cleared, length-cleared, AreWritten-cleared}
 use Rattle.route_lines.proofs.RouteLemmas.{AreWritten-linked, total-linked, all_linked, AreWritten-unlinked, total-unlinked, all_unlinked, exchanged_keeps}
 use Rattle.route_lines.proofs.TakenOutLemmas.{AreWritten-taken_out, total-taken_out, all_taken_out}
 
@@ -45,27 +45,29 @@ length-put new (q ∷ ps) = at (nat_lt new.key q.key) (length-put new ps)
     at true behind = omega arith
     at false behind = omega (arith, behind)
 
--- where no place has the key, neither the first nor those behind it do
-none_first : (key : ℕ) (q : Place) (ps : List Place) → with_key key (q ∷ ps) ≡ None → (q.key ≢ key) × (with_key key ps ≡ None)
-none_first key q ps none = at (q.key == key) refl none
-  where
-    at : (b : Bool) → (q.key == key) ≡ b → cond b (Some q) (with_key key ps) ≡ None → (q.key ≢ key) × (with_key key ps ≡ None)
-    at true e h = cc
-    at false e h = (λ same. false≢true (sym e ∙ eq-eqb q.key key same), h)
+-- what stands behind a place that stands behind another
+pub IsBefore-trans : (p q r : Place) → IsBefore p q → IsBefore q r → IsBefore p r
+IsBefore-trans p q r a b = record {
+  key = omega (arith, a.key, b.key);
+  ticket = λ same.
+      let first : p.key ≡ q.key = omega (arith, same, a.key, b.key) in
+      let second : q.key ≡ r.key = omega (arith, same, a.key, b.key) in
+      omega (arith, a.ticket first, b.ticket second);
+}
 
-KeysRise-put : (new : Place) (ps : List Place) → with_key new.key ps ≡ None → KeysRise ps → KeysRise (put new ps)
-KeysRise-put new [] none h = (tt, tt)
-KeysRise-put new (q ∷ ps) none h =
-    let first = none_first new.key q ps none in
-    at (nat_lt new.key q.key) refl first.0 (KeysRise-put new ps first.1 h.1)
+-- a place whose ticket is above all others goes behind all that have its key
+pub PlacesRise-put : (new : Place) (ps : List Place) → AllByRecursion (λ q. q.ticket < new.ticket) ps → PlacesRise ps → PlacesRise (put new ps)
+PlacesRise-put new [] less h = (tt, tt)
+PlacesRise-put new (q ∷ ps) less h = at (nat_lt new.key q.key) refl (PlacesRise-put new ps less.1 h.1)
   where
-    at : (b : Bool) → nat_lt new.key q.key ≡ b → q.key ≢ new.key → KeysRise (put new ps) → KeysRise (cond b (new ∷ q ∷ ps) (q ∷ put new ps))
-    at true e apart behind =
+    at : (b : Bool) → nat_lt new.key q.key ≡ b → PlacesRise (put new ps) → PlacesRise (cond b (new ∷ q ∷ ps) (q ∷ put new ps))
+    at true e behind =
         let below = ltb-true new.key q.key e in
-        ((below, all_weaker (λ p. q.key < p.key) (λ p. new.key < p.key) ps (λ p less. omega (arith, below, less)) h.0), h)
-    at false e apart behind =
+        let first : IsBefore new q = record { key = omega (arith, below); ticket = λ same. omega (arith, below, same) } in
+        ((first, all_weaker (IsBefore q) (IsBefore new) ps (λ p later. IsBefore-trans new q p first later) h.0), h)
+    at false e behind =
         let above = ltb-false new.key q.key e in
-        (all_put (λ p. q.key < p.key) new ps (omega (arith, above, apart)) h.0, behind)
+        (all_put (IsBefore q) new ps (record { key = omega (arith, above); ticket = λ same. less.0 }) h.0, behind)
 
 pub count-put : (test : Place → Bool) (new : Place) (ps : List Place) → count_of test (put new ps) ≡ cond (test new) 1 0 + count_of test ps
 count-put test new [] = omega arith
@@ -77,37 +79,37 @@ count-put test new (q ∷ ps) = at (nat_lt new.key q.key) (count-put test new ps
 
 -- ---- another word
 
-all_reworded : (P : Place → Type 0) (key : ℕ) (word : List ℕ) (ps : List Place) → ((p : Place) → P p → P (record p { word = word })) → AllByRecursion P ps → AllByRecursion P (reworded key word ps)
-all_reworded P key word [] f h = tt
-all_reworded P key word (p ∷ ps) f h = (at (p.key == key), all_reworded P key word ps f h.1)
+all_reworded : (P : Place → Type 0) (t : ℕ) (word : List ℕ) (ps : List Place) → ((p : Place) → P p → P (record p { word = word })) → AllByRecursion P ps → AllByRecursion P (reworded t word ps)
+all_reworded P t word [] f h = tt
+all_reworded P t word (p ∷ ps) f h = (at (p.ticket == t), all_reworded P t word ps f h.1)
   where
     at : (b : Bool) → P (cond b (record p { word = word }) p)
     at true = f p h.0
     at false = h.0
 
-same_key : (p : Place) (b : Bool) (word : List ℕ) → (cond b (record p { word = word }) p).key ≡ p.key
-same_key p true word = refl
-same_key p false word = refl
-
-KeysRise-reworded : (key : ℕ) (word : List ℕ) (ps : List Place) → KeysRise ps → KeysRise (reworded key word ps)
-KeysRise-reworded key word [] h = tt
-KeysRise-reworded key word (p ∷ ps) h = (
-  subst (λ k. AllByRecursion (λ q. k < q.key) (reworded key word ps)) (sym (same_key p (p.key == key) word)) (all_reworded (λ q. p.key < q.key) key word ps (λ q less. less) h.0),
-  KeysRise-reworded key word ps h.1,
-)
-
-pub count-reworded : (key : ℕ) (word : List ℕ) (t : ℕ) (ps : List Place) → count_of (λ p. p.ticket == t) (reworded key word ps) ≡ count_of (λ p. p.ticket == t) ps
-count-reworded key word t [] = refl
-count-reworded key word t (p ∷ ps) = at (p.key == key) (count-reworded key word t ps)
+pub PlacesRise-reworded : (t : ℕ) (word : List ℕ) (ps : List Place) → PlacesRise ps → PlacesRise (reworded t word ps)
+PlacesRise-reworded t word [] h = tt
+PlacesRise-reworded t word (p ∷ ps) h = (at (p.ticket == t), PlacesRise-reworded t word ps h.1)
   where
-    at : (b : Bool) → count_of (λ p. p.ticket == t) (reworded key word ps) ≡ count_of (λ p. p.ticket == t) ps
-        → count_of (λ p. p.ticket == t) (cond b (record p { word = word }) p ∷ reworded key word ps) ≡ count_of (λ p. p.ticket == t) (p ∷ ps)
+    behind : AllByRecursion (IsBefore p) (reworded t word ps)
+    behind = all_reworded (IsBefore p) t word ps (λ q before. record { key = before.key; ticket = before.ticket }) h.0
+
+    at : (b : Bool) → AllByRecursion (IsBefore (cond b (record p { word = word }) p)) (reworded t word ps)
+    at true = all_weaker (IsBefore p) (IsBefore (record p { word = word })) (reworded t word ps) (λ q before. record { key = before.key; ticket = before.ticket }) behind
+    at false = behind
+
+pub count-reworded : (t : ℕ) (word : List ℕ) (k : ℕ) (ps : List Place) → count_of (λ p. p.ticket == k) (reworded t word ps) ≡ count_of (λ p. p.ticket == k) ps
+count-reworded t word k [] = refl
+count-reworded t word k (p ∷ ps) = at (p.ticket == t) (count-reworded t word k ps)
+  where
+    at : (b : Bool) → count_of (λ p. p.ticket == k) (reworded t word ps) ≡ count_of (λ p. p.ticket == k) ps
+        → count_of (λ p. p.ticket == k) (cond b (record p { word = word }) p ∷ reworded t word ps) ≡ count_of (λ p. p.ticket == k) (p ∷ ps)
     at true h = omega (arith, h)
     at false h = omega (arith, h)
 
-length-reworded : (key : ℕ) (word : List ℕ) (ps : List Place) → length (reworded key word ps) ≡ length ps
-length-reworded key word [] = refl
-length-reworded key word (p ∷ ps) = ap suc (length-reworded key word ps)
+pub length-reworded : (t : ℕ) (word : List ℕ) (ps : List Place) → length (reworded t word ps) ≡ length ps
+length-reworded t word [] = refl
+length-reworded t word (p ∷ ps) = ap suc (length-reworded t word ps)
 
 -- ---- tests that are passed
 
@@ -188,21 +190,22 @@ once_more s sound t = at (s.last + 1 == t) refl
 -- ---- each call keeps a state sound
 
 IsSound-after_place : (s : State) (key : ℕ) (word : List ℕ) → IsWord word → IsSound s → IsSound (after_place s key word)
-IsSound-after_place s key word is_word sound = at (with_key key s.places) refl
+IsSound-after_place s key word is_word sound = keeps_unless_refused IsSound s (placed s) _ sound (λ t e.
+    let ticket = next_ticket-ok s (is_full_of_places s) t e in
+    subst (λ n. IsSound (record s { last = n; places = put (record { ticket = n; key = key; word = word }) s.places })) (sym ticket.1) (more ticket.0))
   where
     new : Place
     new = record { ticket = s.last + 1; key = key; word = word }
 
-    full : (b : Bool) → is_full_of_places s ≡ b → with_key key s.places ≡ None → IsSound (cond b s (record s { last = s.last + 1; places = put new s.places }))
-    full true e none = sound
-    full false e none =
+    more : is_full_of_places s ≡ false → IsSound (record s { last = s.last + 1; places = put new s.places })
+    more e =
         let less = leb-false s.rooms.places (length s.places) (left_false _ _ e) in
         record {
           given = all_put (λ p. (0 < p.ticket) × (p.ticket ≤ s.last + 1)) new s.places (omega arith, omega arith) (given_more (λ (p : Place). p.ticket) s.last s.places sound.given);
           given_stops = given_more (λ (t : Stop). t.ticket) s.last (stop_list s.routes) sound.given_stops;
           given_marks = given_more (λ (m : Mark). m.ticket) s.last s.marks sound.given_marks;
           once = λ t. omega (arith, once_more s sound t, count-put (λ p. p.ticket == t) new s.places);
-          keys = KeysRise-put new s.places none sound.keys;
+          order = PlacesRise-put new s.places (all_weaker (λ p. (0 < p.ticket) × (p.ticket ≤ s.last)) (λ p. p.ticket < s.last + 1) s.places (λ p given. omega (arith, given.1)) sound.given) sound.order;
           words = all_put (λ p. IsWord p.word) new s.places is_word sound.words;
           routes = sound.routes;
           marks = sound.marks;
@@ -211,21 +214,20 @@ IsSound-after_place s key word is_word sound = at (with_key key s.places) refl
           marks_fit = sound.marks_fit;
         }
 
-    at : (o : Option Place) → with_key key s.places ≡ o → IsSound (after_place s key word)
-    at None e = rw e (full (is_full_of_places s) refl e)
-    at (Some p) e = rw e (record {
-      given = all_reworded (λ q. (0 < q.ticket) × (q.ticket ≤ s.last)) key word s.places (λ q h. h) sound.given;
-      given_stops = sound.given_stops;
-      given_marks = sound.given_marks;
-      once = λ t. omega (arith, sound.once t, count-reworded key word t s.places);
-      keys = KeysRise-reworded key word s.places sound.keys;
-      words = all_reworded (λ q. IsWord q.word) key word s.places (λ q h. is_word) sound.words;
-      routes = sound.routes;
-      marks = sound.marks;
-      fits = rw (length-reworded key word s.places) sound.fits;
-      stops_fit = sound.stops_fit;
-      marks_fit = sound.marks_fit;
-    })
+IsSound-after_word : (s : State) (t : ℕ) (word : List ℕ) → IsWord word → IsSound s → IsSound (after_word s t word)
+IsSound-after_word s t word is_word sound = keeps_unless_refused IsSound s (place_holder s t) _ sound (λ p e. record {
+  given = all_reworded (λ q. (0 < q.ticket) × (q.ticket ≤ s.last)) t word s.places (λ q h. h) sound.given;
+  given_stops = sound.given_stops;
+  given_marks = sound.given_marks;
+  once = λ k. omega (arith, sound.once k, count-reworded t word k s.places);
+  order = PlacesRise-reworded t word s.places sound.order;
+  words = all_reworded (λ q. IsWord q.word) t word s.places (λ q h. is_word) sound.words;
+  routes = sound.routes;
+  marks = sound.marks;
+  fits = rw (length-reworded t word s.places) sound.fits;
+  stops_fit = sound.stops_fit;
+  marks_fit = sound.marks_fit;
+})
 
 -- a stop more, under the next ticket
 pub record IsMore (s : State) (new : Stop) (routes : List Route) : Type 1 where
@@ -242,7 +244,7 @@ IsSound-more_stops s new routes is room more sound =
       given_stops = more.all (λ t. (0 < t.ticket) × (t.ticket ≤ s.last + 1)) (omega (arith, is), omega (arith, is)) (given_more (λ (t : Stop). t.ticket) s.last (stop_list s.routes) sound.given_stops);
       given_marks = given_more (λ (m : Mark). m.ticket) s.last s.marks sound.given_marks;
       once = λ t. omega (arith, once_more s sound t, more.total (λ u. cond (has_ticket t u) 1 0), ap {B = ℕ} (λ n. cond (n == t) 1 0) is);
-      keys = sound.keys;
+      order = sound.order;
       words = sound.words;
       routes = more.written;
       marks = sound.marks;
@@ -277,7 +279,7 @@ IsSound-same_stops s routes same sound = record {
   given_stops = same.all (λ t. (0 < t.ticket) × (t.ticket ≤ s.last)) sound.given_stops;
   given_marks = sound.given_marks;
   once = λ t. omega (arith, sound.once t, same.total (λ u. cond (has_ticket t u) 1 0));
-  keys = sound.keys;
+  order = sound.order;
   words = sound.words;
   routes = same.written;
   marks = sound.marks;
@@ -357,7 +359,7 @@ IsSound-after_mark s at t sound = keeps_unless_refused IsSound s (marked s at t)
           given_marks = all_append (λ m. (0 < m.ticket) × (m.ticket ≤ s.last + 1)) s.marks (new ∷ []) (given_more (λ (m : Mark). m.ticket) s.last s.marks sound.given_marks)
               ((omega (arith, is), omega (arith, is)), tt);
           once = λ u. omega (arith, once_more s sound u, total-append (λ (m : Mark). cond (m.ticket == u) 1 0) s.marks (new ∷ []), ap {B = ℕ} (λ k. cond (k == u) 1 0) is);
-          keys = sound.keys;
+          order = sound.order;
           words = sound.words;
           routes = sound.routes;
           marks = MarksRise-more s.last new s.marks sound.given_marks (omega (arith, is)) sound.marks;
@@ -380,7 +382,7 @@ IsSound-without_place s t sound = record {
     total-cleared (λ u. cond (has_ticket k u) 1 0) t s.routes,
     total-map (λ (m : Mark). cond (m.ticket == k) 1 0) (clear_mark t) s.marks,
   );
-  keys = KeysRise-filter (λ p. not (p.ticket == t)) s.places sound.keys;
+  order = PlacesRise-filter (λ p. not (p.ticket == t)) s.places sound.order;
   words = all_filter (λ p. IsWord p.word) (λ p. not (p.ticket == t)) s.places sound.words;
   routes = AreWritten-cleared t s.routes sound.routes;
   marks = MarksRise-map (clear_mark t) s.marks (λ m. refl) sound.marks;
@@ -400,7 +402,7 @@ IsSound-without_stop s t sound = record {
     total-taken_out (λ u. cond (has_ticket k u) 1 0) t s.routes sound.routes,
     total-map (λ (m : Mark). cond (m.ticket == k) 1 0) (clear_mark_stop t) s.marks,
   );
-  keys = sound.keys;
+  order = sound.order;
   words = sound.words;
   routes = AreWritten-taken_out t s.routes sound.routes;
   marks = MarksRise-map (clear_mark_stop t) s.marks (λ m. refl) sound.marks;
@@ -415,7 +417,7 @@ IsSound-without_mark s t sound = record {
   given_stops = sound.given_stops;
   given_marks = all_filter (λ m. (0 < m.ticket) × (m.ticket ≤ s.last)) (λ m. not (m.ticket == t)) s.marks sound.given_marks;
   once = λ k. omega (arith, sound.once k, total-filter (λ (m : Mark). cond (m.ticket == k) 1 0) (λ m. m.ticket == t) s.marks);
-  keys = sound.keys;
+  order = sound.order;
   words = sound.words;
   routes = sound.routes;
   marks = MarksRise-filter (λ m. not (m.ticket == t)) s.marks sound.marks;
@@ -444,7 +446,7 @@ IsSound-empty rooms last = record {
   given_stops = tt;
   given_marks = tt;
   once = λ t. omega arith;
-  keys = tt;
+  order = tt;
   words = tt;
   routes = record { once = λ t. omega arith; each = tt; rise = tt };
   marks = tt;
@@ -456,6 +458,7 @@ IsSound-empty rooms last = record {
 pub IsSound-changed : (s : State) (change : Change) → IsPossible change → IsSound s → IsSound (changed s change)
 IsSound-changed s (Open places stops marks last) is sound = IsSound-empty _ last
 IsSound-changed s (PlaceChange key word) is sound = IsSound-after_place s key word is.1 sound
+IsSound-changed s (WordChange t word) is sound = IsSound-after_word s t word is sound
 IsSound-changed s (Start at) is sound = IsSound-after_start s at sound
 IsSound-changed s (Extend t at) is sound = IsSound-after_extend s t at sound
 IsSound-changed s (Join t u) is sound = IsSound-after_join s t u sound
@@ -467,28 +470,22 @@ IsSound-changed s (Remove t) is sound = IsSound-after_removed s t sound
 -- ---- numbers
 
 IsNumbered-after_place : (s : State) (key : ℕ) (word : List ℕ) → IsNumber key → IsNumbered s → IsNumbered (after_place s key word)
-IsNumbered-after_place s key word small numbered = at (with_key key s.places) refl
-  where
-    new : Place
-    new = record { ticket = s.last + 1; key = key; word = word }
-
-    full : (b : Bool) → is_full_of_places s ≡ b → IsNumbered (cond b s (record s { last = s.last + 1; places = put new s.places }))
-    full true e = numbered
-    full false e = record {
-      last = ticket_left s.last _ e numbered.last;
-      keys = all_put (λ p. IsNumber p.key) new s.places small numbered.keys;
-      stops = numbered.stops;
-      marks = numbered.marks;
-    }
-
-    at : (o : Option Place) → with_key key s.places ≡ o → IsNumbered (after_place s key word)
-    at None e = rw e (full (is_full_of_places s) refl)
-    at (Some p) e = rw e (record {
-      last = numbered.last;
-      keys = all_reworded (λ q. IsNumber q.key) key word s.places (λ q h. h) numbered.keys;
+IsNumbered-after_place s key word small numbered = keeps_unless_refused IsNumbered s (placed s) _ numbered (λ t e.
+    let ticket = next_ticket-ok s (is_full_of_places s) t e in
+    record {
+      last = subst IsNumber (sym ticket.1) (ticket_left s.last _ ticket.0 numbered.last);
+      keys = all_put (λ p. IsNumber p.key) (record { ticket = t; key = key; word = word }) s.places small numbered.keys;
       stops = numbered.stops;
       marks = numbered.marks;
     })
+
+IsNumbered-after_word : (s : State) (t : ℕ) (word : List ℕ) → IsNumbered s → IsNumbered (after_word s t word)
+IsNumbered-after_word s t word numbered = keeps_unless_refused IsNumbered s (place_holder s t) _ numbered (λ p e. record {
+  last = numbered.last;
+  keys = all_reworded (λ q. IsNumber q.key) t word s.places (λ q h. h) numbered.keys;
+  stops = numbered.stops;
+  marks = numbered.marks;
+})
 
 -- a ticket of a place, or of a stop, is below 2^64
 place_number : (s : State) (t : ℕ) (p : Place) → IsNumbered s → place_holder s t ≡ Ok p → IsNumber t
@@ -577,6 +574,7 @@ IsNumbered-empty rooms last small = record { last = small; keys = tt; stops = tt
 pub IsNumbered-changed : (s : State) (change : Change) → IsPossible change → IsNumbered s → IsNumbered (changed s change)
 IsNumbered-changed s (Open places stops marks last) is numbered = IsNumbered-empty _ last is
 IsNumbered-changed s (PlaceChange key word) is numbered = IsNumbered-after_place s key word is.0 numbered
+IsNumbered-changed s (WordChange t word) is numbered = IsNumbered-after_word s t word numbered
 IsNumbered-changed s (Start at) is numbered = IsNumbered-after_start s at numbered
 IsNumbered-changed s (Extend t at) is numbered = IsNumbered-after_extend s t at numbered
 IsNumbered-changed s (Join t u) is numbered = IsNumbered-after_join s t u numbered
@@ -591,6 +589,7 @@ IsNumbered-changed s (Remove t) is numbered = IsNumbered-after_removed s t numbe
 abbrev pub GoesOn : Change → Type 0
 GoesOn (Open places stops marks last) = ⊥
 GoesOn (PlaceChange key word) = Unit {0}
+GoesOn (WordChange t word) = Unit {0}
 GoesOn (Start at) = Unit {0}
 GoesOn (Extend t at) = Unit {0}
 GoesOn (Join t u) = Unit {0}
@@ -615,6 +614,7 @@ kept_by_lines Keeps kept s (line ∷ lines) keeps = kept_by_lines Keeps kept (ne
         at (Some (PlaceLine key word (Some near))) e =
             let spelled = command_of-found bytes (PlaceLine key word (Some near)) e in
             keeps_unless_refused Keeps s (place_holder s near) _ keeps (λ p passed. kept s (PlaceChange key word) (spelled.0, spelled.1) tt keeps)
+        at (Some (WordLine t word)) e = let spelled = command_of-found bytes (WordLine t word) e in kept s (WordChange t word) spelled.1 tt keeps
         at (Some (Show ticket)) e = keeps
         at (Some (Find key)) e = keeps
         at (Some (Floor key)) e = keeps

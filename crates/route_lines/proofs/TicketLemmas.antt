@@ -1,19 +1,16 @@
 -- What a refused call leaves, and which ticket a call gives.
-use Rattle.std.proofs.Common.{◌≡◌, sym, refl, Bool, true, false, ℕ, ◌+◌, List, Option, Some, None, Result, Ok, Err}
-use Rattle.route_lines.specs.Calls.{place_holder, stop_holder, placed, after_place, started, after_start, extended, after_extend, marked, after_mark, removed, after_removed}
-use Rattle.route_lines.specs.State.{State, Place, Item, with_key, holder, is_full_of_places, is_full_of_stops, is_full_of_marks}
-use Rattle.route_lines.specs.declared.placed.Placed.TheVariants.{New, Old}
+use Rattle.std.proofs.Common.{◌≡◌, refl, ℕ, ◌+◌, List, Result, Ok, Err}
+use Rattle.route_lines.specs.Calls.{place_holder, stop_holder, placed, after_place, worded, after_word, started, after_start, extended, after_extend, marked, after_mark, removed, after_removed}
+use Rattle.route_lines.specs.State.{State, Place, Item, holder, is_full_of_places, is_full_of_stops, is_full_of_marks}
 use Rattle.route_lines.specs.declared.refusal.Refusal.{Refusal}
-use Rattle.route_lines.specs.declared.refusal.Refusal.TheVariants.{Full}
 use Rattle.route_lines.proofs.SoundLemmas.{and_then-ok, next_ticket-ok}
 
-pub place-refused : (s : State) (key : ℕ) (word : List ℕ) (refusal : Refusal) → placed s key word ≡ Err refusal → after_place s key word ≡ s
-place-refused s key word refusal e = by (with_key key s.places) (is_full_of_places s) refl refl
+pub word-refused : (s : State) (t : ℕ) (word : List ℕ) (refusal : Refusal) → worded s t ≡ Err refusal → after_word s t word ≡ s
+word-refused s t word refusal e = by (place_holder s t) refl
   where
-    by : (o : Option Place) (b : Bool) → with_key key s.places ≡ o → is_full_of_places s ≡ b → after_place s key word ≡ s
-    by (Some p) b f g = let old : placed s key word ≡ Ok (Old p.ticket p.word) = rw f refl in cc
-    by None true f g = rw (f, g) refl
-    by None false f g = let new : placed s key word ≡ Ok (New (s.last + 1)) = rw (f, g) refl in cc
+    by : (r : Result Place Refusal) → place_holder s t ≡ r → after_word s t word ≡ s
+    by (Ok p) f = let done : worded s t ≡ Ok p.word = rw f refl in cc
+    by (Err other) f = rw f refl
 
 pub remove-refused : (s : State) (t : ℕ) (refusal : Refusal) → removed s t ≡ Err refusal → after_removed s t ≡ s
 remove-refused s t refusal e = by (holder s t) refl
@@ -22,16 +19,8 @@ remove-refused s t refusal e = by (holder s t) refl
     by (Ok item) f = let done : removed s t ≡ Ok tt = rw f refl in cc
     by (Err other) f = rw f refl
 
-pub place-new : (s : State) (key ticket : ℕ) (word : List ℕ) → placed s key word ≡ Ok (New ticket) → (ticket ≡ s.last + 1) × ((after_place s key word).last ≡ ticket)
-place-new s key ticket word e = by (with_key key s.places) (is_full_of_places s) refl refl
-  where
-    by : (o : Option Place) (b : Bool) → with_key key s.places ≡ o → is_full_of_places s ≡ b → (ticket ≡ s.last + 1) × ((after_place s key word).last ≡ ticket)
-    by (Some p) b f g = let old : placed s key word ≡ Ok (Old p.ticket p.word) = rw f refl in cc
-    by None true f g = let full : placed s key word ≡ Err Full = rw (f, g) refl in cc
-    by None false f g =
-        let new : placed s key word ≡ Ok (New (s.last + 1)) = rw (f, g) refl in
-        let is : ticket ≡ s.last + 1 = cc in
-        (is, rw (f, g) (sym is))
+pub place-new : (s : State) (key ticket : ℕ) (word : List ℕ) → placed s ≡ Ok ticket → (ticket ≡ s.last + 1) × ((after_place s key word).last ≡ ticket)
+place-new s key ticket word e = ((next_ticket-ok s (is_full_of_places s) ticket e).1, rw e refl)
 
 pub start-new : (s : State) (at ticket : ℕ) → started s at ≡ Ok ticket → (ticket ≡ s.last + 1) × ((after_start s at).last ≡ ticket)
 start-new s at ticket e =

@@ -5,8 +5,6 @@ use Rattle.std.specs.Borrow.{Bor}
 use Rattle.route_lines.specs.Cuts.{before, behind, first_item, last_item}
 use Rattle.route_lines.specs.Routes.{linear, next_stop, previous_stop, put_behind, linked, unlinked, taken_out, exchanged, walk_from}
 use Rattle.route_lines.specs.State.{State, Place, Stop, Route, Mark, Item, place, stop, mark, with_key, holder, is_full_of_places, is_full_of_stops, is_full_of_marks}
-use Rattle.route_lines.specs.declared.placed.Placed.{Placed}
-use Rattle.route_lines.specs.declared.placed.Placed.TheVariants.{New, Old}
 use Rattle.route_lines.specs.declared.shown.Shown.{Shown}
 use Rattle.route_lines.specs.declared.shown.Shown.TheVariants.{Place as ShownPlace, Stop as ShownStop, Mark as ShownMark}
 use Rattle.route_lines.specs.declared.refusal.Refusal.{Refusal}
@@ -52,41 +50,42 @@ unless_refused s (Err refusal) after = s
 
 -- ---- places
 
--- the places with one more, in the order of the keys
+-- the places with one more, in the order of the keys: behind all with the same key
 abbrev pub put : Place → List Place → List Place
 put new [] = new ∷ []
 put new (p ∷ places) = if nat_lt new.key p.key then new ∷ p ∷ places else p ∷ put new places
 
--- the places, where the one that has the key has this word
+-- the places, where the one that has the ticket has this word
 abbrev pub reworded : ℕ → List ℕ → List Place → List Place
-reworded key word places =
-    let reword : Place → Place = λ p. if p.key == key then record p { word = word } else p in
+reworded ticket word places =
+    let reword : Place → Place = λ p. if p.ticket == ticket then record p { word = word } else p in
     map reword places
 
--- `place`: the key is looked for before the room
-abbrev pub placed : State → ℕ → List ℕ → Result Placed Refusal
-placed s key word = from (with_key key s.places)
-  where
-    from : Option Place → Result Placed Refusal
-    from (Some p) = Ok (Old p.ticket p.word)
-    from None = if is_full_of_places s then Err Full else Ok (New (s.last + 1))
+-- `place`: its ticket is above all others, so the place stands behind all that have its key
+abbrev pub placed : State → Result ℕ Refusal
+placed s = next_ticket s (is_full_of_places s)
 
 abbrev pub after_place : State → ℕ → List ℕ → State
-after_place s key word = from (with_key key s.places)
-  where
-    from : Option Place → State
-    from (Some p) = record s { places = reworded key word s.places }
-    from None =
-        if is_full_of_places s
-        then s
-        else record s { last = s.last + 1; places = put (record { ticket = s.last + 1; key = key; word = word }) s.places }
+after_place s key word =
+    unless_refused s (placed s) (λ ticket. record s {
+      last = ticket;
+      places = put (record { ticket = ticket; key = key; word = word }) s.places;
+    })
 
 -- `near`: the hint has to name a place, and changes nothing else
-abbrev pub placed_near : State → ℕ → List ℕ → ℕ → Result Placed Refusal
-placed_near s key word near = and_then (place_holder s near) (λ p. placed s key word)
+abbrev pub placed_near : State → ℕ → Result ℕ Refusal
+placed_near s near = and_then (place_holder s near) (λ p. placed s)
 
 abbrev pub after_place_near : State → ℕ → List ℕ → ℕ → State
 after_place_near s key word near = unless_refused s (place_holder s near) (λ p. after_place s key word)
+
+-- `word`: the word that the place had
+abbrev pub worded : State → ℕ → Result (List ℕ) Refusal
+worded s ticket = and_then (place_holder s ticket) (λ p. Ok p.word)
+
+abbrev pub after_word : State → ℕ → List ℕ → State
+after_word s ticket word =
+    unless_refused s (place_holder s ticket) (λ p. record s { places = reworded ticket word s.places })
 
 -- `show`
 abbrev pub shown : State → ℕ → Result Shown Refusal
@@ -98,7 +97,7 @@ shown s ticket = from (holder s ticket)
     from (Ok (mark m)) = Ok (ShownMark m.place m.stop)
     from (Err refusal) = Err refusal
 
--- `find`
+-- `find`: the first place that has the key, which is the one with the smallest ticket
 abbrev pub found : State → ℕ → Option ℕ
 found s key = option_map (λ p. p.ticket) (with_key key s.places)
 

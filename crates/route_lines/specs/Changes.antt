@@ -1,12 +1,13 @@
 -- What a change makes of a state.
 use Rattle.route_lines.specs.State.{State, empty}
-use Rattle.route_lines.specs.Calls.{after_place, after_start, after_extend, after_join, after_cut, after_swap, after_mark, after_removed}
+use Rattle.route_lines.specs.Calls.{after_place, after_word, after_start, after_extend, after_join, after_cut, after_swap, after_mark, after_removed}
 use Rattle.route_lines.specs.declared.change.Change.{Change}
-use Rattle.route_lines.specs.declared.change.Change.TheVariants.{Open, Place, Start, Extend, Join, Cut, Swap, Mark, Remove}
+use Rattle.route_lines.specs.declared.change.Change.TheVariants.{Open, Place, Word, Start, Extend, Join, Cut, Swap, Mark, Remove}
 
 abbrev pub changed : State → Change → State
 changed s (Open places stops marks last) = empty (record { places = places; stops = stops; marks = marks }) last
 changed s (Place key word) = after_place s key word
+changed s (Word ticket word) = after_word s ticket word
 changed s (Start at) = after_start s at
 changed s (Extend t at) = after_extend s t at
 changed s (Join t u) = after_join s t u

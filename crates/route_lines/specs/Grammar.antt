@@ -5,7 +5,7 @@ use Rattle.std.specs.Str.{bytes_eq}
 use Rattle.route_lines.specs.Number.{IsNumber, number_of}
 use Rattle.route_lines.specs.Word.{IsWord, word_of}
 use Rattle.route_lines.specs.declared.command.Command.{Command}
-use Rattle.route_lines.specs.declared.command.Command.TheVariants.{Place, Show, Find, Floor, After, Before, All, Remove, Start, Extend, Join, Cut, Swap, Walk, Mark, Pack}
+use Rattle.route_lines.specs.declared.command.Command.TheVariants.{Place, Word, Show, Find, Floor, After, Before, All, Remove, Start, Extend, Join, Cut, Swap, Walk, Mark, Pack}
 
 -- the line is these bytes and then a number, or a number, a space and a number: in decimal digits without leading zeros
 abbrev pub SpellsNumber : List ℕ → List ℕ → ℕ → Type 0
@@ -19,6 +19,8 @@ abbrev pub Spells : List ℕ → Command → Type 0
 Spells line (Place key word None) = IsNumber key × IsWord word × (line ≡ codes "place " ++ decimal key ++ 32 ∷ word)
 Spells line (Place key word (Some near)) =
     IsNumber key × IsWord word × IsNumber near × (line ≡ codes "place " ++ decimal key ++ 32 ∷ (word ++ (codes " near " ++ decimal near)))
+Spells line (Word ticket word) =
+    IsNumber ticket × IsWord word × (line ≡ codes "word " ++ decimal ticket ++ 32 ∷ word)
 Spells line (Show ticket) = SpellsNumber line (codes "show ") ticket
 Spells line (Find key) = SpellsNumber line (codes "find ") key
 Spells line (Floor key) = SpellsNumber line (codes "floor ") key
@@ -76,6 +78,8 @@ abbrev pub command_of_three_fields : List ℕ → List ℕ → List ℕ → Opti
 command_of_three_fields verb first second =
     if bytes_eq verb (codes "place")
     then option_and_then (λ key. option_map (λ word. Place key word None) (word_of second)) (number_of first)
+    else if bytes_eq verb (codes "word")
+    then option_and_then (λ ticket. option_map (λ word. Word ticket word) (word_of second)) (number_of first)
     else option_and_then (λ m. option_and_then (command_of_numbers verb m) (number_of second)) (number_of first)
 
 abbrev pub command_of_five_fields : List ℕ → List ℕ → List ℕ → List ℕ → List ℕ → Option Command

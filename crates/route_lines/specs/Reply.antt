@@ -1,11 +1,9 @@
 -- The text that answers a command, and the state after it. Each reply line ends with an LF.
 use Rattle.std.specs.Prelude.{ℕ, ◌++◌, ◌∷◌, List, [], Option, None, Some, Result, Ok, Err, codes, decimal, flat_map}
 use Rattle.route_lines.specs.State.{State, Place, Stop}
-use Rattle.route_lines.specs.Calls.{placed, after_place, placed_near, after_place_near, shown, found, floor_of, place_after, place_before, started, after_start, extended, after_extend, joined, after_join, parted, after_cut, swapped, after_swap, walked, marked, after_mark, removed, after_removed}
+use Rattle.route_lines.specs.Calls.{placed, after_place, placed_near, after_place_near, worded, after_word, shown, found, floor_of, place_after, place_before, started, after_start, extended, after_extend, joined, after_join, parted, after_cut, swapped, after_swap, walked, marked, after_mark, removed, after_removed}
 use Rattle.route_lines.specs.declared.command.Command.{Command}
-use Rattle.route_lines.specs.declared.command.Command.TheVariants.{Place as PlaceLine, Show, Find, Floor, After, Before, All, Remove, Start, Extend, Join, Cut, Swap, Walk, Mark, Pack}
-use Rattle.route_lines.specs.declared.placed.Placed.{Placed}
-use Rattle.route_lines.specs.declared.placed.Placed.TheVariants.{New, Old}
+use Rattle.route_lines.specs.declared.command.Command.TheVariants.{Place as PlaceLine, Word, Show, Find, Floor, After, Before, All, Remove, Start, Extend, Join, Cut, Swap, Walk, Mark, Pack}
 use Rattle.route_lines.specs.declared.shown.Shown.{Shown}
 use Rattle.route_lines.specs.declared.shown.Shown.TheVariants.{Place as ShownPlace, Stop as ShownStop, Mark as ShownMark}
 use Rattle.route_lines.specs.declared.refusal.Refusal.{Refusal}
@@ -26,10 +24,10 @@ abbrev pub reference_text : Option ℕ → List ℕ
 reference_text (Some ticket) = decimal ticket
 reference_text None = codes "gone"
 
-abbrev pub placed_line : Result Placed Refusal → List ℕ
-placed_line (Ok (New ticket)) = decimal ticket
-placed_line (Ok (Old ticket word)) = decimal ticket ++ codes " old " ++ word
-placed_line (Err refusal) = refusal_line refusal
+-- the word that was replaced
+abbrev pub old_line : Result (List ℕ) Refusal → List ℕ
+old_line (Ok word) = codes "old " ++ word
+old_line (Err refusal) = refusal_line refusal
 
 abbrev pub shown_line : Result Shown Refusal → List ℕ
 shown_line (Ok (ShownPlace key word)) = decimal key ++ codes " " ++ word
@@ -77,8 +75,9 @@ walk_text (Err refusal) = ended (refusal_line refusal)
 -- the reply to a command, where there is one, from this state
 abbrev pub reply : State → Option Command → List ℕ
 reply s None = ended (codes "bad")
-reply s (Some (PlaceLine key word None)) = ended (placed_line (placed s key word))
-reply s (Some (PlaceLine key word (Some near))) = ended (placed_line (placed_near s key word near))
+reply s (Some (PlaceLine key word None)) = ended (ticket_line (placed s))
+reply s (Some (PlaceLine key word (Some near))) = ended (ticket_line (placed_near s near))
+reply s (Some (Word ticket word)) = ended (old_line (worded s ticket))
 reply s (Some (Show ticket)) = ended (shown_line (shown s ticket))
 reply s (Some (Find key)) = ended (found_line (found s key))
 reply s (Some (Floor key)) = ended (found_line (floor_of s key))
@@ -100,6 +99,7 @@ abbrev pub next : State → Option Command → State
 next s None = s
 next s (Some (PlaceLine key word None)) = after_place s key word
 next s (Some (PlaceLine key word (Some near))) = after_place_near s key word near
+next s (Some (Word ticket word)) = after_word s ticket word
 next s (Some (Show ticket)) = s
 next s (Some (Find key)) = s
 next s (Some (Floor key)) = s

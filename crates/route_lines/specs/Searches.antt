@@ -1,5 +1,5 @@
 -- How many comparisons a search makes, and how many a command may take.
-use Rattle.std.specs.Prelude.{◌≡◌, ℕ, suc, ◌+◌, ◌-◌, ◌≤◌, ◌==◌, ◌&&◌, ◌||◌, Bool, List, [], ◌∷◌, Option, Some, None, if◌then◌else◌, length, nat_le, nat_lt}
+use Rattle.std.specs.Prelude.{◌≡◌, ℕ, suc, ◌+◌, ◌-◌, ◌≤◌, ◌==◌, ◌&&◌, ◌||◌, Bool, List, [], ◌∷◌, Option, Some, None, if◌then◌else◌, length, nat_lt}
 use Rattle.counted_search.specs.Searches.{most_comparisons}
 use Rattle.route_lines.specs.State.{State, Place as Spot, stop_list}
 use Rattle.route_lines.specs.declared.command.Command.{Command}
@@ -22,13 +22,12 @@ places_before is (p ∷ places) = if is p then 0 else suc (places_before is plac
 abbrev pub is_near : ℕ → ℕ → Bool
 is_near i j = nat_lt i (j + 7) && nat_lt j (i + 7)
 
--- near a position are the last place whose key is not above this one and the first whose key is not below it, each if there is one:
--- the place that has the key, or those on both sides of its gap
+-- near a position are the last place whose key is not above this one and the first whose key is,
+-- each if there is one: those on both sides of the gap where a new place with the key stands
 abbrev pub is_at_hand : ℕ → List Spot → ℕ → Bool
 is_at_hand key places i =
     let up_to = places_before (λ p. nat_lt key p.key) places in
-    let below = places_before (λ p. nat_le key p.key) places in
-    ((up_to == 0) || is_near i (up_to - 1)) && ((below == length places) || is_near i below)
+    ((up_to == 0) || is_near i (up_to - 1)) && ((up_to == length places) || is_near i up_to)
 
 -- the greatest number of comparisons with keys of a search that begins at the place with this ticket
 abbrev pub most_near : List Spot → ℕ → ℕ → ℕ

@@ -6,12 +6,17 @@ use Rattle.route_lines.specs.Routes.{has_ticket, first_ticket}
 use Rattle.route_lines.specs.State.{State, Place, Route, Mark, stop_list}
 use Rattle.route_lines.specs.Word.{IsWord}
 use Rattle.route_lines.specs.declared.change.Change.{Change}
-use Rattle.route_lines.specs.declared.change.Change.TheVariants.{Open, Place as PlaceChange, Start, Extend, Join, Cut, Swap, Mark as MarkChange, Remove}
+use Rattle.route_lines.specs.declared.change.Change.TheVariants.{Open, Place as PlaceChange, Word as WordChange, Start, Extend, Join, Cut, Swap, Mark as MarkChange, Remove}
 
--- each key is below those behind it
-abbrev pub KeysRise : List Place → Type 0
-KeysRise [] = Unit {0}
-KeysRise (p ∷ places) = AllByRecursion (λ q. p.key < q.key) places × KeysRise places
+-- a place stands before another: by its key, or under the same key by its ticket
+pub record IsBefore (p q : Place) : Type 0 where
+  pub key : p.key ≤ q.key
+  pub ticket : p.key ≡ q.key → p.ticket < q.ticket
+
+-- each place stands before those behind it
+abbrev pub PlacesRise : List Place → Type 0
+PlacesRise [] = Unit {0}
+PlacesRise (p ∷ places) = AllByRecursion (IsBefore p) places × PlacesRise places
 
 -- the first ticket of each route, and the ticket of each mark, is below those behind it
 abbrev pub RoutesRise : List Route → Type 0
@@ -49,14 +54,14 @@ pub record AreWritten (routes : List Route) : Type 0 where
   pub each : AllByRecursion IsWritten routes
   pub rise : RoutesRise routes
 
--- tickets were given and no two items have one, keys rise, words are words, the routes and marks are written in their
--- order, and no more items of a kind live than their room holds
+-- tickets were given and no two items have one, the places rise, words are words, the routes and
+-- marks are written in their order, and no more items of a kind live than their room holds
 pub record IsSound (s : State) : Type 0 where
   pub given : AllByRecursion (λ p. (0 < p.ticket) × (p.ticket ≤ s.last)) s.places
   pub given_stops : AllByRecursion (λ t. (0 < t.ticket) × (t.ticket ≤ s.last)) (stop_list s.routes)
   pub given_marks : AllByRecursion (λ m. (0 < m.ticket) × (m.ticket ≤ s.last)) s.marks
   pub once : (ticket : ℕ) → holders s ticket ≤ 1
-  pub keys : KeysRise s.places
+  pub order : PlacesRise s.places
   pub words : AllByRecursion (λ p. IsWord p.word) s.places
   pub routes : AreWritten s.routes
   pub marks : MarksRise s.marks
@@ -75,6 +80,7 @@ pub record IsNumbered (s : State) : Type 0 where
 abbrev pub IsPossible : Change → Type 0
 IsPossible (Open places stops marks last) = IsNumber last
 IsPossible (PlaceChange key word) = IsNumber key × IsWord word
+IsPossible (WordChange ticket word) = IsWord word
 IsPossible (Start at) = Unit {0}
 IsPossible (Extend t at) = Unit {0}
 IsPossible (Join t u) = Unit {0}

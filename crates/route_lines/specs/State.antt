@@ -31,7 +31,9 @@ pub record Mark : Type 0 where
   pub place : Option ℕ
   pub stop : Option ℕ
 
--- the rooms, the last ticket given, the places in the order of their keys, the routes in the order of their first tickets, the marks in the order of their tickets
+-- the rooms, the last ticket given, the places in the order of their keys, and under one key of
+-- their tickets, the routes in the order of their first tickets, the marks in the order of their
+-- tickets
 pub record State : Type 0 where
   pub rooms : Rooms
   pub last : ℕ
@@ -45,6 +47,7 @@ pub data Item : Type 0 where
   stop : Stop → Item
   mark : Mark → Item
 
+-- the first place that has the key
 abbrev pub with_key : ℕ → List Place → Option Place
 with_key key places = find (λ p. p.key == key) places
 

@@ -6,8 +6,10 @@ use crate::word::Word;
 pub enum Change {
     /// A new store: the rooms of places, stops and marks, and the last ticket that counts as given.
     Open(usize, usize, usize, u64),
-    /// A place with this key and word, or another word for the place that has the key.
+    /// A place with this key and word.
     Place(u64, Word),
+    /// Another word for the place with this ticket.
+    Word(u64, Word),
     /// A stop at this place, alone on a linear route.
     Start(u64),
     /// Directly behind this stop, a stop at this place.

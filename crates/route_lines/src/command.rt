@@ -4,18 +4,23 @@ use crate::word::Word;
 /// What a line asks of a store: one variant for each form of line.
 #[derive(Debug, PartialEq, Eq, Drop)]
 pub enum Command {
-    /// `place K W`: a place with this key and word, or the word of the place that has the key. With `near T` behind it,
-    /// the search begins at the place T.
+    /// `place K W`: a place with this key and word, behind all that have the key. With `near T`
+    /// behind it, the search begins at the place T.
     Place {
         key: u64,
         word: Word,
         near: Option<u64>,
     },
+    /// `word T W`: another word for a place.
+    Word {
+        ticket: u64,
+        word: Word,
+    },
     /// `show T`: what stands under a ticket.
     Show {
         ticket: u64,
     },
-    /// `find K`: the ticket of the place with this key.
+    /// `find K`: the ticket of the first place with this key.
     Find {
         key: u64,
     },

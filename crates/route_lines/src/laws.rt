@@ -14,7 +14,7 @@ pub use grammar::{
     commands_have_one_line, lines_have_one_command, spellings_are_found, spellings_are_short_lines,
 };
 pub use looks::sweeps;
-pub use places::hints_change_no_reply;
+pub use places::{finds_answer_the_smallest_ticket, hints_change_no_reply};
 pub use removals::{
     removed_marks_leave_all_else, removed_places_leave_no_reference,
     removed_stops_join_their_neighbors, removed_tickets_are_gone,

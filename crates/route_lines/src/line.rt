@@ -104,6 +104,13 @@ fn read_three_fields(verb: &[u8], first: &[u8], second: &[u8]) -> Option<Command
             near: None,
         });
     }
+    if verb == b"word".as_slice() {
+        let word = Word::new(second)?;
+        return Some(Command::Word {
+            ticket: number,
+            word,
+        });
+    }
     let second = read_number(second)?;
     command_of_numbers(verb, number, second)
 }

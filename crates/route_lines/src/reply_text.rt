@@ -1,9 +1,8 @@
 //! The text of a reply, gathered before it is written.
 ghost use Rattle.std.specs.Prelude.{◌≡◌, ℕ, ◌+◌, ◌≤◌, ◌++◌, ◌↔◌, [], ◌∷◌, IsTrue, length, codes, decimal};
-ghost use Rattle.route_lines.specs.Reply.{ended, refusal_line, reference_text, placed_line, shown_line, found_line, ticket_line, done_line, neighbor_line, place_line, stop_line};
+ghost use Rattle.route_lines.specs.Reply.{ended, refusal_line, reference_text, old_line, shown_line, found_line, ticket_line, done_line, neighbor_line, place_line, stop_line};
 ghost use Rattle.route_lines.specs.ReplyText.{HasRoom};
 
-use crate::placed::Placed;
 use crate::refusal::Refusal;
 use crate::shown::Shown;
 use crate::word::Word;
@@ -106,16 +105,14 @@ impl ReplyText {
         self.push_bytes(b"\n");
     }
 
-    /// What `place` answered.
-    pub fn push_placed(&mut self, placed: &Result<Placed, Refusal>)
+    /// The word that `word` replaced.
+    pub fn push_old(&mut self, old: &Result<Word, Refusal>)
         requires { HasRoom self.old 59 }
-        ensures { self.new ≡ self.old ++ ended (placed_line placed.now) }
+        ensures { self.new ≡ self.old ++ ended (old_line old.now) }
     {
-        match placed {
-            Ok(Placed::New(ticket)) => self.push_ticket_line(*ticket),
-            Ok(Placed::Old(ticket, word)) => {
-                self.push_number(*ticket);
-                self.push_bytes(b" old ");
+        match old {
+            Ok(word) => {
+                self.push_bytes(b"old ");
                 self.push_word_line(word);
             }
             Err(refusal) => self.push_refusal(*refusal),
@@ -190,7 +187,7 @@ impl ReplyText {
         self.push_word_line(word);
     }
 
-    /// The new ticket that `start`, `extend` and `mark` answered.
+    /// The new ticket that `place`, `start`, `extend` and `mark` answered.
     pub fn push_ticket(&mut self, ticket: Result<u64, Refusal>)
         requires { HasRoom self.old 59 }
         ensures { self.new ≡ self.old ++ ended (ticket_line ticket) }

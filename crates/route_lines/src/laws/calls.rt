@@ -1,14 +1,15 @@
 //! What holds of every call that may be refused, and of every call that gives a ticket.
 ghost use Rattle.std.specs.Prelude.{◌≡◌, ◌+◌, ℕ, List, Ok, Err};
-ghost use Rattle.route_lines.specs.Calls.{after_cut, after_extend, after_join, after_mark, after_place, after_removed, after_start, after_swap, extended, joined, marked, parted, placed, removed, started, swapped};
+ghost use Rattle.route_lines.specs.Calls.{after_cut, after_extend, after_join, after_mark, after_place, after_removed, after_start, after_swap, after_word, extended, joined, marked, parted, placed, removed, started, swapped, worded};
 ghost use Rattle.route_lines.specs.State.{State};
-ghost use Rattle.route_lines.specs.declared.placed.Placed.TheVariants.{New};
 ghost use Rattle.route_lines.specs.declared.refusal.Refusal.{Refusal};
 
 /// A refused call leaves the state as it was, so that it uses no ticket.
 pub fn refused_calls_change_nothing()
     ensures place { (s : State) (key : ℕ) (word : List ℕ) (refusal : Refusal)
-        → placed s key word ≡ Err refusal → after_place s key word ≡ s }
+        → placed s ≡ Err refusal → after_place s key word ≡ s }
+    ensures word { (s : State) (t : ℕ) (word : List ℕ) (refusal : Refusal)
+        → worded s t ≡ Err refusal → after_word s t word ≡ s }
     ensures start { (s : State) (at : ℕ) (refusal : Refusal) → started s at ≡ Err refusal
         → after_start s at ≡ s }
     ensures extend { (s : State) (t at : ℕ) (refusal : Refusal) → extended s t at ≡ Err refusal
@@ -28,7 +29,7 @@ pub fn refused_calls_change_nothing()
 /// A new ticket is the one after the last, and is the last one from then on.
 pub fn new_tickets_come_next()
     ensures place { (s : State) (key ticket : ℕ) (word : List ℕ)
-        → placed s key word ≡ Ok (New ticket)
+        → placed s ≡ Ok ticket
         → (ticket ≡ s.last + 1) × ((after_place s key word).last ≡ ticket) }
     ensures start { (s : State) (at ticket : ℕ) → started s at ≡ Ok ticket
         → (ticket ≡ s.last + 1) × ((after_start s at).last ≡ ticket) }

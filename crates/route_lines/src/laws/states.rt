@@ -9,8 +9,9 @@ ghost use Rattle.route_lines.specs.Text.{Line, after_lines};
 ghost use Rattle.route_lines.specs.declared.change.Change.{Change};
 ghost use Rattle.route_lines.specs.declared.counts.Counts.{Counts};
 
-/// Whatever lines are carried out, the tickets were given and no two items have one, the keys rise, the words are words,
-/// the routes and marks stand in their order, and no more items of a kind live than its room holds.
+/// Whatever lines are carried out, the tickets were given and no two items have one, the places
+/// rise, the words are words, the routes and marks stand in their order, and no more items of a
+/// kind live than its room holds.
 pub fn states_are_sound()
     ensures { (rooms : Rooms) (last : ℕ) (lines : List Line)
         → IsSound (after_lines (empty rooms last) lines) }
