@@ -1,7 +1,7 @@
 """store_lines.py places|all|churn|pack|refused LINES: lines for the store, the same each time.
 
-`places` has the lines on places alone: a new place, another word for a key that is there, look-ups, and `all` once, at
-the end. `all` has routes, marks and removals too: routes are short, so that walks cost as much at each size. `churn` puts
+`places` has the lines on places alone: a new place, at a key that is there another word or one more place, look-ups, and
+`all` once, at the end. `all` has routes, marks and removals too: routes are short, so that walks cost as much at each size. `churn` puts
 in places, stops and marks, and once as many live as a quarter of the lines, a removal follows each. `pack` is `churn` with
 that line behind it. `refused` has lines that spell no command: they are read and answered, and nothing is done.
 """
@@ -16,10 +16,12 @@ def places(pick, lines):
         way = pick.random()
         key = pick.randrange(2 * lines)
         if way < 0.4:
-            if key not in keys:
+            if key in keys and pick.random() < 0.8:
+                yield f'word {keys[key]} w{key % 1000}'
+            else:
                 last += 1
                 keys[key] = last
-            yield f'place {key} w{key % 1000}'
+                yield f'place {key} w{key % 1000}'
         elif way < 0.7:
             yield f'show {pick.randint(1, last + 1)}'
         else:
@@ -28,12 +30,12 @@ def places(pick, lines):
 
 
 class Items:
-    """The living items by kind, in no order, and the keys of the places."""
+    """The living items by kind, in no order, and for each key a place that has it."""
 
     def __init__(self, pick, lines):
         self.pick, self.lines, self.last = pick, lines, 0
         self.of_kind = {'place': [], 'stop': [], 'mark': []}
-        self.keys, self.key_of = set(), {}
+        self.keys, self.key_of = {}, {}
 
     def new(self, kind):
         self.last += 1
@@ -47,10 +49,11 @@ class Items:
 
     def place(self, near=''):
         key = self.key()
-        if key not in self.keys:
-            self.keys.add(key)
-            self.new('place')
-            self.key_of[self.last] = key
+        if key in self.keys and self.pick.random() < 0.8:
+            return f'word {self.keys[key]} w{key % 1000}'
+        self.new('place')
+        self.keys[key] = self.last
+        self.key_of[self.last] = key
         return f'place {key} w{key % 1000}{near}'
 
     def start(self):
@@ -71,7 +74,9 @@ class Items:
         at = self.pick.randrange(len(living))
         living[at], living[-1] = living[-1], living[at]
         ticket = living.pop()
-        self.keys.discard(self.key_of.pop(ticket, None))
+        key = self.key_of.pop(ticket, None)
+        if self.keys.get(key) == ticket:
+            del self.keys[key]
         return f'remove {ticket}'
 
     def living(self):

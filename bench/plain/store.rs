@@ -1,6 +1,6 @@
-//! The store's line language over std's `BTreeMap` and `HashMap`: `store PLACES STOPS MARKS`, from the standard input to
+//! The store's line language over std's `BTreeSet` and `HashMap`: `store PLACES STOPS MARKS`, from the standard input to
 //! the standard output. A reply is written before the next line is carried out.
-use std::collections::{BTreeMap, HashMap};
+use std::collections::{BTreeSet, HashMap};
 use std::io::{self, BufRead, Write};
 use std::ops::Bound::{Excluded, Unbounded};
 
@@ -79,7 +79,8 @@ struct Store {
     stops: usize,
     marks: usize,
     last: u64,
-    by_key: BTreeMap<u64, u64>,
+    /// Keys with their tickets.
+    by_key: BTreeSet<(u64, u64)>,
     items: HashMap<u64, Item>,
 }
 
@@ -132,20 +133,21 @@ impl Store {
     }
 
     fn place(&mut self, key: u64, word: Word, out: &mut Vec<u8>) -> Result<(), Refusal> {
-        if let Some(&ticket) = self.by_key.get(&key) {
-            let Some(Item::Place(place)) = self.items.get_mut(&ticket) else {
-                unreachable!()
-            };
-            let old = std::mem::replace(&mut place.word, word);
-            push(out, ticket);
-            out.extend_from_slice(b" old ");
-            out.extend_from_slice(old.as_bytes());
-            return Ok(());
-        }
         let ticket = self.ticket(self.by_key.len() >= self.rooms[0])?;
-        self.by_key.insert(key, ticket);
+        self.by_key.insert((key, ticket));
         self.items.insert(ticket, Item::Place(Place { key, word }));
         push(out, ticket);
+        Ok(())
+    }
+
+    fn word(&mut self, ticket: u64, word: Word, out: &mut Vec<u8>) -> Result<(), Refusal> {
+        self.place_at(ticket)?;
+        let Some(Item::Place(place)) = self.items.get_mut(&ticket) else {
+            unreachable!()
+        };
+        let old = std::mem::replace(&mut place.word, word);
+        out.extend_from_slice(b"old ");
+        out.extend_from_slice(old.as_bytes());
         Ok(())
     }
 
@@ -259,7 +261,7 @@ impl Store {
         self.holder(ticket)?;
         match self.items.remove(&ticket) {
             Some(Item::Place(place)) => {
-                self.by_key.remove(&place.key);
+                self.by_key.remove(&(place.key, ticket));
             }
             Some(Item::Stop(stop)) => {
                 self.stops -= 1;
@@ -277,13 +279,13 @@ impl Store {
     }
 
     fn all(&self, out: &mut Vec<u8>) {
-        for (key, ticket) in &self.by_key {
-            let Some(Item::Place(place)) = self.items.get(ticket) else {
+        for &(key, ticket) in &self.by_key {
+            let Some(Item::Place(place)) = self.items.get(&ticket) else {
                 unreachable!()
             };
-            push(out, *ticket);
+            push(out, ticket);
             out.push(b' ');
-            push(out, *key);
+            push(out, key);
             out.push(b' ');
             out.extend_from_slice(place.word.as_bytes());
             out.push(b'\n');
@@ -321,22 +323,35 @@ impl Store {
                     Err(refusal) => Err(refusal),
                 }
             }
+            (b"word", 3) => {
+                let (ticket, word) = (n(1)?, Word::new(all[2])?);
+                self.word(ticket, word, out)
+            }
             (b"show", 2) => self.show(n(1)?, out),
             (b"find", 2) => {
-                push_or_none(out, self.by_key.get(&n(1)?).copied());
+                let key = n(1)?;
+                let from = self.by_key.range((key, 0)..).next();
+                push_or_none(out, from.filter(|e| e.0 == key).map(|e| e.1));
                 Ok(())
             }
             (b"floor", 2) => {
-                push_or_none(out, self.by_key.range(..=n(1)?).next_back().map(|e| *e.1));
+                push_or_none(out, self.by_key.range(..=(n(1)?, u64::MAX)).next_back().map(|e| e.1));
                 Ok(())
             }
-            (b"after", 2) => self.place_at(n(1)?).map(|place| {
-                let later = (Excluded(place.key), Unbounded);
-                push_or_none(out, self.by_key.range(later).next().map(|e| *e.1));
-            }),
-            (b"before", 2) => self.place_at(n(1)?).map(|place| {
-                push_or_none(out, self.by_key.range(..place.key).next_back().map(|e| *e.1));
-            }),
+            (b"after", 2) => {
+                let ticket = n(1)?;
+                self.place_at(ticket).map(|place| {
+                    let later = (Excluded((place.key, ticket)), Unbounded);
+                    push_or_none(out, self.by_key.range(later).next().map(|e| e.1));
+                })
+            }
+            (b"before", 2) => {
+                let ticket = n(1)?;
+                self.place_at(ticket).map(|place| {
+                    let earlier = self.by_key.range(..(place.key, ticket)).next_back();
+                    push_or_none(out, earlier.map(|e| e.1));
+                })
+            }
             (b"all", 1) => {
                 self.all(out);
                 end(Ok(()), out)
@@ -395,7 +410,7 @@ fn main() -> io::Result<()> {
         stops: 0,
         marks: 0,
         last: 0,
-        by_key: BTreeMap::new(),
+        by_key: BTreeSet::new(),
         // It grows, as a user's would.
         items: HashMap::new(),
     };

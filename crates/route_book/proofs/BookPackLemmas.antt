@@ -206,7 +206,7 @@ module _ {I : Type 0} (number : I → ℕ) (last : Option ℕ) (rooms : Rooms) (
     pub pack_kept : IsBook number rooms given s places' stops' marks' (map (renewed_entry m n o) book)
     pack_kept = record {
       held = held;
-      keys_rise = b.keys_rise;
+      places_rise = b.places_rise;
       within = record {
         rooms_are = b.within.rooms_are;
         place_count = b.within.place_count ∙ sym laid.size;

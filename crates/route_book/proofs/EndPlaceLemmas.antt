@@ -213,7 +213,7 @@ module _ {I : Type 0} (number : I → ℕ) (rooms : Rooms) (last : ℕ) (s : Sta
     pub place_leaves : IsBook number rooms last s' places' stops marks (without_ticket p.ticket book)
     place_leaves = record {
       held = held;
-      keys_rise = sound.keys;
+      places_rise = sound.order;
       within = record {
         rooms_are = ap (λ (x : State). x.rooms) laws.is ∙ b.within.rooms_are;
         place_count = (let n = b.within.place_count in let z = removed.size in let l = laws.place_count in omega (arith, n, z, l));

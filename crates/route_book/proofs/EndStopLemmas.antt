@@ -264,7 +264,7 @@ module _ {I : Type 0} (number : I → ℕ) (rooms : Rooms) (last : ℕ) (s : Sta
     pub stop_leaves : IsBook number rooms last s' places stops' marks (without_ticket v.ticket book)
     stop_leaves = record {
       held = held;
-      keys_rise = sound.keys;
+      places_rise = sound.order;
       within = record {
         rooms_are = ap (λ (x : State). x.rooms) laws.is ∙ b.within.rooms_are;
         place_count = ap (λ (x : State). length x.places) laws.is ∙ b.within.place_count;

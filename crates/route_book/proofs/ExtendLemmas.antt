@@ -115,7 +115,7 @@ module _ {I : Type 0} (number : I → ℕ) (rooms : Rooms) (last : ℕ) (s : Sta
           held = subst (λ (c : ℕ). IsHeld now (record { places = entry_in places; stops = values_in stops'; marks = entry_at marks; place_counter = places.chains.counter; stop_counter = c })
               (in_order number places) (ends_in number stops') (book ++ entry w.ticket OfStop n h ∷ []))
               (sym put.counter) held_now;
-          keys_rise = b.keys_rise;
+          places_rise = b.places_rise;
           within = record {
             rooms_are = b.within.rooms_are;
             place_count = b.within.place_count;

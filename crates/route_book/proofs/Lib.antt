@@ -6,6 +6,7 @@ pub mod EndMarkLemmas
 pub mod EndPlaceLemmas
 pub mod EndStopLemmas
 pub mod ExtendLemmas
+pub mod FirstLemmas
 pub mod FollowLemmas
 pub mod HoldLemmas
 pub mod ItemLemmas

@@ -144,7 +144,7 @@ module _ {I : Type 0} (number : I → ℕ) (rooms : Rooms) (last : ℕ) (s : Sta
         (record { places = entry_in places; stops = at; marks = entry_at marks; place_counter = places.chains.counter; stop_counter = stops.counter }) (in_order number places)
         (ends_in number stops') book)
         (sym (equal_if_alike (values_in stops') (values_in stops) same)) held);
-    keys_rise = b.keys_rise;
+    places_rise = b.places_rise;
     within = record {
       rooms_are = b.within.rooms_are;
       place_count = b.within.place_count;

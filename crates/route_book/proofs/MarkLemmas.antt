@@ -252,7 +252,7 @@ module _ {I : Type 0} (number : I → ℕ) (rooms : Rooms) (last : ℕ) (s : Sta
   pub mark_made : IsBook number rooms (last + 1) (after_mark s pt st) places stops marks' (book ++ entry v.ticket OfMark i g ∷ [])
   mark_made = subst (λ z. IsBook number rooms (last + 1) z places stops marks' (book ++ entry v.ticket OfMark i g ∷ [])) (sym (marked_new s pt st p x place stop free).1) (record {
     held = mark_added s (found_in places stops marks) (in_order number places) (ends_in number stops) book b.held v i g (entry_at marks') vacant entries next live_place live_stop m named;
-    keys_rise = b.keys_rise;
+    places_rise = b.places_rise;
     within = record {
       rooms_are = b.within.rooms_are;
       place_count = b.within.place_count;

@@ -2,10 +2,8 @@
 use Rattle.std.proofs.Common.{◌≡◌, ◌∙◌, sym, ap, subst, refl, Bool, true, false, ◌==◌, ◌||◌, ℕ, zero, suc, ◌+◌, ◌-◌, ◌<◌, ◌≤◌, List, [], ◌∷◌, ◌++◌, length, Option, Some, None, IsSome, Ok, nat_le, nat_lt, inl, inr, arith}
 use Rattle.std.specs.Prelude.{◌⊎◌, slice_get}
 use Rattle.std.specs.List.{AllByRecursion}
-use Rattle.std.specs.Cmp.{ranked, nat_cmp_is}
-use Rattle.std.specs.Ordering.{nat_cmp}
 use Rattle.std.specs.declared.cmp.Ordering.{Ordering}
-use Rattle.std.specs.declared.cmp.Ordering.TheVariants.{Less, Equal, Greater}
+use Rattle.std.specs.declared.cmp.Ordering.TheVariants.{Less, Greater}
 use Rattle.std.proofs.lemmas.Bool.{and_parts, ltb-true, lt-ltb, le-ltb, ne_eqb}
 use Rattle.std.proofs.lemmas.Bool.Decides.{eqb_tells, leb_tells}
 use Rattle.rank_tree.specs.Search.{AllIn}
@@ -14,18 +12,20 @@ use Rattle.triple_arena.specs.Entries.{value_if}
 use Rattle.triple_arena_chain.specs.Chains.{first_or, last_or}
 use Rattle.triple_arena_chain.specs.declared.link.IndexLink.{IndexLink}
 use Rattle.triple_arena_ord.specs.Near.{IsNear, IsAtHand}
-use Rattle.triple_arena_ord.specs.Ordered.{Ordered, IsOrdered, IsAscending, asked_at, asked_of, entry_in, order_in, size_in}
+use Rattle.triple_arena_ord.specs.Ordered.{Ordered, IsOrdered, IsAscending, asked_at, entry_in, order_in, size_in}
 use Rattle.ticket_book.specs.declared.entry.Kind.TheVariants.{Place as OfPlace}
 use Rattle.ticket_book.specs.Tickets.{Entry}
 use Rattle.counted_search.specs.Searches.{most_comparisons}
 use Rattle.route_lines.specs.Calls.{place_holder}
 use Rattle.route_lines.specs.Searches.{places_before, is_near, is_at_hand, most_near}
-use Rattle.route_lines.specs.Sound.{KeysRise}
+use Rattle.route_lines.specs.Sound.{PlacesRise}
 use Rattle.route_lines.specs.State.{State, Rooms, Place, place_of}
 use Rattle.route_book.specs.Book.{in_order, IsBook}
 use Rattle.route_book.specs.Item.{StopView, MarkView}
+use Rattle.route_book.specs.Keys.{key_cmp, key_of}
+use Rattle.route_book.specs.declared.items.PlaceKey.{PlaceKey}
 use Rattle.route_book.proofs.HoldLemmas.{booked_once}
-use Rattle.route_book.proofs.KeyLemmas.{above_behind, along, along_some, ascending, live_along}
+use Rattle.route_book.proofs.KeyLemmas.{GoesPast, above_behind, along, along_some, ascending, live_along, newest_past, past_above, past_from}
 use Rattle.route_book.proofs.NeighborLemmas.{held_place}
 use Rattle.route_book.proofs.OptionLemmas.{found_has, some_same, stands_under}
 
@@ -100,76 +100,56 @@ module _ (at : ℕ → Option (ℕ × Place)) where
             }
       ]
 
-  module _ (key : ℕ) where
-    abbrev ask : ℕ → Ordering
-    ask j = asked_of nat_cmp (λ (p : Place). p.key) key (at j)
-
-    greater_at : (j : ℕ) (e : ℕ × Place) → at j ≡ Some e → e.1.key < key → ask j ≡ Greater
-    greater_at j e is less = rw is (sym (nat_cmp_is key e.1.key Greater less))
+  module _ (key : ℕ) (ask : ℕ → Ordering) (past : GoesPast key ask at) where
+    greater_at : (j : ℕ) (e : ℕ × Place) → at j ≡ Some e → e.1.key ≤ key → ask j ≡ Greater
+    greater_at j e is from = past j e.0 e.1 is ∙ past_from key e.1 from
 
     less_at : (j : ℕ) (e : ℕ × Place) → at j ≡ Some e → key < e.1.key → ask j ≡ Less
-    less_at j e is less = rw is (sym (nat_cmp_is key e.1.key Less less))
+    less_at j e is above = past j e.0 e.1 is ∙ past_above key e.1 above
 
-    equal_at : (j : ℕ) (e : ℕ × Place) → at j ≡ Some e → key ≡ e.1.key → ask j ≡ Equal
-    equal_at j e is same = rw is (sym (nat_cmp_is key e.1.key Equal same))
-
-    -- the first index whose key is not below this one
+    -- the first index whose key is above this one
     record IsFrom (high : List ℕ) : Type 0 where
       pub first : ℕ
       pub behind : List ℕ
       pub entry : ℕ × Place
       pub is : high ≡ first ∷ behind
       pub stands : at first ≡ Some entry
-      pub from : key ≤ entry.1.key
+      pub above : key < entry.1.key
 
     -- the list, parted before it
-    record IsParted (w : List ℕ) : Type 0 where
+    record IsCut (w : List ℕ) : Type 0 where
       pub low : List ℕ
       pub high : List ℕ
       pub is : w ≡ low ++ high
       pub greater : AllIn (λ j. ask j ≡ Greater) low
-      pub below : places_before (λ p. nat_le key p.key) (along at w) ≡ length low
+      pub up_to : places_before (λ p. nat_lt key p.key) (along at w) ≡ length low
       pub behind : (high ≡ []) ⊎ IsFrom high
 
-    parted : (w : List ℕ) → Live w → IsParted w
-    parted [] all = record { low = []; high = []; is = refl; greater = tt; below = refl; behind = inl refl }
+    parted : (w : List ℕ) → Live w → IsCut w
+    parted [] all = record { low = []; high = []; is = refl; greater = tt; up_to = refl; behind = inl refl }
     parted (j ∷ w) all =
         let e = live_at j all.0 in
-        elim (leb_tells key e.0.1.key) [
+        elim (leb_tells e.0.1.key key) [
           | inl from ↦
-              record {
-                low = [];
-                high = j ∷ w;
-                is = refl;
-                greater = tt;
-                below = rw (along_live j w all, from.0) refl;
-                behind = inr (record { first = j; behind = w; entry = e.0; is = refl; stands = e.1; from = from.1 });
-              }
-          | inr above ↦
               let rest = parted w all.1 in
               record {
                 low = j ∷ rest.low;
                 high = rest.high;
                 is = ap (λ l. j ∷ l) rest.is;
-                greater = (greater_at j e.0 e.1 above.1, rest.greater);
-                below = rw (along_live j w all, above.0) (ap suc rest.below);
+                greater = (greater_at j e.0 e.1 from.1, rest.greater);
+                up_to = rw (along_live j w all, le-ltb key e.0.1.key from.1) (ap suc rest.up_to);
                 behind = rest.behind;
               }
+          | inr above ↦
+              record {
+                low = [];
+                high = j ∷ w;
+                is = refl;
+                greater = tt;
+                up_to = rw (along_live j w all, lt-ltb key e.0.1.key above.1) refl;
+                behind = inr (record { first = j; behind = w; entry = e.0; is = refl; stands = e.1; above = above.1 });
+              }
         ]
-
-    -- if no key is equal, as many places have a key up to this one as have one below it
-    up_to_low : (low high : List ℕ) → Live (low ++ high) → AllIn (λ j. ask j ≡ Greater) low → AllIn (λ j. ask j ≡ Less) high
-        → places_before (λ p. nat_lt key p.key) (along at (low ++ high)) ≡ length low
-    up_to_low [] [] all greater less = refl
-    up_to_low [] (j ∷ high) all greater less =
-        let e = live_at j all.0 in
-        let way : nat_cmp key e.0.1.key ≡ Less = sym (rw e.1 refl) ∙ less.0 in
-        rw (along_live j high all, lt-ltb key e.0.1.key (ranked key e.0.1.key Less (sym way))) refl
-    up_to_low (j ∷ low) high all greater less =
-        let e = live_at j all.0 in
-        let way : nat_cmp key e.0.1.key ≡ Greater = sym (rw e.1 refl) ∙ greater.0 in
-        let above = ranked key e.0.1.key Greater (sym way) in
-        rw (along_live j (low ++ high) all, le-ltb key e.0.1.key (omega (arith, above))) (ap suc (up_to_low low high all.1 greater.1 less))
 
     less_above : (w : List ℕ) → Live w → AllByRecursion (λ (p : Place). key < p.key) (along at w) → AllIn (λ j. ask j ≡ Less) w
     less_above [] all above = tt
@@ -178,31 +158,28 @@ module _ (at : ℕ → Option (ℕ × Place)) where
         let both = subst (AllByRecursion (λ (p : Place). key < p.key)) (along_live j w all) above in
         (less_at j e.0 e.1 both.0, less_above w all.1 both.1)
 
-    rise_behind : (low high : List ℕ) → Live (low ++ high) → KeysRise (along at (low ++ high)) → KeysRise (along at high)
+    rise_behind : (low high : List ℕ) → Live (low ++ high) → PlacesRise (along at (low ++ high)) → PlacesRise (along at high)
     rise_behind [] high all rise = rise
-    rise_behind (j ∷ low) high all rise = rise_behind low high all.1 (subst KeysRise (along_live j (low ++ high) all) rise).1
+    rise_behind (j ∷ low) high all rise = rise_behind low high all.1 (subst PlacesRise (along_live j (low ++ high) all) rise).1
 
-    module _ (w : List ℕ) (all : Live w) (rise : KeysRise (along at w)) (from i : ℕ) (stands : slice_get w from ≡ Some i) (hand : is_at_hand key (along at w) from ≡ true) where
-      abbrev part : IsParted w
+    module _ (w : List ℕ) (all : Live w) (rise : PlacesRise (along at w)) (from i : ℕ) (stands : slice_get w from ≡ Some i) (hand : is_at_hand key (along at w) from ≡ true) where
+      abbrev part : IsCut w
       part = parted w all
 
       abbrev up_to : ℕ
       up_to = places_before (λ p. nat_lt key p.key) (along at w)
 
-      abbrev below : ℕ
-      below = places_before (λ p. nat_le key p.key) (along at w)
-
-      halves : (((up_to == 0) || is_near from (up_to - 1)) ≡ true) × (((below == length (along at w)) || is_near from below) ≡ true)
+      halves : (((up_to == 0) || is_near from (up_to - 1)) ≡ true) × (((up_to == length (along at w)) || is_near from up_to) ≡ true)
       halves = and_parts _ _ hand
 
       live : Live (part.low ++ part.high)
       live = subst Live part.is all
 
       -- a neighbor of the gap
-      low_near : AllIn (λ j. ask j ≡ Less) part.high → (j : ℕ) → last_or None part.low ≡ Some j → IsNear 7 w i j
-      low_near less j is =
+      low_near : (j : ℕ) → last_or None part.low ≡ Some j → IsNear 7 w i j
+      low_near j is =
           let s = last_stands part.low part.high j is in
-          let count : up_to ≡ suc s.0 = ap (λ l. places_before (λ p. nat_lt key p.key) (along at l)) part.is ∙ up_to_low part.low part.high live part.greater less ∙ s.1.0 in
+          let count : up_to ≡ suc s.0 = part.up_to ∙ s.1.0 in
           let counted = subst (λ n. ((n == 0) || is_near from (n - 1)) ≡ true) count halves.0 in
           let some : (suc s.0 == 0) ≡ false = ne_eqb (suc s.0) 0 (λ same. omega (arith, same)) in
           let last : suc s.0 - 1 ≡ s.0 = omega arith in
@@ -210,15 +187,15 @@ module _ (at : ℕ → Option (ℕ × Place)) where
           let apart = near_at from s.0 near in
           record { from = from; to = s.0; starts = stands; ends = subst (λ l. slice_get l s.0 ≡ Some j) (sym part.is) s.1.1; ahead = apart.1; behind = apart.0 }
 
-      -- the first index whose key is not below this one
+      -- the first index whose key is above this one
       high_near : (f : IsFrom part.high) → IsNear 7 w i f.first
       high_near f =
           let is : w ≡ part.low ++ f.first ∷ f.behind = part.is ∙ ap (λ l. part.low ++ l) f.is in
           let long : length w ≡ length part.low + suc (length f.behind) = ap length is ∙ length_with part.low f.first f.behind in
           let all_long = length_along w all in
-          let count = part.below in
-          let inside : (below == length (along at w)) ≡ false = ne_eqb below (length (along at w)) (λ same. omega (arith, same, long, all_long, count)) in
-          let near : is_near from (length part.low) ≡ true = subst (λ n. is_near from n ≡ true) part.below (near_if _ from below inside halves.1) in
+          let count = part.up_to in
+          let inside : (up_to == length (along at w)) ≡ false = ne_eqb up_to (length (along at w)) (λ same. omega (arith, same, long, all_long, count)) in
+          let near : is_near from (length part.low) ≡ true = subst (λ n. is_near from n ≡ true) part.up_to (near_if _ from up_to inside halves.1) in
           let apart = near_at from (length part.low) near in
           record {
             from = from;
@@ -234,28 +211,22 @@ module _ (at : ℕ → Option (ℕ × Place)) where
           length_with (x ∷ low) j rest = let more = length_with low j rest in omega (arith, more)
 
       gap : AllIn (λ j. ask j ≡ Less) part.high → ((j : ℕ) → first_or part.high None ≡ Some j → IsNear 7 w i j) → IsAtHand 7 ask w i
-      gap less first = inr (record { low = part.low; high = part.high; is = part.is; greater = part.greater; less = less; last = low_near less; first = first })
+      gap less first = inr (record { low = part.low; high = part.high; is = part.is; greater = part.greater; less = less; last = low_near; first = first })
 
       none_above : part.high ≡ [] → IsAtHand 7 ask w i
       none_above none =
           gap (subst (AllIn (λ j. ask j ≡ Less)) (sym none) tt) (λ j is. absurd (let no : ◌≡◌ {A = Option ℕ} None (Some j) = sym (ap (λ l. first_or l None) none) ∙ is in cc))
 
       some_above : IsFrom part.high → IsAtHand 7 ask w i
-      some_above f = elim (eqb_tells key f.entry.1.key) [
-        | inl same ↦ inl (record { at = f.first; equal = equal_at f.first f.entry f.stands same.1; near = high_near f })
-        | inr other ↦
-            let from = f.from in
-            let differs = other.1 in
-            let less : key < f.entry.1.key = omega (arith, from, differs) in
-            let live_high = live_behind part.low part.high live in
-            let rises = subst (λ l. KeysRise (along at l)) f.is (rise_behind part.low part.high live (subst (λ l. KeysRise (along at l)) part.is rise)) in
-            let split = along_some at f.first f.behind f.entry f.stands in
-            let above : AllByRecursion (λ (p : Place). key < p.key) (along at part.high) =
-            subst (λ l. AllByRecursion (λ (p : Place). key < p.key) (along at l)) (sym f.is)
-            (subst (AllByRecursion (λ (p : Place). key < p.key)) (sym split) (above_behind [] (along at f.behind) f.entry.1 key (subst KeysRise split rises) less)) in
-            gap (less_above part.high live_high above)
-            (λ j is. subst (IsNear 7 w i) (first_is (sym (ap (λ l. first_or l None) f.is) ∙ is)) (high_near f))
-      ]
+      some_above f =
+          let live_high = live_behind part.low part.high live in
+          let rises = subst (λ l. PlacesRise (along at l)) f.is (rise_behind part.low part.high live (subst (λ l. PlacesRise (along at l)) part.is rise)) in
+          let split = along_some at f.first f.behind f.entry f.stands in
+          let above : AllByRecursion (λ (p : Place). key < p.key) (along at part.high) =
+          subst (λ l. AllByRecursion (λ (p : Place). key < p.key) (along at l)) (sym f.is)
+          (subst (AllByRecursion (λ (p : Place). key < p.key)) (sym split) (above_behind [] (along at f.behind) f.entry.1 key (subst PlacesRise split rises) f.above)) in
+          gap (less_above part.high live_high above)
+          (λ j is. subst (IsNear 7 w i) (first_is (sym (ap (λ l. first_or l None) f.is) ∙ is)) (high_near f))
         where
           first_is : {x y : ℕ} → ◌≡◌ {A = Option ℕ} (Some x) (Some y) → x ≡ y
           first_is e = cc
@@ -267,7 +238,7 @@ module _ (at : ℕ → Option (ℕ × Place)) where
       ]
 
     -- how many comparisons a search may take that begins at the place with a ticket
-    pub near_bound : (w : List ℕ) → Live w → KeysRise (along at w) → (t i g : ℕ) (p : Place) → at i ≡ Some (g, p) → p.ticket ≡ t
+    pub near_bound : (w : List ℕ) → Live w → PlacesRise (along at w) → (t i g : ℕ) (p : Place) → at i ≡ Some (g, p) → p.ticket ≡ t
         → ((j k : ℕ) (q : Place) → at j ≡ Some (k, q) → q.ticket ≡ t → j ≡ i) → place_of (along at w) t ≡ Some p → (old new : ℕ)
         → new ≤ old + (7 + most_comparisons (length (along at w))) → (IsAtHand 7 ask w i → new ≤ old + 7) → new ≤ old + most_near (along at w) key t
     near_bound w all rise t i g p is ticket own found old new bound near = by (is_at_hand key (along at w) from) refl
@@ -289,7 +260,7 @@ module _ (at : ℕ → Option (ℕ × Place)) where
 
 module _ {I : Type 0} (number : I → ℕ) (rooms : Rooms) (last : ℕ) (s : State) (places : Ordered I Place) (stops : Content (IndexLink I StopView)) (marks : Content MarkView)
     (book : List Entry) (b : IsBook number rooms last s places stops marks book) (ordered : IsOrdered number places)
-    (key near i g : ℕ) (p : Place) (value : value_if g (entry_in places i) ≡ Some p) (held : place_holder s near ≡ Ok p) where
+    (k : PlaceKey) (newest : (j n : ℕ) (q : Place) → entry_in places j ≡ Some (n, q) → q.ticket < k.ticket) (near i g : ℕ) (p : Place) (value : value_if g (entry_in places i) ≡ Some p) (held : place_holder s near ≡ Ok p) where
   stands : entry_in places i ≡ Some (g, p)
   stands =
       let there = stands_under (entry_in places) i g (subst IsSome (sym value) refl) in
@@ -298,16 +269,16 @@ module _ {I : Type 0} (number : I → ℕ) (rooms : Rooms) (last : ℕ) (s : Sta
   has : p.ticket ≡ near
   has = found_has (λ (q : Place). q.ticket) near s.places p (held_place s near p held)
 
-  rise : KeysRise (in_order number places)
-  rise = subst KeysRise b.held.in_order b.keys_rise
+  rise : PlacesRise (in_order number places)
+  rise = subst PlacesRise b.held.in_order b.places_rise
 
   -- a search for a key that begins at the place with a ticket makes no more comparisons with keys than it may
   pub hint_bound : (old new : ℕ) → new ≤ old + (7 + most_comparisons (size_in places))
-      → (IsAscending number nat_cmp (λ (q : Place). q.key) places → IsSome (entry_in places i)
-      → IsAtHand 7 (asked_at nat_cmp (λ (q : Place). q.key) key places) (order_in number places) i → new ≤ old + 7) → new ≤ old + most_near s.places key near
+      → (IsAscending number key_cmp key_of places → IsSome (entry_in places i)
+      → IsAtHand 7 (asked_at key_cmp key_of k places) (order_in number places) i → new ≤ old + 7) → new ≤ old + most_near s.places k.key near
   hint_bound old new bound close =
-      subst (λ l. new ≤ old + most_near l key near) (sym b.held.in_order)
-      (near_bound (entry_in places) key (order_in number places) (live_along number places None (order_in number places) ordered.linear) rise near i g p stands has
+      subst (λ l. new ≤ old + most_near l k.key near) (sym b.held.in_order)
+      (near_bound (entry_in places) k.key (asked_at key_cmp key_of k places) (newest_past places k newest) (order_in number places) (live_along number places None (order_in number places) ordered.linear) rise near i g p stands has
       (λ j k q is same. booked_once (λ (r : Place). r.ticket) OfPlace (entry_in places) book b.held.places_in j i k g q p is stands (same ∙ sym has))
       (ap (λ l. place_of l near) (sym b.held.in_order) ∙ held_place s near p held) old new
       (subst (λ n. new ≤ old + (7 + most_comparisons n)) (sym b.within.place_count ∙ ap length b.held.in_order) bound)

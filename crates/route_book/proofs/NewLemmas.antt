@@ -62,7 +62,7 @@ module _ {I : Type 0} (number : I → ℕ) (rooms : Rooms) (last : ℕ) (places 
       in_order = sym (ap (along (entry_in places)) no_order);
       routes = λ i g x is. absurd (never _ (none_stopped i) is);
     };
-    keys_rise = tt;
+    places_rise = tt;
     within = record {
       rooms_are = refl;
       place_count = sym (ap live_count no_places);

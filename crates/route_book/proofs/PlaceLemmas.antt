@@ -7,23 +7,24 @@ use Rattle.std.proofs.lemmas.Bool.Decides.{eqb_tells}
 use Rattle.triple_arena.specs.Content.{Content, entry_at, live_count, arena_capacity}
 use Rattle.triple_arena_stack.specs.Room.{capacity}
 use Rattle.triple_arena_chain.specs.declared.link.IndexLink.{IndexLink}
+use Rattle.triple_arena_chain.specs.Chains.{Ends}
 use Rattle.triple_arena_chain.specs.Links.{ends_in, values_in}
 use Rattle.triple_arena_ord.specs.Inserted.{IsAdded, IsReplaced}
 use Rattle.triple_arena_ord.specs.Ordered.{Ordered, entry_in, order_in, size_in}
 use Rattle.ticket_book.specs.declared.entry.Kind.TheVariants.{Place as OfPlace}
 use Rattle.ticket_book.specs.Tickets.{Entry}
-use Rattle.route_lines.specs.Calls.{put, reworded, placed, after_place}
-use Rattle.route_lines.specs.Sound.{KeysRise}
-use Rattle.route_lines.specs.State.{State, Rooms, Place, with_key, is_full_of_places}
-use Rattle.route_lines.specs.declared.placed.Placed.TheVariants.{New, Old}
+use Rattle.route_lines.specs.Calls.{put, reworded, place_holder, placed, after_place, worded, after_word}
+use Rattle.route_lines.specs.Sound.{IsSound}
+use Rattle.route_lines.specs.State.{State, Rooms, Place, is_full_of_places}
 use Rattle.route_lines.specs.declared.refusal.Refusal.TheVariants.{Full}
 use Rattle.route_book.specs.Item.{StopView, MarkView}
-use Rattle.route_book.specs.Holds.{entry, IsHeld}
+use Rattle.route_book.specs.Holds.{Found, entry, IsHeld}
 use Rattle.route_book.specs.Book.{Book, found_in, in_order, IsBook, KeepsItems}
-use Rattle.route_book.proofs.HoldLemmas.{place_added}
+use Rattle.route_book.proofs.HoldLemmas.{lookup_given, place_added}
 use Rattle.route_book.proofs.KeyLemmas.{along}
-use Rattle.route_book.proofs.RewordLemmas.{reword_entry, KeysRise-reworded, length-reworded, along_reworded, as_reworded, place_reworded}
-use Rattle.route_book.proofs.OptionLemmas.{some_same}
+use Rattle.route_book.proofs.NeighborLemmas.{held_place}
+use Rattle.route_book.proofs.RewordLemmas.{reword_entry, length-reworded, along_reworded, as_reworded, place_reworded}
+use Rattle.route_book.proofs.OptionLemmas.{found_has, some_same}
 
 -- ---- lists
 
@@ -35,42 +36,6 @@ length_put p (q ∷ ps) = by (nat_lt p.key q.key) (length_put p ps)
     by true rest = omega arith
     by false rest = omega (arith, rest)
 
-KeysRise-put : (p : Place) (ps : List Place) → with_key p.key ps ≡ None → KeysRise ps → KeysRise (put p ps)
-KeysRise-put p [] none rise = (tt, tt)
-KeysRise-put p (q ∷ ps) none rise =
-    let first = apart (q.key == p.key) refl none in
-    by (nat_lt p.key q.key) refl first.0 (KeysRise-put p ps first.1 rise.1)
-  where
-    apart : (b : Bool) → (q.key == p.key) ≡ b → cond b (Some q) (with_key p.key ps) ≡ None → (q.key ≢ p.key) × (with_key p.key ps ≡ None)
-    apart true e is = cc
-    apart false e is = (λ same. false≢true (sym e ∙ eq-eqb q.key p.key same), is)
-
-    weaker : (qs : List Place) → p.key < q.key → AllByRecursion (λ (x : Place). q.key < x.key) qs → AllByRecursion (λ (x : Place). p.key < x.key) qs
-    weaker [] less all = tt
-    weaker (x ∷ qs) less all = ((let more = all.0 in omega (arith, more, less)), weaker qs less all.1)
-
-    among : (qs : List Place) → q.key < p.key → AllByRecursion (λ (x : Place). q.key < x.key) qs → AllByRecursion (λ (x : Place). q.key < x.key) (put p qs)
-    among [] less all = (less, tt)
-    among (x ∷ qs) less all = at (nat_lt p.key x.key) (among qs less all.1)
-      where
-        at : (b : Bool) → AllByRecursion (λ (y : Place). q.key < y.key) (put p qs) → AllByRecursion (λ (y : Place). q.key < y.key) (cond b (p ∷ x ∷ qs) (x ∷ put p qs))
-        at true rest = (less, all)
-        at false rest = (all.0, rest)
-
-    by : (b : Bool) → nat_lt p.key q.key ≡ b → q.key ≢ p.key → KeysRise (put p ps) → KeysRise (cond b (p ∷ q ∷ ps) (q ∷ put p ps))
-    by true e other rest = let less = ltb-true p.key q.key e in ((less, weaker ps less rise.0), rise)
-    by false e other rest = let from = ltb-false p.key q.key e in (among ps (omega (arith, from, other)) rise.0, rest)
-
-with_key_has : (key : ℕ) (p : Place) (ps : List Place) → with_key key ps ≡ Some p → p.key ≡ key
-with_key_has key p [] is = absurd (let no : ◌≡◌ {A = Option Place} None (Some p) = is in cc)
-with_key_has key p (q ∷ ps) is = elim (eqb_tells q.key key) [
-  | inl same ↦
-      let found : with_key key (q ∷ ps) ≡ Some q = rw same.0 refl in
-      let one : Some q ≡ Some p = sym found ∙ is in
-      let here : q ≡ p = cc in ap (λ (x : Place). x.key) (sym here) ∙ same.1
-  | inr other ↦ let skip : with_key key (q ∷ ps) ≡ with_key key ps = rw other.0 refl in with_key_has key p ps (sym skip ∙ is)
-]
-
 left_false : (a b : Bool) → (a || b) ≡ false → a ≡ false
 left_false true b h = h
 left_false false b h = refl
@@ -79,25 +44,32 @@ left_false false b h = refl
 pub not_full : (s : State) → is_full_of_places s ≡ false → length s.places < s.rooms.places
 not_full s is = leb-false s.rooms.places (length s.places) (left_false _ _ is)
 
+-- each place has a ticket that was given
+pub ticket_given : (s : State) (f : Found) (order : List Place) (ends : ℕ → Option Ends) (book : List Entry) → IsHeld s f order ends book → (i g : ℕ) (q : Place) → f.places i ≡ Some (g, q)
+    → q.ticket < s.last + 1
+ticket_given s f order ends book h i g q is = let given = lookup_given book 0 s.last q.ticket _ h.rise (h.places_in i g q is) in omega (arith, given.2)
+
 -- ---- what `place` answers
 
 module _ (s : State) (key : ℕ) (word : List ℕ) where
-  pub placed_old : (p : Place) → with_key key s.places ≡ Some p → (placed s key word ≡ Ok (Old p.ticket p.word)) × (after_place s key word ≡ record s { places = reworded key word s.places })
-  placed_old p found = (rw found refl, rw found refl)
+  pub placed_full : is_full_of_places s ≡ true → (placed s ≡ Err Full) × (after_place s key word ≡ s)
+  placed_full full = (rw full refl, rw full refl)
 
-  pub placed_full : with_key key s.places ≡ None → is_full_of_places s ≡ true → (placed s key word ≡ Err Full) × (after_place s key word ≡ s)
-  placed_full unkeyed full = (rw (unkeyed, full) refl, rw (unkeyed, full) refl)
+  pub placed_new : is_full_of_places s ≡ false
+      → (placed s ≡ Ok (s.last + 1)) × (after_place s key word ≡ record s { last = s.last + 1; places = put (record { ticket = s.last + 1; key = key; word = word }) s.places })
+  placed_new free = (rw free refl, rw free refl)
 
-  pub placed_new : with_key key s.places ≡ None → is_full_of_places s ≡ false
-      → (placed s key word ≡ Ok (New (s.last + 1))) × (after_place s key word ≡ record s { last = s.last + 1; places = put (record { ticket = s.last + 1; key = key; word = word }) s.places })
-  placed_new unkeyed free = (rw (unkeyed, free) refl, rw (unkeyed, free) refl)
+-- what `word` answers
+module _ (s : State) (t : ℕ) (word : List ℕ) (p : Place) (held : place_holder s t ≡ Ok p) where
+  pub worded_is : (worded s t ≡ Ok p.word) × (after_word s t word ≡ record s { places = reworded t word s.places })
+  worded_is = (rw held refl, rw held refl)
 
 -- ---- what it leaves
 
 module _ {I : Type 0} (number : I → ℕ) (rooms : Rooms) (last : ℕ) (s : State) (places places' : Ordered I Place) (stops : Content (IndexLink I StopView)) (marks : Content MarkView)
     (book : List Entry) (b : IsBook number rooms last s places stops marks book) where
   -- a new place
-  module _ (p : Place) (ticket : p.ticket ≡ last + 1) (unkeyed : with_key p.key s.places ≡ None) (free : is_full_of_places s ≡ false)
+  module _ (p : Place) (ticket : p.ticket ≡ last + 1) (sound : IsSound (after_place s p.key p.word)) (free : is_full_of_places s ≡ false)
       (i g : ℕ) (added : IsAdded number i g p places places') (order : in_order number places' ≡ put p (in_order number places))
       (same_room : places'.chains.room ≡ places.chains.room) (same_counter : places'.chains.counter ≡ places.chains.counter) where
     abbrev now : State
@@ -107,7 +79,7 @@ module _ {I : Type 0} (number : I → ℕ) (rooms : Rooms) (last : ℕ) (s : Sta
     own = ap (λ n. record { ticket = n; key = p.key; word = p.word }) (ticket ∙ ap (λ n. n + 1) (sym b.last_is))
 
     after_is : now ≡ after_place s p.key p.word
-    after_is = ap (λ q. record s { last = s.last + 1; places = put q s.places }) own ∙ sym (placed_new s p.key p.word unkeyed free).1
+    after_is = ap (λ q. record s { last = s.last + 1; places = put q s.places }) own ∙ sym (placed_new s p.key p.word free).1
 
     pub place_kept : IsBook number rooms (last + 1) (after_place s p.key p.word) places' stops marks (book ++ entry p.ticket OfPlace i g ∷ [])
     place_kept = subst (λ z. IsBook number rooms (last + 1) z places' stops marks (book ++ entry p.ticket OfPlace i g ∷ [])) after_is (record {
@@ -115,7 +87,7 @@ module _ {I : Type 0} (number : I → ℕ) (rooms : Rooms) (last : ℕ) (s : Sta
           (in_order number places') (ends_in number stops) (book ++ entry p.ticket OfPlace i g ∷ [])) (sym same_counter)
           (place_added s (found_in places stops marks) (in_order number places) (in_order number places') (ends_in number stops) book b.held p i g (entry_in places')
           added.vacant added.entries (ticket ∙ ap (λ n. n + 1) (sym b.last_is)) added.generation order);
-      keys_rise = KeysRise-put p s.places unkeyed b.keys_rise;
+      places_rise = (subst IsSound (sym after_is) sound).order;
       within = record {
         rooms_are = b.within.rooms_are;
         place_count = (let n = b.within.place_count in let l = added.size in let m = length_put p s.places in omega (arith, n, l, m));
@@ -134,27 +106,27 @@ module _ {I : Type 0} (number : I → ℕ) (rooms : Rooms) (last : ℕ) (s : Sta
     })
 
   -- another word for a place
-  module _ (p : Place) (key : ℕ) (word : List ℕ) (found : with_key key s.places ≡ Some p) (i g : ℕ) (replaced : IsReplaced number i g (record p { word = word }) p places places') where
-    pub reword_kept : IsBook number rooms last (after_place s key word) places' stops marks book
+  module _ (p : Place) (t : ℕ) (word : List ℕ) (held : place_holder s t ≡ Ok p) (sound : IsSound (after_word s t word)) (i g : ℕ) (replaced : IsReplaced number i g (record p { word = word }) p places places') where
+    pub reword_kept : IsBook number rooms last (after_word s t word) places' stops marks book
     reword_kept =
-        let same = with_key_has key p s.places found in
-        let at : (k : ℕ) → entry_in places' k ≡ option_map (reword_entry p.key word) (entry_in places k) =
-        as_reworded s (found_in places stops marks) (in_order number places) (in_order number places') (ends_in number stops) book b.held b.keys_rise p i g word (entry_in places') replaced.was
+        let same = found_has (λ (q : Place). q.ticket) t s.places p (held_place s t p held) in
+        let at : (k : ℕ) → entry_in places' k ≡ option_map (reword_entry p.ticket word) (entry_in places k) =
+        as_reworded s (found_in places stops marks) (in_order number places) (in_order number places') (ends_in number stops) book b.held p i g word (entry_in places') replaced.was
         replaced.entries in
-        let order : in_order number places' ≡ reworded p.key word (in_order number places) =
-        ap (along (entry_in places')) replaced.order ∙ along_reworded p.key word (entry_in places) (entry_in places') at (order_in number places) in
-        let after : record s { places = reworded p.key word s.places } ≡ after_place s key word =
-        ap (λ k. record s { places = reworded k word s.places }) same ∙ sym (placed_old s key word p found).1 in
+        let order : in_order number places' ≡ reworded p.ticket word (in_order number places) =
+        ap (along (entry_in places')) replaced.order ∙ along_reworded p.ticket word (entry_in places) (entry_in places') at (order_in number places) in
+        let after : record s { places = reworded p.ticket word s.places } ≡ after_word s t word =
+        ap (λ k. record s { places = reworded k word s.places }) same ∙ sym (worded_is s t word p held).1 in
         subst (λ z. IsBook number rooms last z places' stops marks book) after (record {
-          held = subst (λ c. IsHeld (record s { places = reworded p.key word s.places }) (record
+          held = subst (λ c. IsHeld (record s { places = reworded p.ticket word s.places }) (record
               { places = entry_in places'; stops = values_in stops; marks = entry_at marks; place_counter = c; stop_counter = stops.counter })
               (in_order number places') (ends_in number stops) book) (sym replaced.kept.counter)
-              (place_reworded s (found_in places stops marks) (in_order number places) (in_order number places') (ends_in number stops) book b.held b.keys_rise p i g word (entry_in places')
+              (place_reworded s (found_in places stops marks) (in_order number places) (in_order number places') (ends_in number stops) book b.held p i g word (entry_in places')
               replaced.was replaced.entries order);
-          keys_rise = KeysRise-reworded p.key word s.places b.keys_rise;
+          places_rise = (subst IsSound (sym after) sound).order;
           within = record {
             rooms_are = b.within.rooms_are;
-            place_count = length-reworded p.key word s.places ∙ b.within.place_count ∙ sym replaced.kept.live;
+            place_count = length-reworded p.ticket word s.places ∙ b.within.place_count ∙ sym replaced.kept.live;
             stop_count = b.within.stop_count;
             mark_count = b.within.mark_count;
             places_fit = subst (λ n. n ≤ rooms.places) (sym replaced.kept.live) b.within.places_fit;

@@ -1,6 +1,5 @@
 -- Another word for a place, and what it makes of what is held.
 use Rattle.std.proofs.Common.{◌≡◌, ◌≢◌, ◌∙◌, sym, ap, subst, refl, Bool, true, false, ◌==◌, if◌then◌else◌, ℕ, suc, ◌<◌, ◌⊎◌, inl, inr, List, [], ◌∷◌, length, Option, Some, None, IsSome, arith}
-use Rattle.std.specs.List.{AllByRecursion}
 use Rattle.std.specs.Option.{option_map}
 use Rattle.std.proofs.lemmas.Bool.{ne_eqb, eq-eqb}
 use Rattle.std.proofs.lemmas.Bool.Decides.{eqb_tells}
@@ -10,153 +9,91 @@ use Rattle.ticket_book.specs.declared.entry.Kind.{Kind}
 use Rattle.ticket_book.specs.declared.entry.Kind.TheVariants.{Place as OfPlace, Stop as OfStop, Mark as OfMark}
 use Rattle.ticket_book.specs.Tickets.{Entry, lookup}
 use Rattle.route_lines.specs.Calls.{reworded}
-use Rattle.route_lines.specs.Sound.{KeysRise}
 use Rattle.route_lines.specs.State.{State, Place, place_of}
 use Rattle.route_book.specs.Item.{StopView, MarkView}
 use Rattle.route_book.specs.Holds.{Found, found_by, state_stop, state_mark, place_under, stop_under, mark_under, place_at, stop_at, mark_at, IsFilled, entry, IsSettled, IsHeld}
 use Rattle.route_book.proofs.KeyLemmas.{along}
 use Rattle.route_book.proofs.OptionLemmas.{some_same}
 
--- a place with this word, where it has this key
+-- a place with this word, where it has this ticket
 abbrev pub reword : ℕ → List ℕ → Place → Place
-reword key word p = if p.key == key then record p { word = word } else p
+reword ticket word p = if p.ticket == ticket then record p { word = word } else p
 
 abbrev pub reword_entry : ℕ → List ℕ → ℕ × Place → ℕ × Place
-reword_entry key word e = (e.0, reword key word e.1)
+reword_entry ticket word e = (e.0, reword ticket word e.1)
 
-module _ (key : ℕ) (word : List ℕ) where
-  ticket_kept : (p : Place) → (reword key word p).ticket ≡ p.ticket
-  ticket_kept p = by (p.key == key)
+module _ (own : ℕ) (word : List ℕ) where
+  ticket_kept : (p : Place) → (reword own word p).ticket ≡ p.ticket
+  ticket_kept p = by (p.ticket == own)
     where
       by : (b : Bool) → (if b then record p { word = word } else p).ticket ≡ p.ticket
       by true = refl
       by false = refl
 
-  key_kept : (p : Place) → (reword key word p).key ≡ p.key
-  key_kept p = by (p.key == key)
-    where
-      by : (b : Bool) → (if b then record p { word = word } else p).key ≡ p.key
-      by true = refl
-      by false = refl
-
   -- ---- lists
 
-  pub length-reworded : (ps : List Place) → length (reworded key word ps) ≡ length ps
+  pub length-reworded : (ps : List Place) → length (reworded own word ps) ≡ length ps
   length-reworded [] = refl
   length-reworded (p ∷ ps) = ap suc (length-reworded ps)
 
-  pub KeysRise-reworded : (ps : List Place) → KeysRise ps → KeysRise (reworded key word ps)
-  KeysRise-reworded [] rise = tt
-  KeysRise-reworded (p ∷ ps) rise = (subst (λ k. AllByRecursion (λ (q : Place). k < q.key) (reworded key word ps)) (sym (key_kept p)) (each ps rise.0), KeysRise-reworded ps rise.1)
-    where
-      each : (qs : List Place) → AllByRecursion (λ (q : Place). p.key < q.key) qs → AllByRecursion (λ (q : Place). p.key < q.key) (reworded key word qs)
-      each [] all = tt
-      each (q ∷ qs) all = (subst (λ k. p.key < k) (sym (key_kept q)) all.0, each qs all.1)
-
-  find_reworded : (t : ℕ) (ps : List Place) → place_of (reworded key word ps) t ≡ option_map (reword key word) (place_of ps t)
+  find_reworded : (t : ℕ) (ps : List Place) → place_of (reworded own word ps) t ≡ option_map (reword own word) (place_of ps t)
   find_reworded t [] = refl
-  find_reworded t (p ∷ ps) = ap (λ n. if n == t then Some (reword key word p) else place_of (reworded key word ps) t) (ticket_kept p) ∙ by (p.ticket == t) (find_reworded t ps)
+  find_reworded t (p ∷ ps) = ap (λ n. if n == t then Some (reword own word p) else place_of (reworded own word ps) t) (ticket_kept p) ∙ by (p.ticket == t) (find_reworded t ps)
     where
-      by : (b : Bool) → place_of (reworded key word ps) t ≡ option_map (reword key word) (place_of ps t)
-          → (if b then Some (reword key word p) else place_of (reworded key word ps) t) ≡ option_map (reword key word) (if b then Some p else place_of ps t)
+      by : (b : Bool) → place_of (reworded own word ps) t ≡ option_map (reword own word) (place_of ps t)
+          → (if b then Some (reword own word p) else place_of (reworded own word ps) t) ≡ option_map (reword own word) (if b then Some p else place_of ps t)
       by true rest = refl
       by false rest = rest
 
-  pub along_reworded : (at at' : ℕ → Option (ℕ × Place)) → ((k : ℕ) → at' k ≡ option_map (reword_entry key word) (at k)) → (w : List ℕ) → along at' w ≡ reworded key word (along at w)
+  pub along_reworded : (at at' : ℕ → Option (ℕ × Place)) → ((k : ℕ) → at' k ≡ option_map (reword_entry own word) (at k)) → (w : List ℕ) → along at' w ≡ reworded own word (along at w)
   along_reworded at at' entries [] = refl
   along_reworded at at' entries (i ∷ w) = by (at i) refl (along_reworded at at' entries w)
     where
-      by : (o : Option (ℕ × Place)) → at i ≡ o → along at' w ≡ reworded key word (along at w) → along at' (i ∷ w) ≡ reworded key word (along at (i ∷ w))
-      by None is rest = let new = entries i ∙ ap (option_map (reword_entry key word)) is in rw (new, is) rest
-      by (Some e) is rest = let new = entries i ∙ ap (option_map (reword_entry key word)) is in rw (new, is) (ap (λ l. reword key word e.1 ∷ l) rest)
-
--- a key stands once
-module _ (key : ℕ) where
-  find_member : (t : ℕ) (p : Place) (qs : List Place) (low : ℕ) → place_of qs t ≡ Some p → AllByRecursion (λ (q : Place). low < q.key) qs → low < p.key
-  find_member t p [] low is all = absurd (let no : ◌≡◌ {A = Option Place} None (Some p) = is in cc)
-  find_member t p (q ∷ qs) low is all = elim (eqb_tells q.ticket t) [
-    | inl same ↦ let found : place_of (q ∷ qs) t ≡ Some q = rw same.0 refl in
-        let one : q ≡ p = some_same (sym found ∙ is) in subst (λ (x : Place). low < x.key) one all.0
-    | inr other ↦ let skip : place_of (q ∷ qs) t ≡ place_of qs t = rw other.0 refl in find_member t p qs low (sym skip ∙ is) all.1
-  ]
-
-  pub key_once : (t u : ℕ) (p q : Place) (ps : List Place) → KeysRise ps → place_of ps t ≡ Some p → place_of ps u ≡ Some q → p.key ≡ q.key → p ≡ q
-  key_once t u p q [] rise one two same = absurd (let no : ◌≡◌ {A = Option Place} None (Some p) = one in cc)
-  key_once t u p q (x ∷ ps) rise one two same = elim (eqb_tells x.ticket t) [
-    | inl at ↦ elim (eqb_tells x.ticket u) [
-      | inl too ↦
-          let first : place_of (x ∷ ps) t ≡ Some x = rw at.0 refl in
-          let other : place_of (x ∷ ps) u ≡ Some x = rw too.0 refl in
-          some_same (sym one ∙ first ∙ sym other ∙ two)
-      | inr past ↦
-          let first : place_of (x ∷ ps) t ≡ Some x = rw at.0 refl in
-          let skip : place_of (x ∷ ps) u ≡ place_of ps u = rw past.0 refl in
-          let is : x ≡ p = some_same (sym first ∙ one) in
-          let less = find_member u q ps x.key (sym skip ∙ two) rise.0 in
-          let key_is : x.key ≡ p.key = ap (λ (y : Place). y.key) is in
-          absurd (omega (arith, less, key_is, same))
-    ]
-    | inr past ↦ elim (eqb_tells x.ticket u) [
-      | inl too ↦
-          let other : place_of (x ∷ ps) u ≡ Some x = rw too.0 refl in
-          let skip : place_of (x ∷ ps) t ≡ place_of ps t = rw past.0 refl in
-          let is : x ≡ q = some_same (sym other ∙ two) in
-          let less = find_member t p ps x.key (sym skip ∙ one) rise.0 in
-          let key_is : x.key ≡ q.key = ap (λ (y : Place). y.key) is in
-          absurd (omega (arith, less, key_is, same))
-      | inr away ↦
-          let skip : place_of (x ∷ ps) t ≡ place_of ps t = rw past.0 refl in
-          let pass : place_of (x ∷ ps) u ≡ place_of ps u = rw away.0 refl in
-          key_once t u p q ps rise.1 (sym skip ∙ one) (sym pass ∙ two) same
-    ]
-  ]
+      by : (o : Option (ℕ × Place)) → at i ≡ o → along at' w ≡ reworded own word (along at w) → along at' (i ∷ w) ≡ reworded own word (along at (i ∷ w))
+      by None is rest = let new = entries i ∙ ap (option_map (reword_entry own word)) is in rw (new, is) rest
+      by (Some e) is rest = let new = entries i ∙ ap (option_map (reword_entry own word)) is in rw (new, is) (ap (λ l. reword own word e.1 ∷ l) rest)
 
 -- the place at an index has another word
-module _ (s : State) (f : Found) (order order' : List Place) (ends : ℕ → Option Ends) (book : List Entry) (h : IsHeld s f order ends book) (rise : KeysRise s.places)
+module _ (s : State) (f : Found) (order order' : List Place) (ends : ℕ → Option Ends) (book : List Entry) (h : IsHeld s f order ends book)
     (p : Place) (i g : ℕ) (word : List ℕ) (at : ℕ → Option (ℕ × Place)) (stood : f.places i ≡ Some (g, p)) (entries : (k : ℕ) → at k ≡ with_entry f.places i (g, record p { word = word }) k) where
-  named : (j n : ℕ) (q : Place) → f.places j ≡ Some (n, q) → place_of s.places q.ticket ≡ Some q
-  named j n q is = h.places q.ticket ∙ ap (place_at f) (h.places_in j n q is) ∙ ap (value_if n) is ∙ rw (eq-eqb n n refl) refl
-
-  -- one place has the key
-  alone : (j n : ℕ) (q : Place) → f.places j ≡ Some (n, q) → q.key ≡ p.key → j ≡ i
+  -- one place has the ticket
+  alone : (j n : ℕ) (q : Place) → f.places j ≡ Some (n, q) → q.ticket ≡ p.ticket → j ≡ i
   alone j n q is same =
-      let one : q ≡ p = key_once q.key q.ticket p.ticket q p s.places rise (named j n q is) (named i g p stood) same in
-      let ticket : q.ticket ≡ p.ticket = ap (λ (x : Place). x.ticket) one in
-      let both : entry q.ticket OfPlace j n ≡ entry p.ticket OfPlace i g = some_same (sym (h.places_in j n q is) ∙ ap (lookup book) ticket ∙ h.places_in i g p stood) in
+      let both : entry q.ticket OfPlace j n ≡ entry p.ticket OfPlace i g = some_same (sym (h.places_in j n q is) ∙ ap (lookup book) same ∙ h.places_in i g p stood) in
       ap (λ (e : Entry). e.index) both
 
-  -- each entry is as it was, but for the word under the key
-  pub as_reworded : (k : ℕ) → at k ≡ option_map (reword_entry p.key word) (f.places k)
+  -- each entry is as it was, but for the word under the ticket
+  pub as_reworded : (k : ℕ) → at k ≡ option_map (reword_entry p.ticket word) (f.places k)
   as_reworded k = elim (eqb_tells k i) [
     | inl same ↦
         let here : at k ≡ Some (g, record p { word = word }) = entries k ∙ rw same.0 refl in
         let was : f.places k ≡ Some (g, p) = ap f.places same.1 ∙ stood in
-        here ∙ rw was (rw (eq-eqb p.key p.key refl) refl)
+        here ∙ rw was (rw (eq-eqb p.ticket p.ticket refl) refl)
     | inr other ↦ entries k ∙ rw other.0 (by (f.places k) refl other.1)
   ]
     where
-      by : (o : Option (ℕ × Place)) → f.places k ≡ o → k ≢ i → o ≡ option_map (reword_entry p.key word) o
+      by : (o : Option (ℕ × Place)) → f.places k ≡ o → k ≢ i → o ≡ option_map (reword_entry p.ticket word) o
       by None is apart = refl
-      by (Some e) is apart = rw (ne_eqb e.1.key p.key (λ same. apart (alone k e.0 e.1 is same))) refl
+      by (Some e) is apart = rw (ne_eqb e.1.ticket p.ticket (λ same. apart (alone k e.0 e.1 is same))) refl
 
   abbrev pub now : Found
   now = record f { places = at }
 
-  value_at : (h' j : ℕ) → value_if h' (at j) ≡ option_map (reword p.key word) (value_if h' (f.places j))
+  value_at : (h' j : ℕ) → value_if h' (at j) ≡ option_map (reword p.ticket word) (value_if h' (f.places j))
   value_at h' j = ap (value_if h') (as_reworded j) ∙ by (f.places j)
     where
-      by : (o : Option (ℕ × Place)) → value_if h' (option_map (reword_entry p.key word) o) ≡ option_map (reword p.key word) (value_if h' o)
+      by : (o : Option (ℕ × Place)) → value_if h' (option_map (reword_entry p.ticket word) o) ≡ option_map (reword p.ticket word) (value_if h' o)
       by None = refl
       by (Some e) = test (e.0 == h')
         where
-          test : (b : Bool) → (if b then Some (reword p.key word e.1) else None) ≡ option_map (reword p.key word) (if b then Some e.1 else None)
+          test : (b : Bool) → (if b then Some (reword p.ticket word e.1) else None) ≡ option_map (reword p.ticket word) (if b then Some e.1 else None)
           test true = refl
           test false = refl
 
   live_at : (h' j : ℕ) → IsSome (value_if h' (f.places j)) → IsSome (value_if h' (at j))
   live_at h' j live = subst IsSome (sym (value_at h' j)) (by (value_if h' (f.places j)) live)
     where
-      by : (o : Option Place) → IsSome o → IsSome (option_map (reword p.key word) o)
+      by : (o : Option Place) → IsSome o → IsSome (option_map (reword p.ticket word) o)
       by None is = is
       by (Some q) is = refl
 
@@ -173,9 +110,9 @@ module _ (s : State) (f : Found) (order order' : List Place) (ends : ℕ → Opt
   named_by None = refl
   named_by (Some q) = ap (option_map (λ (x : Place). x.ticket)) (value_at q.1 q.0) ∙ by (value_if q.1 (f.places q.0))
     where
-      by : (o : Option Place) → option_map (λ (x : Place). x.ticket) (option_map (reword p.key word) o) ≡ option_map (λ (x : Place). x.ticket) o
+      by : (o : Option Place) → option_map (λ (x : Place). x.ticket) (option_map (reword p.ticket word) o) ≡ option_map (λ (x : Place). x.ticket) o
       by None = refl
-      by (Some x) = ap Some (ticket_kept p.key word x)
+      by (Some x) = ap Some (ticket_kept p.ticket word x)
 
   stop_same : (v : StopView) → state_stop now v ≡ state_stop f v
   stop_same v = ap (λ r. record { ticket = v.ticket; place = r }) (named_by v.place)
@@ -196,11 +133,11 @@ module _ (s : State) (f : Found) (order order' : List Place) (ends : ℕ → Opt
   filled_at OfStop j n filled = filled
   filled_at OfMark j n filled = filled
 
-  place_now : (o : Option Entry) → place_at now o ≡ option_map (reword p.key word) (place_at f o)
+  place_now : (o : Option Entry) → place_at now o ≡ option_map (reword p.ticket word) (place_at f o)
   place_now None = refl
   place_now (Some e) = by e.kind
     where
-      by : (k : Kind) → place_under now k e.index e.generation ≡ option_map (reword p.key word) (place_under f k e.index e.generation)
+      by : (k : Kind) → place_under now k e.index e.generation ≡ option_map (reword p.ticket word) (place_under f k e.index e.generation)
       by OfPlace = value_at e.generation e.index
       by OfStop = refl
       by OfMark = refl
@@ -228,14 +165,14 @@ module _ (s : State) (f : Found) (order order' : List Place) (ends : ℕ → Opt
   was_at j n q is = by (f.places j) refl
     where
       by : (o : Option (ℕ × Place)) → f.places j ≡ o → (x : Place) × ((f.places j ≡ Some (n, x)) × (q.ticket ≡ x.ticket))
-      by None was = absurd (let no : ◌≡◌ {A = Option (ℕ × Place)} None (Some (n, q)) = sym (as_reworded j ∙ ap (option_map (reword_entry p.key word)) was) ∙ is in cc)
+      by None was = absurd (let no : ◌≡◌ {A = Option (ℕ × Place)} None (Some (n, q)) = sym (as_reworded j ∙ ap (option_map (reword_entry p.ticket word)) was) ∙ is in cc)
       by (Some e) was =
-          let both : (e.0, reword p.key word e.1) ≡ (n, q) = some_same (sym (as_reworded j ∙ ap (option_map (reword_entry p.key word)) was) ∙ is) in
+          let both : (e.0, reword p.ticket word e.1) ≡ (n, q) = some_same (sym (as_reworded j ∙ ap (option_map (reword_entry p.ticket word)) was) ∙ is) in
           let number : e.0 ≡ n = ap (λ (x : ℕ × Place). x.0) both in
-          let item : reword p.key word e.1 ≡ q = ap (λ (x : ℕ × Place). x.1) both in
-          (e.1, (was ∙ ap (λ m. Some (m, e.1)) number, ap (λ (x : Place). x.ticket) (sym item) ∙ ticket_kept p.key word e.1))
+          let item : reword p.ticket word e.1 ≡ q = ap (λ (x : ℕ × Place). x.1) both in
+          (e.1, (was ∙ ap (λ m. Some (m, e.1)) number, ap (λ (x : Place). x.ticket) (sym item) ∙ ticket_kept p.ticket word e.1))
 
-  pub place_reworded : order' ≡ reworded p.key word order → IsHeld (record s { places = reworded p.key word s.places }) now order' ends book
+  pub place_reworded : order' ≡ reworded p.ticket word order → IsHeld (record s { places = reworded p.ticket word s.places }) now order' ends book
   place_reworded order_is = record {
     rise = h.rise;
     filled = λ t e is. filled_at e.kind e.index e.generation (h.filled t e is);
@@ -248,9 +185,9 @@ module _ (s : State) (f : Found) (order order' : List Place) (ends : ℕ → Opt
     mark_stop = h.mark_stop;
     places_up_to = λ j n q is. let was = was_at j n q is in h.places_up_to j n was.0 was.1.0;
     stops_up_to = h.stops_up_to;
-    places = λ t. find_reworded p.key word t s.places ∙ ap (option_map (reword p.key word)) (h.places t) ∙ sym (place_now (lookup book t));
+    places = λ t. find_reworded p.ticket word t s.places ∙ ap (option_map (reword p.ticket word)) (h.places t) ∙ sym (place_now (lookup book t));
     stops = λ t. h.stops t ∙ sym (stop_now (lookup book t));
     marks = λ t. h.marks t ∙ sym (mark_now (lookup book t));
-    in_order = ap (reworded p.key word) h.in_order ∙ sym order_is;
+    in_order = ap (reworded p.ticket word) h.in_order ∙ sym order_is;
     routes = h.routes;
   }

@@ -88,7 +88,7 @@ module _ {I : Type 0} (number : I → ℕ) (rooms : Rooms) (last : ℕ) (s : Sta
         (stop_added s (found_in places stops marks) (in_order number places) (ends_in number stops) (ends_in number stops') book b.held v i g (values_in stops') vacant put.values
         next put.generation live (s.routes ++ own ∷ []) others first
         lead);
-    keys_rise = b.keys_rise;
+    places_rise = b.places_rise;
     within = record {
       rooms_are = b.within.rooms_are;
       place_count = b.within.place_count;

@@ -6,7 +6,7 @@ use Rattle.ticket_book.specs.declared.entry.Kind.TheVariants.{Place as OfPlace, 
 use Rattle.route_lines.specs.State.{Item, holder}
 use Rattle.route_lines.specs.Sweeps.{IsStep, Step, EndPlace, EndStop, EndPlaceAfterPack, EndStopAfterPack, Pack as PackStep, Other}
 use Rattle.route_lines.specs.declared.command.Command.{Command}
-use Rattle.route_lines.specs.declared.command.Command.TheVariants.{Place, Show, Find, Floor, After, Before, All, Start, Extend, Join, Cut, Swap, Walk, Mark, Remove, Pack}
+use Rattle.route_lines.specs.declared.command.Command.TheVariants.{Place, Word, Show, Find, Floor, After, Before, All, Start, Extend, Join, Cut, Swap, Walk, Mark, Remove, Pack}
 use Rattle.route_lines.specs.declared.refusal.Refusal.{Refusal}
 use Rattle.route_book.specs.Book.{Book, KeepsItems}
 use Rattle.route_book.specs.Removals.{IsPacked, IsPlaceEnded, IsStopEnded, IsRemoved, Removes, Steps, kind_of, references_in}
@@ -60,6 +60,7 @@ module _ {I : Type 0} (number : I → ℕ) (top most : ℕ) where
   line_step (Some (Show t)) before after old new p s few h = other before after old new p s few h.0 h.1
   line_step (Some (Find key)) before after old new p s few h = other before after old new p s few h.0 h.1
   line_step (Some (Floor key)) before after old new p s few h = other before after old new p s few h.0 h.1
+  line_step (Some (Word ticket word)) before after old new p s few h = other before after old new p s few h.0 h.1
   line_step (Some (After t)) before after old new p s few h = other before after old new p s few h.0 h.1
   line_step (Some (Before t)) before after old new p s few h = other before after old new p s few h.0 h.1
   line_step (Some All) before after old new p s few h = other before after old new p s few h.0 h.1

@@ -5,7 +5,7 @@ use Rattle.triple_arena_chain.specs.declared.link.IndexLink.{IndexLink}
 use Rattle.triple_arena_chain.specs.Links.{ends_in, values_in}
 use Rattle.triple_arena_ord.specs.Ordered.{Ordered, entry_in, ordered_entries, size_in}
 use Rattle.ticket_book.specs.Tickets.{Entry}
-use Rattle.route_lines.specs.Sound.{KeysRise}
+use Rattle.route_lines.specs.Sound.{PlacesRise}
 use Rattle.route_lines.specs.State.{State, Rooms, Place, Mark, mark_of, stop_list}
 use Rattle.route_book.specs.Item.{StopView, MarkView}
 use Rattle.route_book.specs.Holds.{Found, IsHeld}
@@ -56,7 +56,7 @@ module _ {I : Type 0} where
   pub record IsBook (number : I → ℕ) (rooms : Rooms) (last : ℕ) (s : State) (places : Ordered I Place) (stops : Content (IndexLink I StopView)) (marks : Content MarkView) (book : List Entry)
       : Type 0 where
     pub held : IsHeld s (found_in places stops marks) (in_order number places) (ends_in number stops) book
-    pub keys_rise : KeysRise s.places
+    pub places_rise : PlacesRise s.places
     pub within : IsWithin rooms s places stops marks
     pub last_is : s.last ≡ last
     pub entries : length book ≡ size_in places + live_count stops + live_count marks

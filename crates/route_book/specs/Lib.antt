@@ -1,4 +1,5 @@
 pub mod Item
+pub mod Keys
 pub mod Rooms
 pub mod Follows
 pub mod Holds

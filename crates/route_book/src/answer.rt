@@ -90,9 +90,12 @@ impl<P: PtrCore, B: BookBacking<P>> RouteBook<P, B> {
     {
         match command {
             Command::Place { key, word, near } => match near {
-                None => text.push_placed(&self.place_counted(key, word, counts)),
-                Some(near) => text.push_placed(&self.place_near_counted(key, word, near, counts)),
+                None => text.push_ticket(self.place_counted(key, word, counts)),
+                Some(near) => text.push_ticket(self.place_near_counted(key, word, near, counts)),
             },
+            Command::Word { ticket, word } => {
+                text.push_old(&self.set_word_counted(ticket, word, counts));
+            }
             Command::Show { ticket } => text.push_shown(&self.show_counted(ticket, counts)),
             Command::Find { key } => text.push_found(self.find_counted(key, counts)),
             Command::Floor { key } => text.push_found(self.floor_counted(key, counts)),

@@ -20,11 +20,19 @@ pub enum Ref<P> {
     Gone,
 }
 
+/// The key of a place in its arena: its number and, for places of one number, their tickets.
+#[derive(Clone, Copy, Debug, PartialEq, Eq, PartialOrd, Ord, Hash)]
+pub struct PlaceKey {
+    /// The key as a number.
+    pub key: u64,
+    /// The ticket.
+    pub ticket: u64,
+}
+
 /// A living place.
 #[derive(Drop)]
 pub struct Place {
-    ticket: u64,
-    key: u64,
+    key: PlaceKey,
     word: Word,
 }
 
@@ -33,28 +41,31 @@ impl Model for Place {
 
     ghost Value = { View };
 
-    ghost view = { λ p. record { ticket = p.ticket; key = p.key; word = p.word } };
+    ghost view = { λ p. record { ticket = p.key.ticket; key = p.key.key; word = p.word } };
 }
 
 impl Place {
     pub(crate) fn new(ticket: u64, key: u64, word: Word) -> Self
         ensures { result ≡ record { ticket = ticket; key = key; word = word } }
     {
-        Place { ticket, key, word }
+        Place {
+            key: PlaceKey { key, ticket },
+            word,
+        }
     }
 
     /// The ticket.
     pub fn ticket(&self) -> u64
         ensures { result ≡ self.now.ticket }
     {
-        self.ticket
+        self.key.ticket
     }
 
     /// The key as a number. `key` lends it, for the arena.
     pub fn key_number(&self) -> u64
         ensures { result ≡ self.now.key }
     {
-        self.key
+        self.key.key
     }
 
     /// The word.
@@ -74,11 +85,13 @@ impl Place {
 }
 
 impl SimpleOrdItem for Place {
-    type Key = u64;
+    ghost use Rattle.route_book.specs.Keys.{key_of};
 
-    ghost key_of = { λ p. p.key };
+    type Key = PlaceKey;
 
-    fn key(&self) -> &u64 {
+    ghost key_of = { key_of };
+
+    fn key(&self) -> &PlaceKey {
         &self.key
     }
 }

@@ -37,10 +37,10 @@ pub use backing::{
 };
 pub use book::{RouteBook, Walk};
 pub use command_line::program;
-pub use items::{Mark, Place, Ref, Stop};
+pub use items::{Mark, Place, PlaceKey, Ref, Stop};
 pub use places::Places;
 pub use route_lines::{
-    Command, Counts, Placed, Refusal, RoomError, RunFault, Shown, Watched, Word, laws, read_line,
+    Command, Counts, Refusal, RoomError, RunFault, Shown, Watched, Word, laws, read_line,
     read_number,
 };
 pub use running::run;

@@ -1,8 +1,6 @@
 //! The places in their arena: one more where its key belongs, another word for one, and the places beside one.
-ghost use Rattle.std.specs.Prelude.{◌≡◌, ◌≢◌, ◌+◌, ◌<◌, ◌≤◌, ◌++◌, ◌∷◌, List, Some, None, IsSome, find, nat_le, reverse};
+ghost use Rattle.std.specs.Prelude.{◌≡◌, ◌+◌, ◌<◌, ◌≤◌, ◌++◌, ◌∷◌, ℕ, List, Some, None, IsSome, find, nat_le, reverse};
 ghost use Rattle.std.specs.Option.{option_map};
-ghost use Rattle.std.specs.Ordering.{nat_cmp};
-ghost use Rattle.std.specs.declared.cmp.Ordering.{Ordering as Way};
 ghost use Rattle.counted_search.specs.Searches.{most_comparisons};
 ghost use Rattle.triple_arena.specs.Content.{arena_capacity};
 ghost use Rattle.triple_arena.specs.Entries.{value_if};
@@ -11,9 +9,10 @@ ghost use Rattle.triple_arena_ord.specs.Inserted.{IsAdded, IsReplaced};
 ghost use Rattle.triple_arena_ord.specs.Ordered.{IsAscending, asked_at, entry_in, size_in};
 ghost use Rattle.route_lines.specs.Calls.{put as put_in};
 ghost use Rattle.route_lines.specs.Cuts.{first_item, last_item};
-ghost use Rattle.route_lines.specs.Sound.{KeysRise};
+ghost use Rattle.route_lines.specs.Sound.{PlacesRise};
 ghost use Rattle.route_lines.specs.State.{Place as View, with_key};
 ghost use Rattle.route_book.specs.Book.{in_order};
+ghost use Rattle.route_book.specs.Keys.{key_cmp, key_of, noted_by, noted_past, way_past, way_to};
 
 use crate::items::Place;
 use route_lines::Word;
@@ -25,30 +24,19 @@ use triple_arena_ord::{InsertKind, OrdSlots, SimpleOrdArena};
 use triple_arena_ptr::{Probes, PtrCore};
 use unreached::unreached;
 
-// The pointer to the place that has the key, where a search by key found it.
-pub(crate) fn equal_at<P: PtrCore>(found: Option<(P, Ordering)>) -> Option<P>
-    ensures some { (p : P) → result ≡ Some p → found ≡ Some (p, Way.Equal) }
-    ensures none { result ≡ None → (p : P) → found ≢ Some (p, Way.Equal) }
-{
-    match found {
-        Some((p, way)) => match way {
-            Ordering::Equal => Some(p),
-            _ => None,
-        },
-        None => None,
-    }
-}
-
-// A place more, beside the one that a search for its key found. No key is compared.
+// A place more, whose ticket is above all others, beside the one that a search for its key found.
+// No key is compared.
 pub(crate) fn put_place<P: PtrCore, S: OrdSlots<P, Place>>(
     arena: &mut SimpleOrdArena<P, Place, S>,
     found: Option<(P, Ordering)>,
     place: Place,
 ) -> P
-    requires rise { KeysRise (in_order P.Inx.number arena.old) }
-    requires found { IsSimilar P.index P.generation P.Inx.number (asked_at nat_cmp (λ (p : View). p.key) place.key arena.old)
-        (IsAscending P.Inx.number nat_cmp (λ (p : View). p.key) arena.old) found arena.old }
-    requires unequal { (p : P) → found ≢ Some (p, Way.Equal) }
+    requires rise { PlacesRise (in_order P.Inx.number arena.old) }
+    requires newest { (i g : ℕ) (p : View) → entry_in arena.old i ≡ Some (g, p)
+        → p.ticket < place.ticket }
+    requires found { IsSimilar P.index P.generation P.Inx.number
+        (asked_at key_cmp key_of (key_of place) arena.old)
+        (IsAscending P.Inx.number key_cmp key_of arena.old) found arena.old }
     requires room { size_in arena.old < arena_capacity arena.old.chains }
     ensures order { in_order P.Inx.number arena.new ≡ put_in place (in_order P.Inx.number arena.old) }
     ensures added { IsAdded P.Inx.number (P.index result) (P.generation result) place arena.old arena.new }
@@ -69,15 +57,15 @@ pub(crate) fn put_place<P: PtrCore, S: OrdSlots<P, Place>>(
     }
 }
 
-// Another word for a place, and its ticket with the word that it had.
+// Another word for a place, and the one that it had.
 pub(crate) fn reword<P: PtrCore, S: OrdSlots<P, Place>>(
     arena: &mut SimpleOrdArena<P, Place, S>,
     at: P,
     word: Word,
-) -> (u64, Word)
+) -> Word
     requires live { IsSome (value_if (P.generation at) (entry_in arena.old (P.index at))) }
     ensures was { (p : View) → value_if (P.generation at) (entry_in arena.old (P.index at)) ≡ Some p
-        → (result.0 ≡ p.ticket) × (result.1 ≡ p.word) }
+        → result ≡ p.word }
     ensures replaced { (p : View) → value_if (P.generation at) (entry_in arena.old (P.index at)) ≡ Some p
         → IsReplaced P.Inx.number (P.index at) (P.generation at) (record p { word = word }) p arena.old arena.new }
 {
@@ -85,11 +73,7 @@ pub(crate) fn reword<P: PtrCore, S: OrdSlots<P, Place>>(
     // The list is as it must be.
     let _ = arena.len();
     match arena.get_mut(at) {
-        Some(place) => {
-            let ticket = place.ticket();
-            let old = place.replace_word(word);
-            (ticket, old)
-        }
+        Some(place) => place.replace_word(word),
         None => unreached!(),
     }
 }
@@ -100,7 +84,7 @@ pub(crate) fn ticket_before<P: PtrCore, S: OrdSlots<P, Place>>(
     at: P,
 ) -> Option<u64>
     requires live { IsSome (value_if (P.generation at) (entry_in places.now (P.index at))) }
-    requires rise { KeysRise (in_order P.Inx.number places.now) }
+    requires rise { PlacesRise (in_order P.Inx.number places.now) }
     ensures { (front back : List View) (p : View) → value_if (P.generation at) (entry_in places.now (P.index at)) ≡ Some p
         → in_order P.Inx.number places.now ≡ front ++ p ∷ back
         → result ≡ option_map (λ (q : View). q.ticket) (last_item front) }
@@ -121,7 +105,7 @@ pub(crate) fn ticket_after<P: PtrCore, S: OrdSlots<P, Place>>(
     at: P,
 ) -> Option<u64>
     requires live { IsSome (value_if (P.generation at) (entry_in places.now (P.index at))) }
-    requires rise { KeysRise (in_order P.Inx.number places.now) }
+    requires rise { PlacesRise (in_order P.Inx.number places.now) }
     ensures { (front back : List View) (p : View) → value_if (P.generation at) (entry_in places.now (P.index at)) ≡ Some p
         → in_order P.Inx.number places.now ≡ front ++ p ∷ back
         → result ≡ option_map (λ (q : View). q.ticket) (first_item back) }
@@ -136,27 +120,65 @@ pub(crate) fn ticket_after<P: PtrCore, S: OrdSlots<P, Place>>(
     }
 }
 
-// The ticket of the last place whose key is not above this one.
+// The ticket of the last place whose key is not above this one. Each question leads past a place
+// whose key is not above it, and the last one of these is noted.
 pub(crate) fn floor_ticket<P: PtrCore, S: OrdSlots<P, Place>>(
     places: &SimpleOrdArena<P, Place, S>,
     key: u64,
     probes: &mut Probes,
 ) -> Option<u64>
-    requires rise { KeysRise (in_order P.Inx.number places.now) }
+    requires rise { PlacesRise (in_order P.Inx.number places.now) }
     ensures ticket { result ≡ option_map (λ (p : View). p.ticket)
         (find (λ (p : View). nat_le p.key key) (reverse (in_order P.Inx.number places.now))) }
     ensures bound { probes.new ≤ probes.old + most_comparisons (size_in places.now) }
     ensures rises { probes.old ≤ probes.new }
 {
-    entries_stand_in_the_list::<P, Place>();
-    // The list is as it must be.
-    let _ = places.len();
-    match places.find_similar_key_counted(&key, probes) {
-        Some(found) => match found.1 {
-            Ordering::Less => ticket_before(places, found.0),
-            Ordering::Equal => Some(places.get_inx_unwrap(found.0.inx()).ticket()),
-            Ordering::Greater => Some(places.get_inx_unwrap(found.0.inx()).ticket()),
+    let mut noted = None;
+    places.find_similar_by_counted(
+        &mut |_p: P, place: &Place| -> Ordering
+            ensures way { result ≡ way_past key place.now }
+            ensures noted { noted.exit ≡ noted_past key noted.entry place.now }
+        {
+            if place.key_number() > key {
+                return Ordering::Less;
+            }
+            noted = Some(place.ticket());
+            Ordering::Greater
         },
-        None => None,
-    }
+        probes,
+    );
+    noted
+}
+
+// The smallest ticket of the places that have this key. Each question leads to the places before
+// one whose key is not below it, and the last one with an equal key is noted: no place is compared
+// again.
+pub(crate) fn first_ticket<P: PtrCore, S: OrdSlots<P, Place>>(
+    places: &SimpleOrdArena<P, Place, S>,
+    key: u64,
+    probes: &mut Probes,
+) -> Option<u64>
+    requires rise { PlacesRise (in_order P.Inx.number places.now) }
+    ensures ticket { result ≡ option_map (λ (p : View). p.ticket)
+        (with_key key (in_order P.Inx.number places.now)) }
+    ensures bound { probes.new ≤ probes.old + most_comparisons (size_in places.now) }
+    ensures rises { probes.old ≤ probes.new }
+{
+    let mut noted = None;
+    places.find_similar_by_counted(
+        &mut |_p: P, place: &Place| -> Ordering
+            ensures way { result ≡ way_to key place.now }
+            ensures noted { noted.exit ≡ noted_by key noted.entry place.now }
+        {
+            if place.key_number() < key {
+                return Ordering::Greater;
+            }
+            if place.key_number() == key {
+                noted = Some(place.ticket());
+            }
+            Ordering::Less
+        },
+        probes,
+    );
+    noted
 }

@@ -9,7 +9,8 @@ use triple_arena_ord::OrdSlots;
 use triple_arena_ord::ord_iterators::Iter;
 use triple_arena_ptr::PtrCore;
 
-/// The places of a store in the order of their keys, seen as the list of those that are left.
+/// The places of a store in the order of their keys, and under one key of their tickets, seen as
+/// the list of those that are left.
 #[derive(Drop)]
 pub struct Places<'a, P: PtrCore, S: OrdSlots<P, Place>>
 where

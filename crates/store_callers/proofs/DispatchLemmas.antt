@@ -1,96 +1,69 @@
 -- A place, and a route that a start and an extension made.
 use Rattle.std.proofs.Common.{sym, ◌≡◌, ◌≢◌, ◌∙◌, ap, subst, refl, Bool, true, false, ◌||◌, ◌==◌, ℕ, ◌+◌, ◌<◌, ◌≤◌, List, [], ◌∷◌, ◌++◌, Option, Some, None, Result, Ok, Err, cond, nat_lt, arith}
+use Rattle.std.specs.List.{AllByRecursion}
 use Rattle.std.specs.Option.{option_map_or}
-use Rattle.std.proofs.lemmas.Bool.{eq-eqb, eqb-true, ne_eqb, le-ltb}
-use Rattle.route_lines.specs.Calls.{put, reworded, stop_holder, placed, after_place, started, after_start, extended, after_extend, walked}
+use Rattle.std.proofs.lemmas.Bool.{eq-eqb, ne_eqb, le-ltb}
+use Rattle.route_lines.specs.Calls.{put, place_holder, stop_holder, placed, after_place, started, after_start, extended, after_extend, walked}
 use Rattle.route_lines.specs.Routes.{has_ticket, linear, has_stop, route_of, put_behind, walk_in, walk_from}
 use Rattle.route_lines.specs.Sound.{count_of, IsSound}
-use Rattle.route_lines.specs.State.{State, Place, Stop, Route, stop, with_key, stop_list, place_of, stop_of, is_full_of_places}
-use Rattle.route_lines.specs.declared.placed.Placed.{Placed}
-use Rattle.route_lines.specs.declared.placed.Placed.TheVariants.{New, Old}
+use Rattle.route_lines.specs.State.{State, Place, Stop, Route, stop, stop_list, place_of, stop_of, is_full_of_places}
 use Rattle.route_lines.specs.declared.refusal.Refusal.{Refusal}
-use Rattle.route_lines.specs.declared.refusal.Refusal.TheVariants.{Full}
-use Rattle.route_lines.proofs.CutLemmas.{found_passes, total-append, none-count, none_found}
+use Rattle.route_lines.proofs.CutLemmas.{total-append, none-count, none_found}
 use Rattle.route_lines.proofs.EndedLemmas.{names, one_stop}
 use Rattle.route_lines.proofs.NewStopLemmas.{none_above}
-use Rattle.route_lines.proofs.SoundLemmas.{and_then-ok, stop_holder-ok}
-use Rattle.store_callers.specs.Placing.{placed_ticket}
+use Rattle.route_lines.proofs.SoundLemmas.{and_then-ok, next_ticket-ok, stop_holder-ok}
 
--- ---- a place under its key
+-- ---- tickets
 
-with_key-put : (new : Place) (ps : List Place) → with_key new.key ps ≡ None → with_key new.key (put new ps) ≡ Some new
-with_key-put new [] none = rw (eq-eqb new.key new.key refl) refl
-with_key-put new (q ∷ ps) none = at (nat_lt new.key q.key) (with_key-put new ps)
+pub given-new : (n last : ℕ) → 0 < n → n ≤ last → (n == 0) || nat_lt last n ≡ false
+given-new n last some below = rw (ne_eqb n 0 (λ e. omega (arith, e, some)), le-ltb last n below) refl
+
+pub holder-place : (s : State) (t : ℕ) (p : Place) → (t == 0) || nat_lt s.last t ≡ false → place_of s.places t ≡ Some p → place_holder s t ≡ Ok p
+holder-place s t p given has = rw (given, has) refl
+
+-- ---- a new place
+
+place_of-put : (new : Place) (ps : List Place) → AllByRecursion (λ q. q.ticket < new.ticket) ps → place_of (put new ps) new.ticket ≡ Some new
+place_of-put new [] less = rw (eq-eqb new.ticket new.ticket refl) refl
+place_of-put new (q ∷ ps) less = at (nat_lt new.key q.key) (place_of-put new ps less.1)
   where
-    behind : (b : Bool) → cond b (Some q) (with_key new.key ps) ≡ None → (with_key new.key ps ≡ None → with_key new.key (put new ps) ≡ Some new)
-        → cond b (Some q) (with_key new.key (put new ps)) ≡ Some new
-    behind true h k = cc
-    behind false h k = k h
+    other : (q.ticket == new.ticket) ≡ false
+    other = let below = less.0 in ne_eqb q.ticket new.ticket (λ same. omega (arith, below, same))
 
-    at : (b : Bool) → (with_key new.key ps ≡ None → with_key new.key (put new ps) ≡ Some new) → with_key new.key (cond b (new ∷ q ∷ ps) (q ∷ put new ps)) ≡ Some new
-    at true k = rw (eq-eqb new.key new.key refl) refl
-    at false k = behind (q.key == new.key) none k
+    at : (b : Bool) → place_of (put new ps) new.ticket ≡ Some new → place_of (cond b (new ∷ q ∷ ps) (q ∷ put new ps)) new.ticket ≡ Some new
+    at true behind = rw (eq-eqb new.ticket new.ticket refl) refl
+    at false behind = rw other behind
 
-with_key-reworded : (key : ℕ) (word : List ℕ) (ps : List Place) (p : Place) → with_key key ps ≡ Some p → with_key key (reworded key word ps) ≡ Some (record p { word = word })
-with_key-reworded key word [] p e = cc
-with_key-reworded key word (q ∷ ps) p e = at (q.key == key) refl e (with_key-reworded key word ps p)
-  where
-    at : (b : Bool) → (q.key == key) ≡ b → cond b (Some q) (with_key key ps) ≡ Some p → (with_key key ps ≡ Some p → with_key key (reworded key word ps) ≡ Some (record p { word = word }))
-        → with_key key (cond b (record q { word = word }) q ∷ reworded key word ps) ≡ Some (record p { word = word })
-    at true is h k = let same : q ≡ p = cc in rw is (ap {A = Place} (λ z. Some (record z { word = word })) same)
-    at false is h k = rw is (k h)
+given_below : (last t : ℕ) (ps : List Place) → t ≡ last + 1 → AllByRecursion (λ p. (0 < p.ticket) × (p.ticket ≤ last)) ps → AllByRecursion (λ q. q.ticket < t) ps
+given_below last t [] is given = tt
+given_below last t (p ∷ ps) is given = ((let up = given.0.1 in omega (arith, is, up)), given_below last t ps is given.1)
 
-abbrev answered : Placed → Result Placed Refusal
-answered is = Ok is
+-- the same of a state that is the one after it
+module _ (s later : State) (key : ℕ) (word : List ℕ) (t : ℕ) (sound : IsSound s) (placed_is : placed s ≡ Ok t) (after : later ≡ after_place s key word) where
+  abbrev new : Place
+  new = record { ticket = t; key = key; word = word }
 
-same_answer : (old is : Placed) → answered old ≡ answered is → old ≡ is
-same_answer old is e = cc
+  next : t ≡ s.last + 1
+  next = (next_ticket-ok s (is_full_of_places s) t placed_is).1
 
-with_key-placed : (s : State) (key : ℕ) (word : List ℕ) (is : Placed) → placed s key word ≡ Ok is
-    → with_key key (after_place s key word).places ≡ Some (record { ticket = placed_ticket is; key = key; word = word })
-with_key-placed s key word is e = from (with_key key s.places) refl e
-  where
-    new : Place
-    new = record { ticket = s.last + 1; key = key; word = word }
+  later_is : later ≡ record s { last = t; places = put new s.places }
+  later_is = after ∙ rw placed_is refl
 
-    placed_from : Option Place → Result Placed Refusal
-    placed_from (Some p) = Ok (Old p.ticket p.word)
-    placed_from None = cond (is_full_of_places s) (Err Full) (Ok (New (s.last + 1)))
+  pub place_there : place_of later.places t ≡ Some new
+  place_there = ap (λ (x : State). place_of x.places t) later_is ∙ place_of-put new s.places (given_below s.last t s.places next sound.given)
 
-    room : (b : Bool) → cond b (Err Full) (Ok (New (s.last + 1))) ≡ Ok is → with_key key (put new s.places) ≡ Some new
-        → with_key key (cond b s (record s { last = s.last + 1; places = put new s.places })).places ≡ Some (record { ticket = placed_ticket is; key = key; word = word })
-    room true h there = cc
-    room false h there = let same : New (s.last + 1) ≡ is = cc in subst (λ (q : Placed). with_key key (put new s.places) ≡ Some (record { ticket = placed_ticket q; key = key; word = word })) same
-        there
-
-    from : (o : Option Place) → with_key key s.places ≡ o → placed_from o ≡ Ok is
-        → with_key key (after_place s key word).places ≡ Some (record { ticket = placed_ticket is; key = key; word = word })
-    from (Some p) f h =
-        let own : p.key ≡ key = eqb-true p.key key (found_passes (λ (q : Place). q.key == key) s.places p f) in
-        let same : Old p.ticket p.word ≡ is = same_answer (Old p.ticket p.word) is h in
-        rw f (with_key-reworded key word s.places p f ∙ ap (λ k. Some (record { ticket = p.ticket; key = k; word = word })) own
-        ∙ ap (λ (q : Placed). Some (record { ticket = placed_ticket q; key = key; word = word })) same)
-    from None f h = rw f (room (is_full_of_places s) h (with_key-put new s.places f))
-
--- the same of a state that is the one after it, and of a ticket that is that one
-pub keyed : (s later : State) (key : ℕ) (word : List ℕ) (is : Placed) (t : ℕ) → placed s key word ≡ Ok is → later ≡ after_place s key word → t ≡ placed_ticket is
-    → with_key key later.places ≡ Some (record { ticket = t; key = key; word = word })
-keyed s later key word is t e after ticket = ap (λ (x : State). with_key key x.places) after ∙ with_key-placed s key word is e ∙ ap named (sym ticket)
-  where
-    named : ℕ → Option Place
-    named n = Some (record { ticket = n; key = key; word = word })
+  pub place_holds : place_holder later t ≡ Ok new
+  place_holds =
+      let last : later.last ≡ t = ap (λ (x : State). x.last) later_is in
+      holder-place later t new (given-new t later.last (omega (arith, next)) (omega (arith, last))) place_there
 
 -- a place changes no route
 pub routes-placed : (s : State) (key : ℕ) (word : List ℕ) → (after_place s key word).routes ≡ s.routes
-routes-placed s key word = at (with_key key s.places) refl
+routes-placed s key word = at (placed s) refl
   where
-    full : (b : Bool) (places : List Place) → (cond b s (record s { last = s.last + 1; places = places })).routes ≡ s.routes
-    full true places = refl
-    full false places = refl
-
-    at : (o : Option Place) → with_key key s.places ≡ o → (after_place s key word).routes ≡ s.routes
-    at (Some p) e = rw e refl
-    at None e = rw e (full (is_full_of_places s) (put (record { ticket = s.last + 1; key = key; word = word }) s.places))
+    at : (r : Result ℕ Refusal) → placed s ≡ r → (after_place s key word).routes ≡ s.routes
+    at (Ok t) e = rw e refl
+    at (Err refusal) e = rw e refl
 
 -- ---- the new route
 
@@ -125,9 +98,6 @@ extend-is s t at n e = rw e refl
 -- a stop is what a ticket names that names no place
 pub holder-stop : (s : State) (t : ℕ) (u : Stop) → (t == 0) || nat_lt s.last t ≡ false → place_of s.places t ≡ None → stop_of s.routes t ≡ Some u → stop_holder s t ≡ Ok u
 holder-stop s t u given no_place has = rw (given, no_place, has) refl
-
-pub given-new : (n last : ℕ) → 0 < n → n ≤ last → (n == 0) || nat_lt last n ≡ false
-given-new n last some below = rw (ne_eqb n 0 (λ e. omega (arith, e, some)), le-ltb last n below) refl
 
 module _ (s1 s2 s3 : State) (at n m : ℕ) (sound : IsSound s1) (later : IsSound s2) (start : started s1 at ≡ Ok n) (extend : extended s2 n at ≡ Ok m) where
   -- what the walk of the new route gives

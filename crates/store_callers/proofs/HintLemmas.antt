@@ -1,29 +1,25 @@
 -- The last place as a hint for a greater key.
-use Rattle.std.proofs.Common.{◌≡◌, ◌∙◌, sym, ap, subst, refl, true, ◌==◌, ℕ, suc, ◌+◌, ◌-◌, ◌<◌, ◌≤◌, List, [], ◌∷◌, ◌++◌, length, nat_le, nat_lt, inl, inr, arith}
+use Rattle.std.proofs.Common.{◌≡◌, ◌∙◌, sym, ap, subst, refl, true, ◌==◌, ℕ, suc, ◌+◌, ◌-◌, ◌<◌, ◌≤◌, List, [], ◌∷◌, ◌++◌, length, nat_lt, inl, inr, arith}
 use Rattle.std.specs.List.{AllByRecursion}
-use Rattle.std.proofs.lemmas.Bool.{and_from, or_left, or_right, eq-eqb, le-ltb, lt-leb, lt-ltb}
+use Rattle.std.proofs.lemmas.Bool.{and_from, or_left, or_right, eq-eqb, le-ltb, lt-ltb}
 use Rattle.std.proofs.lemmas.Bool.Decides.{eqb_tells}
 use Rattle.route_lines.specs.Searches.{places_before, is_near, is_at_hand, most_near}
-use Rattle.route_lines.specs.Sound.{IsSound, KeysRise, count_of}
+use Rattle.route_lines.specs.Sound.{IsBefore, IsSound, PlacesRise, count_of}
 use Rattle.route_lines.specs.State.{State, Place}
 use Rattle.store_callers.specs.Placing.{IsLastBelow}
 
--- all keys are below one that is above the last
-keys_below : (front : List Place) (p : Place) (key : ℕ) → p.key < key → KeysRise (front ++ p ∷ []) → AllByRecursion (λ (q : Place). q.key < key) (front ++ p ∷ [])
+-- all keys are up to one that the last is up to
+keys_below : (front : List Place) (p : Place) (key : ℕ) → p.key ≤ key → PlacesRise (front ++ p ∷ []) → AllByRecursion (λ (q : Place). q.key ≤ key) (front ++ p ∷ [])
 keys_below [] p key less rise = (less, tt)
 keys_below (x ∷ front) p key less rise = ((let first = at front rise.0 in omega (arith, first, less)), keys_below front p key less rise.1)
   where
-    at : (qs : List Place) → AllByRecursion (λ (q : Place). x.key < q.key) (qs ++ p ∷ []) → x.key < p.key
-    at [] all = all.0
+    at : (qs : List Place) → AllByRecursion (IsBefore x) (qs ++ p ∷ []) → x.key ≤ p.key
+    at [] all = all.0.key
     at (q ∷ qs) all = at qs all.1
 
-none_above : (ps : List Place) (key : ℕ) → AllByRecursion (λ (q : Place). q.key < key) ps → places_before (λ q. nat_lt key q.key) ps ≡ length ps
+none_above : (ps : List Place) (key : ℕ) → AllByRecursion (λ (q : Place). q.key ≤ key) ps → places_before (λ q. nat_lt key q.key) ps ≡ length ps
 none_above [] key all = refl
 none_above (p ∷ ps) key all = let less = all.0 in rw (le-ltb key p.key (omega (arith, less))) (ap suc (none_above ps key all.1))
-
-none_from : (ps : List Place) (key : ℕ) → AllByRecursion (λ (q : Place). q.key < key) ps → places_before (λ q. nat_le key q.key) ps ≡ length ps
-none_from [] key all = refl
-none_from (p ∷ ps) key all = rw (lt-leb key p.key all.0) (ap suc (none_from ps key all.1))
 
 -- a ticket that one place has stands at its position
 some_has : (front : List Place) (p : Place) (t : ℕ) → p.ticket ≡ t → 1 ≤ count_of (λ q. q.ticket == t) (front ++ p ∷ [])
@@ -52,15 +48,14 @@ near_self n = and_from (nat_lt n (n + 7)) (nat_lt n (n + 7)) (lt-ltb n (n + 7) (
 pub last_at_hand : (s : State) (t key : ℕ) → IsSound s → IsLastBelow s t key → most_near s.places key t ≡ 7
 last_at_hand s t key sound last =
     let ps = last.front ++ last.last ∷ [] in
-    let below = keys_below last.front last.last key last.below (subst KeysRise last.is sound.keys) in
+    let below = keys_below last.front last.last key last.below (subst PlacesRise last.is sound.order) in
     let once = sound.once t in
     let own : count_of (λ (q : Place). q.ticket == t) ps ≤ 1 = subst (λ l. count_of (λ (q : Place). q.ticket == t) l ≤ 1) last.is (omega (arith, once)) in
     let from = stands_last last.front last.last t last.has own in
     let up_to : places_before (λ q. nat_lt key q.key) ps ≡ suc (length last.front) = none_above ps key below ∙ length_last last.front last.last in
-    let whole = none_from ps key below in
     let n = length last.front in
     let near : is_near n (suc n - 1) ≡ true = subst (λ m. is_near n m ≡ true) (let same : n ≡ suc n - 1 = omega arith in same) (near_self n) in
     let hand : is_at_hand key ps (places_before (λ q. q.ticket == t) ps) ≡ true = and_from _ _
     (or_right _ _ (subst (λ m. is_near m (places_before (λ q. nat_lt key q.key) ps - 1) ≡ true) (sym from) (subst (λ m. is_near n (m - 1) ≡ true) (sym up_to) near)))
-    (or_left _ _ (eq-eqb (places_before (λ q. nat_le key q.key) ps) (length ps) whole)) in
+    (or_left _ _ (eq-eqb (places_before (λ q. nat_lt key q.key) ps) (length ps) (none_above ps key below))) in
     ap (λ l. most_near l key t) last.is ∙ (let is : most_near ps key t ≡ 7 = rw hand refl in is)

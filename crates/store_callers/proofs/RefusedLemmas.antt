@@ -1,46 +1,20 @@
 -- A start and an extension at a living place are refused where there is no room, and for no other reason.
 use Rattle.std.proofs.Common.{◌≡◌, ◌∙◌, sym, ap, subst, refl, Bool, true, false, ◌||◌, ◌==◌, ℕ, ◌+◌, ◌<◌, ◌≤◌, List, [], ◌∷◌, Some, None, IfSome, IfErr, Result, Ok, Err, cond, nat_lt, find, arith}
-use Rattle.std.specs.List.{list_any}
 use Rattle.std.specs.Option.{option_or}
 use Rattle.std.specs.Result.{IsErrAnd}
-use Rattle.std.proofs.lemmas.Bool.{eq-eqb, eqb-true}
+use Rattle.std.proofs.lemmas.Bool.{eq-eqb, le-ltb, ltb-false}
 use Rattle.std.proofs.lemmas.List.Folds.{find-append}
 use Rattle.route_lines.specs.Calls.{place_holder, stop_holder, and_then, next_ticket, started, after_start, extended, after_extend}
 use Rattle.route_lines.specs.Routes.{has_ticket}
 use Rattle.route_lines.specs.Sound.{IsSound}
-use Rattle.route_lines.specs.State.{State, Place, Stop, with_key, place_of, stop_of, stop_list, is_full_of_stops}
+use Rattle.route_lines.specs.State.{State, Place, Stop, place, place_of, stop_of, stop_list, is_full_of_stops}
 use Rattle.route_lines.specs.declared.refusal.Refusal.{Refusal}
 use Rattle.route_lines.specs.declared.refusal.Refusal.TheVariants.{Full}
-use Rattle.route_lines.proofs.CutLemmas.{found_in, found_passes, found_if_any, none_found}
+use Rattle.route_lines.proofs.CutLemmas.{none_found}
+use Rattle.route_lines.proofs.EndedLemmas.{names}
 use Rattle.route_lines.proofs.NewStopLemmas.{none_above, stop_list-more}
-use Rattle.store_callers.proofs.DispatchLemmas.{start-is, given-new, holder-stop}
-
--- ---- the place that a key has is the place that its ticket names
-
-or-true : (b : Bool) → b || true ≡ true
-or-true true = refl
-or-true false = refl
-
-has-ticket : (key : ℕ) (ps : List Place) (p : Place) → with_key key ps ≡ Some p → list_any (λ (q : Place). q.ticket == p.ticket) ps ≡ true
-has-ticket key [] p e = cc
-has-ticket key (q ∷ ps) p e = at (q.key == key) e (has-ticket key ps p)
-  where
-    at : (b : Bool) → cond b (Some q) (with_key key ps) ≡ Some p → (with_key key ps ≡ Some p → list_any (λ (r : Place). r.ticket == p.ticket) ps ≡ true)
-        → (q.ticket == p.ticket) || list_any (λ (r : Place). r.ticket == p.ticket) ps ≡ true
-    at true h k = let same : q ≡ p = cc in rw (eq-eqb q.ticket p.ticket (ap (λ (r : Place). r.ticket) same)) refl
-    at false h k = rw (k h) (or-true (q.ticket == p.ticket))
-
-holder-place : (s : State) (t : ℕ) (p : Place) → (t == 0) || nat_lt s.last t ≡ false → place_of s.places t ≡ Some p → place_holder s t ≡ Ok p
-holder-place s t p given has = rw (given, has) refl
-
-pub holds_place : (s : State) (key : ℕ) (p : Place) → IsSound s → with_key key s.places ≡ Some p → (q : Place) × (place_holder s p.ticket ≡ Ok q)
-holds_place s key p sound e =
-    let some = found_if_any (λ (q : Place). q.ticket == p.ticket) s.places (has-ticket key s.places p e) in
-    let ticket : some.0.ticket ≡ p.ticket = eqb-true some.0.ticket p.ticket (found_passes (λ (q : Place). q.ticket == p.ticket) s.places some.0 some.1) in
-    let given : (0 < some.0.ticket) × (some.0.ticket ≤ s.last) =
-    subst (λ o. IfSome o (λ (q : Place). (0 < q.ticket) × (q.ticket ≤ s.last))) some.1 (found_in (λ (q : Place). (0 < q.ticket) × (q.ticket ≤ s.last)) (λ (q : Place). q.ticket == p.ticket)
-    s.places sound.given) in
-    (some.0, holder-place s p.ticket some.0 (given-new p.ticket s.last (omega (arith, ticket, given.0)) (omega (arith, ticket, given.1))) some.1)
+use Rattle.route_lines.proofs.SoundLemmas.{and_then-ok, next_ticket-ok, place_holder-ok}
+use Rattle.store_callers.proofs.DispatchLemmas.{start-is, given-new, holder-place, holder-stop}
 
 -- ---- a start and an extension
 
@@ -81,8 +55,23 @@ holds_start s later at n sound start is first =
     ∙ ap (λ o. option_or o (find (has_ticket n) (new ∷ []))) none ∙ own in
     holder-stop later n new given no_place has
 
-pub places-start : (s later : State) (at n : ℕ) → started s at ≡ Ok n → later ≡ after_start s at → later.places ≡ s.places
-places-start s later at n start is = ap (λ (x : State). x.places) (is ∙ start-is s at n start)
+-- a place that a ticket names is there after a start
+given-later : (t last more : ℕ) → (t == 0) || nat_lt last t ≡ false → last ≤ more → (t == 0) || nat_lt more t ≡ false
+given-later t last more given up = by (t == 0) (nat_lt last t) refl refl given
+  where
+    by : (a b : Bool) → (t == 0) ≡ a → nat_lt last t ≡ b → a || b ≡ false → (t == 0) || nat_lt more t ≡ false
+    by true b f g h = cc
+    by false true f g h = cc
+    by false false f g h = rw (f, le-ltb more t (omega (arith, ltb-false last t g, up))) refl
+
+pub holds_later : (s later : State) (at n : ℕ) (p : Place) → place_holder s at ≡ Ok p → started s at ≡ Ok n → later ≡ after_start s at → place_holder later at ≡ Ok p
+holds_later s later at n p holds start is =
+    let made = is ∙ start-is s at n start in
+    let has = names s at (place p) (place_holder-ok s at p holds) in
+    let passed = and_then-ok (place_holder s at) _ n start in
+    let next = next_ticket-ok s (is_full_of_stops s) n passed.2 in
+    let last : later.last ≡ n = ap (λ (x : State). x.last) made in
+    holder-place later at p (given-later at s.last later.last has.given (omega (arith, last, next.1))) (ap (λ (x : State). place_of x.places at) made ∙ has.has)
 
 -- ---- what is handed on
 

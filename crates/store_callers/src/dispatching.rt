@@ -2,14 +2,13 @@
 ghost use Rattle.std.specs.Prelude.{◌≡◌, ◌≢◌, ◌⊎◌, ℕ, ◌∷◌, [], Some, Ok, IfErr, IfOk, true};
 ghost use Rattle.route_lines.specs.Calls.{walked};
 ghost use Rattle.route_lines.specs.Routes.{next_stop};
-ghost use Rattle.route_lines.specs.State.{is_full_of_places, is_full_of_stops, with_key};
+ghost use Rattle.route_lines.specs.State.{is_full_of_places, is_full_of_stops, place_of};
 ghost use Rattle.route_lines.specs.declared.refusal.Refusal.TheVariants.{Full};
-ghost use Rattle.store_callers.specs.Placing.{placed_ticket};
 
 use route_book::laws::{
     extensions_add_one_stop, extensions_lead_through, new_tickets_come_next, starts_lead_nowhere,
 };
-use route_book::{BookBacking, Placed, PtrCore, Refusal, RouteBook, Word};
+use route_book::{BookBacking, PtrCore, Refusal, RouteBook, Word};
 
 /// The tickets of a place, and of the two stops of a route at it.
 #[derive(Clone, Copy, Debug, PartialEq, Eq)]
@@ -19,7 +18,7 @@ pub struct Dispatched {
     pub second: u64,
 }
 
-/// The place with the key, under this word, and a new route of two stops there.
+/// A place with this key and word, and a new route of two stops there.
 ///
 /// `Full` if the store has no room for one of the three, and for no other reason. What was put in before it stays.
 pub fn dispatch<P: PtrCore, B: BookBacking<P>>(
@@ -27,7 +26,7 @@ pub fn dispatch<P: PtrCore, B: BookBacking<P>>(
     key: u64,
     word: Word,
 ) -> Result<Dispatched, Refusal>
-    ensures place { IfOk result (λ d. with_key key book.new.state.places
+    ensures place { IfOk result (λ d. place_of book.new.state.places d.place
         ≡ Some (record { ticket = d.place; key = key; word = word })) }
     ensures walk { IfOk result (λ d. walked book.new.state d.first
         ≡ Ok (record { ticket = d.first; place = Some d.place }
@@ -41,8 +40,9 @@ pub fn dispatch<P: PtrCore, B: BookBacking<P>>(
     starts_lead_nowhere();
     extensions_lead_through();
     extensions_add_one_stop();
-    let place = ticket_of(book.place(key, word)?);
     // The state is as it must be.
+    let _ = book.places_arena();
+    let place = book.place(key, word)?;
     let _ = book.places_arena();
     let first = book.start(place)?;
     let _ = book.places_arena();
@@ -52,14 +52,4 @@ pub fn dispatch<P: PtrCore, B: BookBacking<P>>(
         first,
         second,
     })
-}
-
-// The ticket of a place that was put in, or got another word.
-fn ticket_of(placed: Placed) -> u64
-    ensures { result ≡ placed_ticket placed }
-{
-    match placed {
-        Placed::New(ticket) => ticket,
-        Placed::Old(ticket, _) => ticket,
-    }
 }

@@ -13,7 +13,7 @@ ghost use Rattle.route_book.specs.Item.{StopView, pointer_of};
 use crate::backing::BookBacking;
 use crate::book::RouteBook;
 use crate::items::{Place, Ref, Stop};
-use crate::place_arena::{floor_ticket, ticket_after, ticket_before};
+use crate::place_arena::{first_ticket, floor_ticket, ticket_after, ticket_before};
 use crate::places::Places;
 use route_lines::{Counts, Refusal, Shown};
 use ticket_book::Kind;
@@ -65,7 +65,7 @@ impl<P: PtrCore, B: BookBacking<P>> RouteBook<P, B> {
         }
     }
 
-    /// The ticket of the place with this key.
+    /// The smallest ticket of the places with this key.
     pub fn find(&self, key: u64) -> Option<u64>
         ensures { result ≡ found self.now.state key }
     {
@@ -78,19 +78,10 @@ impl<P: PtrCore, B: BookBacking<P>> RouteBook<P, B> {
         ensures counts { CountsWithin counts.old counts.new
             (most_comparisons (place_count self.now.state)) 0 0 }
     {
-        entries_stand_in_the_list::<P, Place>();
-        // The list is as it must be.
-        let _ = self.places.len();
-        match self.places.find_key_counted(&key, &mut counts.key) {
-            Some(at) => match self.places.get(at) {
-                Some(place) => Some(place.ticket()),
-                None => unreached!(),
-            },
-            None => None,
-        }
+        first_ticket(&self.places, key, &mut counts.key)
     }
 
-    /// The ticket of the place with the greatest key that is not above this one.
+    /// The ticket of the last place whose key is not above this one.
     pub fn floor(&self, key: u64) -> Option<u64>
         ensures { result ≡ floor_of self.now.state key }
     {
@@ -148,7 +139,7 @@ impl<P: PtrCore, B: BookBacking<P>> RouteBook<P, B> {
         Ok(ticket_before(&self.places, at))
     }
 
-    /// The places in the order of their keys.
+    /// The places in the order of their keys, and under one key of their tickets.
     pub fn places(&self) -> Places<'_, P, B::Places>
         ensures { result ≡ self.now.state.places }
     {

@@ -1,36 +1,34 @@
 //! A place more, or another word for one.
-ghost use Rattle.std.specs.Prelude.{◌≡◌, ◌≢◌, ◌<◌, ◌^◌, Some, Ok, IfErr, IsSome};
-ghost use Rattle.std.specs.Ordering.{nat_cmp};
-ghost use Rattle.std.specs.declared.cmp.Ordering.{Ordering as Way};
+ghost use Rattle.std.specs.Prelude.{◌≡◌, ◌+◌, Some, Ok, IfErr, false};
 ghost use Rattle.counted_search.specs.Searches.{most_comparisons};
 ghost use Rattle.triple_arena.specs.Entries.{value_if};
 ghost use Rattle.triple_arena_ord.specs.Found.{IsSimilar};
 ghost use Rattle.triple_arena_ord.specs.Ordered.{IsAscending, asked_at, entry_in};
-ghost use Rattle.route_lines.specs.Calls.{placed, after_place, placed_near, after_place_near};
+ghost use Rattle.route_lines.specs.Calls.{place_holder, placed, after_place, placed_near, after_place_near, worded, after_word};
 ghost use Rattle.route_lines.specs.Searches.{CountsWithin, place_count, living_count, most_near};
-ghost use Rattle.route_lines.specs.State.{Place as PlaceView, with_key};
+ghost use Rattle.route_lines.specs.State.{Place as PlaceView, is_full_of_places};
 ghost use Rattle.route_book.specs.Book.{KeepsItems};
+ghost use Rattle.route_book.specs.Keys.{key_cmp, key_of};
 
 use crate::backing::BookBacking;
 use crate::book::RouteBook;
-use crate::items::Place;
-use crate::place_arena::{equal_at, put_place, reword};
+use crate::items::{Place, PlaceKey};
+use crate::place_arena::{put_place, reword};
 use route_lines::laws::changes_keep_states_sound;
-use route_lines::{Change, Counts, Placed, Refusal, Word};
+use route_lines::{Change, Counts, Refusal, Word};
 use std::cmp::Ordering;
 use ticket_book::Kind;
 use triple_arena::ArenaTrait;
-use triple_arena_ord::laws::entries_stand_in_the_list;
 use triple_arena_ptr::PtrCore;
 use unreached::unreached;
 
 impl<P: PtrCore, B: BookBacking<P>> RouteBook<P, B> {
-    /// A new place with this key and word; where a place has the key already, its word is replaced.
+    /// A new place with this key and word, behind all places that have the key; its ticket.
     ///
-    /// `Full` where the key is new and as many places live as the room holds, or every ticket was given;
-    /// then nothing changes.
-    pub fn place(&mut self, key: u64, word: Word) -> Result<Placed, Refusal>
-        ensures result { result ≡ placed self.old.state key word }
+    /// `Full` where as many places live as the room holds, or every ticket was given; then nothing
+    /// changes.
+    pub fn place(&mut self, key: u64, word: Word) -> Result<u64, Refusal>
+        ensures result { result ≡ placed self.old.state }
         ensures state { self.new.state ≡ after_place self.old.state key word }
         ensures kept { KeepsItems self.old self.new }
         ensures refused { IfErr result (λ _. self.new ≡ self.old) }
@@ -45,8 +43,8 @@ impl<P: PtrCore, B: BookBacking<P>> RouteBook<P, B> {
         key: u64,
         word: Word,
         counts: &mut Counts,
-    ) -> Result<Placed, Refusal>
-        ensures result { result ≡ placed self.old.state key word }
+    ) -> Result<u64, Refusal>
+        ensures result { result ≡ placed self.old.state }
         ensures state { self.new.state ≡ after_place self.old.state key word }
         ensures kept { KeepsItems self.old self.new }
         ensures refused { IfErr result (λ _. self.new ≡ self.old) }
@@ -54,15 +52,24 @@ impl<P: PtrCore, B: BookBacking<P>> RouteBook<P, B> {
         ensures counts { CountsWithin counts.old counts.new
             (most_comparisons (place_count self.old.state)) 0 0 }
     {
-        let found = self.places.find_similar_key_counted(&key, &mut counts.key);
-        self.place_found(found, key, word)
+        if self.is_full_of_places() {
+            return Err(Refusal::Full);
+        }
+        let wanted = PlaceKey {
+            key,
+            ticket: self.last + 1,
+        };
+        let found = self
+            .places
+            .find_similar_key_counted(&wanted, &mut counts.key);
+        Ok(self.add_place(found, key, word))
     }
 
     /// The same, with a hint: the search begins at the place with the ticket `near`.
     ///
     /// Before all else it is refused where `near` is no living place: `Unknown`, `Gone` or `Kind`.
-    pub fn place_near(&mut self, key: u64, word: Word, near: u64) -> Result<Placed, Refusal>
-        ensures result { result ≡ placed_near self.old.state key word near }
+    pub fn place_near(&mut self, key: u64, word: Word, near: u64) -> Result<u64, Refusal>
+        ensures result { result ≡ placed_near self.old.state near }
         ensures state { self.new.state ≡ after_place_near self.old.state key word near }
         ensures kept { KeepsItems self.old self.new }
         ensures refused { IfErr result (λ _. self.new ≡ self.old) }
@@ -71,16 +78,17 @@ impl<P: PtrCore, B: BookBacking<P>> RouteBook<P, B> {
         self.place_near_counted(key, word, near, &mut Counts::new())
     }
 
-    /// The same, with the comparisons of its searches counted as `key` and `first`. At most 7 are made along the list, and no
-    /// more with keys if the place that has the key, or each one beside its gap, is less than 7 steps from that of `near`.
+    /// The same, with the comparisons of its searches counted as `key` and `first`. At most 7 are
+    /// made along the list, and no more with keys if each place beside the gap for the new one is
+    /// less than 7 steps from that of `near`.
     pub fn place_near_counted(
         &mut self,
         key: u64,
         word: Word,
         near: u64,
         counts: &mut Counts,
-    ) -> Result<Placed, Refusal>
-        ensures result { result ≡ placed_near self.old.state key word near }
+    ) -> Result<u64, Refusal>
+        ensures result { result ≡ placed_near self.old.state near }
         ensures state { self.new.state ≡ after_place_near self.old.state key word near }
         ensures kept { KeepsItems self.old self.new }
         ensures refused { IfErr result (λ _. self.new ≡ self.old) }
@@ -91,81 +99,89 @@ impl<P: PtrCore, B: BookBacking<P>> RouteBook<P, B> {
         // The list is as it must be.
         let _ = self.places.len();
         let at = self.find_place(near, &mut counts.first)?;
-        let found = self
-            .places
-            .find_similar_key_linear_counted(at.inx(), 7, &key, &mut counts.key);
-        self.place_found(found, key, word)
+        if self.is_full_of_places() {
+            return Err(Refusal::Full);
+        }
+        let wanted = PlaceKey {
+            key,
+            ticket: self.last + 1,
+        };
+        let found = self.places.find_similar_key_linear_counted(
+            at.inx(),
+            7,
+            &wanted,
+            &mut counts.key,
+        );
+        Ok(self.add_place(found, key, word))
     }
 
-    // A place with the key, where a search for the key ended here.
-    fn place_found(
-        &mut self,
-        found: Option<(P, Ordering)>,
-        key: u64,
-        word: Word,
-    ) -> Result<Placed, Refusal>
-        requires fits { key < 2 ^ 64 }
-        requires similar { IsSimilar P.index P.generation P.Inx.number
-            (asked_at nat_cmp (λ (p : PlaceView). p.key) key self.old.places)
-            (IsAscending P.Inx.number nat_cmp (λ (p : PlaceView). p.key) self.old.places) found self.old.places }
-        ensures result { result ≡ placed self.old.state key word }
-        ensures state { self.new.state ≡ after_place self.old.state key word }
+    /// Another word for the place with a ticket; the one that it had.
+    ///
+    /// `Unknown` where the ticket was never given, `Gone` where its item has ended, `Kind` where it
+    /// is no place; then nothing changes.
+    pub fn set_word(&mut self, ticket: u64, word: Word) -> Result<Word, Refusal>
+        ensures result { result ≡ worded self.old.state ticket }
+        ensures state { self.new.state ≡ after_word self.old.state ticket word }
         ensures kept { KeepsItems self.old self.new }
         ensures refused { IfErr result (λ _. self.new ≡ self.old) }
         ensures others { (self.new.stops ≡ self.old.stops) × (self.new.marks ≡ self.old.marks) }
     {
-        entries_stand_in_the_list::<P, Place>();
-        // The list is as it must be.
-        let _ = self.places.len();
-        match equal_at(found) {
-            Some(at) => Ok(self.replace_word(at, key, word)),
-            None => self.add_place(found, key, word),
-        }
+        self.set_word_counted(ticket, word, &mut Counts::new())
     }
 
-    // Another word for the place that has the key.
-    fn replace_word(&mut self, at: P, key: u64, word: Word) -> Placed
-        requires live { IsSome (value_if (P.generation at) (entry_in self.old.places (P.index at))) }
-        requires found { value_if (P.generation at) (entry_in self.old.places (P.index at))
-            ≡ with_key key self.old.state.places }
-        ensures result { Ok result ≡ placed self.old.state key word }
-        ensures state { self.new.state ≡ after_place self.old.state key word }
+    /// The same, with the comparisons of its search counted as `first`.
+    pub fn set_word_counted(
+        &mut self,
+        ticket: u64,
+        word: Word,
+        counts: &mut Counts,
+    ) -> Result<Word, Refusal>
+        ensures result { result ≡ worded self.old.state ticket }
+        ensures state { self.new.state ≡ after_word self.old.state ticket word }
+        ensures kept { KeepsItems self.old self.new }
+        ensures refused { IfErr result (λ _. self.new ≡ self.old) }
+        ensures others { (self.new.stops ≡ self.old.stops) × (self.new.marks ≡ self.old.marks) }
+        ensures counts { CountsWithin counts.old counts.new
+            0 (most_comparisons (living_count self.old.state)) 0 }
+    {
+        let at = self.find_place(ticket, &mut counts.first)?;
+        Ok(self.replace_word(at, ticket, word))
+    }
+
+    // Another word for the place that has the ticket, which stands under this pointer.
+    fn replace_word(&mut self, at: P, ticket: u64, word: Word) -> Word
+        requires found { (place : PlaceView)
+            × (value_if (P.generation at) (entry_in self.old.places (P.index at)) ≡ Some place)
+            × (place_holder self.old.state ticket ≡ Ok place) }
+        ensures result { Ok result ≡ worded self.old.state ticket }
+        ensures state { self.new.state ≡ after_word self.old.state ticket word }
         ensures kept { KeepsItems self.old self.new }
         ensures others { (self.new.stops ≡ self.old.stops) × (self.new.marks ≡ self.old.marks) }
     {
         changes_keep_states_sound();
         // The word is as it must be.
         let _ = word.as_bytes();
-        let change = Change::Place(key, word);
+        let change = Change::Word(ticket, word);
         self.held = self.held.changed(&change);
-        let Change::Place(_, word) = change else {
+        let Change::Word(_, word) = change else {
             unreached!()
         };
-        let old = reword(&mut self.places, at, word);
-        Placed::Old(old.0, old.1)
+        reword(&mut self.places, at, word)
     }
 
-    // A place with a new key, beside the one that the search for the key found.
-    fn add_place(
-        &mut self,
-        found: Option<(P, Ordering)>,
-        key: u64,
-        word: Word,
-    ) -> Result<Placed, Refusal>
+    // A place under the next ticket, beside the one that the search for its key and ticket found;
+    // that ticket.
+    fn add_place(&mut self, found: Option<(P, Ordering)>, key: u64, word: Word) -> u64
         requires similar { IsSimilar P.index P.generation P.Inx.number
-            (asked_at nat_cmp (λ (p : PlaceView). p.key) key self.old.places)
-            (IsAscending P.Inx.number nat_cmp (λ (p : PlaceView). p.key) self.old.places) found self.old.places }
-        requires unequal { (p : P) → found ≢ Some (p, Way.Equal) }
-        requires missing { with_key key self.old.state.places ≡ None }
-        ensures result { result ≡ placed self.old.state key word }
+            (asked_at key_cmp key_of (record { key = key; ticket = self.old.state.last + 1 })
+            self.old.places)
+            (IsAscending P.Inx.number key_cmp key_of self.old.places) found self.old.places }
+        requires free { is_full_of_places self.old.state ≡ false }
+        ensures result { Ok result ≡ placed self.old.state }
         ensures state { self.new.state ≡ after_place self.old.state key word }
         ensures kept { KeepsItems self.old self.new }
-        ensures refused { IfErr result (λ _. self.new ≡ self.old) }
         ensures others { (self.new.stops ≡ self.old.stops) × (self.new.marks ≡ self.old.marks) }
     {
-        if self.is_full_of_places() {
-            return Err(Refusal::Full);
-        }
         changes_keep_states_sound();
         // The word is as it must be.
         let _ = word.as_bytes();
@@ -178,6 +194,6 @@ impl<P: PtrCore, B: BookBacking<P>> RouteBook<P, B> {
         let at = put_place(&mut self.places, found, Place::new(ticket, key, word));
         self.last = ticket;
         self.tickets.add(ticket, Kind::Place, at);
-        Ok(Placed::New(ticket))
+        ticket
     }
 }

@@ -4,13 +4,13 @@
 pub(super) type Row<'a> = ([usize; 3], u64, &'a str, &'a str);
 
 /// What each rule of the line language shows at its lines. None of them removes anything.
-pub(super) const ROWS: [Row<'static>; 24] = [
-    // Places are made, listed by key and shown; a key that is there gets another word.
+pub(super) const ROWS: [Row<'static>; 25] = [
+    // Places are made, listed by key and shown; a key that is there gets one more place.
     (
         [4, 4, 2],
         0,
         "place 50 oak\nplace 30 elm\nplace 70 ash\nall\nplace 50 fir\nshow 1\n",
-        "1\n2\n3\n2 30 elm\n1 50 oak\n3 70 ash\nend\n1 old oak\n50 fir\n",
+        "1\n2\n3\n2 30 elm\n1 50 oak\n3 70 ash\nend\n4\n50 oak\n",
     ),
     // A stop goes directly behind another. A walk goes to the end and then back, or once round a ring.
     (
@@ -33,19 +33,26 @@ pub(super) const ROWS: [Row<'static>; 24] = [
         "floor 4\nplace 3 x\nfloor 4\nfloor 2\nafter 1\n",
         "none\n1\n1\nnone\nnone\n",
     ),
-    // The last ticket is given once, and the key is looked for before the room.
+    // The last ticket is given once.
     (
         [4, 4, 2],
         18446744073709551614,
         "place 1 a\nplace 2 b\nplace 1 c\nshow 5\nshow 0\n",
-        "18446744073709551615\nfull\n18446744073709551615 old a\ngone\nunknown\n",
+        "18446744073709551615\nfull\nfull\ngone\nunknown\n",
     ),
     // A hint changes no reply, and has to name a place.
     (
         [4, 4, 2],
         0,
         "place 9 a\nplace 4 b near 1\nplace 4 c near 2\nfind 4\nbefore 1\nfind 5\n",
-        "1\n2\n2 old b\n2\n2\nnone\n",
+        "1\n2\n3\n2\n3\nnone\n",
+    ),
+    // Places of one key stand in the order of their tickets, and a word is replaced by ticket.
+    (
+        [4, 4, 2],
+        0,
+        "place 5 a\nplace 5 b\nplace 5 c\nfind 5\nfloor 5\nfloor 9\nafter 1\nbefore 3\nword 3 zed\nword 3 q\nword 9 q\nall\n",
+        "1\n2\n3\n1\n3\n3\n2\n2\nold c\nold zed\nunknown\n1 5 a\n2 5 b\n3 5 q\nend\n",
     ),
     // The longest line that is a command, and one of a byte more.
     (

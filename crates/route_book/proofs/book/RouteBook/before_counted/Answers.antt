@@ -16,5 +16,5 @@ returns-clause-result g c =
     let parts = place_parts g.P.Inx.PtrInxCore.number c.self.inside.places (g.P.PtrCore.index c.in_ok-at.at) (g.P.PtrCore.generation c.in_ok-at.at) found.0 value
     (λ some. c.entries_stand_in_the_list.ensures c.self.inside.places _ c.len.ensures.formed.ordered some) in
     ap Ok (c.ticket_before.ensures parts.0 parts.1.0 found.0 value parts.1.1)
-    ∙ sym (before_is c.self.inside.held.state c.args.ticket found.0 held parts.0 parts.1.0 (b.held.in_order ∙ parts.1.1) b.keys_rise)
+    ∙ sym (before_is c.self.inside.held.state c.args.ticket found.0 held parts.0 parts.1.0 (b.held.in_order ∙ parts.1.1) b.places_rise)
     ∙ ap (λ (book : Book g.row.P-Inx.Denot). place_before book.state c.args.ticket) c.self.view_is

@@ -1,13 +1,17 @@
-use Rattle.std.proofs.Common.{subst}
-use Rattle.std.specs.Ordering.{nat_cmp}
+use Rattle.std.proofs.Common.{◌≡◌, ◌+◌, subst, sym}
 use Rattle.triple_arena_ord.specs.Found.{IsSimilar}
 use Rattle.triple_arena_ord.specs.Ordered.{IsAscending, asked_at}
-use Rattle.route_lines.specs.State.{Place}
 use Rattle.route_book.specs.Book.{Book}
+use Rattle.route_book.specs.Keys.{key_cmp, key_of}
+use Rattle.route_book.specs.declared.items.PlaceKey.{PlaceKey}
 use Rattle.route_book.proofs.book.RouteBook.place_counted.Goals as goal
 
-pub place_found-requires-clause-similar : goal.place_found-requires-clause-similar
-place_found-requires-clause-similar g c =
-    subst (λ (b : Book g.row.P-Inx.Denot). IsSimilar g.P.PtrCore.index g.P.PtrCore.generation g.P.Inx.PtrInxCore.number (asked_at nat_cmp (λ (p : Place). p.key) c.args.key b.places)
-    (IsAscending g.P.Inx.PtrInxCore.number nat_cmp (λ (p : Place). p.key) b.places) c.find_similar_key_counted-found.result b.places) c.self.view_is
-    c.find_similar_key_counted-found.ensures.similar
+pub add_place-requires-clause-similar : goal.add_place-requires-clause-similar
+add_place-requires-clause-similar g c =
+    subst (λ (b : Book g.row.P-Inx.Denot). IsSimilar g.P.PtrCore.index g.P.PtrCore.generation g.P.Inx.PtrInxCore.number
+        (asked_at key_cmp key_of (record { key = c.args.key; ticket = b.state.last + 1 }) b.places)
+        (IsAscending g.P.Inx.PtrInxCore.number key_cmp key_of b.places) c.find_similar_key_counted-found.result b.places) c.self.view_is
+    (subst (λ n. IsSimilar g.P.PtrCore.index g.P.PtrCore.generation g.P.Inx.PtrInxCore.number
+        (asked_at key_cmp key_of (record { key = c.args.key; ticket = n + 1 }) c.self.inside.places)
+        (IsAscending g.P.Inx.PtrInxCore.number key_cmp key_of c.self.inside.places) c.find_similar_key_counted-found.result c.self.inside.places) (sym c.self.invariant.book.last_is)
+    c.find_similar_key_counted-found.ensures.similar)
