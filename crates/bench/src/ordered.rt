@@ -39,22 +39,13 @@ pub fn time(
     steps: usize,
     passes: usize,
 ) -> anyhow::Result<Option<u64>> {
-    time_over::<P0, Slots>(rt, operation, len, steps, passes)
-}
-
-// Over this kind of stack.
-fn time_over<P: PtrCore, S: OrdSlots<P, Item, Alloc = Global>>(
-    rt: &HostRuntime,
-    operation: &str,
-    len: usize,
-    steps: usize,
-    passes: usize,
-) -> anyhow::Result<Option<u64>> {
     match operation {
-        "cancel" => timed::run::<Numbered<P, Ordered<P, S>, true>>(
+        "cancel" => timed::run::<Numbered<P0, Ordered<P0, Slots>, true>>(
             rt, "remove", len, steps, passes,
         ),
-        _ => timed::run::<Numbered<P, Ordered<P, S>, false>>(rt, operation, len, steps, passes),
+        _ => timed::run::<Numbered<P0, Ordered<P0, Slots>, false>>(
+            rt, operation, len, steps, passes,
+        ),
     }
 }
 
