@@ -92,7 +92,7 @@ module _ {P T F : Type 0} (index generation : P → ℕ) (step : F → P → Bor
   -- a closure that keeps what its answers hang on answers so from its first state on
   pub answers_kept : (K : F → Type 0) (side : ℕ → ℕ × T → Ordering)
       → ((g : F) (p : P) (t : Bor T) (d : Ordering) (h : F) → K g → step g p t d h
-          → K h × (d ≡ side (index p) (generation p, t.now)))
+      → K h × (d ≡ side (index p) (generation p, t.now)))
       → (f : F) → K f → AnswersBy index generation step f side
   answers_kept K side tells f at g reached p t d h s =
       let keeps = reached_kept K (λ g p t d h k s. (tells g p t d h k s).0) in

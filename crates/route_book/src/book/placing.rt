@@ -106,12 +106,9 @@ impl<P: PtrCore, B: BookBacking<P>> RouteBook<P, B> {
             key,
             ticket: self.last + 1,
         };
-        let found = self.places.find_similar_key_linear_counted(
-            at.inx(),
-            7,
-            &wanted,
-            &mut counts.key,
-        );
+        let found = self
+            .places
+            .find_similar_key_linear_counted(at.inx(), 7, &wanted, &mut counts.key);
         Ok(self.add_place(found, key, word))
     }
 

@@ -27,11 +27,11 @@ pub put_place-at-requires-clause-found : goal.put_place-at-requires-clause-found
 put_place-at-requires-clause-found g c =
     let b = c.self.invariant.book in
     let similar = subst (λ (b : Book g.row.P-Inx.Denot). IsSimilar g.P.PtrCore.index g.P.PtrCore.generation g.P.Inx.PtrInxCore.number
-        (asked_at key_cmp key_of (record { key = c.args.key; ticket = b.state.last + 1 }) b.places)
-        (IsAscending g.P.Inx.PtrInxCore.number key_cmp key_of b.places) c.args.found b.places) (sym c.self.view_is) c.requires.similar in
+    (asked_at key_cmp key_of (record { key = c.args.key; ticket = b.state.last + 1 }) b.places)
+    (IsAscending g.P.Inx.PtrInxCore.number key_cmp key_of b.places) c.args.found b.places) (sym c.self.view_is) c.requires.similar in
     let here = subst (λ n. IsSimilar g.P.PtrCore.index g.P.PtrCore.generation g.P.Inx.PtrInxCore.number
-        (asked_at key_cmp key_of (record { key = c.args.key; ticket = n + 1 }) c.self.inside.places)
-        (IsAscending g.P.Inx.PtrInxCore.number key_cmp key_of c.self.inside.places) c.args.found c.self.inside.places) b.last_is similar in
+    (asked_at key_cmp key_of (record { key = c.args.key; ticket = n + 1 }) c.self.inside.places)
+    (IsAscending g.P.Inx.PtrInxCore.number key_cmp key_of c.self.inside.places) c.args.found c.self.inside.places) b.last_is similar in
     subst (λ k. IsSimilar g.P.PtrCore.index g.P.PtrCore.generation g.P.Inx.PtrInxCore.number (asked_at key_cmp key_of k c.self.inside.places)
     (IsAscending g.P.Inx.PtrInxCore.number key_cmp key_of c.self.inside.places) c.args.found c.self.inside.places) (sym (ap key_of c.new.ensures)) here
 

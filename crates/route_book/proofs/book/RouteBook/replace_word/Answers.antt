@@ -15,7 +15,7 @@ pub invariant_of-self : goal.invariant_of-self
 invariant_of-self g c =
     let b = c.self.invariant.book in
     let found = subst (λ (b : Book g.row.P-Inx.Denot). (place : Place) × (value_if (g.P.PtrCore.generation c.args.at) (entry_in b.places (g.P.PtrCore.index c.args.at)) ≡ Some place)
-        × (place_holder b.state c.args.ticket ≡ Ok place)) (sym c.self.view_is) c.requires.found in
+    × (place_holder b.state c.args.ticket ≡ Ok place)) (sym c.self.view_is) c.requires.found in
     let replaced = c.reword.ensures.replaced found.0 found.1 in
     let word : c.in-Word.word ≡ c.args.word = (let is = c.in-Word.is in cc) in
     let sound = c.changes_keep_states_sound.ensures.sound c.self.inside.held.state (WordChange c.args.ticket c.args.word) c.as_bytes.ensures.word c.self.invariant.sound in
@@ -38,7 +38,7 @@ invariant_of-self g c =
 pub returns-clause-kept : goal.returns-clause-kept
 returns-clause-kept g c =
     let found = subst (λ (b : Book g.row.P-Inx.Denot). (place : Place) × (value_if (g.P.PtrCore.generation c.args.at) (entry_in b.places (g.P.PtrCore.index c.args.at)) ≡ Some place)
-        × (place_holder b.state c.args.ticket ≡ Ok place)) (sym c.self.view_is) c.requires.found in
+    × (place_holder b.state c.args.ticket ≡ Ok place)) (sym c.self.view_is) c.requires.found in
     let replaced = c.reword.ensures.replaced found.0 found.1 in
     subst (λ (b : Book g.row.P-Inx.Denot). KeepsItems b
     (record { state = c.changed-self-inside.result.state; places = c.reword.new.arena; stops = c.self.inside.stops; marks = c.self.inside.marks })) c.self.view_is

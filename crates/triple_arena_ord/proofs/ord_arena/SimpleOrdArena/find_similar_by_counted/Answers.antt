@@ -10,7 +10,7 @@ pub returns-clause-asked : goal.returns-clause-asked
 returns-clause-asked g c =
     let number = g.P.Inx.PtrInxCore.number in
     subst (λ z. (asked : IsAsked g.P.PtrCore.index g.P.PtrCore.generation (goal.F-step g) (entry_in z) (order_in number z) c.args.f.now c.ask_down.result c.args.probes.now c.ask_down.new.probes)
-        × (asked.last ≡ c.ask_down.new.f)) c.self.view_is c.ask_down.ensures.asked
+    × (asked.last ≡ c.ask_down.new.f)) c.self.view_is c.ask_down.ensures.asked
 
 pub returns-clause-similar : goal.returns-clause-similar
 returns-clause-similar g c = λ side by.
