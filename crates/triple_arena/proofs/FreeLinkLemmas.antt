@@ -1,4 +1,4 @@
--- What becomes of the list that free slots make, where an index goes to its front, leaves it, or is looked up.
+-- What becomes of the list that free slots make if an index goes to its front, leaves it, or is looked up.
 use Rattle.std.proofs.Common.{◌≡◌, ◌≢◌, ℕ, ◌≤◌, List, [], ◌∷◌, ◌++◌, length, Option, Some, None, IsSome, is_some, filter, ltb, inl, inr, ◌⊎◌, refl, sym, ap, subst, ◌∙◌, arith}
 use Rattle.std.proofs.lemmas.Bool.{eq-eqb, ne_eqb, le-ltb, lt-ltb, le-leb}
 use Rattle.std.proofs.lemmas.Bool.Decides.{eqb_tells}

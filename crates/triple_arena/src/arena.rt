@@ -156,8 +156,9 @@ impl<P: PtrCore, T: Drop, S: ArenaSlots<P, T>> Arena<P, T, S> {
         self.slots.len()
     }
 
-    /// The stack that the slots are kept in. `free_links` of a slot answers the neighbors of its index on the list of the
-    /// free indexes, which stand in the order in which insertions take them.
+    /// The stack that the slots are kept in. `free_links` of a slot answers the neighbors of its
+    /// index on the list of the free indexes, which stand in the order in which insertions take
+    /// them.
     pub fn backing(&self) -> &S
         ensures entries { map entry_of (S.items result.now) ≡ self.now.slots }
         ensures links { (i : ℕ) (slot : Slot T) → 0 < i → item_at (S.items result.now) i ≡ Some slot

@@ -357,6 +357,7 @@ pub trait ArenaTrait<P: PtrCore, T: Drop> {
 
     /// Removes the value that `p` points to, and steps the counter, if there is one. If `p` points
     /// to none, it answers `InvalidPtr` and changes nothing.
+    #[inline(always)]
     final fn remove(&mut self, p: P) -> InvalidationResult<T>
         ensures value { option_map value_of (answer_of result)
             ≡ value_if (P.generation p) (entry_at self.old (P.index p)) }

@@ -15,8 +15,8 @@ use triple_arena_ptr::{PtrCore, PtrGenCore, PtrInxCore};
 use triple_arena_stack::{NonZeroInxGenericStack, get_disjoint_mut};
 use unreached::unreached;
 
-/// A slot of an arena: free, with links to the free ones before and after it, or allocated, with a generation and a
-/// value.
+/// A slot of an arena: free, with links to the free ones before and after it, or allocated, with a
+/// generation and a value.
 #[derive(Drop)]
 pub struct ArenaSlot<P: PtrCore, T> {
     state: SlotState<P::Gen, T>,
@@ -154,8 +154,9 @@ impl<P: PtrCore, T> ArenaSlot<P, T> {
         }
     }
 
-    /// If the slot is free, the free index before it in the order in which the free indexes are taken, and the one
-    /// after it, as the slot itself holds them. [`crate::Arena::backing`] says which they are.
+    /// The free index before this one in the order in which the free indexes are taken, and the one
+    /// after it, as the slot itself holds them; `None` if the slot is allocated.
+    /// [`crate::Arena::backing`] says which they are.
     pub fn free_links(&self) -> Option<(Option<P::Inx>, Option<P::Inx>)>
         ensures { option_map (λ l. (option_map P.Inx.number l.0, option_map P.Inx.number l.1))
             result ≡ free_links_of P.Inx.greatest self.now }

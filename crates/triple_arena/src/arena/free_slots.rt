@@ -105,7 +105,8 @@ fn links_in<P: PtrCore, T: Drop, S: ArenaSlots<P, T>>(
     }
 }
 
-// Gives the slot at this index, if it is one, another link to the one before. The slot must be free.
+// Gives the slot at this index, if there is one, another link to the one before. The slot must
+// be free.
 pub(crate) fn set_prev_at<P: PtrCore, T: Drop, S: ArenaSlots<P, T>>(
     slots: &mut S,
     at: OptionalInx,
@@ -124,7 +125,8 @@ pub(crate) fn set_prev_at<P: PtrCore, T: Drop, S: ArenaSlots<P, T>>(
     }
 }
 
-// Gives the slot at this index, if it is one, another link to the one after. The slot must be free.
+// Gives the slot at this index, if there is one, another link to the one after. The slot must be
+// free.
 fn set_next_at<P: PtrCore, T: Drop, S: ArenaSlots<P, T>>(
     slots: &mut S,
     at: OptionalInx,

@@ -167,6 +167,7 @@ impl<P: PtrCore, T: Drop, S: OrdSlots<P, T>> ArenaTrait<P, T> for SimpleOrdArena
         self.chains.advancer_inx(i, rev)
     }
 
+    #[inline(always)]
     fn remove_inx(&mut self, i: P::Inx) -> InvalidationResult<(P::Gen, T)> {
         if self.chains.get_inx(i).is_none() {
             self.recall_formed();
