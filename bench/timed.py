@@ -207,7 +207,7 @@ class Traces:
         return row
 
     def show(self):
-        print(f'{"a step, of 50,000":<25}{"instructions":>24}{"ratio":>8}{"leaps":>16}{"ratio":>8}')
+        print(f'{f"a step, of {TRACED:,}":<25}{"instructions":>24}{"ratio":>8}{"leaps":>16}{"ratio":>8}')
         for operation in TRACES[self.layer.name]:
             (own, own_leaps), (peer, peer_leaps) = self.row(operation)
             leaps = f'{own_leaps:>8.2f}{peer_leaps:>8.2f}'
