@@ -6,13 +6,13 @@ use Rattle.triple_arena.specs.declared.slot.SlotState.TheVariants.{Free, Used}
 
 module _ {G T : Type 0} where
   abbrev pub slot_of : (G → ℕ) → SlotState G T → Slot T
-  slot_of number (Free prev next) = free prev next
+  slot_of number (Free next prev) = free prev next
   slot_of number (Used g t) = used (number g) t
 
   abbrev pub state_value : SlotState G T → Option T
-  state_value (Free prev next) = None
+  state_value (Free _ _) = None
   state_value (Used g t) = Some t
 
   abbrev pub with_state_value : SlotState G T → T → SlotState G T
-  with_state_value (Free prev next) _ = Free prev next
+  with_state_value (Free next prev) _ = Free next prev
   with_state_value (Used g _) t = Used g t

@@ -24,7 +24,7 @@ pub struct ArenaSlot<P: PtrCore, T> {
 
 #[derive(Drop)]
 enum SlotState<G, T> {
-    // The free index before it, and the one after it.
+    // The free index after it, and the one before it: in this order a removal's writes are fewest.
     Free(OptionalInx, OptionalInx),
     Used(G, T),
 }
@@ -86,7 +86,7 @@ impl<P: PtrCore, T> ArenaSlot<P, T> {
         ensures { result ≡ free prev next }
     {
         ArenaSlot {
-            state: SlotState::Free(prev, next),
+            state: SlotState::Free(next, prev),
         }
     }
 
@@ -150,7 +150,7 @@ impl<P: PtrCore, T> ArenaSlot<P, T> {
     {
         match &self.state {
             SlotState::Used(_, _) => None,
-            SlotState::Free(prev, next) => Some((*prev, *next)),
+            SlotState::Free(next, prev) => Some((*prev, *next)),
         }
     }
 
@@ -163,7 +163,7 @@ impl<P: PtrCore, T> ArenaSlot<P, T> {
     {
         match &self.state {
             SlotState::Used(_, _) => None,
-            SlotState::Free(prev, next) => Some((index_of::<P>(*prev), index_of::<P>(*next))),
+            SlotState::Free(next, prev) => Some((index_of::<P>(*prev), index_of::<P>(*next))),
         }
     }
 
@@ -174,7 +174,7 @@ impl<P: PtrCore, T> ArenaSlot<P, T> {
     {
         match &mut self.state {
             SlotState::Used(_, _) => false,
-            SlotState::Free(own_prev, own_next) => {
+            SlotState::Free(own_next, own_prev) => {
                 *own_prev = prev;
                 *own_next = next;
                 true
@@ -190,7 +190,7 @@ impl<P: PtrCore, T> ArenaSlot<P, T> {
     {
         match &mut self.state {
             SlotState::Used(_, _) => unreached!(),
-            SlotState::Free(own, _) => *own = prev,
+            SlotState::Free(_, own) => *own = prev,
         }
     }
 
@@ -202,7 +202,7 @@ impl<P: PtrCore, T> ArenaSlot<P, T> {
     {
         match &mut self.state {
             SlotState::Used(_, _) => unreached!(),
-            SlotState::Free(_, own) => *own = next,
+            SlotState::Free(own, _) => *own = next,
         }
     }
 
@@ -217,7 +217,7 @@ impl<P: PtrCore, T> ArenaSlot<P, T> {
         let ArenaSlot { state } = self;
         match state {
             SlotState::Used(_, _) => unreached!(),
-            SlotState::Free(_, next) => next,
+            SlotState::Free(next, _) => next,
         }
     }
 
