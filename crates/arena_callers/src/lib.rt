@@ -11,7 +11,6 @@ mod copies;
 mod direct;
 mod each;
 mod entries;
-mod free_list;
 mod further;
 mod generic;
 mod mirrors;

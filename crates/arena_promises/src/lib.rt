@@ -4,8 +4,9 @@
 //! `wrong-bodies.txt`.
 #![tactic(auto)]
 
-ghost use Rattle.std.specs.Prelude.{◌≡◌, ℕ, ◌<◌, ◌↔◌, None, Some, IsOk, IfOk, IfSome, IfNone, OnOk, OnSome, OnErr, option_copied, ◌≤◌, IsErrOf, IsTrue};
+ghost use Rattle.std.specs.Prelude.{◌≡◌, ℕ, length, ◌<◌, ◌↔◌, None, Some, IsOk, IfOk, IfSome, IfNone, OnOk, OnSome, OnErr, option_copied, ◌≤◌, IsErrOf, IsTrue};
 ghost use Rattle.std.specs.Fn.{iterate};
+ghost use Rattle.std.specs.Int.NonZero.{non_zero_usize_get};
 ghost use Rattle.std.specs.Option.{option_map};
 ghost use Rattle.triple_arena_ptr.specs.Generation.{next_generation};
 ghost use Rattle.triple_arena_ptr.specs.InvalidationOption.{value_of, overflowed};
@@ -16,8 +17,10 @@ ghost use Rattle.triple_arena.specs.Changes.{IsInserted, IsRemoved};
 ghost use Rattle.triple_arena.specs.Content.{entry_at, live_count, arena_capacity, next_index, inserted};
 ghost use Rattle.triple_arena.specs.Drains.{drained};
 ghost use Rattle.triple_arena.specs.Entries.{value_if, counter_wraps, generation_at};
+ghost use Rattle.triple_arena.specs.FreeLinks.{neighbors};
 ghost use Rattle.triple_arena.specs.Transfer.{IsTransferred, IsGivenUp, IsFilled};
 
+use std::num::NonZeroUsize;
 use triple_arena::{
     Arena, ArenaCloneFromWith, ArenaInsertTrait, ArenaSlots, ArenaTrait, ArenaTransferSource,
     ArenaTransferTrait, InvalidationOption, InvalidationResult, NotWithinCapacityError, PtrCore,
@@ -60,6 +63,21 @@ pub fn get<P: PtrCore, T: Drop, A: ArenaTrait<P, T>>(arena: &A, p: P) -> Option<
 {
     let found = arena.get(p);
     found
+}
+
+/// The free indexes before and after that of a slot, in the order in which insertions take them.
+pub fn free_neighbors<P: PtrCore, T: Drop, S: ArenaSlots<P, T>>(
+    arena: &Arena<P, T, S>,
+    i: NonZeroUsize,
+) -> Option<(Option<P::Inx>, Option<P::Inx>)>
+    requires is_slot { non_zero_usize_get i ≤ length arena.now.slots }
+    ensures { option_map (λ l. (option_map P.Inx.number l.0, option_map P.Inx.number l.1)) result
+        ≡ neighbors arena.now.free (non_zero_usize_get i) }
+{
+    match arena.backing().get(i) {
+        Some(slot) => slot.free_links(),
+        None => unreachable!(),
+    }
 }
 
 /// Removes a value, and tells where the step of the counter started the generations again.

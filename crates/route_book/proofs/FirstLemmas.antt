@@ -27,9 +27,9 @@ rise_front (x ∷ xs) ys rise = (front xs rise.0, rise_front xs ys rise.1)
     front [] all = tt
     front (q ∷ qs) all = (all.0, front qs all.1)
 
-rise_back : (xs ys : List Place) → PlacesRise (xs ++ ys) → PlacesRise ys
-rise_back [] ys rise = rise
-rise_back (x ∷ xs) ys rise = rise_back xs ys rise.1
+rise_behind : (xs : List Place) (x : Place) (ys : List Place) → PlacesRise (xs ++ x ∷ ys) → PlacesRise ys
+rise_behind [] x ys rise = rise.1
+rise_behind (z ∷ xs) x ys rise = rise_behind xs x ys rise.1
 
 -- before a place below a key no place has the key
 none_before : (xs zs : List Place) (y : Place) (key : ℕ) → PlacesRise (xs ++ y ∷ zs) → y.key < key → with_key key xs ≡ None
@@ -150,7 +150,7 @@ module _ {P F : Type 0} (index generation : P → ℕ) (step : F → P → Bor P
             rest ∙ ap (λ k. option_or (ticket_in (with_key k front)) (noted made.0)) told.same ∙ ap (option_or (ticket_in (with_key key front))) (kept from.1) ∙ sym parts
         | inr below ↦
             let greater : q.answer ≡ Greater = told.way ∙ rw (lt-ltb x.key key below.1) refl in
-            let rest = in_back (subst (λ d. IsWay (way_of questions) (left_by d way.0.front way.0.back)) greater way.1) (rise_back (front ++ x ∷ []) back (moved front rises)) in
+            let rest = in_back (subst (λ d. IsWay (way_of questions) (left_by d way.0.front way.0.back)) greater way.1) (rise_behind front x back rises) in
             let other : x.key ≢ key = λ same. omega (arith, same, below.1) in
             let old : noted made.0 ≡ noted f = told.note ∙ rw (ne_eqb x.key key other) refl in
             let skip : with_key key (x ∷ back) ≡ with_key key back = rw (ne_eqb x.key key other) refl in
@@ -161,13 +161,6 @@ module _ {P F : Type 0} (index generation : P → ℕ) (step : F → P → Bor P
             ∙ ap (λ o. option_or (ticket_in o) (noted f)) skip)
       ]
         where
-          moved : (xs : List Place) → PlacesRise (xs ++ x ∷ back) → PlacesRise ((xs ++ x ∷ []) ++ back)
-          moved xs rise = subst PlacesRise (joined xs) rise
-            where
-              joined : (ys : List Place) → ys ++ x ∷ back ≡ (ys ++ x ∷ []) ++ back
-              joined [] = refl
-              joined (y ∷ ys) = ap (λ l. y ∷ l) (joined ys)
-
           -- what is noted at the place, and behind it
           kept : key ≤ x.key → noted made.0 ≡ option_or (ticket_in (with_key key (x ∷ back))) (noted f)
           kept from = elim (eqb_tells x.key key) [
@@ -222,7 +215,7 @@ module _ {P F : Type 0} (index generation : P → ℕ) (step : F → P → Bor P
       by in_front in_back = elim (leb_tells x.key key) [
         | inl from ↦
             let greater : q.answer ≡ Greater = told.way ∙ rw from.0 refl in
-            let rest = in_back (subst (λ d. IsWay (way_of questions) (left_by d way.0.front way.0.back)) greater way.1) (rise_back (front ++ x ∷ []) back (moved front rises)) in
+            let rest = in_back (subst (λ d. IsWay (way_of questions) (left_by d way.0.front way.0.back)) greater way.1) (rise_behind front x back rises) in
             let now : noted made.0 ≡ Some x.ticket = told.note ∙ rw from.0 refl in
             let one : find (λ (p : Place). nat_le p.key key) (x ∷ []) ≡ Some x = rw from.0 refl in
             let here : last_up_to key (along at left) ≡ option_or (option_or (last_up_to key back) (Some x)) (last_up_to key front) =
@@ -238,10 +231,3 @@ module _ {P F : Type 0} (index generation : P → ℕ) (step : F → P → Bor P
             rest ∙ ap (λ k. option_or (ticket_in (last_up_to k front)) (noted made.0)) told.same ∙ ap (option_or (ticket_in (last_up_to key front))) old
             ∙ sym (ap (λ o. option_or (ticket_in o) (noted f)) here)
       ]
-        where
-          moved : (xs : List Place) → PlacesRise (xs ++ x ∷ back) → PlacesRise ((xs ++ x ∷ []) ++ back)
-          moved xs rise = subst PlacesRise (joined xs) rise
-            where
-              joined : (ys : List Place) → ys ++ x ∷ back ≡ (ys ++ x ∷ []) ++ back
-              joined [] = refl
-              joined (y ∷ ys) = ap (λ l. y ∷ l) (joined ys)

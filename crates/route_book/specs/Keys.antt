@@ -22,7 +22,7 @@ way_past key p = if nat_le p.key key then Greater else Less
 abbrev pub way_to : ℕ → Place → Ordering
 way_to key p = if nat_lt p.key key then Greater else Less
 
--- what is noted after a place is asked: its ticket, where it has the key
+-- what is noted after a place is asked: its ticket, if it has the key
 abbrev pub noted_by : ℕ → Option ℕ → Place → Option ℕ
 noted_by key noted p = if p.key == key then Some p.ticket else noted
 

@@ -6,7 +6,7 @@ use Rattle.std.proofs.lemmas.Bool.Decides.{eqb_tells}
 use Rattle.route_lines.specs.Searches.{places_before, is_near, is_at_hand, most_near}
 use Rattle.route_lines.specs.Sound.{IsBefore, IsSound, PlacesRise, count_of}
 use Rattle.route_lines.specs.State.{State, Place}
-use Rattle.store_callers.specs.Placing.{IsLastBelow}
+use Rattle.store_callers.specs.Placing.{IsLastUpTo}
 
 -- all keys are up to one that the last is up to
 keys_below : (front : List Place) (p : Place) (key : ℕ) → p.key ≤ key → PlacesRise (front ++ p ∷ []) → AllByRecursion (λ (q : Place). q.key ≤ key) (front ++ p ∷ [])
@@ -45,10 +45,10 @@ length_last (x ∷ front) p = ap suc (length_last front p)
 near_self : (n : ℕ) → is_near n n ≡ true
 near_self n = and_from (nat_lt n (n + 7)) (nat_lt n (n + 7)) (lt-ltb n (n + 7) (omega arith)) (lt-ltb n (n + 7) (omega arith))
 
-pub last_at_hand : (s : State) (t key : ℕ) → IsSound s → IsLastBelow s t key → most_near s.places key t ≡ 7
+pub last_at_hand : (s : State) (t key : ℕ) → IsSound s → IsLastUpTo s t key → most_near s.places key t ≡ 7
 last_at_hand s t key sound last =
     let ps = last.front ++ last.last ∷ [] in
-    let below = keys_below last.front last.last key last.below (subst PlacesRise last.is sound.order) in
+    let below = keys_below last.front last.last key last.up_to (subst PlacesRise last.is sound.order) in
     let once = sound.once t in
     let own : count_of (λ (q : Place). q.ticket == t) ps ≤ 1 = subst (λ l. count_of (λ (q : Place). q.ticket == t) l ≤ 1) last.is (omega (arith, once)) in
     let from = stands_last last.front last.last t last.has own in

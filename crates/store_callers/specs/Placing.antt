@@ -3,9 +3,9 @@ use Rattle.std.specs.Prelude.{◌≡◌, ℕ, ◌≤◌, List, [], ◌∷◌, �
 use Rattle.route_lines.specs.State.{State, Place}
 
 -- the last place has this ticket, and a key that is not above this one
-pub record IsLastBelow (s : State) (ticket key : ℕ) : Type 0 where
+pub record IsLastUpTo (s : State) (ticket key : ℕ) : Type 0 where
   pub front : List Place
   pub last : Place
   pub is : s.places ≡ front ++ last ∷ []
   pub has : last.ticket ≡ ticket
-  pub below : last.key ≤ key
+  pub up_to : last.key ≤ key

@@ -2,7 +2,7 @@
 ghost use Rattle.std.specs.Prelude.{◌≡◌, ◌+◌, ◌≤◌, IfErr};
 ghost use Rattle.route_lines.specs.Calls.{after_place_near, placed_near};
 ghost use Rattle.route_book.specs.Book.{KeepsItems};
-ghost use Rattle.store_callers.specs.Placing.{IsLastBelow};
+ghost use Rattle.store_callers.specs.Placing.{IsLastUpTo};
 
 use route_book::{BookBacking, Counts, PtrCore, Refusal, RouteBook, Word};
 
@@ -20,7 +20,7 @@ pub fn place_last<P: PtrCore, B: BookBacking<P>>(
     ensures state { book.new.state ≡ after_place_near book.old.state key word last }
     ensures kept { KeepsItems book.old book.new }
     ensures refused { IfErr result (λ _. book.new ≡ book.old) }
-    ensures compares { IsLastBelow book.old.state last key → counts.new.key ≤ counts.old.key + 7 }
+    ensures compares { IsLastUpTo book.old.state last key → counts.new.key ≤ counts.old.key + 7 }
 {
     let _ = book.places_arena();
     book.place_near_counted(key, word, last, counts)

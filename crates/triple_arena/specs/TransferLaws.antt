@@ -5,9 +5,11 @@ use Rattle.std.proofs.Common.{◌≡◌, ℕ, ◌+◌, ◌≤◌, List, [], ◌�
 use Rattle.std.specs.Fn.{iterate}
 use Rattle.std.specs.List.{FoldsTo}
 use Rattle.std.specs.Option.{option_map}
+use Rattle.std.proofs.lemmas.Bool.{le-leb}
 use Rattle.triple_arena_ptr.specs.Generation.{next_generation}
 use Rattle.triple_arena_ptr.specs.InvalidationOption.{value_of as value_told}
 use Rattle.triple_arena_ptr.specs.declared.invalidation.InvalidationOption.{InvalidationOption}
+use Rattle.triple_arena_stack.specs.Room.{Room, capacity}
 use Rattle.triple_arena.specs.ArenaRoom.{room_with}
 use Rattle.triple_arena.specs.CompactedLaws.{entry-compacted, live-compacted, slots-compacted}
 use Rattle.triple_arena.specs.Compression.{value_of}
@@ -16,6 +18,10 @@ use Rattle.triple_arena.specs.ContentLaws.{entry-no_slots}
 use Rattle.triple_arena.specs.DirectContent.{DirectContent, as_content, entry_at as direct_entry_at, live_count as direct_live_count, arena_capacity as direct_capacity, filled as directly_filled, IsWellFormed as IsDirectlyWellFormed}
 use Rattle.triple_arena.specs.Drains.{drained}
 use Rattle.triple_arena.specs.Transfer.{Transfer, entry_before, entry_after, filled, IsTransferred}
+
+-- a room that holds all takes none more
+pub room_kept : (n : ℕ) (r : Room) → n ≤ capacity r → room_with n r ≡ r
+room_kept n r fits = rw (le-leb n (capacity r) fits) refl
 
 module _ {T : Type 0} (c : Content T) (n g : ℕ) (values : List T) where
   -- the values stand at the indexes from 1 on, with this generation

@@ -167,15 +167,15 @@ impl<P: PtrCore, T> ArenaSlot<P, T> {
         }
     }
 
-    // Gives a free slot other links, and says whether the slot is free.
-    pub(crate) fn relink(&mut self, prev: OptionalInx, next: OptionalInx) -> bool
-        ensures value { self.new ≡ with_links self.old prev next }
+    // Links a free slot to the next one, with none before it, and says whether the slot is free.
+    pub(crate) fn relink(&mut self, next: OptionalInx) -> bool
+        ensures value { self.new ≡ with_links self.old None next }
         ensures free { IsTrue result ↔ (value_of self.old ≡ None) }
     {
         match &mut self.state {
             SlotState::Used(_, _) => false,
             SlotState::Free(own_next, own_prev) => {
-                *own_prev = prev;
+                *own_prev = OptionalInx::none();
                 *own_next = next;
                 true
             }

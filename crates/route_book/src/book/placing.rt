@@ -25,7 +25,7 @@ use unreached::unreached;
 impl<P: PtrCore, B: BookBacking<P>> RouteBook<P, B> {
     /// A new place with this key and word, behind all places that have the key; its ticket.
     ///
-    /// `Full` where as many places live as the room holds, or every ticket was given; then nothing
+    /// `Full` if as many places live as the room holds, or every ticket was given; then nothing
     /// changes.
     pub fn place(&mut self, key: u64, word: Word) -> Result<u64, Refusal>
         ensures result { result ≡ placed self.old.state }
@@ -67,7 +67,7 @@ impl<P: PtrCore, B: BookBacking<P>> RouteBook<P, B> {
 
     /// The same, with a hint: the search begins at the place with the ticket `near`.
     ///
-    /// Before all else it is refused where `near` is no living place: `Unknown`, `Gone` or `Kind`.
+    /// Before all else it is refused if `near` is no living place: `Unknown`, `Gone` or `Kind`.
     pub fn place_near(&mut self, key: u64, word: Word, near: u64) -> Result<u64, Refusal>
         ensures result { result ≡ placed_near self.old.state near }
         ensures state { self.new.state ≡ after_place_near self.old.state key word near }
@@ -114,7 +114,7 @@ impl<P: PtrCore, B: BookBacking<P>> RouteBook<P, B> {
 
     /// Another word for the place with a ticket; the one that it had.
     ///
-    /// `Unknown` where the ticket was never given, `Gone` where its item has ended, `Kind` where it
+    /// `Unknown` if the ticket was never given, `Gone` if its item has ended, `Kind` if it
     /// is no place; then nothing changes.
     pub fn set_word(&mut self, ticket: u64, word: Word) -> Result<Word, Refusal>
         ensures result { result ≡ worded self.old.state ticket }

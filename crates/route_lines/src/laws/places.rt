@@ -19,8 +19,8 @@ pub fn hints_change_no_reply()
         → place_holder s near ≡ Err refusal → after_place_near s key word near ≡ s }
 {}
 
-/// What `find` answers is the smallest ticket of the places with the key; it answers `None` where
-/// no place has it.
+/// What `find` answers is the smallest ticket of the places with the key; it answers `None` if no
+/// place has it.
 pub fn finds_answer_the_smallest_ticket()
     ensures smallest { (s : State) (key ticket : ℕ) → IsSound s → found s key ≡ Some ticket
         → AllByRecursion (λ p. p.key ≡ key → ticket ≤ p.ticket) s.places }

@@ -82,7 +82,7 @@ pub(crate) fn link_rising<P: PtrCore, T: Drop, S: ArenaSlots<P, T>>(slots: &mut 
     let mut head = OptionalInx::none();
     let mut left = slots.len();
     while let Some(i) = NonZeroUsize::new(left) {
-        if slots.item_mut(i).relink(OptionalInx::none(), head) {
+        if slots.item_mut(i).relink(head) {
             let first = OptionalInx::some(i);
             set_prev_at(slots, head, first);
             head = first;

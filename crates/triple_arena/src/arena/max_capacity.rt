@@ -16,13 +16,14 @@ impl<P: PtrCore, T: Drop, S: NonZeroInxLimitedStack<Item = ArenaSlot<P, T>> + Dr
 
     ghost with_limit = { with_limit_of P.Inx.greatest };
 
-    /// Sets the greatest capacity to `max`, as far as the pointers' indexes reach, or changes nothing where the last
-    /// live index is past `max`. Where there are slots past `max`, the free slots at the end are popped first.
+    /// Sets the greatest capacity to `max`, as far as the pointers' indexes reach, or changes
+    /// nothing if the last live index is past `max`. If there are slots past `max`, all free slots
+    /// at the end are popped first.
     fn set_max_capacity(&mut self, max: usize) -> Result<(), MaxCapacityReductionError> {
-        if max < self.last_index() {
-            return Err(MaxCapacityReductionError);
-        }
         if max < self.slot_count() {
+            if max < self.last_index() {
+                return Err(MaxCapacityReductionError);
+            }
             self.remove_free_end_slots();
         }
         self.limit_to(max);

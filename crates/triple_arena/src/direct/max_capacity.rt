@@ -33,10 +33,10 @@ impl<P: PtrCore, T: Drop, S: NonZeroInxLimitedStack<Item = DirectSlot<P, T>> + D
     /// Sets the greatest capacity to `max`, as far as the pointers' indexes reach, or changes nothing where the last
     /// live index is past `max`. Where there are slots past `max`, the free slots at the end are popped first.
     fn set_max_capacity(&mut self, max: usize) -> Result<(), MaxCapacityReductionError> {
-        if max < self.last_index() {
-            return Err(MaxCapacityReductionError);
-        }
         if max < self.slot_count() {
+            if max < self.last_index() {
+                return Err(MaxCapacityReductionError);
+            }
             self.pop_free_end_slots();
         }
         self.limit_to(max);

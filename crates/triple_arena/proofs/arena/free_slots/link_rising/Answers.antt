@@ -2,7 +2,7 @@ use Rattle.std.proofs.Common.{◌-◌, map, set, refl, ap, sym, ◌∙◌, true�
 use Rattle.std.specs.Int.NonZero.{non_zero_usize_get}
 use Rattle.triple_arena_stack.specs.Stack.{with_item}
 use Rattle.triple_arena.specs.Layout.{links_at}
-use Rattle.triple_arena.specs.Slot.{entry_of, with_links}
+use Rattle.triple_arena.specs.Slot.{entry_of}
 use Rattle.triple_arena.proofs.FreeSlotsLemmas.{risen_first, risen_free, risen_used}
 use Rattle.triple_arena.proofs.arena.free_slots.link_rising.Goals.{then-relink, else-relink}
 use Rattle.triple_arena.proofs.arena.free_slots.link_rising.Goals as goal
@@ -21,7 +21,7 @@ loop-i-preserved g c =
     g.met.S.NonZeroInxGenericStack.items_with_items l.slots
     (with_item (g.S.NonZeroInxGenericStack.items l.slots) (non_zero_usize_get i) c.relink.new.self)
     ∙ ap (set (g.S.NonZeroInxGenericStack.items l.slots) (non_zero_usize_get i - 1))
-    (c.relink.ensures.value ∙ ap (λ o. with_links c.item_mut.result.now o l.head) c.none.ensures) in
+    c.relink.ensures.value in
     let room =
     g.met.S.NonZeroInxGenericStack.room_with_items l.slots
     (with_item (g.S.NonZeroInxGenericStack.items l.slots) (non_zero_usize_get i) c.relink.new.self)
