@@ -14,6 +14,7 @@
 //!   are it, each with a kind of its own. Choose by how many elements and removals there are.
 //! - [`Advancer`] goes over a collection that may change on the way; [`nzusize_iter`] goes over indexes.
 //! - [`Recast`] renames the pointers that a value holds, by a [`Recaster`].
+//! - [`at_index_of`] gives the pointer of another type with the same index.
 //! - [`Probes`] counts, as comparisons; contracts see a number without bound.
 //! - [`InvalidationOption`], [`InvalidationResult`] and the error types are what the arenas' calls answer.
 //!
@@ -63,6 +64,7 @@ mod ptr;
 mod ptr_no_gen;
 mod ptr_types;
 mod recast;
+mod same_index;
 
 pub use advancer::Advancer;
 pub use errors::{
@@ -78,3 +80,4 @@ pub use ptr::{Ptr, PtrCore, PtrGen, PtrGenCore, PtrInx, PtrInxCore};
 pub use ptr_no_gen::PtrNoGen;
 pub use ptr_types::{P0, P1, P2, P3, P4, P5, Q2};
 pub use recast::{Recast, Recaster};
+pub use same_index::at_index_of;
