@@ -62,9 +62,7 @@ impl<P: PtrCore, B: BookBacking<P>> RouteBook<P, B> {
             stops: arenas.stops,
             marks: arenas.marks,
             tickets,
-            place_mirror: mirrors.places,
-            stop_mirror: mirrors.stops,
-            mark_mirror: mirrors.marks,
+            mirrors,
             held: Held::new().changed(&Change::Open(places, stops, marks, last)),
         })
     }
