@@ -15,6 +15,7 @@ pub mod LinkLemmas
 pub mod ListedLemmas
 pub mod MarkLemmas
 pub mod MirrorLemmas
+pub mod MovedStoreLemmas
 pub mod NearLemmas
 pub mod NeighborLemmas
 pub mod NewItemLemmas
@@ -23,6 +24,7 @@ pub mod NoteLemmas
 pub mod OptionLemmas
 pub mod OrderLemmas
 pub mod PackLemmas
+pub mod PackedRunLemmas
 pub mod PassedLemmas
 pub mod PlaceLemmas
 pub mod RelinkLemmas
@@ -35,5 +37,6 @@ pub mod StartLemmas
 pub mod StopLemmas
 pub mod StopWalkLemmas
 pub mod SweepStepLemmas
+pub mod TransferLemmas
 pub mod WalkedLemmas
 pub mod WholeLemmas

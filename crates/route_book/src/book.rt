@@ -19,6 +19,7 @@ ghost use Rattle.route_book.specs.Walked.{stop_in};
 mod asking;
 mod making;
 mod marks;
+mod moving;
 mod packing;
 mod placing;
 mod removing;

@@ -25,7 +25,7 @@ pub type TicketSlot<P> = ArenaSlot<P, LinkNoGen<P, SimpleOrdArenaNode<P, Entry<P
 /// The living tickets, in their order.
 #[derive(Drop)]
 pub struct TicketBook<P: PtrCore, S: OrdSlots<P, Entry<P>>> {
-    arena: SimpleOrdArena<P, Entry<P>, S>,
+    pub(crate) arena: SimpleOrdArena<P, Entry<P>, S>,
 }
 
 impl<P: PtrCore, S: OrdSlots<P, Entry<P>>> Model for TicketBook<P, S> {

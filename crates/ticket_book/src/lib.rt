@@ -9,6 +9,7 @@
 mod book;
 mod entry;
 mod insertion;
+mod moving;
 mod renewal;
 #[cfg(test)]
 mod tests;
