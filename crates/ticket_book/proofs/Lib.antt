@@ -1,5 +1,4 @@
 pub mod AskedLemmas
 pub mod EndLemmas
-pub mod InsertionLemmas
 pub mod TicketLemmas
 pub mod WalkLemmas

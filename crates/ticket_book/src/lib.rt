@@ -8,11 +8,9 @@
 
 mod book;
 mod entry;
-mod insertion;
 mod renewal;
 #[cfg(test)]
 mod tests;
 
 pub use book::{TicketBook, TicketSlot};
 pub use entry::{Entry, Kind};
-pub use insertion::put;
