@@ -1,6 +1,5 @@
 pub mod AskedLemmas
 pub mod EndLemmas
-pub mod InsertionLemmas
 pub mod StandingLemmas
 pub mod TakeOverLemmas
 pub mod TicketLemmas

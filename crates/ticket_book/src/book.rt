@@ -8,14 +8,13 @@ ghost use Rattle.triple_arena.specs.ArenaRoom.{room_of};
 ghost use Rattle.triple_arena_stack.specs.Room.{capacity as capacity_of, IsBeyond};
 
 use crate::entry::{Entry, Kind};
-use crate::insertion::put;
 use crate::renewal::renew_entries;
 use std::cmp::Ordering;
 use std::marker::Model;
 use triple_arena::{ArenaSlot, ArenaTrait};
 use triple_arena_chain::LinkNoGen;
 use triple_arena_ord::laws::{entries_stand_in_the_list, the_list_has_as_many_entries_as_are_live};
-use triple_arena_ord::{InsertKind, OrdSlots, SimpleOrdArena, SimpleOrdArenaNode};
+use triple_arena_ord::{OrdSlots, SimpleOrdArena, SimpleOrdArenaNode};
 use triple_arena_ptr::{Probes, PtrCore, ReallocationError};
 use unreached::unreached;
 
@@ -125,14 +124,11 @@ impl<P: PtrCore, S: OrdSlots<P, Entry<P>>> TicketBook<P, S> {
         let entry = Entry::new(ticket, kind, at);
         match self.arena.last() {
             Some(last) => {
-                let behind = InsertKind::Manual {
-                    p_target: last.inx(),
-                    direction: Ordering::Greater,
-                };
-                put(&mut self.arena, behind, entry);
+                let behind = Some((last.inx(), Ordering::Greater));
+                self.arena.insert_inx_manual_within_capacity(behind, entry);
             }
             None => {
-                put(&mut self.arena, InsertKind::Empty, entry);
+                self.arena.insert_inx_manual_within_capacity(None, entry);
             }
         }
     }
