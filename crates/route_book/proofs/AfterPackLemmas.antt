@@ -34,10 +34,12 @@ module _ {I : Type 0} (number : I → ℕ) (last : Option ℕ) (t : ℕ) (old mi
   no_wrap OfStop = calm packed.stops.counter pack.stop_counter
   no_wrap OfMark = refl
 
-  ended : (x : Item) → holder packed.state t ≡ Ok x → IsEnded (kind_of x) t packed new → IsEnded (kind_of item) t packed new
-  ended x is h = subst (λ y. IsEnded (kind_of y) t packed new) (ok_same (sym is ∙ held)) h
+  ended : (x : Item) → holder packed.state t ≡ Ok x → IsEnded last (kind_of x) t packed new
+      → IsEnded last (kind_of item) t packed new
+  ended x is h = subst (λ y. IsEnded last (kind_of y) t packed new) (ok_same (sym is ∙ held)) h
 
-  removed : (kind : Kind) → removal_wraps last old kind ≡ true → IsEnded kind t packed new → IsRemoved number last kind t before after old new
+  removed : (kind : Kind) → removal_wraps last old kind ≡ true → IsEnded last kind t packed new
+      → IsRemoved number last kind t before after old new
   removed OfPlace wraps h = rw wraps (packed, (same, (subst (λ b. IsPacked number last before after b packed) first.1.1.1 pack, h)))
   removed OfStop wraps h = rw wraps (packed, (same, (subst (λ b. IsPacked number last before after b packed) first.1.1.1 pack, h)))
   removed OfMark wraps h = absurd (true≢false (sym wraps))

@@ -26,7 +26,7 @@ use Rattle.route_book.proofs.EndMarkLemmas.{IsMarkGone, mark_leaves, marks_stay}
 use Rattle.route_book.proofs.EndPlaceLemmas.{IsPlaceGone, place_leaves, place_steps, places_stay}
 use Rattle.route_book.proofs.EndStopLemmas.{IsStopGone, stop_leaves, stop_steps, stops_stay}
 use Rattle.route_book.proofs.HoldLemmas.{holder_found}
-use Rattle.route_book.proofs.OptionLemmas.{found_has, mapped_some}
+use Rattle.route_book.proofs.OptionLemmas.{found_has, mapped_some, some_same}
 
 -- the item that a ticket has, has it
 module _ (s : State) (t : ℕ) where
@@ -118,6 +118,7 @@ module _ {I : Type 0} (number : I → ℕ) (rooms : Rooms) (last : ℕ) (s : Sta
                 (
                   record {
                     counter = place_steps number rooms last s places places' stops marks book b i g p found_place.1.0 ordered final top counts calm removed;
+                    room = removed.room;
                     others = subst (λ u. OthersStay (λ (q : Place). q.ticket) u (entry_in places) (entry_in places')) ticket
                         (places_stay number rooms last s places places' stops marks book b i g p found_place.1.0 ordered final top counts calm removed);
                     stops = refl;
@@ -165,6 +166,7 @@ module _ {I : Type 0} (number : I → ℕ) (rooms : Rooms) (last : ℕ) (s : Sta
                 (
                   record {
                     counter = stop_steps number rooms last s places stops stops' marks book b i g v found_stop.1.0 chained final top counts calm taken;
+                    room = taken.room;
                     others = subst (λ u. OthersStay (λ (w : StopView). w.ticket) u (values_in stops) (values_in stops')) stop_named
                         (stops_stay number rooms last s places stops stops' marks book b i g v found_stop.1.0 chained final top counts calm taken);
                     places = refl;
@@ -210,6 +212,8 @@ module _ {I : Type 0} (number : I → ℕ) (rooms : Rooms) (last : ℕ) (s : Sta
                 refl,
                 (
                   record {
+                    counter = some_same removed.counter;
+                    room = removed.room;
                     others = subst (λ u. OthersStay (λ (x : MarkView). x.ticket) u (entry_at marks) (entry_at marks')) mark_named
                         (marks_stay number rooms last s places stops marks marks' book b i g w found_mark.1.0 final removed);
                     places = refl;

@@ -43,8 +43,8 @@ pub Takes-line : (bytes left line behind : List ℕ) (kept cleared : Unfinished)
 Takes-line bytes left line behind kept cleared command s t u a b c before between later
     taken split none spelled stands state replied counts looks =
     let same : command ≡ command_of (taken.rest ++ line) = spelled taken.rest taken.stands in
-    let one = Carries-one t u (whole (taken.rest ++ line)) b c between later (state ∙ ap (next t) same)
-    (subst (λ x. Appends b c (reply t x)) same replied)
+    let one = Carries-one t u (whole (taken.rest ++ line)) b c between later
+    (state ∙ ap (next t) same) (subst (λ x. Appends b c (reply t x)) same replied)
     (subst (λ x. CountsFor t x between later) same counts)
     (subst (λ x. LooksWithin between.looks later.looks (most_looks t x)) same looks) in
     record {

@@ -19,8 +19,8 @@ most_over most s (line ∷ lines) =
 
 -- from the old counts on at most what these lines may take from this state on
 pub record CountsOver (s : State) (lines : List Line) (old new : Counts) : Type 0 where
-  pub compares : ComparesWithin old new (most_over most_keys s lines) (most_over most_firsts s lines)
-      (most_over most_seconds s lines)
+  pub compares : ComparesWithin old new (most_over most_keys s lines)
+      (most_over most_firsts s lines) (most_over most_seconds s lines)
   pub looks : LooksWithin old.looks new.looks (most_over most_looks s lines)
 
 -- from the old state on, the lines are carried out and their replies written

@@ -35,15 +35,18 @@ is_at_hand key places i =
     let up_to = places_before (λ p. nat_lt key p.key) places in
     ((up_to == 0) || is_near i (up_to - 1)) && ((up_to == length places) || is_near i up_to)
 
--- the greatest number of comparisons with keys of a search for the gap that begins at the place with
--- a ticket: none if the new place is refused, and so if that ticket is no living place
+-- the greatest number of comparisons with keys of a search that begins at the place with a ticket
+abbrev pub most_from : List Spot → ℕ → ℕ → ℕ
+most_from places key near =
+    if is_at_hand key places (places_before (λ p. p.ticket == near) places) then 7
+    else most_comparisons (length places) + 7
+
+-- the same of a hint: none if the new place is refused, and so if no living place has the ticket
 abbrev pub most_near : State → ℕ → ℕ → ℕ
 most_near s key near = by (placed_near s near)
   where
     by : Result ℕ Refusal → ℕ
-    by (Ok ticket) =
-        if is_at_hand key s.places (places_before (λ p. p.ticket == near) s.places) then 7
-        else most_comparisons (place_count s) + 7
+    by (Ok ticket) = most_from s.places key near
     by (Err refusal) = 0
 
 -- from the old counts on at most so many comparisons with keys, with first and with second tickets
