@@ -14,10 +14,10 @@ pub removed_ok : (s : State) (t : ℕ) (item : Item) → holder s t ≡ Ok item 
 removed_ok s t item is = rw is refl
 
 -- what ends is said of a ticket and a kind that have other names
-pub ends_as : {I : Type 0} (ready new : Book I) (t u : ℕ) (kind like : Kind) → t ≡ u → kind ≡ like
-    → Ends kind t ready new → Ends like u ready new
-ends_as ready new t u kind like same alike h =
-    subst (λ k. Ends k u ready new) alike (subst (λ n. Ends kind n ready new) same h)
+pub ends_as : {I : Type 0} (last : Option ℕ) (ready new : Book I) (t u : ℕ) (kind like : Kind) → t ≡ u → kind ≡ like
+    → Ends last kind t ready new → Ends last like u ready new
+ends_as last ready new t u kind like same alike h =
+    subst (λ k. Ends last k u ready new) alike (subst (λ n. Ends last kind n ready new) same h)
 
 module _ {I : Type 0} (number : I → ℕ) (last : Option ℕ) (old ready : Book I) (before after : ℕ) (kind : Kind)
     (needed : Bool) (is : needed ≡ removal_wraps last old kind) (pack : IsReady number last needed before after old ready) where
@@ -38,15 +38,15 @@ module _ {I : Type 0} (number : I → ℕ) (last : Option ℕ) (old ready : Book
       by false calm_was same = ap (λ b. removal_wraps last b kind) same.0 ∙ sym calm_was
       by true wraps p = packed kind p
 
-  module _ (t : ℕ) (new : Book I) (state : ready.state ≡ old.state) (ends : Ends kind t ready new) where
+  module _ (t : ℕ) (new : Book I) (state : ready.state ≡ old.state) (ends : Ends last kind t ready new) where
     pub held : holder old.state t ≡ Ok ends.0
     held = sym (ap (λ (s : State). holder s t) state) ∙ ends.1.0
 
     gone : (k : Kind) (w : Bool) → removal_wraps last old k ≡ w → IsReady number last w before after old ready
-        → IsEnded k t ready new → IsRemoved number last k t before after old new
-    gone OfPlace false stays same h = rw stays (same.1, subst (λ b. IsEnded OfPlace t b new) same.0 h)
-    gone OfStop false stays same h = rw stays (same.1, subst (λ b. IsEnded OfStop t b new) same.0 h)
-    gone OfMark false stays same h = (same.1, subst (λ b. IsEnded OfMark t b new) same.0 h)
+        → IsEnded last k t ready new → IsRemoved number last k t before after old new
+    gone OfPlace false stays same h = rw stays (same.1, subst (λ b. IsEnded last OfPlace t b new) same.0 h)
+    gone OfStop false stays same h = rw stays (same.1, subst (λ b. IsEnded last OfStop t b new) same.0 h)
+    gone OfMark false stays same h = (same.1, subst (λ b. IsEnded last OfMark t b new) same.0 h)
     gone OfPlace true wraps p h = rw wraps (ready, (state, (p, h)))
     gone OfStop true wraps p h = rw wraps (ready, (state, (p, h)))
     gone OfMark true wraps p h = absurd (true≢false (sym wraps))

@@ -114,6 +114,21 @@ module _ {I T : Type 0} (number : I → ℕ) where
         (w.0, (x.0.0, (x.1.0 ∙ ap (λ v. Some (x.0.0, v)) (ap (λ (z : ℕ × T). z.1) x.1.1), (w.2, sym (ap (λ (z : ℕ × T). z.0) x.1.1)))));
   }
 
+-- the marks in the order of their indexes
+module _ (last : Option ℕ) (old new : Content MarkView)
+    (values : map value_of (live_entries new) ≡ map value_of (live_entries old))
+    (compressed : IsCompressed entry_at live_count some_counter (λ (c : Content MarkView). c.room)
+    last live_entries true old new) where
+  abbrev pub marks_to : ℕ → ℕ
+  marks_to = listed_to (entry_at old) (entry_at new) (live_entries old) (live_entries new)
+      (second_generation last) (entry-listed old) (entry-listed new)
+      (live_entries-increase old) (live_entries-increase new) values compressed.generations
+
+  pub marks_moved : IsMoved marks_to (second_generation last) (entry_at old) (entry_at new)
+  marks_moved = listed_moved (entry_at old) (entry_at new) (live_entries old) (live_entries new)
+      (second_generation last) (entry-listed old) (entry-listed new)
+      (live_entries-increase old) (live_entries-increase new) values compressed.generations
+
 -- all that ties a store's parts
 module _ {I : Type 0} (number : I → ℕ) (last : Option ℕ) (rooms : Rooms) (given : ℕ) (s : State) (places places' : Ordered I Place)
     (stops stops1 stops' : Content (IndexLink I StopView)) (marks marks1 marks' : Content MarkView) (book : List Entry) (b : IsBook number rooms given s places stops marks book)
@@ -132,12 +147,10 @@ module _ {I : Type 0} (number : I → ℕ) (last : Option ℕ) (rooms : Rooms) (
   moved_s = stops_moved number last stops stops1 canon
 
   abbrev to_m : ℕ → ℕ
-  to_m = listed_to (entry_at marks) (entry_at marks1) (live_entries marks) (live_entries marks1) g (entry-listed marks) (entry-listed marks1)
-      (live_entries-increase marks) (live_entries-increase marks1) values compressed.generations
+  to_m = marks_to last marks marks1 values compressed
 
   moved_m : IsMoved to_m g (entry_at marks) (entry_at marks1)
-  moved_m = listed_moved (entry_at marks) (entry_at marks1) (live_entries marks) (live_entries marks1) g (entry-listed marks) (entry-listed marks1)
-      (live_entries-increase marks) (live_entries-increase marks1) values compressed.generations
+  moved_m = marks_moved last marks marks1 values compressed
 
   -- the book has each item, so a mirror with the room can be filled
   pub places_booked : (room : ℕ) → ((i : ℕ) → IsSome (entry_in places i) → (0 < i) × (i ≤ room)) → IsBooked (λ (p : Place). p.ticket) book (entry_in places') room

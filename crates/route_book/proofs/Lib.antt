@@ -13,6 +13,7 @@ pub mod ItemLemmas
 pub mod KeyLemmas
 pub mod LinkLemmas
 pub mod ListedLemmas
+pub mod LookLemmas
 pub mod MarkLemmas
 pub mod MirrorLemmas
 pub mod MovedStoreLemmas

@@ -194,4 +194,6 @@ kept_links s s' places stops stops' marks same kept = record {
   marks = λ j n m is. is;
   place_counter = refl;
   stop_counter = kept.counter;
+  mark_counter = refl;
+  rooms = record { places = refl; stops = kept.room; marks = refl };
 }

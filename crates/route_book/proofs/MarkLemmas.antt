@@ -274,13 +274,16 @@ module _ {I : Type 0} (number : I → ℕ) (rooms : Rooms) (last : ℕ) (s : Sta
 -- each item keeps its pointer where a mark is added
 pub kept_mark : {I : Type 0} (s s' : State) (places : Ordered I Place) (stops : Content (IndexLink I StopView)) (marks marks' : Content MarkView) (v : MarkView) (i g : ℕ)
     → entry_at marks i ≡ None → ((k : ℕ) → entry_at marks' k ≡ with_entry (entry_at marks) i (g, v) k)
+    → marks'.counter ≡ marks.counter → marks'.room ≡ marks.room
     → KeepsItems {I = I} (record { state = s; places = places; stops = stops; marks = marks }) (record { state = s'; places = places; stops = stops; marks = marks' })
-kept_mark s s' places stops marks marks' v i g vacant entries = record {
+kept_mark s s' places stops marks marks' v i g vacant entries counter room = record {
   places = λ j n p is. (p, (is, (refl, refl)));
   stops = λ j n t is. is;
   marks = stays;
   place_counter = refl;
   stop_counter = refl;
+  mark_counter = counter;
+  rooms = record { places = refl; stops = refl; marks = room };
 }
   where
     stays : (j n : ℕ) (u : MarkView) → entry_at marks j ≡ Some (n, u) → entry_at marks' j ≡ Some (n, u)

@@ -17,9 +17,9 @@ use Rattle.ticket_book.specs.declared.entry.Kind.TheVariants.{Place as OfPlace}
 use Rattle.ticket_book.specs.Tickets.{Entry}
 use Rattle.counted_search.specs.Searches.{most_comparisons}
 use Rattle.route_lines.specs.Calls.{place_holder}
-use Rattle.route_lines.specs.Searches.{places_before, is_near, is_at_hand, most_near}
+use Rattle.route_lines.specs.Searches.{places_before, is_near, is_at_hand, most_from, most_near}
 use Rattle.route_lines.specs.Sound.{PlacesRise}
-use Rattle.route_lines.specs.State.{State, Rooms, Place, place_of}
+use Rattle.route_lines.specs.State.{State, Rooms, Place, place_of, is_full_of_places}
 use Rattle.route_book.specs.Book.{in_order, IsBook}
 use Rattle.route_book.specs.Item.{StopView, MarkView}
 use Rattle.route_book.specs.Keys.{key_cmp, key_of}
@@ -240,7 +240,8 @@ module _ (at : ℕ → Option (ℕ × Place)) where
     -- how many comparisons a search may take that begins at the place with a ticket
     pub near_bound : (w : List ℕ) → Live w → PlacesRise (along at w) → (t i g : ℕ) (p : Place) → at i ≡ Some (g, p) → p.ticket ≡ t
         → ((j k : ℕ) (q : Place) → at j ≡ Some (k, q) → q.ticket ≡ t → j ≡ i) → place_of (along at w) t ≡ Some p → (old new : ℕ)
-        → new ≤ old + (7 + most_comparisons (length (along at w))) → (IsAtHand 7 ask w i → new ≤ old + 7) → new ≤ old + most_near (along at w) key t
+        → new ≤ old + (7 + most_comparisons (length (along at w)))
+        → (IsAtHand 7 ask w i → new ≤ old + 7) → new ≤ old + most_from (along at w) key t
     near_bound w all rise t i g p is ticket own found old new bound near = by (is_at_hand key (along at w) from) refl
       where
         s : StandsWith t w
@@ -252,7 +253,8 @@ module _ (at : ℕ → Option (ℕ × Place)) where
         same : s.index ≡ i
         same = own s.index s.entry.0 s.entry.1 s.is s.ticket
 
-        by : (b : Bool) → is_at_hand key (along at w) from ≡ b → new ≤ old + most_near (along at w) key t
+        by : (b : Bool) → is_at_hand key (along at w) from ≡ b
+            → new ≤ old + most_from (along at w) key t
         by true is = rw is (near (subst (IsAtHand 7 ask w) same (at_hand w all rise from s.index s.there is)))
         by false is = rw is (omega (arith, bound))
 
@@ -273,13 +275,15 @@ module _ {I : Type 0} (number : I → ℕ) (rooms : Rooms) (last : ℕ) (s : Sta
   rise = subst PlacesRise b.held.in_order b.places_rise
 
   -- a search for a key that begins at the place with a ticket makes no more comparisons with keys than it may
-  pub hint_bound : (old new : ℕ) → new ≤ old + (7 + most_comparisons (size_in places))
+  pub hint_bound : is_full_of_places s ≡ false → (old new : ℕ)
+      → new ≤ old + (7 + most_comparisons (size_in places))
       → (IsAscending number key_cmp key_of places → IsSome (entry_in places i)
-      → IsAtHand 7 (asked_at key_cmp key_of k places) (order_in number places) i → new ≤ old + 7) → new ≤ old + most_near s.places k.key near
-  hint_bound old new bound close =
-      subst (λ l. new ≤ old + most_near l k.key near) (sym b.held.in_order)
+      → IsAtHand 7 (asked_at key_cmp key_of k places) (order_in number places) i → new ≤ old + 7)
+      → new ≤ old + most_near s k.key near
+  hint_bound free old new bound close =
+      rw (held, free) (subst (λ l. new ≤ old + most_from l k.key near) (sym b.held.in_order)
       (near_bound (entry_in places) k.key (asked_at key_cmp key_of k places) (newest_past places k newest) (order_in number places) (live_along number places None (order_in number places) ordered.linear) rise near i g p stands has
       (λ j k q is same. booked_once (λ (r : Place). r.ticket) OfPlace (entry_in places) book b.held.places_in j i k g q p is stands (same ∙ sym has))
       (ap (λ l. place_of l near) (sym b.held.in_order) ∙ held_place s near p held) old new
       (subst (λ n. new ≤ old + (7 + most_comparisons n)) (sym b.within.place_count ∙ ap length b.held.in_order) bound)
-      (close (ascending _ rise) (subst IsSome (sym stands) refl)))
+      (close (ascending _ rise) (subst IsSome (sym stands) refl))))

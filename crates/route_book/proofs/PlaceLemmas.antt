@@ -172,13 +172,17 @@ module _ {I : Type 0} (s s' : State) (places places' : Ordered I Place) (stops :
   abbrev new : Book I
   new = record { state = s'; places = places'; stops = stops; marks = marks }
 
-  pub kept_added : (p : Place) (i g : ℕ) → IsAdded number i g p places places' → places'.chains.counter ≡ places.chains.counter → KeepsItems old new
-  kept_added p i g added counter = record {
+  pub kept_added : (p : Place) (i g : ℕ) → IsAdded number i g p places places'
+      → places'.chains.counter ≡ places.chains.counter → places'.chains.room ≡ places.chains.room
+      → KeepsItems old new
+  kept_added p i g added counter room = record {
     places = λ j n q is. (q, (stays j n q is, (refl, refl)));
     stops = λ j n v is. is;
     marks = λ j n v is. is;
     place_counter = counter;
     stop_counter = refl;
+    mark_counter = refl;
+    rooms = record { places = room; stops = refl; marks = refl };
   }
     where
       stays : (j n : ℕ) (q : Place) → entry_in places j ≡ Some (n, q) → entry_in places' j ≡ Some (n, q)
@@ -194,6 +198,8 @@ module _ {I : Type 0} (s s' : State) (places places' : Ordered I Place) (stops :
     marks = λ j n v is. is;
     place_counter = replaced.kept.counter;
     stop_counter = refl;
+    mark_counter = refl;
+    rooms = record { places = replaced.kept.room; stops = refl; marks = refl };
   }
     where
       stays : (j n : ℕ) (q : Place) → entry_in places j ≡ Some (n, q) → (r : Place) × ((entry_in places' j ≡ Some (n, r)) × ((r.ticket ≡ q.ticket) × (r.key ≡ q.key)))
@@ -218,4 +224,6 @@ kept_same b = record {
   marks = λ i g v is. is;
   place_counter = refl;
   stop_counter = refl;
+  mark_counter = refl;
+  rooms = record { places = refl; stops = refl; marks = refl };
 }

@@ -25,6 +25,7 @@ use Rattle.route_book.specs.Holds.{state_stop}
 use Rattle.route_book.specs.Book.{Book, found_in, found_of, in_order, IsBook, KeepsItems}
 use Rattle.route_book.proofs.FollowLemmas.{lead_joined, lead_parted, lead_exchanged}
 use Rattle.route_book.proofs.LinkLemmas.{IsAt, is_at, live_values, distinct, stop_index, held_ticket, relinked_kept, kept_links}
+use Rattle.route_book.proofs.PlaceLemmas.{kept_same}
 use Rattle.route_book.proofs.StopWalkLemmas.{leads_back}
 use Rattle.route_book.proofs.OptionLemmas.{found_has}
 
@@ -347,7 +348,7 @@ module _ {I : Type 0} (number : I → ℕ) (rooms : Rooms) (last : ℕ) (s : Sta
         (subst (λ c. KeepsItems {I = I} (record { state = s; places = places; stops = stops; marks = marks }) (record { state = s; places = places; stops = c; marks = marks })) (sym same) stays)
       where
         stays : KeepsItems {I = I} (record { state = s; places = places; stops = stops; marks = marks }) (record { state = s; places = places; stops = stops; marks = marks })
-        stays = record { places = λ i g p is. (p, (is, (refl, refl))); stops = λ i g v is. is; marks = λ i g m is. is; place_counter = refl; stop_counter = refl }
+        stays = kept_same (record { state = s; places = places; stops = stops; marks = marks })
 
     module _ (agreed : IsAgreed (ends_in number stops)) (t i g : ℕ) (from : NamedIn k t i g) where
       abbrev own_view : StopView

@@ -115,7 +115,7 @@ module _ {I : Type 0} (number : I → ℕ) (rooms : Rooms) (last : ℕ) (s : Sta
           (λ gone. place_leaves number rooms last s places places' stops marks book b i g p found_place.1.0 ordered final top counts calm removed s' gone sound) laws
 
       pub place_ends : (s' : State) → s' ≡ after_removed s t
-          → Ends OfPlace t (as_book s places stops marks) (as_book s' places' stops marks)
+          → Ends final OfPlace t (as_book s places stops marks) (as_book s' places' stops marks)
       place_ends s' is = (
         place p,
         (
@@ -124,7 +124,8 @@ module _ {I : Type 0} (number : I → ℕ) (rooms : Rooms) (last : ℕ) (s : Sta
             refl,
             (
               record {
-                counter = place_steps number rooms last s places places' stops marks book b i g p found_place.1.0 ordered final top counts calm removed;
+                room = removed.room;
+          counter = place_steps number rooms last s places places' stops marks book b i g p found_place.1.0 ordered final top counts calm removed;
                 others = subst (λ u. OthersStay (λ (q : Place). q.ticket) u (entry_in places) (entry_in places')) ticket
                     (places_stay number rooms last s places places' stops marks book b i g p found_place.1.0 ordered final top counts calm removed);
                 stops = refl;
@@ -159,7 +160,7 @@ module _ {I : Type 0} (number : I → ℕ) (rooms : Rooms) (last : ℕ) (s : Sta
           (λ gone. stop_leaves number rooms last s places stops stops' marks book b i g v found_stop.1.0 chained final top counts calm taken s' gone sound) laws
 
       pub stop_ends : (s' : State) → s' ≡ after_removed s t
-          → Ends OfStop t (as_book s places stops marks) (as_book s' places stops' marks)
+          → Ends final OfStop t (as_book s places stops marks) (as_book s' places stops' marks)
       stop_ends s' is = (
         stop (state_stop f v),
         (
@@ -168,7 +169,8 @@ module _ {I : Type 0} (number : I → ℕ) (rooms : Rooms) (last : ℕ) (s : Sta
             refl,
             (
               record {
-                counter = stop_steps number rooms last s places stops stops' marks book b i g v found_stop.1.0 chained final top counts calm taken;
+                room = taken.room;
+          counter = stop_steps number rooms last s places stops stops' marks book b i g v found_stop.1.0 chained final top counts calm taken;
                 others = subst (λ u. OthersStay (λ (w : StopView). w.ticket) u (values_in stops) (values_in stops')) stop_named
                     (stops_stay number rooms last s places stops stops' marks book b i g v found_stop.1.0 chained final top counts calm taken);
                 places = refl;
@@ -202,7 +204,7 @@ module _ {I : Type 0} (number : I → ℕ) (rooms : Rooms) (last : ℕ) (s : Sta
           (λ gone. mark_leaves number rooms last s places stops marks marks' book b i g w found_mark.1.0 final removed s' gone sound) laws
 
       pub mark_ends : (s' : State) → s' ≡ after_removed s t
-          → Ends OfMark t (as_book s places stops marks) (as_book s' places stops marks')
+          → Ends final OfMark t (as_book s places stops marks) (as_book s' places stops marks')
       mark_ends s' is = (
         mark (state_mark f w),
         (
@@ -236,12 +238,12 @@ calm_of last b at e is all kind same =
     (ap (λ (y : Entry). y.kind) (some_same (sym all.1 ∙ is)) ∙ same) all.2
 
 -- what ends is said of an entry that has another name
-pub ends_of : {I : Type 0} (at : Option Entry) (e : Entry) → at ≡ Some e → (old new : Book I) (kind : Kind)
-    → e.kind ≡ kind → Ends kind e.ticket old new
-    → (x : Entry) → at ≡ Some x → Ends x.kind x.ticket old new
-ends_of at e is old new kind same h x other =
-    subst (λ (y : Entry). Ends y.kind y.ticket old new) (some_same (sym is ∙ other))
-    (subst (λ k. Ends k e.ticket old new) (sym same) h)
+pub ends_of : {I : Type 0} (last : Option ℕ) (at : Option Entry) (e : Entry) → at ≡ Some e → (old new : Book I) (kind : Kind)
+    → e.kind ≡ kind → Ends last kind e.ticket old new
+    → (x : Entry) → at ≡ Some x → Ends last x.kind x.ticket old new
+ends_of last at e is old new kind same h x other =
+    subst (λ (y : Entry). Ends last y.kind y.ticket old new) (some_same (sym is ∙ other))
+    (subst (λ k. Ends last k e.ticket old new) (sym same) h)
 
 -- the model's words for what is left, by the kind of what had the ticket
 pub place_is : (s : State) (t : ℕ) (p : Place) → holder s t ≡ Ok (place p) → after_removed s t ≡ without_place s t

@@ -144,14 +144,17 @@ module _ {I : Type 0} (number : I → ℕ) (rooms : Rooms) (last : ℕ) (s : Sta
 
 -- each item keeps its pointer where a stop is added
 pub kept_stop : {I : Type 0} (number : I → ℕ) (s s' : State) (places : Ordered I Place) (stops stops' : Content (IndexLink I StopView)) (marks : Content MarkView) (v : StopView) (i g : ℕ)
-    → ((k : ℕ) → values_in stops' k ≡ with_entry (values_in stops) i (g, v) k) → values_in stops i ≡ None → stops'.counter ≡ stops.counter
+    → ((k : ℕ) → values_in stops' k ≡ with_entry (values_in stops) i (g, v) k)
+    → values_in stops i ≡ None → stops'.counter ≡ stops.counter → stops'.room ≡ stops.room
     → KeepsItems {I = I} (record { state = s; places = places; stops = stops; marks = marks }) (record { state = s'; places = places; stops = stops'; marks = marks })
-kept_stop number s s' places stops stops' marks v i g entries vacant counter = record {
+kept_stop number s s' places stops stops' marks v i g entries vacant counter room = record {
   places = λ j n p is. (p, (is, (refl, refl)));
   stops = stays;
   marks = λ j n m is. is;
   place_counter = refl;
   stop_counter = counter;
+  mark_counter = refl;
+  rooms = record { places = refl; stops = room; marks = refl };
 }
   where
     stays : (j n : ℕ) (u : StopView) → values_in stops j ≡ Some (n, u) → values_in stops' j ≡ Some (n, u)

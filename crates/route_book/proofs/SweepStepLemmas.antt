@@ -3,13 +3,15 @@ use Rattle.std.proofs.Common.{◌≡◌, ◌∙◌, ap, ℕ, ◌+◌, ◌≤◌,
 use Rattle.std.proofs.lemmas.Bool.Decides.{eqb_tells}
 use Rattle.ticket_book.specs.declared.entry.Kind.{Kind}
 use Rattle.ticket_book.specs.declared.entry.Kind.TheVariants.{Place as OfPlace, Stop as OfStop, Mark as OfMark}
+use Rattle.route_lines.specs.Searches.{references_in}
 use Rattle.route_lines.specs.State.{Item, holder}
 use Rattle.route_lines.specs.Sweeps.{IsStep, Step, EndPlace, EndStop, EndPlaceAfterPack, EndStopAfterPack, Pack as PackStep, Other}
 use Rattle.route_lines.specs.declared.command.Command.{Command}
 use Rattle.route_lines.specs.declared.command.Command.TheVariants.{Place, Word, Show, Find, Floor, After, Before, All, Start, Extend, Join, Cut, Swap, Walk, Mark, Remove, Pack}
 use Rattle.route_lines.specs.declared.refusal.Refusal.{Refusal}
 use Rattle.route_book.specs.Book.{Book, KeepsItems}
-use Rattle.route_book.specs.Removals.{IsPacked, IsPlaceEnded, IsStopEnded, IsRemoved, Removes, Steps, kind_of, references_in}
+use Rattle.route_book.specs.Removals.{IsPacked, IsPlaceEnded, IsStopEnded, IsRemoved}
+use Rattle.route_book.specs.Removals.{Removes, Steps, kind_of}
 use Rattle.route_book.specs.SweepSteps.{tally}
 
 module _ {I : Type 0} (number : I → ℕ) (top most : ℕ) where

@@ -9,16 +9,20 @@ use Rattle.triple_arena_chain.specs.declared.link.IndexLink.{IndexLink}
 use Rattle.triple_arena_chain.specs.Chains.{On}
 use Rattle.triple_arena_chain.specs.Links.{ends_in, values_in}
 use Rattle.triple_arena_ord.specs.Ordered.{Ordered, IsOrdered, entry_in, order_in}
+use Rattle.route_lines.specs.Searches.{references_in}
 use Rattle.route_lines.specs.State.{Place, State, Rooms}
 use Rattle.route_book.specs.Item.{StopView, MarkView}
 use Rattle.ticket_book.specs.Tickets.{Entry}
 use Rattle.route_book.specs.Holds.{IsLive}
 use Rattle.route_book.specs.Book.{IsBook}
-use Rattle.route_book.specs.Removals.{references_in}
+use Rattle.route_book.specs.Removals.{HaveGeneration}
 use Rattle.route_book.specs.Compressed.{IsAllCompressed}
-use Rattle.route_book.specs.Packing.{IsMirrored, IsBooked, StandAs, recast_stop, recast_mark}
+use Rattle.route_book.specs.Packing.{IsMoved, IsMirrored, IsBooked, StandAs, recast_stop, recast_mark}
 use Rattle.ticket_book.specs.Mirrors.{Mirror, renewed_entry}
-use Rattle.route_book.proofs.BookPackLemmas.{places_booked, stops_booked, marks_booked, pack_kept, no_dead_stop, no_dead_mark}
+use Rattle.route_book.proofs.BookPackLemmas.{places_moved, stops_moved, marks_moved}
+use Rattle.route_book.proofs.BookPackLemmas.{places_booked, stops_booked, marks_booked}
+use Rattle.route_book.proofs.BookPackLemmas.{pack_kept, no_dead_stop, no_dead_mark}
+use Rattle.route_book.proofs.OptionLemmas.{mapped_some}
 
 -- what ties the parts of a store says its rooms and its last ticket as its state has them
 module _ {I : Type 0} (number : I → ℕ) (rooms : Rooms) (last : ℕ) (s : State) (places : Ordered I Place)
@@ -56,6 +60,19 @@ fits at cap room zero_none all up (suc i) some = (omega arith, (let a = all (suc
 below : {T : Type 0} (at : ℕ → Option (ℕ × T)) (cap : ℕ) → ((i : ℕ) → IsSome (at i) → i ≤ cap) → (k : ℕ) → IsSome (at k) → k < cap + 1
 below at cap all k some = (let a = all k some in omega (arith, a))
 
+-- what was moved has one generation, and what is written in place keeps its own
+moved_to : {T : Type 0} (to : ℕ → ℕ) (g : ℕ) (old new : ℕ → Option (ℕ × T)) → IsMoved to g old new
+    → HaveGeneration g new
+moved_to to g old new moved i h x is = (moved.onto i h x is).1.1.1.1
+
+written : {T : Type 0} (g : ℕ) (f : T → T) (old new : ℕ → Option (ℕ × T)) → HaveGeneration g old
+    → ((k : ℕ) → new k ≡ option_map (λ (e : ℕ × T). (let z : ℕ × T = (e.0, f e.1) in z)) (old k))
+    → HaveGeneration g new
+written {T} g f old new have writes i h x is =
+    let was = mapped_some (λ (e : ℕ × T). (let z : ℕ × T = (e.0, f e.1) in z)) (old i) (h, x)
+    (sym (writes i) ∙ is) in
+    sym (ap (λ (z : ℕ × T). z.0) was.1.1) ∙ have i was.0.0 was.0.1 was.1.0
+
 module _ {I : Type 0} (number : I → ℕ) (last : Option ℕ) (rooms : Rooms) (given : ℕ) (s : State) (places places' : Ordered I Place)
     (stops stops1 : Content (IndexLink I StopView)) (marks marks1 : Content MarkView) (book : List Entry) (b : IsBook number rooms given s places stops marks book)
     (all : IsAllCompressed number last places places' stops stops1 marks marks1)
@@ -86,6 +103,30 @@ module _ {I : Type 0} (number : I → ℕ) (last : Option ℕ) (rooms : Rooms) (
 
   pub places_in_order : order_in number places' ≡ range_with_len 1 (length s.places)
   places_in_order = all.laid.runs ∙ ap (range_with_len 1) (sym b.within.place_count)
+
+  -- the generations
+  pub place_generations : HaveGeneration (second_generation last) (entry_in places')
+  place_generations =
+      moved_to all.laid.to (second_generation last) (entry_in places) (entry_in places')
+      (places_moved number last places places' all.laid stand stand')
+
+  pub stop_generations : (stops' : Content (IndexLink I StopView)) (m : Mirror)
+      → ((k : ℕ) → values_in stops' k
+      ≡ option_map (λ e. (e.0, recast_stop m e.1)) (values_in stops1 k))
+      → HaveGeneration (second_generation last) (values_in stops')
+  stop_generations stops' m recast =
+      written (second_generation last) (recast_stop m) (values_in stops1) (values_in stops')
+      (moved_to all.canonical.to (second_generation last) (values_in stops) (values_in stops1)
+      (stops_moved number last stops stops1 all.canonical)) recast
+
+  pub mark_generations : (marks' : Content MarkView) (m n : Mirror)
+      → ((k : ℕ) → entry_at marks' k
+      ≡ option_map (λ e. (e.0, recast_mark m n e.1)) (entry_at marks1 k))
+      → HaveGeneration (second_generation last) (entry_at marks')
+  mark_generations marks' m n recast =
+      written (second_generation last) (recast_mark m n) (entry_at marks1) (entry_at marks')
+      (moved_to _ (second_generation last) (entry_at marks) (entry_at marks1)
+      (marks_moved last marks marks1 all.values all.compressed)) recast
 
   pub looks_made : (before between after : ℕ) → between ≡ before + live_count stops1 → after ≡ between + 2 * live_count marks1
       → after ≡ before + references_in s

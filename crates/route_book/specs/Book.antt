@@ -26,12 +26,6 @@ module _ {I : Type 0} where
   abbrev pub as_book : State → Ordered I Place → Content (IndexLink I StopView) → Content MarkView → Book I
   as_book s places stops marks = record { state = s; places = places; stops = stops; marks = marks }
 
-  -- the three arenas have the room that they had
-  pub record KeepsRooms (old new : Book I) : Type 0 where
-    pub places : new.places.chains.room ≡ old.places.chains.room
-    pub stops : new.stops.room ≡ old.stops.room
-    pub marks : new.marks.room ≡ old.marks.room
-
   abbrev pub found_in : Ordered I Place → Content (IndexLink I StopView) → Content MarkView → Found
   found_in places stops marks = record {
     places = entry_in places;
@@ -71,7 +65,14 @@ module _ {I : Type 0} where
     pub entries : length book ≡ size_in places + live_count stops + live_count marks
     pub marks_differ : MarksDiffer s.marks
 
-  -- each item keeps its pointer, a place its ticket and its key, and a stop and a mark all that they hold; both counters stay
+  -- the rooms of the three arenas stay
+  pub record KeepsRooms (old new : Book I) : Type 0 where
+    pub places : new.places.chains.room ≡ old.places.chains.room
+    pub stops : new.stops.room ≡ old.stops.room
+    pub marks : new.marks.room ≡ old.marks.room
+
+  -- each item keeps its pointer, a place its ticket and its key, and a stop and a mark all that
+  -- they hold; the counters and the rooms stay
   pub record KeepsItems (old new : Book I) : Type 0 where
     pub places : (i g : ℕ) (p : Place) → entry_in old.places i ≡ Some (g, p)
         → (q : Place) × ((entry_in new.places i ≡ Some (g, q)) × ((q.ticket ≡ p.ticket) × (q.key ≡ p.key)))
@@ -79,3 +80,5 @@ module _ {I : Type 0} where
     pub marks : (i g : ℕ) (m : MarkView) → entry_at old.marks i ≡ Some (g, m) → entry_at new.marks i ≡ Some (g, m)
     pub place_counter : new.places.chains.counter ≡ old.places.chains.counter
     pub stop_counter : new.stops.counter ≡ old.stops.counter
+    pub mark_counter : new.marks.counter ≡ old.marks.counter
+    pub rooms : KeepsRooms old new

@@ -1,19 +1,21 @@
 -- What removals and packs leave of the items that live on, and how many references they look at.
-use Rattle.std.specs.Prelude.{◌≡◌, ◌≢◌, ◌↔◌, ℕ, ◌+◌, ◌*◌, ◌≤◌, Bool, true, false, Option, Some, IsSome, Result, Ok, Err, length}
+use Rattle.std.specs.Prelude.{◌≡◌, ◌≢◌, ◌↔◌, ℕ, ◌+◌, ◌≤◌, Bool, true, false}
+use Rattle.std.specs.Prelude.{Option, Some, IsSome, Result, Ok, Err, length}
 use Rattle.std.specs.List.{range_with_len}
-use Rattle.triple_arena_ptr.specs.Generation.{next_wraps, second_generation}
+use Rattle.triple_arena_ptr.specs.Generation.{next_generation, next_wraps, second_generation}
 use Rattle.triple_arena.specs.Content.{entry_at, live_count}
 use Rattle.triple_arena_chain.specs.CanonicalLayout.{IsLaidOut}
 use Rattle.triple_arena_chain.specs.Links.{ends_in, values_in}
 use Rattle.triple_arena_ord.specs.Ordered.{entry_in, order_in}
 use Rattle.ticket_book.specs.declared.entry.Kind.{Kind}
 use Rattle.ticket_book.specs.declared.entry.Kind.TheVariants.{Place as OfPlace, Stop as OfStop, Mark as OfMark}
-use Rattle.route_lines.specs.State.{State, Place, Item, place, stop, mark, holder, stop_list}
+use Rattle.route_lines.specs.Searches.{references_in}
+use Rattle.route_lines.specs.State.{Place, Item, place, stop, mark, holder}
 use Rattle.route_lines.specs.Calls.{after_removed}
 use Rattle.route_lines.specs.declared.command.Command.{Command}
 use Rattle.route_lines.specs.declared.command.Command.TheVariants.{Remove, Pack}
 use Rattle.route_lines.specs.declared.refusal.Refusal.{Refusal}
-use Rattle.route_book.specs.Book.{Book, KeepsItems}
+use Rattle.route_book.specs.Book.{Book, KeepsItems, KeepsRooms}
 use Rattle.route_book.specs.Holds.{IsLive}
 use Rattle.route_book.specs.Item.{StopView, MarkView}
 
@@ -21,9 +23,9 @@ use Rattle.route_book.specs.Item.{StopView, MarkView}
 abbrev pub OthersStay : {T : Type 0} → (T → ℕ) → ℕ → (ℕ → Option (ℕ × T)) → (ℕ → Option (ℕ × T)) → Type 0
 OthersStay {T} ticket t old new = (i g : ℕ) (x : T) → old i ≡ Some (g, x) → ticket x ≢ t → new i ≡ Some (g, x)
 
--- a sweep looks at each stored reference once: a stop has one, a mark two
-abbrev pub references_in : State → ℕ
-references_in s = length (stop_list s.routes) + 2 * length s.marks
+-- each item has this generation
+abbrev pub HaveGeneration : {T : Type 0} → ℕ → (ℕ → Option (ℕ × T)) → Type 0
+HaveGeneration {T} n at = (i g : ℕ) (x : T) → at i ≡ Some (g, x) → g ≡ n
 
 -- the kind of an item
 abbrev pub kind_of : Item → Kind
@@ -35,6 +37,7 @@ module _ {I : Type 0} where
   -- a place has ended: its arena's counter is one up, and stops and marks are as they were, with their references
   pub record IsPlaceEnded (t : ℕ) (old new : Book I) : Type 0 where
     pub counter : new.places.chains.counter ≡ old.places.chains.counter + 1
+    pub room : new.places.chains.room ≡ old.places.chains.room
     pub others : OthersStay (λ (p : Place). p.ticket) t (entry_in old.places) (entry_in new.places)
     pub stops : new.stops ≡ old.stops
     pub marks : new.marks ≡ old.marks
@@ -42,21 +45,25 @@ module _ {I : Type 0} where
   -- the same of a stop
   pub record IsStopEnded (t : ℕ) (old new : Book I) : Type 0 where
     pub counter : new.stops.counter ≡ old.stops.counter + 1
+    pub room : new.stops.room ≡ old.stops.room
     pub others : OthersStay (λ (v : StopView). v.ticket) t (values_in old.stops) (values_in new.stops)
     pub places : new.places ≡ old.places
     pub marks : new.marks ≡ old.marks
 
-  -- the same of a mark. No reference is to a mark, so its arena's counter may start again
-  pub record IsMarkEnded (t : ℕ) (old new : Book I) : Type 0 where
+  -- the same of a mark. No reference is to a mark, so its arena's counter steps even if that starts
+  -- it again
+  pub record IsMarkEnded (last : Option ℕ) (t : ℕ) (old new : Book I) : Type 0 where
+    pub counter : new.marks.counter ≡ next_generation last old.marks.counter
+    pub room : new.marks.room ≡ old.marks.room
     pub others : OthersStay (λ (v : MarkView). v.ticket) t (entry_at old.marks) (entry_at new.marks)
     pub places : new.places ≡ old.places
     pub stops : new.stops ≡ old.stops
 
   -- what became of an item of a kind whose removal does not start a counter again
-  abbrev pub IsEnded : Kind → ℕ → Book I → Book I → Type 0
-  IsEnded OfPlace t old new = IsPlaceEnded t old new
-  IsEnded OfStop t old new = IsStopEnded t old new
-  IsEnded OfMark t old new = IsMarkEnded t old new
+  abbrev pub IsEnded : Option ℕ → Kind → ℕ → Book I → Book I → Type 0
+  IsEnded last OfPlace t old new = IsPlaceEnded t old new
+  IsEnded last OfStop t old new = IsStopEnded t old new
+  IsEnded last OfMark t old new = IsMarkEnded last t old new
 
   -- whether the removal of an item of a kind would start its arena's counter again, which references may be to
   abbrev pub removal_wraps : Option ℕ → Book I → Kind → Bool
@@ -64,13 +71,19 @@ module _ {I : Type 0} where
   removal_wraps last b OfStop = next_wraps last b.stops.counter
   removal_wraps last b OfMark = false
 
-  -- a pack: each reference was looked at once and none is dead, and all counters have started again. All items stand at the
-  -- indexes from 1 on: places in the order of their keys, the stops of each route one after another
-  pub record IsPacked (number : I → ℕ) (last : Option ℕ) (before after : ℕ) (old new : Book I) : Type 0 where
+  -- a pack: each reference was looked at once and none is dead. All counters have started again, at
+  -- the generation that all items have. All items stand at the indexes from 1 on: places in the
+  -- order of their keys, the stops of each route one after another. The rooms stay
+  pub record IsPacked (number : I → ℕ) (last : Option ℕ) (before after : ℕ) (old new : Book I)
+      : Type 0 where
     pub looks : after ≡ before + references_in old.state
     pub place_counter : new.places.chains.counter ≡ second_generation last
     pub stop_counter : new.stops.counter ≡ second_generation last
     pub mark_counter : new.marks.counter ≡ second_generation last
+    pub place_generations : HaveGeneration (second_generation last) (entry_in new.places)
+    pub stop_generations : HaveGeneration (second_generation last) (values_in new.stops)
+    pub mark_generations : HaveGeneration (second_generation last) (entry_at new.marks)
+    pub rooms : KeepsRooms old new
     pub order : order_in number new.places ≡ range_with_len 1 (length new.state.places)
     pub stop_runs : IsLaidOut (ends_in number new.stops) (live_count new.stops)
     pub mark_run : (i : ℕ) → IsSome (entry_at new.marks i) ↔ ((1 ≤ i) × (i ≤ live_count new.marks))
@@ -82,8 +95,10 @@ module _ {I : Type 0} where
   IsRemoved number last kind t before after old new = by (removal_wraps last old kind)
     where
       by : Bool → Type 0
-      by false = (after ≡ before) × IsEnded kind t old new
-      by true = (packed : Book I) × ((packed.state ≡ old.state) × (IsPacked number last before after old packed × IsEnded kind t packed new))
+      by false = (after ≡ before) × IsEnded last kind t old new
+      by true =
+          (packed : Book I) × ((packed.state ≡ old.state)
+          × (IsPacked number last before after old packed × IsEnded last kind t packed new))
 
   -- what a removal makes of a store, by what has the ticket: a refused one changes nothing and looks at nothing
   abbrev pub Removes : (I → ℕ) → Option ℕ → ℕ → ℕ → ℕ → Book I → Book I → Result Item Refusal → Type 0
@@ -96,9 +111,10 @@ module _ {I : Type 0} where
   IsReady number last true before after old new = IsPacked number last before after old new
 
   -- the item of this kind that has a ticket ends
-  abbrev pub Ends : Kind → ℕ → Book I → Book I → Type 0
-  Ends kind t old new = (item : Item) × ((holder old.state t ≡ Ok item) × ((kind_of item ≡ kind)
-      × (IsEnded kind t old new × (new.state ≡ after_removed old.state t))))
+  abbrev pub Ends : Option ℕ → Kind → ℕ → Book I → Book I → Type 0
+  Ends last kind t old new =
+      (item : Item) × ((holder old.state t ≡ Ok item) × ((kind_of item ≡ kind)
+      × (IsEnded last kind t old new × (new.state ≡ after_removed old.state t))))
 
   -- what a line does to items, counters and looks, by its command
   abbrev pub Steps : (I → ℕ) → Option ℕ → Option Command → ℕ → ℕ → Book I → Book I → Type 0

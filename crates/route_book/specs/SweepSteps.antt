@@ -1,9 +1,10 @@
 -- What a line is to the law on looks.
 use Rattle.std.specs.Prelude.{ℕ, ◌≤◌, Option, Some}
+use Rattle.route_lines.specs.Searches.{references_in}
 use Rattle.route_lines.specs.Sweeps.{IsStep, Step, Tally}
 use Rattle.route_lines.specs.declared.command.Command.{Command}
 use Rattle.route_book.specs.Book.{Book}
-use Rattle.route_book.specs.Removals.{Steps, references_in}
+use Rattle.route_book.specs.Removals.{Steps}
 
 module _ {I : Type 0} where
   -- the two counters of a store, beside the looks so far

@@ -18,6 +18,7 @@ use triple_arena_ptr::PtrCore;
 ///
 /// The input may come in pieces of any length. A line over 69 bytes, or what follows the last LF, is answered as a
 /// line that spells no command. No memory is taken, and the store stays usable after each fault.
+/// What was counted before stays counted, and no more is added than the lines may take.
 pub fn run<P: PtrCore, B: BookBacking<P>, R: Read, W: Write>(
     book: &mut RouteBook<P, B>,
     reader: &mut Watched<R>,

@@ -8,8 +8,9 @@ use Rattle.std.proofs.lemmas.List.Splits.{slice_split_at, slice_split_none, leng
 use Rattle.route_lines.specs.State.{State}
 use Rattle.route_lines.specs.Reply.{ended, reply, next}
 use Rattle.route_lines.specs.Text.{Line, whole, command_in, replies, after_lines, front, last, lines, whole_lines, rest_of, unended_line}
-use Rattle.route_lines.specs.Searches.{ComparesWithin, CountsWithin, CountsFor, most_keys, most_firsts, most_seconds}
-use Rattle.route_lines.specs.Run.{Carries, BreaksOff, most_comparisons_over}
+use Rattle.route_lines.specs.Searches.{ComparesWithin, CountsWithin, CountsFor, LooksWithin}
+use Rattle.route_lines.specs.Searches.{most_keys, most_firsts, most_seconds, most_looks}
+use Rattle.route_lines.specs.Run.{Carries, BreaksOff, CountsOver, most_over}
 use Rattle.route_lines.specs.Unfinished.{Cuts, HasNoLineEnd}
 use Rattle.route_lines.specs.Written.{AppendsBeginning}
 use Rattle.route_lines.specs.declared.command.Command.{Command}
@@ -27,15 +28,16 @@ replies-append s (x ∷ xs) ys =
     ap (λ text. reply s (command_in x) ++ text) (replies-append (next s (command_in x)) xs ys)
     ∙ sym (append_assoc (reply s (command_in x)) (replies (next s (command_in x)) xs) (replies (after_lines (next s (command_in x)) xs) ys))
 
-pub most_comparisons_over-append : (most : State → Option Command → ℕ) (s : State) (xs ys : List Line)
-    → most_comparisons_over most s (xs ++ ys) ≡ most_comparisons_over most s xs + most_comparisons_over most (after_lines s xs) ys
-most_comparisons_over-append most s [] ys = omega arith
-most_comparisons_over-append most s (x ∷ xs) ys =
-    let h = most_comparisons_over-append most (next s (command_in x)) xs ys in
+pub most_over-append : (most : State → Option Command → ℕ) (s : State) (xs ys : List Line)
+    → most_over most s (xs ++ ys) ≡ most_over most s xs + most_over most (after_lines s xs) ys
+most_over-append most s [] ys = omega arith
+most_over-append most s (x ∷ xs) ys =
+    let h = most_over-append most (next s (command_in x)) xs ys in
     omega (arith, h)
 
-pub ComparesWithin-trans : (a b c : Counts) (k f s k' f' s' k'' f'' s'' : ℕ) → ComparesWithin a b k f s → ComparesWithin b c k' f' s' → k'' ≡ k + k' → f'' ≡ f + f' → s'' ≡ s + s'
-    → ComparesWithin a c k'' f'' s''
+pub ComparesWithin-trans : (a b c : Counts) (k f s k' f' s' k'' f'' s'' : ℕ)
+    → ComparesWithin a b k f s → ComparesWithin b c k' f' s' → k'' ≡ k + k' → f'' ≡ f + f'
+    → s'' ≡ s + s' → ComparesWithin a c k'' f'' s''
 ComparesWithin-trans a b c k f s k' f' s' k'' f'' s'' h h' ek ef es = record {
   key_rises = omega (arith, h.key_rises, h'.key_rises);
   first_rises = omega (arith, h.first_rises, h'.first_rises);
@@ -66,17 +68,50 @@ ComparesWithin-more a b k f s k' f' s' h ek ef es = record {
   second = omega (arith, h.second, es);
 }
 
-pub Carries-nil : (s : State) (held : Option (List ℕ)) (counts : Counts) → Carries s [] s held held counts counts
+LooksWithin-trans : (a b c m n l : ℕ) → LooksWithin a b m → LooksWithin b c n → l ≡ m + n
+    → LooksWithin a c l
+LooksWithin-trans a b c m n l h h' e = record {
+  rise = omega (arith, h.rise, h'.rise);
+  few = omega (arith, h.few, h'.few, e);
+}
+
+LooksWithin-more : (a b n m : ℕ) → LooksWithin a b n → n ≤ m → LooksWithin a b m
+LooksWithin-more a b n m h e = record { rise = h.rise; few = omega (arith, h.few, e) }
+
+CountsOver-trans : (s t : State) (xs ys : List Line) (a b c : Counts) → t ≡ after_lines s xs
+    → CountsOver s xs a b → CountsOver t ys b c → CountsOver s (xs ++ ys) a c
+CountsOver-trans s t xs ys a b c there first second =
+    let moved = subst (λ v. CountsOver v ys b c) there second in
+    record {
+      compares = ComparesWithin-trans a b c _ _ _ _ _ _ _ _ _ first.compares moved.compares
+          (most_over-append most_keys s xs ys) (most_over-append most_firsts s xs ys)
+          (most_over-append most_seconds s xs ys);
+      looks = LooksWithin-trans a.looks b.looks c.looks _ _ _ first.looks moved.looks
+          (most_over-append most_looks s xs ys);
+    }
+
+CountsOver-one : (s : State) (line : Line) (a b : Counts) → CountsFor s (command_in line) a b
+    → LooksWithin a.looks b.looks (most_looks s (command_in line)) → CountsOver s (line ∷ []) a b
+CountsOver-one s line a b counts looks = record {
+  compares = ComparesWithin-more a b _ _ _ _ _ _ counts (omega arith) (omega arith) (omega arith);
+  looks = LooksWithin-more a.looks b.looks _ _ looks (omega arith);
+}
+
+pub Carries-nil : (s : State) (held : Option (List ℕ)) (counts : Counts)
+    → Carries s [] s held held counts counts
 Carries-nil s held counts = record {
   state = refl;
   replied = Appends-nil held;
   counts = record {
-    key_rises = omega arith;
-    first_rises = omega arith;
-    second_rises = omega arith;
-    key = omega arith;
-    first = omega arith;
-    second = omega arith;
+    compares = record {
+      key_rises = omega arith;
+      first_rises = omega arith;
+      second_rises = omega arith;
+      key = omega arith;
+      first = omega arith;
+      second = omega arith;
+    };
+    looks = record { rise = omega arith; few = omega arith };
   };
 }
 
@@ -88,29 +123,34 @@ Carries-trans s t u xs ys a b c before between later first second =
     record {
       state = moved.state ∙ sym (after_lines-append s xs ys);
       replied = subst (Appends a c) (sym (replies-append s xs ys)) (Appends-trans a b c _ _ first.replied moved.replied);
-      counts = ComparesWithin-trans before between later _ _ _ _ _ _ _ _ _ first.counts moved.counts (most_comparisons_over-append most_keys s xs ys)
-          (most_comparisons_over-append most_firsts s xs ys) (most_comparisons_over-append most_seconds s xs ys);
+      counts = CountsOver-trans s t xs ys before between later there first.counts second.counts;
     }
 
 -- one line
-pub Carries-one : (s t : State) (line : Line) (a b : Option (List ℕ)) (before later : Counts) → t ≡ next s (command_in line) → Appends a b (reply s (command_in line))
-    → CountsFor s (command_in line) before later → Carries s (line ∷ []) t a b before later
-Carries-one s t line a b before later state replied counts = record {
+pub Carries-one : (s t : State) (line : Line) (a b : Option (List ℕ)) (before later : Counts)
+    → t ≡ next s (command_in line) → Appends a b (reply s (command_in line))
+    → CountsFor s (command_in line) before later
+    → LooksWithin before.looks later.looks (most_looks s (command_in line))
+    → Carries s (line ∷ []) t a b before later
+Carries-one s t line a b before later state replied counts looks = record {
   state = state;
   replied = subst (Appends a b) (sym (append-nil (reply s (command_in line)))) replied;
-  counts = ComparesWithin-more before later _ _ _ _ _ _ counts (omega arith) (omega arith) (omega arith);
+  counts = CountsOver-one s line before later counts looks;
 }
 
-pub BreaksOff-one : (s t : State) (line : Line) (a b : Option (List ℕ)) (before later : Counts) → t ≡ next s (command_in line) → AppendsBeginning a b (reply s (command_in line))
-    → CountsFor s (command_in line) before later → BreaksOff s [] line t a b before later
-BreaksOff-one s t line a b before later state begins counts = record {
+pub BreaksOff-one : (s t : State) (line : Line) (a b : Option (List ℕ)) (before later : Counts)
+    → t ≡ next s (command_in line) → AppendsBeginning a b (reply s (command_in line))
+    → CountsFor s (command_in line) before later
+    → LooksWithin before.looks later.looks (most_looks s (command_in line))
+    → BreaksOff s [] line t a b before later
+BreaksOff-one s t line a b before later state begins counts looks = record {
   part = begins.part;
   missing = begins.missing;
   reply = begins.whole;
   short = begins.short;
   state = state;
   replied = begins.appended;
-  counts = ComparesWithin-more before later _ _ _ _ _ _ counts (omega arith) (omega arith) (omega arith);
+  counts = CountsOver-one s line before later counts looks;
 }
 
 pub BreaksOff-after : (s t u : State) (xs ys : List Line) (line : Line) (a b c : Option (List ℕ)) (before between later : Counts) → Carries s xs t a b before between
@@ -127,9 +167,9 @@ BreaksOff-after s t u xs ys line a b c before between later first second =
       state = moved.state ∙ sym (after_lines-append s xs (ys ++ line ∷ [])) ∙ ap (after_lines s) more;
       replied = subst (Appends a c) (sym (append_assoc (replies s xs) (replies m ys) moved.part) ∙ ap (λ text. text ++ moved.part) (sym (replies-append s xs ys)))
           (Appends-trans a b c _ _ first.replied moved.replied);
-      counts = subst (λ ls. ComparesWithin before later (most_comparisons_over most_keys s ls) (most_comparisons_over most_firsts s ls) (most_comparisons_over most_seconds s ls)) more
-          (ComparesWithin-trans before between later _ _ _ _ _ _ _ _ _ first.counts moved.counts (most_comparisons_over-append most_keys s xs (ys ++ line ∷ []))
-          (most_comparisons_over-append most_firsts s xs (ys ++ line ∷ [])) (most_comparisons_over-append most_seconds s xs (ys ++ line ∷ [])));
+      counts = subst (λ ls. CountsOver s ls before later) more
+          (CountsOver-trans s t xs (ys ++ line ∷ []) before between later first.state
+          first.counts second.counts);
     }
 
 -- ---- an input cut into lines

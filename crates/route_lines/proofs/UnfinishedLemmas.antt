@@ -8,7 +8,7 @@ use Rattle.route_lines.specs.State.{State}
 use Rattle.route_lines.specs.Grammar.{command_of}
 use Rattle.route_lines.specs.Reply.{ended, reply, next}
 use Rattle.route_lines.specs.Text.{whole, unended, unended_line, lines, whole_lines}
-use Rattle.route_lines.specs.Searches.{CountsFor}
+use Rattle.route_lines.specs.Searches.{CountsFor, LooksWithin, most_looks}
 use Rattle.route_lines.specs.Run.{Carries, BreaksOff, StopsWithin}
 use Rattle.route_lines.specs.Unfinished.{HasNoLineEnd, StandsFor, Cuts, Takes, Stops, StopsAtEnd}
 use Rattle.route_lines.specs.Written.{AppendsBeginning}
@@ -38,11 +38,15 @@ pub Takes-line : (bytes left line behind : List ℕ) (kept cleared : Unfinished)
     → Takes bytes left kept s t a b before between → left ≡ line ++ 10 ∷ behind → HasNoLineEnd line → ((begun : List ℕ) → StandsFor kept begun → command ≡ command_of (begun ++ line))
     → StandsFor cleared []
     → u ≡ next t command → Appends b c (reply t command) → CountsFor t command between later
+    → LooksWithin between.looks later.looks (most_looks t command)
     → Takes bytes behind cleared s u a c before later
-Takes-line bytes left line behind kept cleared command s t u a b c before between later taken split none spelled stands state replied counts =
+Takes-line bytes left line behind kept cleared command s t u a b c before between later
+    taken split none spelled stands state replied counts looks =
     let same : command ≡ command_of (taken.rest ++ line) = spelled taken.rest taken.stands in
-    let one = Carries-one t u (whole (taken.rest ++ line)) b c between later (state ∙ ap (next t) same) (subst (λ x. Appends b c (reply t x)) same replied)
-    (subst (λ x. CountsFor t x between later) same counts) in
+    let one = Carries-one t u (whole (taken.rest ++ line)) b c between later
+    (state ∙ ap (next t) same) (subst (λ x. Appends b c (reply t x)) same replied)
+    (subst (λ x. CountsFor t x between later) same counts)
+    (subst (λ x. LooksWithin between.looks later.looks (most_looks t x)) same looks) in
     record {
       lines = taken.lines ++ (taken.rest ++ line) ∷ [];
       rest = [];
@@ -65,11 +69,15 @@ Takes-line bytes left line behind kept cleared command s t u a b c before betwee
 pub Stops-at_line : (bytes left line behind : List ℕ) (kept : Unfinished) (command : Option Command) (s t u : State) (a b c : Option (List ℕ)) (before between later : Counts)
     → Takes bytes left kept s t a b before between → left ≡ line ++ 10 ∷ behind → HasNoLineEnd line → ((begun : List ℕ) → StandsFor kept begun → command ≡ command_of (begun ++ line))
     → u ≡ next t command → AppendsBeginning b c (reply t command) → CountsFor t command between later
+    → LooksWithin between.looks later.looks (most_looks t command)
     → Stops bytes s u a c before later
-Stops-at_line bytes left line behind kept command s t u a b c before between later taken split none spelled state begins counts =
+Stops-at_line bytes left line behind kept command s t u a b c before between later
+    taken split none spelled state begins counts looks =
     let same : command ≡ command_of (taken.rest ++ line) = spelled taken.rest taken.stands in
-    let one = BreaksOff-one t u (whole (taken.rest ++ line)) b c between later (state ∙ ap (next t) same) (subst (λ x. AppendsBeginning b c (reply t x)) same begins)
-    (subst (λ x. CountsFor t x between later) same counts) in
+    let one = BreaksOff-one t u (whole (taken.rest ++ line)) b c between later
+    (state ∙ ap (next t) same) (subst (λ x. AppendsBeginning b c (reply t x)) same begins)
+    (subst (λ x. CountsFor t x between later) same counts)
+    (subst (λ x. LooksWithin between.looks later.looks (most_looks t x)) same looks) in
     record {
       lines = taken.lines;
       line = taken.rest ++ line;

@@ -1,10 +1,16 @@
--- How many comparisons a search makes, and how many a command may take.
-use Rattle.std.specs.Prelude.{◌≡◌, ℕ, suc, ◌+◌, ◌-◌, ◌≤◌, ◌==◌, ◌&&◌, ◌||◌, Bool, List, [], ◌∷◌, Option, Some, None, if◌then◌else◌, length, nat_lt}
+-- How many comparisons a search makes, and how many of them and of looks a command may take.
+use Rattle.std.specs.Prelude.{◌≡◌, ℕ, suc, ◌+◌, ◌-◌, ◌*◌, ◌≤◌, ◌==◌, ◌&&◌, ◌||◌}
+use Rattle.std.specs.Prelude.{Bool, List, [], ◌∷◌, Option, Some, None, Result, Ok, Err}
+use Rattle.std.specs.Prelude.{if◌then◌else◌, length, nat_lt}
 use Rattle.counted_search.specs.Searches.{most_comparisons}
+use Rattle.route_lines.specs.Calls.{placed_near}
 use Rattle.route_lines.specs.State.{State, Place as Spot, stop_list}
 use Rattle.route_lines.specs.declared.command.Command.{Command}
-use Rattle.route_lines.specs.declared.command.Command.TheVariants.{Place, Find, Floor, All, Extend, Join, Swap, Mark, Pack}
+use Rattle.route_lines.specs.declared.command.Command.TheVariants.{Place, Find, Floor, All}
+use Rattle.route_lines.specs.declared.command.Command.TheVariants.{Extend, Join, Swap, Mark}
+use Rattle.route_lines.specs.declared.command.Command.TheVariants.{Remove, Pack}
 use Rattle.route_lines.specs.declared.counts.Counts.{Counts}
+use Rattle.route_lines.specs.declared.refusal.Refusal.{Refusal}
 
 -- how many entries a search by key, and one by ticket, goes over
 abbrev pub place_count : State → ℕ
@@ -29,9 +35,19 @@ is_at_hand key places i =
     let up_to = places_before (λ p. nat_lt key p.key) places in
     ((up_to == 0) || is_near i (up_to - 1)) && ((up_to == length places) || is_near i up_to)
 
--- the greatest number of comparisons with keys of a search that begins at the place with this ticket
-abbrev pub most_near : List Spot → ℕ → ℕ → ℕ
-most_near places key near = if is_at_hand key places (places_before (λ p. p.ticket == near) places) then 7 else most_comparisons (length places) + 7
+-- the greatest number of comparisons with keys of a search that begins at the place with a ticket
+abbrev pub most_from : List Spot → ℕ → ℕ → ℕ
+most_from places key near =
+    if is_at_hand key places (places_before (λ p. p.ticket == near) places) then 7
+    else most_comparisons (length places) + 7
+
+-- the same of a hint: none if the new place is refused, and so if no living place has the ticket
+abbrev pub most_near : State → ℕ → ℕ → ℕ
+most_near s key near = by (placed_near s near)
+  where
+    by : Result ℕ Refusal → ℕ
+    by (Ok ticket) = most_from s.places key near
+    by (Err refusal) = 0
 
 -- from the old counts on at most so many comparisons with keys, with first and with second tickets
 pub record ComparesWithin (old new : Counts) (keys firsts seconds : ℕ) : Type 0 where
@@ -55,7 +71,7 @@ pub record CountsWithin (old new : Counts) (keys firsts seconds : ℕ) : Type 0 
 -- the greatest number of comparisons with keys that a command may take: what names no key makes none
 abbrev pub most_keys : State → Option Command → ℕ
 most_keys s (Some (Place key word None)) = most_comparisons (place_count s)
-most_keys s (Some (Place key word (Some near))) = most_near s.places key near
+most_keys s (Some (Place key word (Some near))) = most_near s key near
 most_keys s (Some (Find key)) = most_comparisons (place_count s)
 most_keys s (Some (Floor key)) = most_comparisons (place_count s)
 most_keys s command = 0
@@ -80,4 +96,21 @@ most_seconds s command = 0
 
 -- from the old counts on at most what this command may take in this state
 abbrev pub CountsFor : State → Option Command → Counts → Counts → Type 0
-CountsFor s command old new = ComparesWithin old new (most_keys s command) (most_firsts s command) (most_seconds s command)
+CountsFor s command old new =
+    ComparesWithin old new (most_keys s command) (most_firsts s command) (most_seconds s command)
+
+-- a sweep looks at each stored reference once: a stop has one, a mark two
+abbrev pub references_in : State → ℕ
+references_in s = length (stop_list s.routes) + 2 * length s.marks
+
+-- the greatest number of looks that a command may take: only a pack looks at references, and a
+-- removal, which may have to pack first
+abbrev pub most_looks : State → Option Command → ℕ
+most_looks s (Some (Remove ticket)) = references_in s
+most_looks s (Some Pack) = references_in s
+most_looks s command = 0
+
+-- looks are at least the old ones, and at most so many more
+pub record LooksWithin (old new looks : ℕ) : Type 0 where
+  pub rise : old ≤ new
+  pub few : new ≤ old + looks

@@ -1,11 +1,15 @@
 -- The last place as a hint for a greater key.
-use Rattle.std.proofs.Common.{◌≡◌, ◌∙◌, sym, ap, subst, refl, true, ◌==◌, ℕ, suc, ◌+◌, ◌-◌, ◌<◌, ◌≤◌, List, [], ◌∷◌, ◌++◌, length, nat_lt, inl, inr, arith}
+use Rattle.std.proofs.Common.{◌≡◌, ◌∙◌, sym, ap, subst, refl, true, ◌==◌, ℕ, suc, ◌+◌, ◌-◌}
+use Rattle.std.proofs.Common.{◌<◌, ◌≤◌, List, [], ◌∷◌, ◌++◌, length, nat_lt, Result, Ok, Err}
+use Rattle.std.proofs.Common.{inl, inr, arith}
 use Rattle.std.specs.List.{AllByRecursion}
 use Rattle.std.proofs.lemmas.Bool.{and_from, or_left, or_right, eq-eqb, le-ltb, lt-ltb}
 use Rattle.std.proofs.lemmas.Bool.Decides.{eqb_tells}
-use Rattle.route_lines.specs.Searches.{places_before, is_near, is_at_hand, most_near}
+use Rattle.route_lines.specs.Calls.{placed_near}
+use Rattle.route_lines.specs.Searches.{places_before, is_near, is_at_hand, most_from, most_near}
 use Rattle.route_lines.specs.Sound.{IsBefore, IsSound, PlacesRise, count_of}
 use Rattle.route_lines.specs.State.{State, Place}
+use Rattle.route_lines.specs.declared.refusal.Refusal.{Refusal}
 use Rattle.store_callers.specs.Placing.{IsLastUpTo}
 
 -- all keys are up to one that the last is up to
@@ -45,7 +49,8 @@ length_last (x ∷ front) p = ap suc (length_last front p)
 near_self : (n : ℕ) → is_near n n ≡ true
 near_self n = and_from (nat_lt n (n + 7)) (nat_lt n (n + 7)) (lt-ltb n (n + 7) (omega arith)) (lt-ltb n (n + 7) (omega arith))
 
-pub last_at_hand : (s : State) (t key : ℕ) → IsSound s → IsLastUpTo s t key → most_near s.places key t ≡ 7
+last_at_hand : (s : State) (t key : ℕ) → IsSound s → IsLastUpTo s t key
+    → most_from s.places key t ≡ 7
 last_at_hand s t key sound last =
     let ps = last.front ++ last.last ∷ [] in
     let below = keys_below last.front last.last key last.up_to (subst PlacesRise last.is sound.order) in
@@ -58,4 +63,11 @@ last_at_hand s t key sound last =
     let hand : is_at_hand key ps (places_before (λ q. q.ticket == t) ps) ≡ true = and_from _ _
     (or_right _ _ (subst (λ m. is_near m (places_before (λ q. nat_lt key q.key) ps - 1) ≡ true) (sym from) (subst (λ m. is_near n (m - 1) ≡ true) (sym up_to) near)))
     (or_left _ _ (eq-eqb (places_before (λ q. nat_lt key q.key) ps) (length ps) (none_above ps key below))) in
-    ap (λ l. most_near l key t) last.is ∙ (let is : most_near ps key t ≡ 7 = rw hand refl in is)
+    ap (λ l. most_from l key t) last.is ∙ (let is : most_from ps key t ≡ 7 = rw hand refl in is)
+
+pub last_is_near : (s : State) (t key : ℕ) → IsSound s → IsLastUpTo s t key → most_near s key t ≤ 7
+last_is_near s t key sound last = by (placed_near s t) refl
+  where
+    by : (r : Result ℕ Refusal) → placed_near s t ≡ r → most_near s key t ≤ 7
+    by (Ok n) is = rw is (let seven = last_at_hand s t key sound last in omega (arith, seven))
+    by (Err refusal) is = rw is (omega arith)

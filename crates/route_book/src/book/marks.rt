@@ -33,6 +33,7 @@ impl<P: PtrCore, B: BookBacking<P>> RouteBook<P, B> {
         ensures state { self.new.state ≡ after_mark self.old.state place stop }
         ensures kept { KeepsItems self.old self.new }
         ensures refused { IfErr result (λ _. self.new ≡ self.old) }
+        ensures others { (self.new.places ≡ self.old.places) × (self.new.stops ≡ self.old.stops) }
     {
         self.mark_counted(place, stop, &mut Counts::new())
     }
@@ -48,6 +49,7 @@ impl<P: PtrCore, B: BookBacking<P>> RouteBook<P, B> {
         ensures state { self.new.state ≡ after_mark self.old.state place stop }
         ensures kept { KeepsItems self.old self.new }
         ensures refused { IfErr result (λ _. self.new ≡ self.old) }
+        ensures others { (self.new.places ≡ self.old.places) × (self.new.stops ≡ self.old.stops) }
         ensures counts { CountsWithin counts.old counts.new
             0 (most_comparisons (living_count self.old.state)) (most_comparisons (living_count self.old.state)) }
     {

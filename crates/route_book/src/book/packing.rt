@@ -98,8 +98,9 @@ pub(crate) fn pack_if<P: PtrCore, B: BookBacking<P>>(
 impl<P: PtrCore, B: BookBacking<P>> RouteBook<P, B> {
     /// Moves all items to the first indexes: places in the order of their keys, the stops of a route one after another.
     ///
-    /// Each stored reference is looked at once; one to an item that has ended is `Gone` from then on. Pointers into the arenas
-    /// find other items from then on, or none. No memory is taken, and the state stays.
+    /// Each stored reference is looked at once; one to an item that has ended is `Gone` from then
+    /// on. All items have the second generation then, and pointers into the arenas find other
+    /// items, or none. No memory is taken, and the state and the rooms stay.
     pub fn pack(&mut self)
         ensures state { self.new.state ≡ self.old.state }
         ensures packed { (looks : ℕ) × IsPacked P.Inx.number P.Gen.last 0 looks self.old self.new }

@@ -80,7 +80,7 @@ impl<P: PtrCore, B: BookBacking<P>> RouteBook<P, B> {
 
     /// The same, with the comparisons of its searches counted as `key` and `first`. At most 7 are
     /// made along the list, and no more with keys if each place beside the gap for the new one is
-    /// less than 7 steps from that of `near`.
+    /// less than 7 steps from that of `near`. None is made with keys if the place is refused.
     pub fn place_near_counted(
         &mut self,
         key: u64,
@@ -94,7 +94,7 @@ impl<P: PtrCore, B: BookBacking<P>> RouteBook<P, B> {
         ensures refused { IfErr result (λ _. self.new ≡ self.old) }
         ensures others { (self.new.stops ≡ self.old.stops) × (self.new.marks ≡ self.old.marks) }
         ensures counts { CountsWithin counts.old counts.new
-            (most_near self.old.state.places key near) (most_comparisons (living_count self.old.state)) 0 }
+            (most_near self.old.state key near) (most_comparisons (living_count self.old.state)) 0 }
     {
         // The list is as it must be.
         let _ = self.places.len();

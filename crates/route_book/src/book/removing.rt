@@ -53,7 +53,8 @@ fn end_at<P: PtrCore, B: BookBacking<P>>(
     ensures book { IsBook P.Inx.number held.old.state.rooms held.old.state.last held.new.state
         places.new stops.new marks.new tickets.new.entries }
     ensures sound { IsSound held.new.state }
-    ensures ends { (e : EntryView) → entry_at tickets.old (P.Inx.number at) ≡ Some e → Ends e.kind e.ticket
+    ensures ends { (e : EntryView) → entry_at tickets.old (P.Inx.number at) ≡ Some e
+        → Ends P.Gen.last e.kind e.ticket
         (as_book held.old.state places.old stops.old marks.old)
         (as_book held.new.state places.new stops.new marks.new) }
     ensures rooms { KeepsRooms (as_book held.old.state places.old stops.old marks.old)

@@ -3,6 +3,7 @@ use Rattle.route_lines.specs.Sound.{IsSound}
 use Rattle.route_lines.specs.declared.change.Change.TheVariants.{Mark}
 use Rattle.route_book.proofs.ExtendLemmas.{next_above}
 use Rattle.route_book.proofs.NewItemLemmas.{mark_leaves, mark_keeps}
+use Rattle.route_book.proofs.OptionLemmas.{some_same}
 use Rattle.route_book.proofs.RelinkLemmas.{roomy}
 use Rattle.route_book.proofs.book.RouteBook.mark_counted.Goals as goal
 
@@ -35,3 +36,4 @@ returns-clause-kept g c =
     let put = c.in-Ok.ensures.inserted in
     mark_keeps _ _ _ _ _ _ _ _ c.self.invariant.book _ c.self.view_is c.args.place _ _ c.in_ok-at.ensures.found c.args.stop _ _ c.in_ok-by.ensures.found c.if-is_full_of_marks.ensures
     _ _ _ c.new-mark.ensures.ticket c.new-mark.ensures.place c.new-mark.ensures.stop _ put.vacant put.entries _
+    (some_same put.counter) c.in-Ok.ensures.room

@@ -4,7 +4,7 @@ use Rattle.triple_arena_ord.specs.Found.{IsSimilar}
 use Rattle.triple_arena_ord.specs.Ordered.{IsAscending, asked_at, entry_in}
 use Rattle.route_lines.specs.Calls.{place_holder}
 use Rattle.route_lines.specs.Searches.{most_near}
-use Rattle.route_lines.specs.State.{Place}
+use Rattle.route_lines.specs.State.{Place, is_full_of_places}
 use Rattle.route_book.specs.Book.{Book}
 use Rattle.route_book.specs.Keys.{key_cmp, key_of}
 use Rattle.route_book.specs.declared.items.PlaceKey.{PlaceKey}
@@ -40,9 +40,14 @@ returns-clause-counts g c =
       key_rises = search.rises;
       first_rises = c.find_place.ensures.rises;
       second_rises = omega arith;
-      key = subst (λ (b : Book g.row.P-Inx.Denot). c.find_similar_key_linear_counted-found.new.probes ≤ c.args.counts.now.key + most_near b.state.places c.args.key c.args.near) c.self.view_is
+      key = subst (λ (b : Book g.row.P-Inx.Denot).
+          c.find_similar_key_linear_counted-found.new.probes
+          ≤ c.args.counts.now.key + most_near b.state c.args.key c.args.near) c.self.view_is
           (hint_bound g.P.Inx.PtrInxCore.number _ _ c.self.inside.held.state places _ _ _ c.self.invariant.book c.len.ensures.formed.ordered wanted newest c.args.near i h found.0 value held
-          c.args.counts.now.key c.find_similar_key_linear_counted-found.new.probes search.bound search.near);
+          (ap (λ (b : Book g.row.P-Inx.Denot). is_full_of_places b.state) c.self.view_is
+          ∙ sym c.if-is_full_of_places.ensures)
+          c.args.counts.now.key c.find_similar_key_linear_counted-found.new.probes
+          search.bound search.near);
       first = c.find_place.ensures.bound;
       second = omega arith;
       looks = refl;

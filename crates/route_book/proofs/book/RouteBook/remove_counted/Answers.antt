@@ -21,7 +21,7 @@ returns-clause-result g c =
     let pack = subst (λ (b : Book g.row.P-Inx.Denot). IsReady number last c.removal_wraps-needed.result
     c.args.counts.now.looks c.pack_if.new.looks b ready) c.self.view_is c.pack_if.ensures.ready in
     let state = ap (λ (b : Book g.row.P-Inx.Denot). b.state) c.self.view_is in
-    let ends = ends_as ready new _ c.args.ticket _ c.kind.result ticket kind (c.end_at.ensures.ends own.0 own.1.0) in
+    let ends = ends_as last ready new _ c.args.ticket _ c.kind.result ticket kind (c.end_at.ensures.ends own.0 own.1.0) in
     removed_ok c.args.self.now.state c.args.ticket ends.0
     (held number last c.args.self.now ready c.args.counts.now.looks c.pack_if.new.looks c.kind.result
     c.removal_wraps-needed.result c.removal_wraps-needed.ensures pack c.args.ticket new state ends)
@@ -40,7 +40,7 @@ returns-clause-state g c =
     let pack = subst (λ (b : Book g.row.P-Inx.Denot). IsReady number last c.removal_wraps-needed.result
     c.args.counts.now.looks c.pack_if.new.looks b ready) c.self.view_is c.pack_if.ensures.ready in
     let state = ap (λ (b : Book g.row.P-Inx.Denot). b.state) c.self.view_is in
-    let ends = ends_as ready new _ c.args.ticket _ c.kind.result ticket kind (c.end_at.ensures.ends own.0 own.1.0) in
+    let ends = ends_as last ready new _ c.args.ticket _ c.kind.result ticket kind (c.end_at.ensures.ends own.0 own.1.0) in
     state_so number last c.args.self.now ready c.args.counts.now.looks c.pack_if.new.looks c.kind.result
     c.removal_wraps-needed.result c.removal_wraps-needed.ensures pack c.args.ticket new state ends
 
@@ -58,6 +58,6 @@ returns-clause-removes g c =
     let pack = subst (λ (b : Book g.row.P-Inx.Denot). IsReady number last c.removal_wraps-needed.result
     c.args.counts.now.looks c.pack_if.new.looks b ready) c.self.view_is c.pack_if.ensures.ready in
     let state = ap (λ (b : Book g.row.P-Inx.Denot). b.state) c.self.view_is in
-    let ends = ends_as ready new _ c.args.ticket _ c.kind.result ticket kind (c.end_at.ensures.ends own.0 own.1.0) in
+    let ends = ends_as last ready new _ c.args.ticket _ c.kind.result ticket kind (c.end_at.ensures.ends own.0 own.1.0) in
     removed_so number last c.args.self.now ready c.args.counts.now.looks c.pack_if.new.looks c.kind.result
     c.removal_wraps-needed.result c.removal_wraps-needed.ensures pack c.args.ticket new state ends

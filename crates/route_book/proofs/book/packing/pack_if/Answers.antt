@@ -6,7 +6,7 @@ use Rattle.triple_arena_chain.specs.Links.{ends_in}
 use Rattle.triple_arena_chain.specs.CanonicalLayoutLaws.{laid_same}
 use Rattle.route_book.proofs.OptionLemmas.{some_same}
 use Rattle.route_book.proofs.RunLemmas.{marks_run}
-use Rattle.route_book.proofs.WholeLemmas.{stand_renewed, ready_places, ready_stops, ready_marks, looks_made, places_in_order, whole_kept, whole_marks, whole_stop_counter, whole_stops}
+use Rattle.route_book.proofs.WholeLemmas.{place_generations, stop_generations, mark_generations, stand_renewed, ready_places, ready_stops, ready_marks, looks_made, places_in_order, whole_kept, whole_marks, whole_stop_counter, whole_stops}
 use Rattle.route_book.proofs.book.packing.pack_if.Goals as goal
 
 pub mirror_places-requires : goal.mirror_places-requires
@@ -36,6 +36,22 @@ returns-clause-ready g c = rw c.if-not-needed.false (record {
       c.recast_all_stops.ensures.room
       c.recast_all_marks.ensures.live c.recast_all_marks.ensures.room;
   mark_counter = c.recast_all_marks.ensures.counter ∙ some_same c.compress_all.ensures.compressed.counter;
+  place_generations = place_generations g.P.Inx.PtrInxCore.number g.P.Gen.PtrGenCore.last
+      _ _ _ _ _ _ _ _ _ _ c.requires.book c.compress_all.ensures
+      c.entries_stand_in_the_list.ensures;
+  stop_generations = stop_generations g.P.Inx.PtrInxCore.number g.P.Gen.PtrGenCore.last
+      _ _ _ _ _ _ _ _ _ _ c.requires.book c.compress_all.ensures
+      c.entries_stand_in_the_list.ensures
+      c.recast_all_stops.new.stops _ c.recast_all_stops.ensures.entries;
+  mark_generations = mark_generations g.P.Inx.PtrInxCore.number g.P.Gen.PtrGenCore.last
+      _ _ _ _ _ _ _ _ _ _ c.requires.book c.compress_all.ensures
+      c.entries_stand_in_the_list.ensures
+      c.recast_all_marks.new.marks _ _ c.recast_all_marks.ensures.entries;
+  rooms = record {
+    places = c.compress_all.ensures.laid.room;
+    stops = c.recast_all_stops.ensures.room ∙ c.compress_all.ensures.canonical.room;
+    marks = c.recast_all_marks.ensures.room ∙ c.compress_all.ensures.compressed.room;
+  };
   order = places_in_order g.P.Inx.PtrInxCore.number g.P.Gen.PtrGenCore.last _ _ _ _ _ _ _ _ _ _ c.requires.book c.compress_all.ensures c.entries_stand_in_the_list.ensures;
   stop_runs = subst (IsLaidOut (ends_in g.P.Inx.PtrInxCore.number c.recast_all_stops.new.stops)) (sym (c.recast_all_stops.ensures.live ∙ c.compress_all.ensures.canonical.live))
       (laid_same (ends_in g.P.Inx.PtrInxCore.number c.compress_all.new.stops) (ends_in g.P.Inx.PtrInxCore.number c.recast_all_stops.new.stops) _

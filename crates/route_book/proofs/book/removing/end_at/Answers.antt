@@ -58,7 +58,7 @@ returns-in-Place-clause-ends g c =
     let counts = counts_on last c.requires.counts in
     let calm = calm_of last (as_book s c.args.places.now c.args.stops.now c.args.marks.now) _ e c.take-entry.ensures.entry c.requires.stands _ kind in
     let removed = told _ _ _ _ (c.remove.ensures.value ∙ it.1.0) c.remove.ensures.exact in
-    ends_of _ e c.take-entry.ensures.entry _ _ _ kind
+    ends_of last _ e c.take-entry.ensures.entry _ _ _ kind
     (place_ends _ _ _ _ _ _ _ _ c.requires.book e found _ _ index generation kind c.len.ensures.formed.ordered c.remove.new.self _
     counts.0 counts.1.0 calm removed _ now)
 
@@ -119,7 +119,7 @@ returns-in-Stop-clause-ends g c =
     let counts = counts_on last c.requires.counts in
     let calm = calm_of last (as_book s c.args.places.now c.args.stops.now c.args.marks.now) _ e c.take-entry.ensures.entry c.requires.stands _ kind in
     let taken = told _ _ _ _ (c.remove_link_no_gen.ensures.value ∙ link_there.1) c.remove_link_no_gen.ensures.taken in
-    ends_of _ e c.take-entry.ensures.entry _ _ _ kind
+    ends_of last _ e c.take-entry.ensures.entry _ _ _ kind
     (stop_ends _ _ _ _ _ _ _ _ c.requires.book e found _ _ index generation kind c.len-in-Stop.ensures.formed c.remove_link_no_gen.new.self _
     counts.0 counts.1.0 calm taken _ now)
 
@@ -171,7 +171,7 @@ returns-in-Mark-clause-ends g c =
     let kind = sym c.kind-kind.ensures ∙ c.in-Mark.is in
     let it = found_mark _ _ _ _ _ _ _ _ c.requires.book e found _ _ index generation kind in
     let removed = told _ _ _ _ (c.remove-in-Mark.ensures.value ∙ it.1.0) c.remove-in-Mark.ensures.removed in
-    ends_of _ e c.take-entry.ensures.entry _ _ _ kind
+    ends_of last _ e c.take-entry.ensures.entry _ _ _ kind
     (mark_ends _ _ _ _ _ _ _ _ c.requires.book e found _ _ index generation kind c.remove-in-Mark.new.self _ removed _ now)
 
 pub returns-in-Mark-clause-rooms : goal.returns-in-Mark-clause-rooms
