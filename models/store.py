@@ -21,6 +21,10 @@ from store_rules import LAST_TICKET, Store
 POINTERS = {'P0': (2**64 - 1, 2**64 - 1), 'P1': (255, 255), 'P5': (2**64 - 1, 1), 'N3': (255, 3)}
 BACKINGS = ('heap', 'limited', 'fixed', 'array')
 ARRAY_ROOM = 10
+# What a store that moves on the way may begin as, and what it may become.
+ANY = [(p, b) for p in POINTERS for b in BACKINGS if (p, b) != ('P5', 'array')]
+MOVING = {('P0', 'heap'): ANY, ('P1', 'limited'): [('N3', 'fixed')], ('N3', 'fixed'): [('P1', 'array')],
+          ('P1', 'array'): [('P0', 'heap')]}
 # No machine has room for so many items.
 TOO_MANY = 2**60
 # How many bytes a read takes, and a reply gathers before it is written, and the longest line of a reply with its LF.
@@ -160,6 +164,22 @@ def requests(rooms):
     return 2 * sum(room > 0 for room in rooms) + any(rooms)
 
 
+def move(store, words, spent, refused):
+    """Moves a store after so many requests for memory, and says how that ended."""
+    _, kind, *numbers = words.split(' ')
+    pointers, backing = kind.split(',')
+    rooms = [int(number) for number in numbers]
+    # All else is tested before memory is asked for.
+    why = refusal(pointers, backing, rooms, 0)
+    if why in (None, 'room refused: memory\n') and not store.fits(*rooms):
+        return 'not moved: too small\n'
+    why = why or refusal(pointers, backing, rooms, max(refused - spent, 0))
+    if why:
+        return 'not ' + why.partition('\n')[0].replace('room refused', 'moved') + '\n'
+    store.move(*rooms, POINTERS[pointers][1])
+    return 'moved\n'
+
+
 def play_over(pointers, backing, numbers, lines):
     """What a section's lines write over a new store."""
     *rooms, last, refused = numbers
@@ -168,7 +188,14 @@ def play_over(pointers, backing, numbers, lines):
         return text
     store = Store(*rooms, last, POINTERS[pointers][1])
     if lines.startswith('>'):
-        return ''.join(play_run(store, *part.partition('\n')[::2]) for part in lines[1:].split('>'))
+        text, spent = '', 0 if backing == 'array' else requests(rooms)
+        for part in lines[1:].split('>'):
+            words, _, run_lines = part.partition('\n')
+            if words.startswith('move '):
+                text += f'>{words}\n' + move(store, words, spent, refused)
+            else:
+                text += play_run(store, words, run_lines)
+        return text + ('memory was refused\n' if 'not moved: memory' in text and refused else '')
     page = Page('plain', 0, 0)
     end = run(store, Input(lines, 'plain', 0), page)
     return f'{page.text}-> {end}, unread 0, flushed {page.flushed}\n'
@@ -298,6 +325,26 @@ def random_section(pick, pointers, backings, count, runs=()):
     return f'{header}\n' + (lines or writer.lines(count))
 
 
+def random_move(pick, kind, backing, count):
+    """A section of lines, a move, and lines again, over a store of this kind."""
+    pointers, where = pick.choice(MOVING[kind, backing])
+    writer = Writer(pick, SMALL if 'array' in (backing, where) else LARGE, 0)
+    made = list(writer.rooms)
+    before = [f'>run\n{writer.lines(count)}', f'>sweeps\n{writer.lines(count)}']
+    store, least = writer.store, writer.store.living()
+    more = [0, 0, 1] if 'array' in (backing, where) else [0, 1, 5, 20]
+    rooms = [n + pick.choice(more) for n in least]
+    if pick.random() < 0.15:
+        rooms[pick.randrange(3)] = 0
+    spent = 0 if backing == 'array' else requests(made)
+    refused = spent + pick.choice([requests(rooms) + 1] * 8 + [1, 2, 3])
+    words = f'move {pointers},{where} {rooms[0]} {rooms[1]} {rooms[2]}'
+    move(store, words, spent, refused)
+    behind = [f'>run\n{writer.lines(count)}', f'>sweeps\n{writer.lines(count)}']
+    header = f'{kind} {backing} {made[0]} {made[1]} {made[2]} 0 {refused}'
+    return '\n'.join([header, ''.join(before) + f'>{words}\n' + ''.join(behind)])
+
+
 def random_sections(seed, count):
     pick = random.Random(seed)
     sections = [random_section(pick, 'P0,P1,N3', ','.join(backings), count)
@@ -305,6 +352,7 @@ def random_sections(seed, count):
     sections += [random_section(pick, 'P0,P1,N3', 'heap', count, ['run'] * 8)]
     sections += [random_section(pick, kind, backing, count, ['sweeps'])
                  for kind, backing in (('P1', 'heap'), ('N3', 'array'), ('N3', 'limited'))]
+    sections += [random_move(pick, kind, backing, count) for kind, backing in MOVING]
     return ''.join(f'# random lines of seed {seed}\n{section}' for section in sections)
 
 

@@ -48,6 +48,22 @@ class Store:
         self.place, self.stop, self.mark = {}, {}, {}
         self.next, self.previous = {}, {}
 
+    # ---- moves
+
+    def living(self):
+        """How many places, stops and marks live."""
+        return [len(self.place), len(self.stop), len(self.mark)]
+
+    def fits(self, *rooms):
+        return all(count <= room for count, room in zip(self.living(), rooms))
+
+    def move(self, places, stops, marks, generations):
+        """The same store in other rooms, over pointers whose generations end there."""
+        self.rooms = {'place': places, 'stop': stops, 'mark': marks}
+        self.generations = generations
+        self.counters = {'place': 2, 'stop': 2}
+        # A pack makes each dead reference none, which a reference by ticket is already.
+
     # ---- tickets
 
     def wanted(self, ticket, *kinds):

@@ -25,10 +25,16 @@
 //!   and does not fail; or `full` or `idle` if it takes none at all, and fails or does not; or `unflushed` if a flush fails;
 //! - READ and TAKEN are how many bytes a call reads and writes, and ROOM how many the writer takes. There 0 is all.
 //!
+//! Between two runs a line `>move POINTERS,BACKING PLACES STOPS MARKS` moves the store, once, and tells
+//! whether it moved; the runs behind it go over what it became, or over the same store. One that began
+//! as `P0 heap` may become any other. One of `P1 limited` becomes one of `N3,fixed`, that one of
+//! `P1,array`, and that one of `P0,heap`.
+//!
 //! A number that a line lacks is 0. A `#` begins a section and a `>` a run also within a line, which then has no LF.
 #![tactic(auto)]
 
 mod books;
+mod moves;
 mod runs;
 mod streams;
 
