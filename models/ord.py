@@ -409,6 +409,16 @@ class Arena:
             if told.startswith('Ok'):
                 told = 'Ok(' + told[told.index(', ') + 2:-1]
             return [f'({told}, Nothing)']
+        if form == 'insert_inx_manual_within_capacity':
+            if kind == 'none' and self.e:
+                return ['"not empty"']
+            if kind != 'none' and self.i(z) not in self.e:
+                return ['"not live"']
+            kind = 'empty' if kind == 'none' else f'manual_{kind}'
+            told, _, _ = self.enter(kind, x, y, self.i(z), 0, False, True)
+            if told.startswith('Err'):
+                return ['"no room"']
+            return [f'({told.removeprefix("Ok((New(").removesuffix("), None))")}, Nothing)']
         if form in FORMS:
             told, _, work = self.enter(kind, x, y, self.i(z), u, not form.endswith('within_capacity'), w != 1)
             return [f'({told}, {work})']
@@ -649,6 +659,8 @@ def a_line(r, script, s, most):
         way = r.choice(['less', 'equal', 'greater'])
         if r.random() < 0.5:
             return f'insert_inx_manual:{way}', [k, v, i]
+        if r.random() < 0.5:
+            return f'insert_inx_manual_within_capacity:{way.replace("equal", "none")}', [k, v, i]
         return f'{r.choice(FORMS)}:manual_{way}', [k, v, i, 0, int(r.random() < 0.2)]
     if verb == 'search':
         return r.choice(SEARCHES + NOTED), [k, num, i, g]

@@ -6,6 +6,13 @@ use std::cmp::Ordering;
 use std::fmt::Debug;
 use triple_arena::PtrCore;
 
+/// A place that is known: that of the only entry, or beside the entry of the third number.
+pub enum KnownPlace {
+    Alone,
+    Before,
+    After,
+}
+
 /// What puts an item of a key and a value in and tells of it: where the key belongs, with so many comparisons, or at an
 /// entry.
 pub trait PutsIn<K> {
@@ -34,6 +41,15 @@ pub trait PutsIn<K> {
         call: &Call<'_>,
         item: &(K, u64),
         direction: Ordering,
+    );
+
+    /// At a place that is known, if it is there and there is room. No key is compared.
+    fn puts_at_within_capacity(
+        &mut self,
+        transcript: &mut Transcript,
+        call: &Call<'_>,
+        item: &(K, u64),
+        place: KnownPlace,
     );
 }
 
@@ -65,6 +81,15 @@ pub fn inserts<P: PtrCore, K: Counting, A: PutsIn<K> + ShowsKnots<P>>(
         "insert_inx_manual:less" => arena.puts_at(transcript, call, &new, Ordering::Less),
         "insert_inx_manual:equal" => arena.puts_at(transcript, call, &new, Ordering::Equal),
         "insert_inx_manual:greater" => arena.puts_at(transcript, call, &new, Ordering::Greater),
+        "insert_inx_manual_within_capacity:none" => {
+            arena.puts_at_within_capacity(transcript, call, &new, KnownPlace::Alone)
+        }
+        "insert_inx_manual_within_capacity:less" => {
+            arena.puts_at_within_capacity(transcript, call, &new, KnownPlace::Before)
+        }
+        "insert_inx_manual_within_capacity:greater" => {
+            arena.puts_at_within_capacity(transcript, call, &new, KnownPlace::After)
+        }
         _ => return false,
     }
     true

@@ -30,7 +30,7 @@ pub use copies::{Copies, Gives, Limits, play_copies, play_limited_copies};
 pub use entries::PutsByEntry;
 pub use finds::{Finds, Found};
 pub use growing::Takes;
-pub use insertions::{PutsIn, tell};
+pub use insertions::{KnownPlace, PutsIn, tell};
 pub use knots::{Knot, ShowsKnots};
 pub use lists::TellsOfList;
 pub use nodes::TellsOfTree;

@@ -1,10 +1,14 @@
 //! Insertions: where each puts its item, what it refuses, and that the tree keeps its rules and has the list as its walk.
-ghost use Rattle.std.specs.Prelude.{◌≡◌, ℕ, Some, IsSome, IfOk};
+ghost use Rattle.std.specs.Prelude.{◌≡◌, ◌<◌, ℕ, Some, None, IsSome, IfSome, IfOk};
+ghost use Rattle.std.specs.Option.{option_map};
 ghost use Rattle.std.specs.Borrow.{sem, RestsIfErr};
+ghost use Rattle.triple_arena.specs.Content.{arena_capacity};
+ghost use Rattle.triple_arena_ord.specs.Inserted.{IsAdded, Replaces, StandsAt};
 ghost use Rattle.triple_arena_ord.specs.Inserted.{IsInsertedAt, IsKeyInserted, within_room, growing_room, room_made, under};
 ghost use Rattle.triple_arena_ord.specs.InsertEntry.{entry_arena, entry_lender, entry_place, IsReady, IsOrdAnswer};
 ghost use Rattle.triple_arena_ord.specs.Placing.{Meets, IsPlaceFor};
-ghost use Rattle.triple_arena_ord.specs.Ordered.{IsOrdered, IsAscending, entry_in, size_in};
+ghost use Rattle.triple_arena_ord.specs.Ordered.{IsOrdered, IsAscending};
+ghost use Rattle.triple_arena_ord.specs.Ordered.{entry_in, order_in, size_in};
 ghost use Rattle.triple_arena_ord.specs.contracts.ord_arena.SimpleOrdArena.{the_row};
 
 use std::cmp::Ordering;
@@ -47,6 +51,29 @@ pub fn insert_inx_manual<P: PtrCore, T: Drop, S: OrdSlots<P, T>>(
 {
     let inserted = arena.insert_inx_manual(p, direction, t);
     inserted
+}
+
+/// Puts an item in at a known place, for which there is room: as the only one, or directly before
+/// or after a live entry.
+pub fn insert_inx_manual_within_capacity<P: PtrCore, T: Drop, S: OrdSlots<P, T>>(
+    arena: &mut SimpleOrdArena<P, T, S>,
+    place: Option<(P::Inx, Ordering)>,
+    t: T,
+) -> P
+    requires live { IfSome place (λ a. IsSome (entry_in arena.old (P.Inx.number a.0))) }
+    requires empty { place ≡ None → size_in arena.old ≡ 0 }
+    requires new { Replaces (option_map (λ a. (P.Inx.number a.0, a.1)) place) → ⊥ }
+    requires room { size_in arena.old < arena_capacity arena.old.chains }
+    ensures stands { StandsAt (option_map (λ a. (P.Inx.number a.0, a.1)) place)
+        (order_in P.Inx.number arena.old) (order_in P.Inx.number arena.new) (P.index result) }
+    ensures added { IsAdded P.Inx.number (P.index result) (P.generation result) t
+        arena.old arena.new }
+    ensures counter { arena.new.chains.counter ≡ arena.old.chains.counter }
+    ensures room { arena.new.chains.room ≡ arena.old.chains.room }
+    ensures ordered { IsOrdered P.Inx.number arena.new }
+{
+    let p = arena.insert_inx_manual_within_capacity(place, t);
+    p
 }
 
 /// A place for one item more, where the kind says.

@@ -12,7 +12,10 @@ mod removals;
 mod searches;
 
 pub use copies::clone_from;
-pub use insertions::{entry_insert_within_capacity, insert_inx_manual, insert_within_capacity};
+pub use insertions::{
+    entry_insert_within_capacity, insert_inx_manual, insert_inx_manual_within_capacity,
+    insert_within_capacity,
+};
 pub use layout::compress_canonical;
 pub use removals::remove;
 pub use searches::{find_key_counted, find_key_linear_counted};

@@ -1,5 +1,5 @@
 -- A node is attached, or taken away.
-use Rattle.std.proofs.Common.{◌≡◌, ◌≢◌, ℕ, ◌+◌, ◌<◌, ◌≤◌, length, ◌∷◌, ◌++◌, Option, Some, None, refl, sym, ap, ◌∙◌, subst, arith, inl, inr, length-append}
+use Rattle.std.proofs.Common.{◌≡◌, ℕ, ◌+◌, ◌≤◌, length, ◌∷◌, ◌++◌, Option, Some, None, refl, sym, ap, ◌∙◌, subst, arith, inl, inr, length-append}
 use Rattle.std.proofs.lemmas.Bool.{cases_eq}
 use Rattle.std.specs.Option.{IsSome, IfSome}
 use Rattle.rank_tree.specs.Knot.{Knot}
@@ -8,7 +8,8 @@ use Rattle.rank_tree.specs.declared.side.Side.TheVariants.{Left, Right}
 use Rattle.rank_tree.specs.Store.{Store, with_child, Written, Reparented, Relinked}
 use Rattle.rank_tree.specs.Tree.{Tree, leaf, node, walk, rank_of, IsRanked}
 use Rattle.rank_tree.specs.Shape.{make, knot, root_of, Context, top, under, plug, holder, Hangs, one, count, count_round}
-use Rattle.rank_tree.specs.Repair.{IsRankedRound, Grown, Pending, Gap, filled, Loose, KeptOff}
+use Rattle.rank_tree.specs.Repair.{IsRankedRound, Grown, Pending, Gap, new_below, filled}
+use Rattle.rank_tree.specs.Repair.{Loose, KeptOff}
 use Rattle.rank_tree.specs.FrameLaws.{one-same, one-other, Represents-keep, Hangs-keep, make-count, make-root, make-rank, make-opens, make-closes, plug-count, plug-opens, plug-closes, write-elsewhere, Represents-reparent, reparent-elsewhere, relink-elsewhere, Hangs-relink, count-walk}
 use Rattle.rank_tree.specs.SpotLaws.{is_some as some_at, if_some, root-lives, holder-lives, knot_parent}
 use Rattle.rank_tree.specs.TurningLaws.{make-ranked-opens}
@@ -51,11 +52,12 @@ plug-length c a b h =
 make-length : (s : Side) (a : Tree) (i k : ℕ) (b : Tree) → length (walk (make s a i k b)) ≡ length (walk a) + length (walk b) + 1
 make-length s a i k b = let p = size-walk (make s a i k b) in let q = size-make s a i k b in let l = size-walk a in let r = size-walk b in omega arith
 
-pub attached : (n n1 n2 : Store) (root : Option ℕ) (at_holder : ℕ) (side : Side) (new : ℕ) (g : Gap n root at_holder side new)
-    → Written n n1 new (knot Left (Some at_holder) None 1 None)
-    → Written n1 n2 at_holder (knot side (holder g.context) (Some new) g.rank (root_of g.far))
-    → Grown n2 root new (walk (filled g))
-attached n n1 n2 root at_holder side new g w1 w2 =
+pub attached : (n m : Store) (root : Option ℕ) (at_holder : ℕ) (side : Side) (new : ℕ)
+    (g : Gap n root at_holder side new)
+    → n new ≡ Some (new_below at_holder)
+    → Written n m at_holder (knot side (holder g.context) (Some new) g.rank (root_of g.far))
+    → Grown m root new (walk (filled g))
+attached n m root at_holder side new g slot w =
     let c = g.context in
     let old = make side leaf at_holder g.rank g.far in
     let once : (j : ℕ) → count_round j c + (one j at_holder + count j g.far) ≤ 1 = λ j.
@@ -64,13 +66,13 @@ attached n n1 n2 root at_holder side new g w1 w2 =
     let o = g.fresh in let p = plug-count c new old in let q = make-count side new leaf at_holder g.rank g.far in omega arith in
     let e0 = plug-opens n root c old g.stands in
     let e1 = make-opens side n (holder c) leaf at_holder g.rank g.far e0.1 in
-    let not_new : (j : ℕ) → 0 < count_round j c + count j g.far → one j new ≡ 0 = λ j z. one-other j new
-    (λ e. let f = fresh in let y = subst (λ v. 0 < count_round v c + count v g.far) e z in absurd (omega arith)) in
-    let same : (j : ℕ) → 0 < count_round j c + count j g.far → n2 j ≡ n j = λ j z. let o = once j in write-elsewhere n1 n2 at_holder _ w2 j (omega arith) ∙ write-elsewhere n n1 new _ w1 j
-    (not_new j z) in
-    let round = Hangs-keep n n2 root c (root_of old) (λ j z. same j (omega arith)) e0.0 in
-    let far = Represents-keep n n2 (Some at_holder) g.far (λ j z. same j (omega arith)) e1.2 in
-    let at_new : n2 new ≡ Some (knot Left (Some at_holder) None 1 None) = write-elsewhere n1 n2 at_holder _ w2 new (omega arith) ∙ w1.here in
+    let same : (j : ℕ) → one j at_holder ≡ 0 → m j ≡ n j =
+    λ j z. write-elsewhere n m at_holder _ w j z in
+    let round = Hangs-keep n m root c (root_of old)
+    (λ j z. let o = once j in same j (omega arith)) e0.0 in
+    let far = Represents-keep n m (Some at_holder) g.far
+    (λ j z. let o = once j in same j (omega arith)) e1.2 in
+    let at_new : m new ≡ Some (new_below at_holder) = same new (omega arith) ∙ slot in
     let whole = make side (node leaf new 1 leaf) at_holder g.rank g.far in
     let ranks = plug-ranked-opens (under c side at_holder g.rank g.far) leaf g.ranked in
     record {
@@ -89,22 +91,29 @@ attached n n1 n2 root at_holder side new g w1 w2 =
               | inr d ↦ let f = one-other j new d in omega arith
             ];
       };
-      stands = plug-closes n2 root c whole (subst (λ z. Hangs n2 root c z) (make-root side leaf at_holder g.rank g.far ∙ sym (make-root side (node leaf new 1 leaf) at_holder g.rank g.far)) round)
-          (make-closes side n2 (holder c) (node leaf new 1 leaf) at_holder g.rank g.far w2.here (at_new, tt, tt) far);
+      stands =
+          plug-closes m root c whole
+          (subst (λ z. Hangs m root c z)
+          (make-root side leaf at_holder g.rank g.far
+          ∙ sym (make-root side (node leaf new 1 leaf) at_holder g.rank g.far))
+          round)
+          (make-closes side m (holder c) (node leaf new 1 leaf) at_holder g.rank g.far w.here
+          (at_new, tt, tt) far);
       ranked = (record { above_left = omega arith; near_left = omega arith; above_right = omega arith; near_right = omega arith; childless = omega arith }, tt, tt);
       round = ranks.0;
       is_walk = refl;
       small = let e = filled-length c side at_holder g.rank g.far new in let f = g.small in omega arith;
     }
 
-pub attached_kept : (n n1 n2 : Store) (root : Option ℕ) (at_holder : ℕ) (side : Side) (new : ℕ) (u v : Knot) (g : Gap n root at_holder side new)
-    → Written n n1 new u → Written n1 n2 at_holder v → KeptOff (walk (filled g)) n n2
-attached_kept n n1 n2 root at_holder side new u v g w1 w2 = λ j off.
+pub attached_kept : (n m : Store) (root : Option ℕ) (at_holder : ℕ) (side : Side) (new : ℕ)
+    (v : Knot) (g : Gap n root at_holder side new)
+    → Written n m at_holder v → KeptOff (walk (filled g)) n m
+attached_kept n m root at_holder side new v g w = λ j off.
     let t = node leaf new 1 leaf in
     let z = count-walk j (filled g) ∙ off in
     let p = plug-count g.context j (make side t at_holder g.rank g.far) in
     let q = make-count side j t at_holder g.rank g.far in
-    write-elsewhere n1 n2 at_holder v w2 j (omega arith) ∙ write-elsewhere n n1 new u w1 j (omega arith)
+    write-elsewhere n m at_holder v w j (omega arith)
 
 pub detached : (n n1 n2 : Store) (root new_root : Option ℕ) (gone : ℕ) (h : Loose n root gone)
     → Reparented n n1 (root_of h.sub) (holder h.context)
@@ -143,29 +152,39 @@ detached_kept n n1 n2 root new_root gone h w1 w2 = λ j off.
     relink-elsewhere n1 n2 root new_root c gone (root_of h.sub) w2 j (omega arith) ∙ reparent-elsewhere n n1 (holder c) h.sub w1 j (omega arith)
 
 -- what the code reads
-pub gap_lives : (n : Store) (root : Option ℕ) (at_holder : ℕ) (side : Side) (new : ℕ) → Gap n root at_holder side new → IsSome (n at_holder)
-gap_lives n root at_holder side new g =
+gap_knot : (n : Store) (root : Option ℕ) (at_holder : ℕ) (side : Side) (new : ℕ)
+    (g : Gap n root at_holder side new)
+    → n at_holder ≡ Some (knot side (holder g.context) None g.rank (root_of g.far))
+gap_knot n root at_holder side new g =
     let e0 = plug-opens n root g.context (make side leaf at_holder g.rank g.far) g.stands in
-    some_at (n at_holder) _ (make-opens side n (holder g.context) leaf at_holder g.rank g.far e0.1).0
+    (make-opens side n (holder g.context) leaf at_holder g.rank g.far e0.1).0
+
+pub gap_lives : (n : Store) (root : Option ℕ) (at_holder : ℕ) (side : Side) (new : ℕ)
+    → Gap n root at_holder side new → IsSome (n at_holder)
+gap_lives n root at_holder side new g =
+    some_at (n at_holder) _ (gap_knot n root at_holder side new g)
 
 knot_filled : (s : Side) (p : Option ℕ) (k : ℕ) (b link : Option ℕ) → with_child s link (knot s p None k b) ≡ knot s p link k b
 knot_filled Left p k b link = refl
 knot_filled Right p k b link = refl
 
-pub attach_works : (n n1 n2 : Store) (root : Option ℕ) (at_holder : ℕ) (side : Side) (new : ℕ) (above value : Knot)
-    → Written n n1 new (knot Left (Some at_holder) None 1 None) → n1 at_holder ≡ Some above → value ≡ with_child side (Some new) above → Written n1 n2 at_holder value
-    → (g : Gap n root at_holder side new) → Grown n2 root new (walk (filled g))
-attach_works n n1 n2 root at_holder side new above value w1 e ev w2 g =
-    let c = g.context in
-    let old = make side leaf at_holder g.rank g.far in
-    let e0 = plug-opens n root c old g.stands in
-    let e1 = make-opens side n (holder c) leaf at_holder g.rank g.far e0.1 in
-    let other : at_holder ≢ new = λ u.
-    let o = g.fresh in let p = plug-count c new old in let q = make-count side new leaf at_holder g.rank g.far in
-    let f : one new at_holder ≡ 1 = rw u (one-same new) in absurd (omega arith) in
-    let is : above ≡ knot side (holder c) None g.rank (root_of g.far) = cc (e1.0, w1.elsewhere at_holder other) in
-    let value_is : value ≡ knot side (holder c) (Some new) g.rank (root_of g.far) = ev ∙ ap (λ v. with_child side (Some new) v) is ∙ knot_filled side (holder c) g.rank (root_of g.far) (Some new) in
-    attached n n1 n2 root at_holder side new g w1 (subst (λ v. Written n1 n2 at_holder v) value_is w2)
+-- the holder has the new node as its child
+module _ (n m : Store) (root : Option ℕ) (at_holder : ℕ) (side : Side) (new : ℕ)
+    (does : (v : Knot) → n at_holder ≡ Some v
+    → Written n m at_holder (with_child side (Some new) v))
+    (g : Gap n root at_holder side new) where
+  child_written : Written n m at_holder
+      (knot side (holder g.context) (Some new) g.rank (root_of g.far))
+  child_written =
+      subst (λ v. Written n m at_holder v)
+      (knot_filled side (holder g.context) g.rank (root_of g.far) (Some new))
+      (does _ (gap_knot n root at_holder side new g))
+
+  pub attach_works : n new ≡ Some (new_below at_holder) → Grown m root new (walk (filled g))
+  attach_works slot = attached n m root at_holder side new g slot child_written
+
+  pub attach_kept : KeptOff (walk (filled g)) n m
+  attach_kept = attached_kept n m root at_holder side new _ g child_written
 
 pub loose_knot : (n : Store) (root : Option ℕ) (gone : ℕ) (h : Loose n root gone) → n gone ≡ Some (knot h.side (holder h.context) (root_of h.sub) h.rank None)
 loose_knot n root gone h = (make-opens h.side n (holder h.context) h.sub gone h.rank leaf (plug-opens n root h.context (make h.side h.sub gone h.rank leaf) h.stands).1).0

@@ -3,13 +3,14 @@ ghost use Rattle.std.specs.Prelude.{◌≡◌, ℕ, Some, None, IsSome};
 ghost use Rattle.std.specs.Option.{option_map};
 ghost use Rattle.rank_tree.specs.Tree.{node, walk};
 ghost use Rattle.rank_tree.specs.Shape.{plug, Stands};
-ghost use Rattle.rank_tree.specs.Repair.{Exchange, Gap, filled, Grown, Loose, Pending, KeptOff};
+ghost use Rattle.rank_tree.specs.Repair.{Exchange, Gap, filled, new_below, Grown, Loose};
+ghost use Rattle.rank_tree.specs.Repair.{Pending, KeptOff};
 
 use crate::knots::{relink, reparent};
 use crate::{Knots, Side, TreeLinks};
 use triple_arena_ptr::{PtrCore, PtrInxCore};
 
-/// A new leaf below a node.
+/// A new leaf, which names the node as its parent, below that node.
 pub(crate) fn attach<N, P: PtrCore, K: Knots<N, P>>(
     knots: &mut K,
     root: Option<P::Inx>,
@@ -18,24 +19,15 @@ pub(crate) fn attach<N, P: PtrCore, K: Knots<N, P>>(
     new: P::Inx,
 )
     requires gap { Gap (K.knots knots.old) (option_map P.Inx.number root) (P.Inx.number holder) side (P.Inx.number new) }
-    requires slot { IsSome (K.knots knots.old (P.Inx.number new)) }
+    requires slot { K.knots knots.old (P.Inx.number new)
+        ≡ Some (new_below (P.Inx.number holder)) }
     ensures does { (gap : Gap (K.knots knots.old) (option_map P.Inx.number root) (P.Inx.number holder) side (P.Inx.number new))
         → Grown (K.knots knots.new) (option_map P.Inx.number root) (P.Inx.number new) (walk (filled gap)) }
     ensures elsewhere { (gap : Gap (K.knots knots.old) (option_map P.Inx.number root) (P.Inx.number holder) side (P.Inx.number new))
         → KeptOff (walk (filled gap)) (K.knots knots.old) (K.knots knots.new) }
     ensures keeps { K.rest knots.new ≡ K.rest knots.old }
 {
-    knots.write(
-        new,
-        &TreeLinks {
-            parent: Some(holder),
-            left: None,
-            right: None,
-            rank: 1,
-        },
-    );
-    let above = knots.read(holder);
-    knots.write(holder, &above.with_child(side, Some(new)));
+    knots.set_child(holder, side, &Some(new));
 }
 
 /// A node with at most one child leaves the tree; the answer is where the rules may be broken.

@@ -1,8 +1,8 @@
 //! The rank rules are restored after an insertion.
-ghost use Rattle.std.specs.Prelude.{◌≡◌, ◌≢◌, ℕ, ◌+◌, ◌<◌, ◌≤◌, List, IsSome, ⊤};
+ghost use Rattle.std.specs.Prelude.{◌≡◌, ◌≢◌, ℕ, ◌+◌, ◌<◌, ◌≤◌, List, Some, ⊤};
 ghost use Rattle.std.specs.Option.{option_map};
 ghost use Rattle.rank_tree.specs.Tree.{walk};
-ghost use Rattle.rank_tree.specs.Repair.{Leaning, Grown, Restored, Gap, filled, KeptOff};
+ghost use Rattle.rank_tree.specs.Repair.{Leaning, Grown, Restored, Gap, filled, new_below, KeptOff};
 
 use crate::edges::attach;
 use crate::knots::rank_at;
@@ -71,7 +71,9 @@ pub(crate) fn repair_inserted<N, P: PtrCore, K: Knots<N, P>>(
     }
 }
 
-/// Hangs the node at `new`, which is not in the tree, below `holder`, on a side on which that has no child. After it the rules hold.
+/// Hangs the node at `new` below `holder`, on a side on which that has no child. It is not in the
+/// tree, and was written as a leaf of rank 1 that has `holder` as its parent. After it the rules
+/// hold.
 pub fn bring_in<N, P: PtrCore, K: Knots<N, P>>(
     knots: &mut K,
     root: &mut Option<P::Inx>,
@@ -80,7 +82,8 @@ pub fn bring_in<N, P: PtrCore, K: Knots<N, P>>(
     new: P::Inx,
 )
     requires gap { Gap (K.knots knots.old) (option_map P.Inx.number root.old) (P.Inx.number holder) side (P.Inx.number new) }
-    requires slot { IsSome (K.knots knots.old (P.Inx.number new)) }
+    requires slot { K.knots knots.old (P.Inx.number new)
+        ≡ Some (new_below (P.Inx.number holder)) }
     ensures does { (gap : Gap (K.knots knots.old) (option_map P.Inx.number root.old) (P.Inx.number holder) side (P.Inx.number new))
         → Restored (K.knots knots.new) (option_map P.Inx.number root.new) (walk (filled gap)) }
     ensures elsewhere { (gap : Gap (K.knots knots.old) (option_map P.Inx.number root.old) (P.Inx.number holder) side (P.Inx.number new))

@@ -1,56 +1,61 @@
--- What a removal makes of a store that was packed first, since a counter would have started again.
-use Rattle.std.proofs.Common.{◌≡◌, ◌∙◌, sym, ap, subst, refl, Bool, true, false, ℕ, Option, Result, Ok, Err, true≢false}
+-- What a removal makes of a store that was packed first if a counter would have started again.
+use Rattle.std.proofs.Common.{◌≡◌, ◌∙◌, sym, ap, subst, refl, Bool, true, false, ℕ, Option, Ok, true≢false}
 use Rattle.triple_arena_ptr.specs.Generation.{next_wraps, second_generation}
 use Rattle.ticket_book.specs.declared.entry.Kind.{Kind}
 use Rattle.ticket_book.specs.declared.entry.Kind.TheVariants.{Place as OfPlace, Stop as OfStop, Mark as OfMark}
-use Rattle.route_lines.specs.Calls.{after_removed}
+use Rattle.route_lines.specs.Calls.{after_removed, removed}
 use Rattle.route_lines.specs.State.{State, Item, holder}
-use Rattle.route_lines.specs.declared.refusal.Refusal.{Refusal}
 use Rattle.route_book.specs.Book.{Book}
-use Rattle.route_book.specs.Removals.{IsEnded, IsPacked, IsRemoved, Removes, Tries, kind_of, removal_wraps}
+use Rattle.route_book.specs.Removals.{Ends, IsEnded, IsPacked, IsReady, IsRemoved, Removes, kind_of, removal_wraps}
 use Rattle.route_book.specs.Rooms.{counts_short}
 use Rattle.route_book.proofs.OrderLemmas.{counts_on}
 
-ok_same : {X Y : Type 0} {x y : X} → ◌≡◌ {A = Result X Y} (Ok x) (Ok y) → x ≡ y
-ok_same e = cc
+pub removed_ok : (s : State) (t : ℕ) (item : Item) → holder s t ≡ Ok item → Ok tt ≡ removed s t
+removed_ok s t item is = rw is refl
 
-module _ {I : Type 0} (number : I → ℕ) (last : Option ℕ) (t : ℕ) (old mid packed new : Book I) (before after : ℕ)
-    (first : Tries last t old mid (Ok false)) (state : packed.state ≡ mid.state) (pack : IsPacked number last before after mid packed) (counts : counts_short last ≡ false)
-    (result : Result Bool Refusal) (second : Tries last t packed new result) where
-  abbrev item : Item
-  item = first.0
+-- what ends is said of a ticket and a kind that have other names
+pub ends_as : {I : Type 0} (last : Option ℕ) (ready new : Book I) (t u : ℕ) (kind like : Kind) → t ≡ u → kind ≡ like
+    → Ends last kind t ready new → Ends last like u ready new
+ends_as last ready new t u kind like same alike h =
+    subst (λ k. Ends last k u ready new) alike (subst (λ n. Ends last kind n ready new) same h)
 
-  same : packed.state ≡ old.state
-  same = state ∙ ap (λ (b : Book I). b.state) first.1.1.1
-
-  held : holder packed.state t ≡ Ok item
-  held = ap (λ (s : State). holder s t) same ∙ first.1.0
-
-  calm : (g : ℕ) → g ≡ second_generation last → next_wraps last g ≡ false
-  calm g is = ap (next_wraps last) is ∙ (counts_on last counts).1.1
-
-  no_wrap : (kind : Kind) → removal_wraps last packed kind ≡ false
-  no_wrap OfPlace = calm packed.places.chains.counter pack.place_counter
-  no_wrap OfStop = calm packed.stops.counter pack.stop_counter
-  no_wrap OfMark = refl
-
-  ended : (x : Item) → holder packed.state t ≡ Ok x → IsEnded last (kind_of x) t packed new
-      → IsEnded last (kind_of item) t packed new
-  ended x is h = subst (λ y. IsEnded last (kind_of y) t packed new) (ok_same (sym is ∙ held)) h
-
-  removed : (kind : Kind) → removal_wraps last old kind ≡ true → IsEnded last kind t packed new
-      → IsRemoved number last kind t before after old new
-  removed OfPlace wraps h = rw wraps (packed, (same, (subst (λ b. IsPacked number last before after b packed) first.1.1.1 pack, h)))
-  removed OfStop wraps h = rw wraps (packed, (same, (subst (λ b. IsPacked number last before after b packed) first.1.1.1 pack, h)))
-  removed OfMark wraps h = absurd (true≢false (sym wraps))
-
-  pub removed_after_pack : (new.state ≡ after_removed old.state t) × Removes number last t before after old new (holder old.state t)
-  removed_after_pack = by result second
+module _ {I : Type 0} (number : I → ℕ) (last : Option ℕ) (old ready : Book I) (before after : ℕ) (kind : Kind)
+    (needed : Bool) (is : needed ≡ removal_wraps last old kind) (pack : IsReady number last needed before after old ready) where
+  -- then no removal of an item of the kind starts a counter again
+  pub calm_ready : counts_short last ≡ false → removal_wraps last ready kind ≡ false
+  calm_ready counts = by needed is pack
     where
-      by : (r : Result Bool Refusal) → Tries last t packed new r → (new.state ≡ after_removed old.state t) × Removes number last t before after old new (holder old.state t)
-      by (Ok true) tries = (
-        tries.1.1.1.1 ∙ ap (λ (s : State). after_removed s t) same,
-        subst (Removes number last t before after old new) (sym first.1.0) (removed (kind_of item) first.1.1.0 (ended tries.0 tries.1.0 tries.1.1.1.0)),
-      )
-      by (Ok false) tries = absurd (true≢false (sym tries.1.1.0 ∙ no_wrap (kind_of tries.0)))
-      by (Err refusal) tries = absurd (let no : ◌≡◌ {A = Result Item Refusal} (Ok item) (Err refusal) = sym held ∙ tries.0 in cc)
+      calm : (g : ℕ) → g ≡ second_generation last → next_wraps last g ≡ false
+      calm g two = ap (next_wraps last) two ∙ (counts_on last counts).1.1
+
+      packed : (k : Kind) → IsPacked number last before after old ready → removal_wraps last ready k ≡ false
+      packed OfPlace p = calm ready.places.chains.counter p.place_counter
+      packed OfStop p = calm ready.stops.counter p.stop_counter
+      packed OfMark p = refl
+
+      by : (w : Bool) → w ≡ removal_wraps last old kind → IsReady number last w before after old ready
+          → removal_wraps last ready kind ≡ false
+      by false calm_was same = ap (λ b. removal_wraps last b kind) same.0 ∙ sym calm_was
+      by true wraps p = packed kind p
+
+  module _ (t : ℕ) (new : Book I) (state : ready.state ≡ old.state) (ends : Ends last kind t ready new) where
+    pub held : holder old.state t ≡ Ok ends.0
+    held = sym (ap (λ (s : State). holder s t) state) ∙ ends.1.0
+
+    gone : (k : Kind) (w : Bool) → removal_wraps last old k ≡ w → IsReady number last w before after old ready
+        → IsEnded last k t ready new → IsRemoved number last k t before after old new
+    gone OfPlace false stays same h = rw stays (same.1, subst (λ b. IsEnded last OfPlace t b new) same.0 h)
+    gone OfStop false stays same h = rw stays (same.1, subst (λ b. IsEnded last OfStop t b new) same.0 h)
+    gone OfMark false stays same h = (same.1, subst (λ b. IsEnded last OfMark t b new) same.0 h)
+    gone OfPlace true wraps p h = rw wraps (ready, (state, (p, h)))
+    gone OfStop true wraps p h = rw wraps (ready, (state, (p, h)))
+    gone OfMark true wraps p h = absurd (true≢false (sym wraps))
+
+    pub state_so : new.state ≡ after_removed old.state t
+    state_so = ends.1.1.1.1 ∙ ap (λ (s : State). after_removed s t) state
+
+    pub removed_so : Removes number last t before after old new (holder old.state t)
+    removed_so =
+        subst (Removes number last t before after old new) (sym held)
+        (subst (λ k. IsRemoved number last k t before after old new) (sym ends.1.1.0)
+        (gone kind needed (sym is) pack ends.1.1.1.0))

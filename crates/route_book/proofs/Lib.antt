@@ -16,6 +16,7 @@ pub mod ListedLemmas
 pub mod LookLemmas
 pub mod MarkLemmas
 pub mod MirrorLemmas
+pub mod MovedStoreLemmas
 pub mod NearLemmas
 pub mod NeighborLemmas
 pub mod NewItemLemmas
@@ -24,6 +25,7 @@ pub mod NoteLemmas
 pub mod OptionLemmas
 pub mod OrderLemmas
 pub mod PackLemmas
+pub mod PackedRunLemmas
 pub mod PassedLemmas
 pub mod PlaceLemmas
 pub mod RelinkLemmas
@@ -36,5 +38,6 @@ pub mod StartLemmas
 pub mod StopLemmas
 pub mod StopWalkLemmas
 pub mod SweepStepLemmas
+pub mod TransferLemmas
 pub mod WalkedLemmas
 pub mod WholeLemmas

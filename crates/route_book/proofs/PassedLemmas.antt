@@ -61,7 +61,7 @@ module _ {A : Type 0} (f g : ℕ → Option A) (i : ℕ) (none : f i ≡ None) (
 
 module _ {T : Type 0} where
   -- the entries have indexes from this one on, each above those before it
-  pub RiseFrom : ℕ → List (ℕ × (ℕ × T)) → Type 0
+  unfoldable pub RiseFrom : ℕ → List (ℕ × (ℕ × T)) → Type 0
   RiseFrom n [] = Unit {0}
   RiseFrom n (e ∷ l) = (n ≤ e.0) × RiseFrom (e.0 + 1) l
 

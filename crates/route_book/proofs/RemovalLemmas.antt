@@ -1,5 +1,5 @@
 -- What a removal is told by the book, by its arena and by the model, and what it tells.
-use Rattle.std.proofs.Common.{◌≡◌, ◌≢◌, ◌∙◌, sym, ap, subst, refl, Bool, true, false, ◌==◌, ◌||◌, nat_lt, if◌then◌else◌, ℕ, ◌≤◌, List, Option, Some, None, OnSome, true≢false, inl, inr, Result, Ok, Err}
+use Rattle.std.proofs.Common.{◌≡◌, ◌≢◌, ◌∙◌, sym, ap, subst, refl, Bool, true, false, ◌==◌, ◌||◌, nat_lt, if◌then◌else◌, ℕ, ◌<◌, ◌≤◌, List, Option, Some, None, OnSome, inl, inr, arith, Result, Ok, Err}
 use Rattle.std.specs.Option.{ok_or, option_map, option_or}
 use Rattle.std.proofs.lemmas.Bool.Decides.{eqb_tells}
 use Rattle.triple_arena_ptr.specs.Generation.{next_wraps}
@@ -12,20 +12,20 @@ use Rattle.triple_arena_ord.specs.Ordered.{Ordered, IsOrdered, entry_in}
 use Rattle.triple_arena_ord.specs.Removal.{IsEntryRemoved}
 use Rattle.ticket_book.specs.declared.entry.Kind.{Kind}
 use Rattle.ticket_book.specs.declared.entry.Kind.TheVariants.{Place as OfPlace, Stop as OfStop, Mark as OfMark}
-use Rattle.ticket_book.specs.Tickets.{Entry, lookup, stays, without_ticket}
+use Rattle.ticket_book.specs.Tickets.{Entry, lookup, without_ticket}
 use Rattle.route_lines.specs.Calls.{after_removed, without_mark, without_place, without_stop}
 use Rattle.route_lines.specs.Sound.{IsSound}
 use Rattle.route_lines.specs.State.{State, Rooms, Place, Stop, Mark, Item, place, stop, mark, holder, living, place_of, stop_of, mark_of, stop_list}
 use Rattle.route_lines.specs.declared.refusal.Refusal.{Refusal}
 use Rattle.route_lines.specs.declared.refusal.Refusal.TheVariants.{Unknown, Gone}
-use Rattle.route_book.specs.Book.{Book, found_in, IsBook}
+use Rattle.route_book.specs.Book.{Book, as_book, found_in, IsBook}
 use Rattle.route_book.specs.Holds.{Found, item_under, state_mark, state_stop}
 use Rattle.route_book.specs.Item.{StopView, MarkView}
-use Rattle.route_book.specs.Removals.{OthersStay, Tries}
+use Rattle.route_book.specs.Removals.{Ends, OthersStay, removal_wraps}
 use Rattle.route_book.proofs.EndMarkLemmas.{IsMarkGone, mark_leaves, marks_stay}
 use Rattle.route_book.proofs.EndPlaceLemmas.{IsPlaceGone, place_leaves, place_steps, places_stay}
 use Rattle.route_book.proofs.EndStopLemmas.{IsStopGone, stop_leaves, stop_steps, stops_stay}
-use Rattle.route_book.proofs.HoldLemmas.{holder_found}
+use Rattle.route_book.proofs.HoldLemmas.{holder_found, lookup_given}
 use Rattle.route_book.proofs.OptionLemmas.{found_has, mapped_some, some_same}
 
 -- the item that a ticket has, has it
@@ -71,18 +71,25 @@ module _ (s : State) (t : ℕ) where
       by None None None there has = absurd (let no : ◌≡◌ {A = Option Item} None (Some (mark m)) = has in cc)
       by None None (Some n) there has = found_has (λ (x : Mark). x.ticket) t s.marks m (there ∙ ap Some (let same : ◌≡◌ {A = Option Item} (Some (mark n)) (Some (mark m)) = has in cc))
 
-module _ {I : Type 0} (number : I → ℕ) (rooms : Rooms) (last : ℕ) (s : State) (places : Ordered I Place) (stops : Content (IndexLink I StopView)) (marks : Content MarkView)
-    (book : List Entry) (b : IsBook number rooms last s places stops marks book) (k : Book I) (view : record { state = s; places = places; stops = stops; marks = marks } ≡ k)
-    (t : ℕ) (positive : t ≢ 0) (given : t ≤ s.last) (e : Entry) (found : lookup book t ≡ Some e) (i g : ℕ) (index : i ≡ e.index) (generation : g ≡ e.generation) where
+module _ {I : Type 0} (number : I → ℕ) (rooms : Rooms) (last : ℕ) (s : State) (places : Ordered I Place)
+    (stops : Content (IndexLink I StopView)) (marks : Content MarkView) (book : List Entry)
+    (b : IsBook number rooms last s places stops marks book) (e : Entry) (found : lookup book e.ticket ≡ Some e)
+    (i g : ℕ) (index : i ≡ e.index) (generation : g ≡ e.generation) where
   abbrev f : Found
   f = found_in places stops marks
 
-  abbrev as_seen : Book I
-  as_seen = record { state = s; places = places; stops = stops; marks = marks }
+  abbrev t : ℕ
+  t = e.ticket
+
+  given : (0 < t) × (t ≤ s.last)
+  given = let there = lookup_given book 0 s.last t e b.held.rise found in (there.1, there.2)
+
+  positive : t ≢ 0
+  positive same = let above = given.0 in omega (arith, above, same)
 
   under : (kind : Kind) → e.kind ≡ kind → (item : Item) × ((holder s t ≡ Ok item) × (item_under f kind i g ≡ Some item))
   under kind is =
-      let there = holder_found s f _ _ book b.held t positive given e found in
+      let there = holder_found s f _ _ book b.held t positive given.1 e found in
       (there.0, (there.1.0, ap (λ q. item_under f q i g) (sym is) ∙ ap (λ n. item_under f e.kind n g) index ∙ ap (item_under f e.kind e.index) generation ∙ there.1.1))
 
   -- ---- a place
@@ -107,31 +114,28 @@ module _ {I : Type 0} (number : I → ℕ) (rooms : Rooms) (last : ℕ) (s : Sta
           subst (λ u. IsPlaceGone s s' u → IsBook number rooms last s' places' stops marks (without_ticket u book)) ticket
           (λ gone. place_leaves number rooms last s places places' stops marks book b i g p found_place.1.0 ordered final top counts calm removed s' gone sound) laws
 
-      pub place_tries : (s' : State) → s' ≡ after_removed s t → Tries final t k (record { state = s'; places = places'; stops = stops; marks = marks }) (Ok true)
-      place_tries s' is =
-          subst (λ x. Tries final t x (record { state = s'; places = places'; stops = stops; marks = marks }) (Ok true)) view (
-            place p,
+      pub place_ends : (s' : State) → s' ≡ after_removed s t
+          → Ends final OfPlace t (as_book s places stops marks) (as_book s' places' stops marks)
+      place_ends s' is = (
+        place p,
+        (
+          found_place.1.1,
+          (
+            refl,
             (
-              found_place.1.1,
-              (
-                calm,
-                (
-                  record {
-                    counter = place_steps number rooms last s places places' stops marks book b i g p found_place.1.0 ordered final top counts calm removed;
-                    room = removed.room;
-                    others = subst (λ u. OthersStay (λ (q : Place). q.ticket) u (entry_in places) (entry_in places')) ticket
-                        (places_stay number rooms last s places places' stops marks book b i g p found_place.1.0 ordered final top counts calm removed);
-                    stops = refl;
-                    marks = refl;
-                  },
-                  is,
-                ),
-              ),
+              record {
+                room = removed.room;
+                counter = place_steps number rooms last s places places' stops marks book b i g p found_place.1.0 ordered final top counts calm removed;
+                others = subst (λ u. OthersStay (λ (q : Place). q.ticket) u (entry_in places) (entry_in places')) ticket
+                    (places_stay number rooms last s places places' stops marks book b i g p found_place.1.0 ordered final top counts calm removed);
+                stops = refl;
+                marks = refl;
+              },
+              is,
             ),
-          )
-
-    place_wraps : (final : Option ℕ) → next_wraps final places.chains.counter ≡ true → Tries final t k as_seen (Ok false)
-    place_wraps final wraps = subst (λ x. Tries final t x as_seen (Ok false)) view (place found_place.0, (found_place.1.1, (wraps, refl)))
+          ),
+        ),
+      )
 
   -- ---- a stop
 
@@ -155,31 +159,28 @@ module _ {I : Type 0} (number : I → ℕ) (rooms : Rooms) (last : ℕ) (s : Sta
           subst (λ u. IsStopGone s s' u → IsBook number rooms last s' places stops' marks (without_ticket u book)) stop_named
           (λ gone. stop_leaves number rooms last s places stops stops' marks book b i g v found_stop.1.0 chained final top counts calm taken s' gone sound) laws
 
-      pub stop_tries : (s' : State) → s' ≡ after_removed s t → Tries final t k (record { state = s'; places = places; stops = stops'; marks = marks }) (Ok true)
-      stop_tries s' is =
-          subst (λ x. Tries final t x (record { state = s'; places = places; stops = stops'; marks = marks }) (Ok true)) view (
-            stop (state_stop f v),
+      pub stop_ends : (s' : State) → s' ≡ after_removed s t
+          → Ends final OfStop t (as_book s places stops marks) (as_book s' places stops' marks)
+      stop_ends s' is = (
+        stop (state_stop f v),
+        (
+          found_stop.1.1,
+          (
+            refl,
             (
-              found_stop.1.1,
-              (
-                calm,
-                (
-                  record {
-                    counter = stop_steps number rooms last s places stops stops' marks book b i g v found_stop.1.0 chained final top counts calm taken;
-                    room = taken.room;
-                    others = subst (λ u. OthersStay (λ (w : StopView). w.ticket) u (values_in stops) (values_in stops')) stop_named
-                        (stops_stay number rooms last s places stops stops' marks book b i g v found_stop.1.0 chained final top counts calm taken);
-                    places = refl;
-                    marks = refl;
-                  },
-                  is,
-                ),
-              ),
+              record {
+                room = taken.room;
+                counter = stop_steps number rooms last s places stops stops' marks book b i g v found_stop.1.0 chained final top counts calm taken;
+                others = subst (λ u. OthersStay (λ (w : StopView). w.ticket) u (values_in stops) (values_in stops')) stop_named
+                    (stops_stay number rooms last s places stops stops' marks book b i g v found_stop.1.0 chained final top counts calm taken);
+                places = refl;
+                marks = refl;
+              },
+              is,
             ),
-          )
-
-    stop_wraps : (final : Option ℕ) → next_wraps final stops.counter ≡ true → Tries final t k as_seen (Ok false)
-    stop_wraps final wraps = subst (λ x. Tries final t x as_seen (Ok false)) view (stop (state_stop f found_stop.0), (found_stop.1.1, (wraps, refl)))
+          ),
+        ),
+      )
 
   -- ---- a mark
 
@@ -202,44 +203,49 @@ module _ {I : Type 0} (number : I → ℕ) (rooms : Rooms) (last : ℕ) (s : Sta
           subst (λ u. IsMarkGone s s' u → IsBook number rooms last s' places stops marks' (without_ticket u book)) mark_named
           (λ gone. mark_leaves number rooms last s places stops marks marks' book b i g w found_mark.1.0 final removed s' gone sound) laws
 
-      pub mark_tries : (s' : State) → s' ≡ after_removed s t → Tries final t k (record { state = s'; places = places; stops = stops; marks = marks' }) (Ok true)
-      mark_tries s' is =
-          subst (λ x. Tries final t x (record { state = s'; places = places; stops = stops; marks = marks' }) (Ok true)) view (
-            mark (state_mark f w),
+      pub mark_ends : (s' : State) → s' ≡ after_removed s t
+          → Ends final OfMark t (as_book s places stops marks) (as_book s' places stops marks')
+      mark_ends s' is = (
+        mark (state_mark f w),
+        (
+          found_mark.1.1,
+          (
+            refl,
             (
-              found_mark.1.1,
-              (
-                refl,
-                (
-                  record {
-                    counter = some_same removed.counter;
-                    room = removed.room;
-                    others = subst (λ u. OthersStay (λ (x : MarkView). x.ticket) u (entry_at marks) (entry_at marks')) mark_named
-                        (marks_stay number rooms last s places stops marks marks' book b i g w found_mark.1.0 final removed);
-                    places = refl;
-                    stops = refl;
-                  },
-                  is,
-                ),
-              ),
+              record {
+                counter = some_same removed.counter;
+                room = removed.room;
+                others = subst (λ u. OthersStay (λ (x : MarkView). x.ticket) u (entry_at marks) (entry_at marks')) mark_named
+                    (marks_stay number rooms last s places stops marks marks' book b i g w found_mark.1.0 final removed);
+                places = refl;
+                stops = refl;
+              },
+              is,
             ),
-          )
-
-  -- ---- what stays, since a counter would start again
-
-  pub stays_as_is : (final : Option ℕ) (over over' : Bool) → over ≡ next_wraps final places.chains.counter → over' ≡ next_wraps final stops.counter → true ≡ stays over over' e.kind
-      → Tries final t k as_seen (Ok false)
-  stays_as_is final over over' of_places of_stops stay = by e.kind refl stay
-    where
-      by : (kind : Kind) → e.kind ≡ kind → true ≡ stays over over' kind → Tries final t k as_seen (Ok false)
-      by OfPlace kind stay = place_wraps kind final (sym of_places ∙ sym stay)
-      by OfStop kind stay = stop_wraps kind final (sym of_stops ∙ sym stay)
-      by OfMark kind stay = absurd (true≢false stay)
+          ),
+        ),
+      )
 
 -- what a removal tells that finds an item
 pub told : {A X : Type 0} (value : A → X) (answer : Option A) (x : X) (Q : Type 0) → option_map value answer ≡ Some x → OnSome answer Q → Q
 told value None x Q none h = absurd (let no : ◌≡◌ {A = Option _} None (Some x) = none in cc)
 told value (Some a) x Q some h = h
+
+-- no counter starts again that is that of the kind of an entry
+pub calm_of : {I : Type 0} (last : Option ℕ) (b : Book I) (at : Option Entry) (e : Entry) → at ≡ Some e
+    → (x : Entry) × (at ≡ Some x) × (removal_wraps last b x.kind ≡ false)
+    → (kind : Kind) → e.kind ≡ kind → removal_wraps last b kind ≡ false
+calm_of last b at e is all kind same =
+    subst (λ k. removal_wraps last b k ≡ false)
+    (ap (λ (y : Entry). y.kind) (some_same (sym all.1 ∙ is)) ∙ same) all.2
+
+-- what ends is said of an entry that has another name
+pub ends_of : {I : Type 0} (last : Option ℕ) (at : Option Entry) (e : Entry) → at ≡ Some e → (old new : Book I) (kind : Kind)
+    → e.kind ≡ kind → Ends last kind e.ticket old new
+    → (x : Entry) → at ≡ Some x → Ends last x.kind x.ticket old new
+ends_of last at e is old new kind same h x other =
+    subst (λ (y : Entry). Ends last y.kind y.ticket old new) (some_same (sym is ∙ other))
+    (subst (λ k. Ends last k e.ticket old new) (sym same) h)
 
 -- the model's words for what is left, by the kind of what had the ticket
 pub place_is : (s : State) (t : ℕ) (p : Place) → holder s t ≡ Ok (place p) → after_removed s t ≡ without_place s t

@@ -3,6 +3,7 @@ use Rattle.std.proofs.Common.{◌≡◌, ◌∙◌, sym, ap, subst, refl, ℕ, z
 use Rattle.std.specs.Option.{option_map}
 use Rattle.std.specs.List.{range_with_len}
 use Rattle.triple_arena_ptr.specs.Generation.{second_generation}
+use Rattle.triple_arena_stack.specs.Room.{Room, capacity}
 use Rattle.triple_arena.specs.Content.{Content, entry_at, live_count, arena_capacity}
 use Rattle.triple_arena_chain.specs.declared.link.IndexLink.{IndexLink}
 use Rattle.triple_arena_chain.specs.Chains.{On}
@@ -16,12 +17,40 @@ use Rattle.route_book.specs.Holds.{IsLive}
 use Rattle.route_book.specs.Book.{IsBook}
 use Rattle.route_book.specs.Removals.{HaveGeneration}
 use Rattle.route_book.specs.Compressed.{IsAllCompressed}
-use Rattle.route_book.specs.Packing.{IsMoved, IsMirrored, IsBooked, recast_stop, recast_mark}
+use Rattle.route_book.specs.Packing.{IsMoved, IsMirrored, IsBooked, StandAs, recast_stop, recast_mark}
 use Rattle.ticket_book.specs.Mirrors.{Mirror, renewed_entry}
 use Rattle.route_book.proofs.BookPackLemmas.{places_moved, stops_moved, marks_moved}
 use Rattle.route_book.proofs.BookPackLemmas.{places_booked, stops_booked, marks_booked}
 use Rattle.route_book.proofs.BookPackLemmas.{pack_kept, no_dead_stop, no_dead_mark}
 use Rattle.route_book.proofs.OptionLemmas.{mapped_some}
+
+-- what ties the parts of a store says its rooms and its last ticket as its state has them
+module _ {I : Type 0} (number : I → ℕ) (rooms : Rooms) (last : ℕ) (s : State) (places : Ordered I Place)
+    (stops : Content (IndexLink I StopView)) (marks : Content MarkView) (book : List Entry)
+    (b : IsBook number rooms last s places stops marks book) where
+  pub of_state : IsBook number s.rooms s.last s places stops marks book
+  of_state =
+      subst (λ l. IsBook number s.rooms l s places stops marks book) (sym b.last_is)
+      (subst (λ r. IsBook number r last s places stops marks book) (sym b.within.rooms_are) b)
+
+  -- and what was changed within them, as the store has them
+  pub in_store : (s' : State) (places' : Ordered I Place) (stops' : Content (IndexLink I StopView)) (marks' : Content MarkView)
+      (book' : List Entry) → IsBook number s.rooms s.last s' places' stops' marks' book'
+      → IsBook number rooms last s' places' stops' marks' book'
+  in_store s' places' stops' marks' book' b' =
+      subst (λ l. IsBook number rooms l s' places' stops' marks' book') b.last_is
+      (subst (λ r. IsBook number r s.last s' places' stops' marks' book') b.within.rooms_are b')
+
+-- an arena whose room stays is within a mirror whose room stays
+pub fits_still : (room room' mirror mirror' : Room) → room' ≡ room → mirror' ≡ mirror
+    → capacity room ≤ capacity mirror → capacity room' ≤ capacity mirror'
+fits_still room room' mirror mirror' same kept fits = rw (same, kept) fits
+
+-- renewed entries have their tickets and their kinds
+pub stand_renewed : (m n o : Mirror) (old new : ℕ → Option Entry)
+    → ((i : ℕ) → new i ≡ option_map (renewed_entry m n o) (old i)) → StandAs old new
+stand_renewed m n o old new each i e is =
+    (renewed_entry m n o e, (each i ∙ ap (option_map (renewed_entry m n o)) is, (refl, refl)))
 
 -- the live indexes are from 1 to the room
 fits : {T : Type 0} (at : ℕ → Option (ℕ × T)) (cap room : ℕ) → at 0 ≡ None → ((i : ℕ) → IsSome (at i) → i ≤ cap) → cap ≤ room → (i : ℕ) → IsSome (at i) → (0 < i) × (i ≤ room)

@@ -23,6 +23,9 @@ MarksDiffer [] = Unit {0}
 MarksDiffer (m ∷ marks) = (mark_of marks m.ticket ≡ None) × MarksDiffer marks
 
 module _ {I : Type 0} where
+  abbrev pub as_book : State → Ordered I Place → Content (IndexLink I StopView) → Content MarkView → Book I
+  as_book s places stops marks = record { state = s; places = places; stops = stops; marks = marks }
+
   abbrev pub found_in : Ordered I Place → Content (IndexLink I StopView) → Content MarkView → Found
   found_in places stops marks = record {
     places = entry_in places;

@@ -9,6 +9,7 @@ pub mod Packing
 pub mod Compressed
 pub mod Removals
 pub mod SweepSteps
+pub mod Moving
 pub use Rattle.route_lines.specs.Calls
 pub use Rattle.route_lines.specs.CommandLine
 pub use Rattle.route_lines.specs.Grammar

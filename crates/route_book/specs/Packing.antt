@@ -12,6 +12,11 @@ recast_stop m v = record v { place = found_by m v.place }
 abbrev pub recast_mark : Mirror → Mirror → MarkView → MarkView
 recast_mark m n v = record v { place = found_by m v.place; stop = found_by n v.stop }
 
+-- each entry of the ticket book stands where it stood, with its ticket and its kind
+abbrev pub StandAs : (ℕ → Option Entry) → (ℕ → Option Entry) → Type 0
+StandAs old new = (i : ℕ) (e : Entry) → old i ≡ Some e
+    → (f : Entry) × ((new i ≡ Some f) × ((f.ticket ≡ e.ticket) × (f.kind ≡ e.kind)))
+
 module _ {T : Type 0} where
   -- each item stands at another index, all under one generation
   pub record IsMoved (to : ℕ → ℕ) (g : ℕ) (old new : ℕ → Option (ℕ × T)) : Type 0 where

@@ -105,14 +105,16 @@ module _ {I : Type 0} where
   Removes number last t before after old new (Ok item) = IsRemoved number last (kind_of item) t before after old new
   Removes number last t before after old new (Err refusal) = (new ≡ old) × (after ≡ before)
 
-  -- what one look-up of a ticket does: its item ends where no counter starts again, and else nothing changes
-  abbrev pub Tries : Option ℕ → ℕ → Book I → Book I → Result Bool Refusal → Type 0
-  Tries last t old new (Ok true) =
-      (item : Item) × ((holder old.state t ≡ Ok item)
-      × ((removal_wraps last old (kind_of item) ≡ false)
-      × (IsEnded last (kind_of item) t old new × (new.state ≡ after_removed old.state t))))
-  Tries last t old new (Ok false) = (item : Item) × ((holder old.state t ≡ Ok item) × ((removal_wraps last old (kind_of item) ≡ true) × (new ≡ old)))
-  Tries last t old new (Err refusal) = (holder old.state t ≡ Err refusal) × (new ≡ old)
+  -- before a removal: a pack if it is needed, and else nothing
+  abbrev pub IsReady : (I → ℕ) → Option ℕ → Bool → ℕ → ℕ → Book I → Book I → Type 0
+  IsReady number last false before after old new = (new ≡ old) × (after ≡ before)
+  IsReady number last true before after old new = IsPacked number last before after old new
+
+  -- the item of this kind that has a ticket ends
+  abbrev pub Ends : Option ℕ → Kind → ℕ → Book I → Book I → Type 0
+  Ends last kind t old new =
+      (item : Item) × ((holder old.state t ≡ Ok item) × ((kind_of item ≡ kind)
+      × (IsEnded last kind t old new × (new.state ≡ after_removed old.state t))))
 
   -- what a line does to items, counters and looks, by its command
   abbrev pub Steps : (I → ℕ) → Option ℕ → Option Command → ℕ → ℕ → Book I → Book I → Type 0

@@ -19,6 +19,7 @@ ghost use Rattle.route_book.specs.Walked.{stop_in};
 mod asking;
 mod making;
 mod marks;
+mod moving;
 mod packing;
 mod placing;
 mod removing;
@@ -28,11 +29,12 @@ mod walking;
 
 use crate::backing::BookBacking;
 use crate::items::{Mark, Place, Stop};
+use crate::parts::Mirrors;
 use route_lines::laws::{routes_lead_along, stops_follow_their_previous_ones};
 use route_lines::{Held, Refusal};
 use std::marker::Model;
 use ticket_book::{Kind, TicketBook};
-use triple_arena::{Arena, ArenaTrait, DirectArena};
+use triple_arena::{Arena, ArenaTrait};
 use triple_arena_chain::ChainArena;
 use triple_arena_ord::SimpleOrdArena;
 use triple_arena_ptr::{Probes, PtrCore};
@@ -54,9 +56,7 @@ pub struct RouteBook<P: PtrCore, B: BookBacking<P>> {
     // The living tickets.
     tickets: TicketBook<P, B::Book>,
     // For each arena, room for a pointer at each index.
-    place_mirror: DirectArena<P, P, B::Mirror>,
-    stop_mirror: DirectArena<P, P, B::Mirror>,
-    mark_mirror: DirectArena<P, P, B::Mirror>,
+    mirrors: Mirrors<P, B::Mirror>,
     held: Held,
 }
 
@@ -78,9 +78,9 @@ impl<P: PtrCore, B: BookBacking<P>> Model for RouteBook<P, B> {
       sound : IsSound b.held.state;
       counts : counts_short P.Gen.last ≡ false;
       room : b.place_room + b.stop_room + b.mark_room ≤ b.tickets.capacity;
-      place_mirror : arena_capacity b.places.chains ≤ mirror_capacity b.place_mirror;
-      stop_mirror : arena_capacity b.stops ≤ mirror_capacity b.stop_mirror;
-      mark_mirror : arena_capacity b.marks ≤ mirror_capacity b.mark_mirror;
+      place_mirror : arena_capacity b.places.chains ≤ mirror_capacity b.mirrors.places;
+      stop_mirror : arena_capacity b.stops ≤ mirror_capacity b.mirrors.stops;
+      mark_mirror : arena_capacity b.marks ≤ mirror_capacity b.mirrors.marks;
     } };
 }
 

@@ -31,6 +31,7 @@ mod places;
 mod recasts;
 mod running;
 mod sweep_steps;
+mod transfers;
 
 pub use backing::{
     BookBacking, MarkSlot, OnArray, OnFixed, OnHeap, OnLimited, PlaceSlot, StopSlot,

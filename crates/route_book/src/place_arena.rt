@@ -17,10 +17,9 @@ ghost use Rattle.route_book.specs.Keys.{key_cmp, key_of, noted_by, noted_past, w
 use crate::items::Place;
 use route_lines::Word;
 use std::cmp::Ordering;
-use ticket_book::put;
 use triple_arena::ArenaTrait;
 use triple_arena_ord::laws::{entries_stand_in_the_list, writes_keep_the_list};
-use triple_arena_ord::{InsertKind, OrdSlots, SimpleOrdArena};
+use triple_arena_ord::{OrdSlots, SimpleOrdArena};
 use triple_arena_ptr::{Probes, PtrCore};
 use unreached::unreached;
 
@@ -46,14 +45,8 @@ pub(crate) fn put_place<P: PtrCore, S: OrdSlots<P, Place>>(
     // The list is as it must be.
     let _ = arena.len();
     match found {
-        Some(end) => {
-            let beside = InsertKind::Manual {
-                p_target: end.0.inx(),
-                direction: end.1,
-            };
-            put(arena, beside, place)
-        }
-        None => put(arena, InsertKind::Empty, place),
+        Some(end) => { arena.insert_inx_manual_within_capacity(Some((end.0.inx(), end.1)), place) }
+        None => arena.insert_inx_manual_within_capacity(None, place),
     }
 }
 

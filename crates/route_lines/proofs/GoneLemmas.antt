@@ -9,7 +9,7 @@ use Rattle.route_lines.specs.Sound.{holders, IsSound}
 use Rattle.route_lines.specs.State.{State, Place, Stop, Route, Mark, place, stop, mark, stop_list, place_of, stop_of, mark_of, holder, is_full_of_places, is_full_of_stops, is_full_of_marks}
 use Rattle.route_lines.specs.Text.{Line, after_lines}
 use Rattle.route_lines.specs.declared.change.Change.{Change}
-use Rattle.route_lines.specs.declared.change.Change.TheVariants.{Open, Place as PlaceChange, Word as WordChange, Start, Extend, Join, Cut, Swap, Mark as MarkChange, Remove}
+use Rattle.route_lines.specs.declared.change.Change.TheVariants.{Open, Place as PlaceChange, Word as WordChange, Start, Extend, Join, Cut, Swap, Mark as MarkChange, Remove, Move}
 use Rattle.route_lines.specs.declared.refusal.Refusal.TheVariants.{Unknown, Gone}
 use Rattle.route_lines.proofs.CutLemmas.{total-append, none_found, not_found}
 use Rattle.route_lines.proofs.EndedLemmas.{gone_if_none}
@@ -111,6 +111,7 @@ GivesOn-changed s (Swap t u) on sound =
     keeps_unless_refused (GivesOn s) s (swapped s t u) _ (given_before s) (λ ok e. GivesOn-same_stops s (exchanged t u s.routes) (same_by_swap s t u sound))
 GivesOn-changed s (MarkChange at t) on sound = GivesOn-mark s at t
 GivesOn-changed s (Remove t) on sound = GivesOn-remove s t sound
+GivesOn-changed s (Move places stops marks) on sound = absurd on
 
 -- a ticket that is gone was given, and no item has it
 record IsEnded (s : State) (t : ℕ) : Type 0 where

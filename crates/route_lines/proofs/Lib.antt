@@ -11,6 +11,7 @@ pub mod NewLinkLemmas
 pub mod NewStopLemmas
 pub mod NextStopLemmas
 pub mod NumberLemmas
+pub mod OtherRoomsLemmas
 pub mod PackLemmas
 pub mod PastLemmas
 pub mod PreviousLemmas

@@ -15,7 +15,7 @@ use Rattle.route_lines.specs.Word.{IsWord}
 use Rattle.route_lines.specs.Number.{IsNumber}
 use Rattle.route_lines.specs.Sound.{IsBefore, PlacesRise, MarksRise, total, count_of, holders, AreWritten, IsSound, IsNumbered, IsPossible}
 use Rattle.route_lines.specs.declared.change.Change.{Change}
-use Rattle.route_lines.specs.declared.change.Change.TheVariants.{Open, Place as PlaceChange, Word as WordChange, Start, Extend, Join, Cut, Swap, Mark as MarkChange, Remove}
+use Rattle.route_lines.specs.declared.change.Change.TheVariants.{Open, Place as PlaceChange, Word as WordChange, Start, Extend, Join, Cut, Swap, Mark as MarkChange, Remove, Move}
 use Rattle.route_lines.specs.declared.command.Command.{Command}
 use Rattle.route_lines.specs.declared.command.Command.TheVariants.{Place as PlaceLine, Word as WordLine, Show, Find, Floor, After, Before, All, Remove as RemoveLine, Start as StartLine, Extend as ExtendLine, Join as JoinLine, Cut as CutLine, Swap as SwapLine, Walk, Mark as MarkLine, Pack}
 use Rattle.route_lines.specs.declared.refusal.Refusal.{Refusal}
@@ -455,7 +455,7 @@ IsSound-empty rooms last = record {
   marks_fit = omega arith;
 }
 
-pub IsSound-changed : (s : State) (change : Change) → IsPossible change → IsSound s → IsSound (changed s change)
+pub IsSound-changed : (s : State) (change : Change) → IsPossible s change → IsSound s → IsSound (changed s change)
 IsSound-changed s (Open places stops marks last) is sound = IsSound-empty _ last
 IsSound-changed s (PlaceChange key word) is sound = IsSound-after_place s key word is.1 sound
 IsSound-changed s (WordChange t word) is sound = IsSound-after_word s t word is sound
@@ -466,6 +466,19 @@ IsSound-changed s (Cut t) is sound = IsSound-after_cut s t sound
 IsSound-changed s (Swap t u) is sound = IsSound-after_swap s t u sound
 IsSound-changed s (MarkChange at t) is sound = IsSound-after_mark s at t sound
 IsSound-changed s (Remove t) is sound = IsSound-after_removed s t sound
+IsSound-changed s (Move places stops marks) is sound = record {
+  given = sound.given;
+  given_stops = sound.given_stops;
+  given_marks = sound.given_marks;
+  once = sound.once;
+  order = sound.order;
+  words = sound.words;
+  routes = sound.routes;
+  marks = sound.marks;
+  fits = is.0;
+  stops_fit = is.1.0;
+  marks_fit = is.1.1;
+}
 
 -- ---- numbers
 
@@ -571,7 +584,7 @@ IsNumbered-after_removed s t numbered =
 pub IsNumbered-empty : (rooms : Rooms) (last : ℕ) → IsNumber last → IsNumbered (empty rooms last)
 IsNumbered-empty rooms last small = record { last = small; keys = tt; stops = tt; marks = tt }
 
-pub IsNumbered-changed : (s : State) (change : Change) → IsPossible change → IsNumbered s → IsNumbered (changed s change)
+pub IsNumbered-changed : (s : State) (change : Change) → IsPossible s change → IsNumbered s → IsNumbered (changed s change)
 IsNumbered-changed s (Open places stops marks last) is numbered = IsNumbered-empty _ last is
 IsNumbered-changed s (PlaceChange key word) is numbered = IsNumbered-after_place s key word is.0 numbered
 IsNumbered-changed s (WordChange t word) is numbered = IsNumbered-after_word s t word numbered
@@ -582,10 +595,11 @@ IsNumbered-changed s (Cut t) is numbered = IsNumbered-after_cut s t numbered
 IsNumbered-changed s (Swap t u) is numbered = IsNumbered-after_swap s t u numbered
 IsNumbered-changed s (MarkChange at t) is numbered = IsNumbered-after_mark s at t numbered
 IsNumbered-changed s (Remove t) is numbered = IsNumbered-after_removed s t numbered
+IsNumbered-changed s (Move places stops marks) is numbered = record { last = numbered.last; keys = numbered.keys; stops = numbered.stops; marks = numbered.marks }
 
 -- ---- lines
 
--- a change that does not begin anew
+-- a change that a line makes
 abbrev pub GoesOn : Change → Type 0
 GoesOn (Open places stops marks last) = ⊥
 GoesOn (PlaceChange key word) = Unit {0}
@@ -597,9 +611,10 @@ GoesOn (Cut t) = Unit {0}
 GoesOn (Swap t u) = Unit {0}
 GoesOn (MarkChange at t) = Unit {0}
 GoesOn (Remove t) = Unit {0}
+GoesOn (Move places stops marks) = ⊥
 
 -- what each possible change keeps that goes on, every line keeps
-pub kept_by_lines : (Keeps : State → Type 0) → ((s : State) (change : Change) → IsPossible change → GoesOn change → Keeps s → Keeps (changed s change))
+pub kept_by_lines : (Keeps : State → Type 0) → ((s : State) (change : Change) → IsPossible s change → GoesOn change → Keeps s → Keeps (changed s change))
     → (s : State) (lines : List Line) → Keeps s → Keeps (after_lines s lines)
 kept_by_lines Keeps kept s [] keeps = keeps
 kept_by_lines Keeps kept s (line ∷ lines) keeps = kept_by_lines Keeps kept (next s (command_in line)) lines (by_line line)

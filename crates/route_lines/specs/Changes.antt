@@ -1,8 +1,8 @@
 -- What a change makes of a state.
-use Rattle.route_lines.specs.State.{State, empty}
+use Rattle.route_lines.specs.State.{State, empty, in_rooms}
 use Rattle.route_lines.specs.Calls.{after_place, after_word, after_start, after_extend, after_join, after_cut, after_swap, after_mark, after_removed}
 use Rattle.route_lines.specs.declared.change.Change.{Change}
-use Rattle.route_lines.specs.declared.change.Change.TheVariants.{Open, Place, Word, Start, Extend, Join, Cut, Swap, Mark, Remove}
+use Rattle.route_lines.specs.declared.change.Change.TheVariants.{Open, Place, Word, Start, Extend, Join, Cut, Swap, Mark, Remove, Move}
 
 abbrev pub changed : State → Change → State
 changed s (Open places stops marks last) = empty (record { places = places; stops = stops; marks = marks }) last
@@ -15,3 +15,5 @@ changed s (Cut t) = after_cut s t
 changed s (Swap t u) = after_swap s t u
 changed s (Mark at t) = after_mark s at t
 changed s (Remove t) = after_removed s t
+changed s (Move places stops marks) =
+    in_rooms (record { places = places; stops = stops; marks = marks }) s

@@ -6,7 +6,7 @@ use Rattle.route_lines.specs.Routes.{has_ticket, first_ticket}
 use Rattle.route_lines.specs.State.{State, Place, Route, Mark, stop_list}
 use Rattle.route_lines.specs.Word.{IsWord}
 use Rattle.route_lines.specs.declared.change.Change.{Change}
-use Rattle.route_lines.specs.declared.change.Change.TheVariants.{Open, Place as PlaceChange, Word as WordChange, Start, Extend, Join, Cut, Swap, Mark as MarkChange, Remove}
+use Rattle.route_lines.specs.declared.change.Change.TheVariants.{Open, Place as PlaceChange, Word as WordChange, Start, Extend, Join, Cut, Swap, Mark as MarkChange, Remove, Move}
 
 -- a place stands before another: by its key, or under the same key by its ticket
 pub record IsBefore (p q : Place) : Type 0 where
@@ -76,15 +76,18 @@ pub record IsNumbered (s : State) : Type 0 where
   pub stops : AllByRecursion (λ t. IfSome t.place IsNumber) (stop_list s.routes)
   pub marks : AllByRecursion (λ m. IfSome m.place IsNumber × IfSome m.stop IsNumber) s.marks
 
--- a change that can be: its numbers are below 2^64, and its word is a word
-abbrev pub IsPossible : Change → Type 0
-IsPossible (Open places stops marks last) = IsNumber last
-IsPossible (PlaceChange key word) = IsNumber key × IsWord word
-IsPossible (WordChange ticket word) = IsWord word
-IsPossible (Start at) = Unit {0}
-IsPossible (Extend t at) = Unit {0}
-IsPossible (Join t u) = Unit {0}
-IsPossible (Cut t) = Unit {0}
-IsPossible (Swap t u) = Unit {0}
-IsPossible (MarkChange at t) = Unit {0}
-IsPossible (Remove t) = Unit {0}
+-- a change that can be: its numbers are below 2^64, its word is a word, and its rooms hold what
+-- lives
+abbrev pub IsPossible : State → Change → Type 0
+IsPossible s (Open places stops marks last) = IsNumber last
+IsPossible s (PlaceChange key word) = IsNumber key × IsWord word
+IsPossible s (WordChange ticket word) = IsWord word
+IsPossible s (Start at) = Unit {0}
+IsPossible s (Extend t at) = Unit {0}
+IsPossible s (Join t u) = Unit {0}
+IsPossible s (Cut t) = Unit {0}
+IsPossible s (Swap t u) = Unit {0}
+IsPossible s (MarkChange at t) = Unit {0}
+IsPossible s (Remove t) = Unit {0}
+IsPossible s (Move places stops marks) =
+    (length s.places ≤ places) × ((length (stop_list s.routes) ≤ stops) × (length s.marks ≤ marks))

@@ -90,6 +90,10 @@ is_full_of_stops s = nat_le s.rooms.stops (length (stop_list s.routes)) || (s.la
 abbrev pub is_full_of_marks : State → Bool
 is_full_of_marks s = nat_le s.rooms.marks (length s.marks) || (s.last == last_ticket)
 
+-- the same items and tickets in other rooms
+abbrev pub in_rooms : Rooms → State → State
+in_rooms rooms s = record s { rooms = rooms }
+
 -- a store with nothing in it
 abbrev pub empty : Rooms → ℕ → State
 empty rooms last = record { rooms = rooms; last = last; places = []; routes = []; marks = [] }

@@ -1,9 +1,9 @@
 -- The lines of an input, the text that answers them, and the state after them.
-use Rattle.std.specs.Prelude.{ℕ, ◌++◌, ◌==◌, ◌∷◌, Bool, true, false, List, [], Option, Some, None, map}
-use Rattle.std.specs.List.{slice_split}
+use Rattle.std.specs.Prelude.{ℕ, ◌≢◌, ◌++◌, ◌==◌, ◌∷◌, Bool, true, false, List, [], Option, Some, None, codes, map}
+use Rattle.std.specs.List.{AllByRecursion, slice_split}
 use Rattle.route_lines.specs.State.{State}
 use Rattle.route_lines.specs.Grammar.{command_of}
-use Rattle.route_lines.specs.Reply.{reply, next}
+use Rattle.route_lines.specs.Reply.{ended, reply, next}
 use Rattle.route_lines.specs.declared.command.Command.{Command}
 use Rattle.route_lines.specs.declared.command.Command.TheVariants.{Pack}
 
@@ -53,6 +53,10 @@ replies s (line ∷ lines) = reply s (command_in line) ++ replies (next s (comma
 abbrev pub answered : State → List Line → List (Line × List ℕ)
 answered s [] = []
 answered s (line ∷ lines) = (line, reply s (command_in line)) ∷ answered (next s (command_in line)) lines
+
+-- no line is answered `full`
+abbrev pub NoneFull : State → List Line → Type 0
+NoneFull s lines = AllByRecursion (λ a. a.1 ≢ ended (codes "full")) (answered s lines)
 
 -- whether a line is `pack`
 abbrev pub is_pack : Line → Bool

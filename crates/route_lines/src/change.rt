@@ -24,4 +24,6 @@ pub enum Change {
     Mark(u64, u64),
     /// The place, stop or mark of the ticket ends, and each reference to it is gone.
     Remove(u64),
+    /// Other rooms of places, stops and marks.
+    Move(usize, usize, usize),
 }

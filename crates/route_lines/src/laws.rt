@@ -2,6 +2,7 @@
 mod calls;
 mod grammar;
 mod looks;
+mod moves;
 mod places;
 mod removals;
 mod replies;
@@ -14,6 +15,7 @@ pub use grammar::{
     commands_have_one_line, lines_have_one_command, spellings_are_found, spellings_are_short_lines,
 };
 pub use looks::sweeps;
+pub use moves::moves_change_no_reply;
 pub use places::{finds_answer_the_smallest_ticket, hints_change_no_reply};
 pub use removals::{
     removed_marks_leave_all_else, removed_places_leave_no_reference,

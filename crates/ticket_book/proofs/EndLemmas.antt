@@ -1,9 +1,9 @@
 -- What the entries along a list are where one is taken out, and where each is renewed.
-use Rattle.std.proofs.Common.{◌≡◌, ◌∙◌, sym, ap, subst, refl, ℕ, ◌<◌, List, [], ◌∷◌, ◌++◌, map, Option, Some, None, OnSome, option_map, arith, inl, inr}
+use Rattle.std.proofs.Common.{◌≡◌, ◌∙◌, sym, ap, subst, refl, true, false, ℕ, ◌<◌, List, [], ◌∷◌, ◌++◌, map, Option, Some, None, IsSome, OnSome, option_map, arith, inl, inr}
 use Rattle.std.specs.List.{AllByRecursion}
 use Rattle.std.proofs.lemmas.Bool.{eq-eqb, ne_eqb}
 use Rattle.std.proofs.lemmas.Bool.Decides.{eqb_tells}
-use Rattle.triple_arena.specs.Entries.{value_if, without}
+use Rattle.triple_arena.specs.Entries.{without}
 use Rattle.triple_arena_chain.specs.Chains.{Apart, Off}
 use Rattle.triple_arena_chain.specs.ListLaws.{Apart-split}
 use Rattle.triple_arena_chain.specs.Links.{ends_in}
@@ -11,8 +11,8 @@ use Rattle.triple_arena_chain.specs.UniquenessLaws.{linear_apart}
 use Rattle.triple_arena_ord.specs.Ordered.{Ordered, IsOrdered, entry_in, order_in}
 use Rattle.triple_arena_ord.specs.Removal.{IsEntryRemoved}
 use Rattle.ticket_book.specs.InArena.{entries_of}
-use Rattle.ticket_book.specs.Tickets.{Entry, TicketsRise, lookup, without_ticket}
-use Rattle.ticket_book.proofs.TicketLemmas.{along, along-append, along_none, along_some, some_same}
+use Rattle.ticket_book.specs.Tickets.{Entry, TicketsRise, without_ticket}
+use Rattle.ticket_book.proofs.TicketLemmas.{along, along-append, along_none, along_some}
 
 -- ---- an entry less
 
@@ -57,59 +57,58 @@ along_without at at' i entries (j ∷ w) off = by (at j) refl (along_without at 
     by None is rest = along_none at' j w (now ∙ is) ∙ rest ∙ sym (along_none at j w is)
     by (Some e) is rest = along_some at' j w e (now ∙ is) ∙ ap (λ l. e.1 ∷ l) rest ∙ sym (along_some at j w e is)
 
--- a pointer that finds an entry stands at it
-at_pointer : (at : ℕ → Option (ℕ × Entry)) (i g : ℕ) (e : Entry) → value_if g (at i) ≡ Some e → at i ≡ Some (g, e)
-at_pointer at i g e found = by (at i) refl found
-  where
-    by : (o : Option (ℕ × Entry)) → at i ≡ o → value_if g o ≡ Some e → at i ≡ Some (g, e)
-    by None is found = absurd (let no : ◌≡◌ {A = Option Entry} None (Some e) = found in cc)
-    by (Some x) is found = elim (eqb_tells x.0 g) [
-      | inl same ↦
-          let own : x.1 ≡ e = some_same x.1 e (sym (let v : value_if g (Some x) ≡ Some x.1 = rw same.0 refl in v) ∙ found) in
-          is ∙ ap (λ n. Some (n, x.1)) same.1 ∙ ap (λ y. Some (g, y)) own
-      | inr other ↦ absurd (let no : ◌≡◌ {A = Option Entry} None (Some e) = sym (let v : value_if g (Some x) ≡ None = rw other.0 refl in v) ∙ found in cc)
-    ]
-
-module _ {I : Type 0} (number : I → ℕ) (old new : Ordered I Entry) (ordered : IsOrdered number old) (rise : TicketsRise (entries_of number old)) where
-  module _ (last : Option ℕ) (i g : ℕ) (removed : IsEntryRemoved number last i old new) where
-    pub entry_out : (e : Entry) → value_if g (entry_in old i) ≡ Some e → entries_of number new ≡ without_ticket e.ticket (entries_of number old)
-    entry_out e found =
-        let apart = Apart-split removed.order.before removed.order.after i
-        (subst Apart removed.order.was (linear_apart (ends_in number old.chains) None (order_in number old) ordered.linear)) in
-        let at = entry_in old in
-        let split : entries_of number old ≡ along at removed.order.before ++ e ∷ along at removed.order.after =
-        ap (along at) removed.order.was ∙ along-append at removed.order.before (i ∷ removed.order.after)
-        ∙ ap (λ l. along at removed.order.before ++ l) (along_some at i removed.order.after (g, e) (at_pointer at i g e found)) in
-        ap (along (entry_in new)) removed.order.is ∙ along-append (entry_in new) removed.order.before removed.order.after
-        ∙ ap (λ l. l ++ along (entry_in new) removed.order.after) (along_without at (entry_in new) i removed.entries removed.order.before apart.0)
-        ∙ ap (λ l. along at removed.order.before ++ l) (along_without at (entry_in new) i removed.entries removed.order.after apart.1)
-        ∙ sym (ap (without_ticket e.ticket) split ∙ one_out (along at removed.order.before) (along at removed.order.after) e (subst TicketsRise split rise))
+module _ {I : Type 0} (number : I → ℕ) (old new : Ordered I Entry) (ordered : IsOrdered number old)
+    (rise : TicketsRise (entries_of number old)) where
+  entry_out : (last : Option ℕ) (i : ℕ) (e : ℕ × Entry) → IsEntryRemoved number last i old new
+      → entry_in old i ≡ Some e → entries_of number new ≡ without_ticket e.1.ticket (entries_of number old)
+  entry_out last i e removed is =
+      let apart = Apart-split removed.order.before removed.order.after i
+      (subst Apart removed.order.was (linear_apart (ends_in number old.chains) None (order_in number old) ordered.linear)) in
+      let at = entry_in old in
+      let split : entries_of number old ≡ along at removed.order.before ++ e.1 ∷ along at removed.order.after =
+      ap (along at) removed.order.was ∙ along-append at removed.order.before (i ∷ removed.order.after)
+      ∙ ap (λ l. along at removed.order.before ++ l) (along_some at i removed.order.after e is) in
+      ap (along (entry_in new)) removed.order.is ∙ along-append (entry_in new) removed.order.before removed.order.after
+      ∙ ap (λ l. l ++ along (entry_in new) removed.order.after) (along_without at (entry_in new) i removed.entries removed.order.before apart.0)
+      ∙ ap (λ l. along at removed.order.before ++ l) (along_without at (entry_in new) i removed.entries removed.order.after apart.1)
+      ∙ sym (ap (without_ticket e.1.ticket) split
+      ∙ one_out (along at removed.order.before) (along at removed.order.after) e.1 (subst TicketsRise split rise))
 
   -- what a removal tells that finds an entry
-  module _ {A : Type 0} (last : Option ℕ) (i g : ℕ) (answer : Option A) (e : Entry) (is : Some e ≡ value_if g (entry_in old i)) (value : A → Entry)
-      (found : option_map value answer ≡ value_if g (entry_in old i)) (removed : OnSome answer (IsEntryRemoved number last i old new)) where
-    gone : IsEntryRemoved number last i old new
-    gone = by answer (found ∙ sym is) removed
+  module _ {A G : Type 0} (generation : G → ℕ) (value : A → G × Entry) (last : Option ℕ) (i : ℕ) (answer : Option A)
+      (taken : G × Entry) (is : option_map value answer ≡ Some taken)
+      (found : option_map {U = ℕ × Entry} (λ a. (generation (value a).0, (value a).1)) answer ≡ entry_in old i)
+      (removed : OnSome answer (IsEntryRemoved number last i old new)) where
+    pub taken_stood : entry_in old i ≡ Some (generation taken.0, taken.1)
+    taken_stood = sym found ∙ by answer is
       where
-        by : (o : Option A) → option_map value o ≡ Some e → OnSome o (IsEntryRemoved number last i old new) → IsEntryRemoved number last i old new
-        by None none h = absurd (let no : ◌≡◌ {A = Option Entry} None (Some e) = none in cc)
+        by : (o : Option A) → option_map value o ≡ Some taken
+            → option_map {U = ℕ × Entry} (λ a. (generation (value a).0, (value a).1)) o ≡ Some (generation taken.0, taken.1)
+        by None none = absurd (let no : ◌≡◌ {A = Option (G × Entry)} None (Some taken) = none in cc)
+        by (Some a) some = ap (option_map {U = ℕ × Entry} (λ x. (generation x.0, x.1))) some
+
+    gone : IsEntryRemoved number last i old new
+    gone = by answer is removed
+      where
+        by : (o : Option A) → option_map value o ≡ Some taken → OnSome o (IsEntryRemoved number last i old new)
+            → IsEntryRemoved number last i old new
+        by None none h = absurd (let no : ◌≡◌ {A = Option (G × Entry)} None (Some taken) = none in cc)
         by (Some a) some h = h
 
-    pub entry_taken : entries_of number new ≡ without_ticket e.ticket (entries_of number old)
-    entry_taken = entry_out last i g gone e (sym is)
+    pub entry_taken : entries_of number new ≡ without_ticket taken.1.ticket (entries_of number old)
+    entry_taken = entry_out last i (generation taken.0, taken.1) gone taken_stood
 
     pub rise_taken : TicketsRise (entries_of number new)
-    rise_taken = subst TicketsRise (sym entry_taken) (still_rise e.ticket (entries_of number old) rise)
+    rise_taken = subst TicketsRise (sym entry_taken) (still_rise taken.1.ticket (entries_of number old) rise)
 
--- an entry that is found under a ticket has it
-pub ticket_of_found : (t : ℕ) (xs : List Entry) (e : Entry) → lookup xs t ≡ Some e → e.ticket ≡ t
-ticket_of_found t [] e is = absurd (let no : ◌≡◌ {A = Option Entry} None (Some e) = is in cc)
-ticket_of_found t (x ∷ xs) e is = elim (eqb_tells x.ticket t) [
-  | inl same ↦
-      let found : lookup (x ∷ xs) t ≡ Some x = rw same.0 refl in
-      ap (λ (y : Entry). y.ticket) (some_same e x (sym is ∙ found)) ∙ same.1
-  | inr other ↦ let skip : lookup (x ∷ xs) t ≡ lookup xs t = rw other.0 refl in ticket_of_found t xs e (sym skip ∙ is)
-]
+-- a removal that finds nothing, though an entry stands
+pub none_taken : {A B : Type 0} (value : A → B) (entry : A → ℕ × Entry) (answer : Option A) (stood : Option (ℕ × Entry))
+    → option_map value answer ≡ None → option_map entry answer ≡ stood
+    → IsSome (option_map (λ (e : ℕ × Entry). e.1) stood) → ⊥
+none_taken value entry None stood none found some =
+    absurd (let no : false ≡ true = subst (λ o. IsSome (option_map (λ (e : ℕ × Entry). e.1) o)) (sym found) some in cc)
+none_taken {B = B} value entry (Some a) stood none found some =
+    absurd (let no : ◌≡◌ {A = Option B} (Some (value a)) None = none in cc)
 
 -- ---- each entry renewed
 

@@ -9,7 +9,7 @@ use Rattle.std.proofs.lemmas.Bool.{eq-eqb, ne_eqb}
 use Rattle.rank_tree.specs.Search.{AllIn}
 use Rattle.rank_tree.specs.declared.side.Side.TheVariants.{Right}
 use Rattle.triple_arena.specs.Content.{entry_at}
-use Rattle.triple_arena.specs.Entries.{value_if, with_entry}
+use Rattle.triple_arena.specs.Entries.{with_entry}
 use Rattle.triple_arena_chain.specs.Chains.{Ends, Stands, On, first_or, last_or, next_in}
 use Rattle.triple_arena_chain.specs.Links.{ends_in}
 use Rattle.triple_arena_chain.specs.declared.link.IndexLink.{IndexLink}
@@ -23,13 +23,6 @@ use Rattle.ticket_book.specs.Tickets.{Entry, TicketsRise, lookup}
 
 pub some_same : {X : Type 0} (x y : X) → Some x ≡ Some y → x ≡ y
 some_same x y e = cc
-
--- an entry that stands under a generation is found by it
-pub found_there : (at : ℕ → Option (ℕ × Entry)) (i g h : ℕ) (e : Entry) → at i ≡ Some (h, e)
-    → option_map (λ (x : ℕ × Entry). x.0) (at i) ≡ Some g → Some e ≡ value_if g (at i)
-found_there at i g h e is live =
-    let same : h ≡ g = some_same h g (sym (ap (option_map (λ (x : ℕ × Entry). x.0)) is) ∙ live) in
-    sym (ap (value_if g) is ∙ rw (eq-eqb h g same) refl)
 
 -- ---- a list of entries
 
@@ -140,28 +133,45 @@ module _ {I : Type 0} (number : I → ℕ) where
       live None is ends = absurd (let no : ◌≡◌ {A = Option Ends} None (Some (b, first_or w None)) = sym (rw is refl) ∙ ends in cc)
       live (Some c) is ends = rw is refl
 
+  -- an entry of the arena is found under its ticket
+  pub lookup_standing : (o : Ordered I Entry) (i : ℕ) (e : ℕ × Entry) → TicketsRise (entries_of number o)
+      → ((k : ℕ) → IsSome (entry_in o k) → On (order_in number o) k) → entry_in o i ≡ Some e
+      → lookup (entries_of number o) e.1.ticket ≡ Some e.1
+  lookup_standing o i e rise on is =
+      let at = entry_in o in
+      let there = on i (rw is refl) in
+      let split : entries_of number o ≡ along at there.front ++ e.1 ∷ along at there.back =
+      ap (along at) there.is ∙ along-append at there.front (i ∷ there.back)
+      ∙ ap (λ l. along at there.front ++ l) (along_some at i there.back e is) in
+      ap (λ l. lookup l e.1.ticket) split
+      ∙ lookup_at (along at there.front) (along at there.back) e.1 (subst TicketsRise split rise)
+
   -- a search that found an entry
-  pub lookup_found : {P : Type 0} (index generation : P → ℕ) (o : Ordered I Entry) (t : ℕ) (p : P) → TicketsRise (entries_of number o)
-      → ((i : ℕ) → IsSome (entry_in o i) → On (order_in number o) i) → Answers index generation (asked_at nat_cmp (λ (e : Entry). e.ticket) t o) o p Equal
-      → value_if (generation p) (entry_in o (index p)) ≡ lookup (entries_of number o) t
+  pub lookup_found : {P : Type 0} (index generation : P → ℕ) (o : Ordered I Entry) (t : ℕ) (p : P)
+      → TicketsRise (entries_of number o) → ((i : ℕ) → IsSome (entry_in o i) → On (order_in number o) i)
+      → Answers index generation (asked_at nat_cmp (λ (e : Entry). e.ticket) t o) o p Equal
+      → (e : Entry) × ((option_map (λ (x : ℕ × Entry). x.1) (entry_in o (index p)) ≡ Some e)
+      × (lookup (entries_of number o) t ≡ Some e))
   lookup_found index generation o t p rise on answers = by (entry_in o (index p)) refl answers.live answers.way
     where
       at : ℕ → Option (ℕ × Entry)
       at = entry_in o
 
-      by : (x : Option (ℕ × Entry)) → at (index p) ≡ x → option_map (λ (e : ℕ × Entry). e.0) (at (index p)) ≡ Some (generation p) → asked_of nat_cmp (λ (e : Entry). e.ticket) t (at (index p)) ≡ Equal
-          → value_if (generation p) (at (index p)) ≡ lookup (entries_of number o) t
+      by : (x : Option (ℕ × Entry)) → at (index p) ≡ x
+          → option_map (λ (e : ℕ × Entry). e.0) (at (index p)) ≡ Some (generation p)
+          → asked_of nat_cmp (λ (e : Entry). e.ticket) t (at (index p)) ≡ Equal
+          → (e : Entry) × ((option_map (λ (x : ℕ × Entry). x.1) (at (index p)) ≡ Some e)
+          × (lookup (entries_of number o) t ≡ Some e))
       by None is live way = absurd (let no : ◌≡◌ {A = Option ℕ} None (Some (generation p)) = sym (rw is refl) ∙ live in cc)
       by (Some e) is live way =
-          let there = on (index p) (rw is refl) in
-          let same_generation : e.0 ≡ generation p = some_same e.0 (generation p) (sym (rw is refl) ∙ live) in
           let way_there : nat_cmp t e.1.ticket ≡ Equal = sym (rw is refl) ∙ way in
-          let same : t ≡ e.1.ticket = ranked t e.1.ticket Equal (sym way_there) in
-          let split : entries_of number o ≡ along at there.front ++ e.1 ∷ along at there.back =
-          ap (along at) there.is ∙ along-append at there.front (index p ∷ there.back) ∙ ap (λ l. along at there.front ++ l) (along_some at (index p) there.back e is) in
-          rw (is, eq-eqb e.0 (generation p) same_generation)
-          (sym (ap (λ l. lookup l t) split ∙ ap (lookup (along at there.front ++ e.1 ∷ along at there.back)) same
-          ∙ lookup_at (along at there.front) (along at there.back) e.1 (subst TicketsRise split rise)))
+          let same : t ≡ e.1.ticket = ranked t e.1.ticket Equal (sym way_there) in (
+            e.1,
+            (
+              ap (option_map (λ (x : ℕ × Entry). x.1)) is,
+              ap (lookup (entries_of number o)) same ∙ lookup_standing o (index p) e rise on is,
+            ),
+          )
 
   -- a search that found none
   pub lookup_missing : (o : Ordered I Entry) (t : ℕ) → ((i : ℕ) → IsSome (entry_in o i) → asked_at nat_cmp (λ (e : Entry). e.ticket) t o i ≢ Equal) → None ≡ lookup (entries_of number o) t

@@ -10,6 +10,10 @@ module _ {I : Type 0} (number : I → ℕ) where
   abbrev pub entries_of : Ordered I Entry → List Entry
   entries_of o = map (λ x. x.1.1) (ordered_entries number o)
 
+  -- the same beside their indexes
+  abbrev pub standing_in : Ordered I Entry → List (ℕ × Entry)
+  standing_in o = map (λ x. (x.0, x.1.1)) (ordered_entries number o)
+
   -- how many entries the search for a ticket compares with
   abbrev pub asked_in : Ordered I Entry → ℕ → ℕ
   asked_in o ticket = asked_down (asked_at nat_cmp (λ (e : Entry). e.ticket) ticket o) (tree_in number o)

@@ -1,3 +1,4 @@
 pub mod InArena
 pub mod Mirrors
+pub mod Moving
 pub mod Tickets

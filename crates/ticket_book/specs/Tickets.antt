@@ -1,8 +1,8 @@
 -- What a contract sees of a ticket book.
-use Rattle.std.specs.Prelude.{ℕ, ◌==◌, ◌<◌, Bool, false, List, [], ◌∷◌, Option, filter, find, not, nat_lt, if◌then◌else◌}
+use Rattle.std.specs.Prelude.{ℕ, ◌==◌, ◌<◌, List, [], ◌∷◌, Option, filter, find, not, nat_lt, if◌then◌else◌}
 use Rattle.std.specs.List.{AllByRecursion}
+use Rattle.std.specs.Option.{option_map}
 use Rattle.ticket_book.specs.declared.entry.Kind.{Kind}
-use Rattle.ticket_book.specs.declared.entry.Kind.TheVariants.{Place, Stop, Mark}
 
 -- a living ticket: the kind of its item, and the index and the generation of the pointer to it
 pub record Entry : Type 0 where
@@ -11,10 +11,12 @@ pub record Entry : Type 0 where
   pub index : ℕ
   pub generation : ℕ
 
--- the entries in the order of their tickets, how many fit, and how many comparisons searches make: for a ticket below all, and
--- beside each entry for its ticket and for one between it and the next
+-- the entries in the order of their tickets, the same beside the indexes at which they stand, how
+-- many fit, and how many comparisons searches make: for a ticket below all, and beside each entry
+-- for its ticket and for one between it and the next
 pub record Tickets : Type 0 where
   pub entries : List Entry
+  pub standing : List (ℕ × Entry)
   pub capacity : ℕ
   pub asked_below : ℕ
   pub asked_along : List (ℕ × ℕ)
@@ -31,6 +33,10 @@ asked_among below (e ∷ entries) (count ∷ counts) ticket =
 abbrev pub asked : Tickets → ℕ → ℕ
 asked b ticket = asked_among b.asked_below b.entries b.asked_along ticket
 
+-- the entry that stands at an index
+abbrev pub entry_at : Tickets → ℕ → Option Entry
+entry_at b i = option_map (λ (x : ℕ × Entry). x.1) (find (λ (x : ℕ × Entry). x.0 == i) b.standing)
+
 -- the entry of a ticket
 abbrev pub lookup : List Entry → ℕ → Option Entry
 lookup entries ticket = find (λ (e : Entry). e.ticket == ticket) entries
@@ -38,12 +44,6 @@ lookup entries ticket = find (λ (e : Entry). e.ticket == ticket) entries
 -- the entries but that of a ticket
 abbrev pub without_ticket : ℕ → List Entry → List Entry
 without_ticket ticket entries = filter (λ (e : Entry). not (e.ticket == ticket)) entries
-
--- whether an entry of a kind has to stay, where this is so of places and of stops. No mark has to
-abbrev pub stays : Bool → Bool → Kind → Bool
-stays places stops Place = places
-stays places stops Stop = stops
-stays places stops Mark = false
 
 -- the tickets of the entries are below this one
 abbrev pub AreBelow : List Entry → ℕ → Type 0

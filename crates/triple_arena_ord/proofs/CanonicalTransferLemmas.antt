@@ -1,7 +1,7 @@
 -- A canonical transfer as a whole: the nodes moved along the list, and the tree written anew.
-use Rattle.std.proofs.Common.{◌≡◌, ℕ, ◌+◌, List, map, length, Option, Some, None, IsSome, option_map, refl, sym, ap, subst, ◌∙◌}
+use Rattle.std.proofs.Common.{◌≡◌, ℕ, ◌+◌, List, map, length, Option, Some, IsSome, option_map, sym, ap, subst, ◌∙◌}
 use Rattle.std.specs.List.{range_with_len}
-use Rattle.std.specs.Prelude.{slice_get, replicate}
+use Rattle.std.specs.Prelude.{slice_get}
 use Rattle.std.proofs.lemmas.List.FromFn.{length-range_with_len}
 use Rattle.triple_arena_ptr.specs.declared.invalidation.InvalidationOption.{InvalidationOption}
 use Rattle.triple_arena_stack.specs.Room.{Room}
@@ -15,10 +15,8 @@ use Rattle.triple_arena_chain.specs.Chains.{On, IsLinear}
 use Rattle.triple_arena_chain.specs.IterChains.{links_along}
 use Rattle.triple_arena_chain.specs.Links.{ends_in, values_in}
 use Rattle.triple_arena_chain.specs.Listed.{listed_values}
-use Rattle.triple_arena_chain.specs.Lists.{all_members}
 use Rattle.triple_arena_chain.specs.Values.{room_in as chain_room}
 use Rattle.rank_tree.specs.Halving.{IsHalvingOf}
-use Rattle.triple_arena_ord.specs.CanonicalTransfer.{IsTransferredInOrder}
 use Rattle.triple_arena_ord.specs.declared.node.IndexNode.{IndexNode}
 use Rattle.triple_arena_ord.specs.Indexed.{listed_item, indexed}
 use Rattle.triple_arena_ord.specs.Node.{knots_in, itemed, rest}

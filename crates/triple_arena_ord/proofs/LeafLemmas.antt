@@ -1,7 +1,7 @@
 -- One more leaf in the tree, and one more entry in the list.
 use Rattle.std.proofs.Common.{◌≡◌, ◌≢◌, ◌==◌, ℕ, ◌+◌, ◌^◌, ◌<◌, List, [], ◌∷◌, ◌++◌, length, append_assoc, length-append, Option, Some, None, IsSome, Bool, true, false, if◌then◌else◌, refl, sym, ap, ◌∙◌, subst, arith, inl, inr}
 use Rattle.std.specs.Option.{option_map}
-use Rattle.std.proofs.lemmas.Bool.{cases_eq, cases_lt, ne_eqb}
+use Rattle.std.proofs.lemmas.Bool.{cases_eq, cases_lt, eq-eqb, ne_eqb}
 use Rattle.triple_arena.specs.Content.{Content, entry_at, live_count}
 use Rattle.triple_arena_chain.specs.declared.link.IndexLink.{IndexLink}
 use Rattle.triple_arena_chain.specs.declared.place.Place.TheVariants.{Between}
@@ -17,7 +17,7 @@ use Rattle.rank_tree.specs.Store.{child_of}
 use Rattle.triple_arena_ord.specs.Node.{knots_in, knot_of, itemed, rest, prev_for, next_for}
 use Rattle.rank_tree.specs.Tree.{Tree, leaf, node, walk, IsRanked}
 use Rattle.rank_tree.specs.Shape.{make, knot, root_of, Context, top, under, plug, holder, Stands, IsDistinct, one, count}
-use Rattle.rank_tree.specs.Repair.{Gap, filled, Restored}
+use Rattle.rank_tree.specs.Repair.{Gap, new_below, filled, Restored}
 use Rattle.triple_arena_ord.specs.Inserted.{IsAdded}
 use Rattle.triple_arena_ord.specs.Ordered.{Ordered, IsOrdered, StandsBeside, tree_in, order_in}
 use Rattle.rank_tree.specs.FrameLaws.{one-same, one-other, Represents-keep, make-count, plug-count, plug-opens, count-same, IsDistinct-walk}
@@ -195,6 +195,10 @@ module _ {I T : Type 0} (number : I → ℕ) where
 
     other : (j : ℕ) → j ≢ n → knots_in number c1 j ≡ knots_in number o.chains j
     other j d = ap (option_map knot_at) (placed.values j) ∙ rw (ne_eqb j n d) refl
+
+    -- the node that was put there
+    pub leaf_slot : knot_of number v ≡ new_below h → knots_in number c1 n ≡ Some (new_below h)
+    leaf_slot is = ap (option_map knot_at) (placed.values n) ∙ rw (eq-eqb n n refl) (ap Some is)
 
     fresh : count n (tree_in number o) ≡ 0
     fresh = elim (cases_lt 0 (count n (tree_in number o))) [

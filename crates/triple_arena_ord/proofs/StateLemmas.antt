@@ -4,18 +4,16 @@ use Rattle.std.specs.Option.{option_map}
 use Rattle.std.proofs.lemmas.Bool.Decides.{eqb_tells}
 use Rattle.triple_arena.specs.Content.{Content, entry_at, live_count, invalidated}
 use Rattle.triple_arena.specs.ContentLaws.{entry-same_slots}
-use Rattle.triple_arena.specs.Changes.{IsInvalidated}
-use Rattle.triple_arena.specs.Entries.{with_generation_at}
-use Rattle.triple_arena.specs.GenerationLaws.{entry-invalidated, live-invalidated, counter-invalidated, room-invalidated}
+use Rattle.triple_arena.specs.GenerationLaws.{entry-invalidated, live-invalidated}
 use Rattle.triple_arena_ptr.specs.Generation.{next_generation}
 use Rattle.triple_arena_chain.specs.declared.link.IndexLink.{IndexLink}
 use Rattle.triple_arena_chain.specs.Links.{ends_in, values_in, valued, with_link, with_link_of, with_value_in}
 use Rattle.triple_arena_chain.specs.SameLinksLaws.{ends-same_slots, ends-invalidated}
 use Rattle.triple_arena_ord.specs.declared.node.IndexNode.{IndexNode}
-use Rattle.triple_arena_ord.specs.Node.{knots_in, knot_of, items_in, itemed}
+use Rattle.triple_arena_ord.specs.Node.{knots_in, knot_of, itemed}
 use Rattle.triple_arena_ord.specs.Inserted.{IsRenewed, IsReplaced}
 use Rattle.rank_tree.specs.Tree.{walk}
-use Rattle.triple_arena_ord.specs.Ordered.{Ordered, IsOrdered, order_in, entry_in, size_in, counter_in, room_in}
+use Rattle.triple_arena_ord.specs.Ordered.{Ordered, IsOrdered, order_in, entry_in}
 use Rattle.triple_arena_ord.specs.States.{invalidated_in, with_item}
 use Rattle.triple_arena_ord.proofs.SameListLemmas.{Reordered, same_list, tree_same}
 use Rattle.triple_arena_ord.proofs.InsertLemmas.{renewed, renewed_ordered, replaced}

@@ -42,7 +42,7 @@ pub(crate) fn insert_leaf<P: PtrCore, T: Drop, S: OrdSlots<P, T>>(
     let (prev, next) = gap_beside(chains, *root, holder, side);
     let node: SimpleOrdArenaNode<P, T> = IndexNode {
         t,
-        p_back: None,
+        p_back: Some(holder),
         p_tree0: None,
         p_tree1: None,
         rank: 1,

@@ -130,11 +130,29 @@ impl<P: PtrCore, T: Drop, S: OrdSlots<P, T>> SimpleOrdArena<P, T, S> {
         if self.chains.len() >= self.chains.capacity() {
             return Err(NotWithinCapacityError);
         }
+        Ok(self.put_beside(holder, side, t))
+    }
+
+    // The same, where there is room.
+    #[inline(always)]
+    pub(crate) fn put_beside(&mut self, holder: P::Inx, side: Side, t: T) -> P
+        requires lives { IsSome (knots_in P.Inx.number self.old.chains (P.Inx.number holder)) }
+        requires free { option_map (λ v. child_of side v)
+            (knots_in P.Inx.number self.old.chains (P.Inx.number holder)) ≡ Some None }
+        requires room { live_count self.old.chains < arena_capacity self.old.chains }
+        ensures order { StandsBeside side (order_in P.Inx.number self.old)
+            (order_in P.Inx.number self.new) (P.Inx.number holder) (P.index result) }
+        ensures added { IsAdded P.Inx.number (P.index result) (P.generation result) t
+            self.old self.new }
+        ensures counter { self.new.chains.counter ≡ self.old.chains.counter }
+        ensures room { self.new.chains.room ≡ self.old.chains.room }
+        ensures ordered { IsOrdered P.Inx.number self.new }
+    {
         let p = insert_leaf(&mut self.chains, &mut self.root, holder, side, t);
         let inx = p.inx();
         self.first = moved(side, Side::Left, self.first, holder, inx);
         self.last = moved(side, Side::Right, self.last, holder, inx);
-        Ok(p)
+        p
     }
 
     // The first entry, where there is none.

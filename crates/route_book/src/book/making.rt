@@ -3,7 +3,7 @@ ghost use Rattle.std.specs.Prelude.{◌≡◌, ◌+◌, ◌<◌, Some, None, Err
 ghost use Rattle.triple_arena_ptr.specs.Generation.{second_generation};
 ghost use Rattle.route_lines.specs.State.{empty};
 ghost use Rattle.route_lines.specs.declared.refusal.RoomError.{RoomError as Refused};
-ghost use Rattle.route_book.specs.Rooms.{refusal_of};
+ghost use Rattle.route_book.specs.Rooms.{HasRooms, refusal_of};
 
 use crate::backing::BookBacking;
 use crate::book::RouteBook;
@@ -13,25 +13,34 @@ use route_lines::{Change, Held, RoomError};
 use triple_arena_ptr::PtrCore;
 
 impl<P: PtrCore, B: BookBacking<P>> RouteBook<P, B> {
-    /// A store with nothing in it, with room for so many places, stops and marks; see [`RouteBook::new_after`].
+    /// A store with nothing in it, with room for so many places, stops and marks; see
+    /// [`RouteBook::new_after`].
     pub fn new(backing: &B, places: usize, stops: usize, marks: usize) -> Result<Self, RoomError>
         ensures made { IfOk result (λ book. book.state
             ≡ empty (record { places = places; stops = stops; marks = marks }) 0) }
-        ensures counters { IfOk result (λ book. (book.places.chains.counter ≡ second_generation P.Gen.last)
+        ensures counters { IfOk result (λ book.
+            (book.places.chains.counter ≡ second_generation P.Gen.last)
             × (book.stops.counter ≡ second_generation P.Gen.last)) }
+        ensures rooms { IfOk result (λ book. HasRooms P.Inx.greatest B.room
+            (record { places = places; stops = stops; marks = marks }) book) }
         ensures refused { (e : Refused)
-            → refusal_of P.Gen.last P.Inx.greatest B.limit (places + stops + marks) ≡ Some e → result ≡ Err e }
-        ensures accepted { refusal_of P.Gen.last P.Inx.greatest B.limit (places + stops + marks) ≡ None
-            → IfErr result (λ e. (e ≡ RoomError.Memory) × IsTrue B.takes_memory × (0 < places + stops + marks)) }
+            → refusal_of P.Gen.last P.Inx.greatest B.limit (places + stops + marks) ≡ Some e
+            → result ≡ Err e }
+        ensures accepted { refusal_of P.Gen.last P.Inx.greatest B.limit
+            (places + stops + marks) ≡ None
+            → IfErr result (λ e. (e ≡ RoomError.Memory)
+            × IsTrue B.takes_memory
+            × (0 < places + stops + marks)) }
     {
         Self::new_after(backing, places, stops, marks, 0)
     }
 
-    /// The same, where the tickets 1 to `last` count as ended.
+    /// The same, if the tickets 1 to `last` count as ended.
     ///
-    /// `Generation` where the pointers' generations do not count to 3; else `Index` where the rooms together are past what an
-    /// index can count; else `Stack` where they are past what a stack of the backing holds; else `Memory` where the memory was
-    /// refused. A backing that takes no memory is never refused it.
+    /// `Generation` if the pointers' generations do not count to 3; else `Index` if the rooms
+    /// together are past what an index can count; else `Stack` if they are past what a stack of the
+    /// backing holds; else `Memory` if the memory was refused. A backing that takes no memory is
+    /// never refused it.
     pub fn new_after(
         backing: &B,
         places: usize,
@@ -41,15 +50,47 @@ impl<P: PtrCore, B: BookBacking<P>> RouteBook<P, B> {
     ) -> Result<Self, RoomError>
         ensures made { IfOk result (λ book. book.state
             ≡ empty (record { places = places; stops = stops; marks = marks }) last) }
-        ensures counters { IfOk result (λ book. (book.places.chains.counter ≡ second_generation P.Gen.last)
+        ensures counters { IfOk result (λ book.
+            (book.places.chains.counter ≡ second_generation P.Gen.last)
             × (book.stops.counter ≡ second_generation P.Gen.last)) }
+        ensures rooms { IfOk result (λ book. HasRooms P.Inx.greatest B.room
+            (record { places = places; stops = stops; marks = marks }) book) }
         ensures refused { (e : Refused)
-            → refusal_of P.Gen.last P.Inx.greatest B.limit (places + stops + marks) ≡ Some e → result ≡ Err e }
-        ensures accepted { refusal_of P.Gen.last P.Inx.greatest B.limit (places + stops + marks) ≡ None
-            → IfErr result (λ e. (e ≡ RoomError.Memory) × IsTrue B.takes_memory × (0 < places + stops + marks)) }
+            → refusal_of P.Gen.last P.Inx.greatest B.limit (places + stops + marks) ≡ Some e
+            → result ≡ Err e }
+        ensures accepted { refusal_of P.Gen.last P.Inx.greatest B.limit
+            (places + stops + marks) ≡ None
+            → IfErr result (λ e. (e ≡ RoomError.Memory)
+            × IsTrue B.takes_memory
+            × (0 < places + stops + marks)) }
+    {
+        let sum = room_sum::<P, B>(places, stops, marks)?;
+        Self::open(backing, places, stops, marks, sum, last)
+    }
+
+    // A store in rooms that are accepted, and that are so many in all.
+    pub(crate) fn open(
+        backing: &B,
+        places: usize,
+        stops: usize,
+        marks: usize,
+        sum: usize,
+        last: u64,
+    ) -> Result<Self, RoomError>
+        requires sum { sum ≡ places + stops + marks }
+        requires accepted { refusal_of P.Gen.last P.Inx.greatest B.limit sum ≡ None }
+        ensures made { IfOk result (λ book. book.state
+            ≡ empty (record { places = places; stops = stops; marks = marks }) last) }
+        ensures counters { IfOk result (λ book.
+            (book.places.chains.counter ≡ second_generation P.Gen.last)
+            × (book.stops.counter ≡ second_generation P.Gen.last)) }
+        ensures rooms { IfOk result (λ book. HasRooms P.Inx.greatest B.room
+            (record { places = places; stops = stops; marks = marks }) book) }
+        ensures memory { IfErr result (λ e. (e ≡ RoomError.Memory)
+            × IsTrue B.takes_memory
+            × (0 < places + stops + marks)) }
     {
         states_are_sound();
-        let sum = room_sum::<P, B>(places, stops, marks)?;
         let arenas = make_arenas(backing, places, stops, marks)?;
         let tickets = make_book(backing.book_memory(), sum)?;
         let mirrors = make_mirrors(backing, places, stops, marks)?;
@@ -62,9 +103,7 @@ impl<P: PtrCore, B: BookBacking<P>> RouteBook<P, B> {
             stops: arenas.stops,
             marks: arenas.marks,
             tickets,
-            place_mirror: mirrors.places,
-            stop_mirror: mirrors.stops,
-            mark_mirror: mirrors.marks,
+            mirrors,
             held: Held::new().changed(&Change::Open(places, stops, marks, last)),
         })
     }

@@ -1,20 +1,27 @@
 //! A pack: all items at the first indexes, and no dead reference.
-ghost use Rattle.std.specs.Prelude.{◌≡◌, ℕ};
+ghost use Rattle.std.specs.Prelude.{◌≡◌, ℕ, ◌≤◌};
+ghost use Rattle.triple_arena.specs.Content.{arena_capacity};
+ghost use Rattle.triple_arena.specs.DirectContent.{arena_capacity as mirror_capacity};
+ghost use Rattle.ticket_book.specs.Tickets.{entry_at};
 ghost use Rattle.route_lines.specs.Searches.{ComparesWithin};
 ghost use Rattle.route_book.specs.Compressed.{IsAllCompressed};
-ghost use Rattle.route_book.specs.Removals.{IsPacked};
+ghost use Rattle.route_book.specs.Book.{as_book, IsBook, KeepsRooms};
+ghost use Rattle.route_book.specs.Packing.{StandAs};
+ghost use Rattle.route_book.specs.Removals.{IsPacked, IsReady};
 
 use crate::backing::BookBacking;
 use crate::book::RouteBook;
 use crate::items::{Mark, Place, Stop};
 use crate::mirrors::{mirror_marks, mirror_places, mirror_stops};
+use crate::parts::Mirrors;
 use crate::recasts::{recast_all_marks, recast_all_stops};
-use route_lines::Counts;
+use route_lines::{Counts, Held};
+use ticket_book::TicketBook;
 use triple_arena::{Arena, ArenaSlots, ArenaTrait, CompactArenaTrait};
 use triple_arena_chain::{ChainArena, ChainSlots};
 use triple_arena_ord::laws::entries_stand_in_the_list;
 use triple_arena_ord::{OrdSlots, SimpleOrdArena};
-use triple_arena_ptr::PtrCore;
+use triple_arena_ptr::{Probes, PtrCore};
 
 // Moves the items of the three arenas to the first indexes, places and stops in the order of their lists. All counters
 // start again.
@@ -44,6 +51,50 @@ fn compress_all<
     let _ = marks.capacity();
 }
 
+// Packs the parts of a store of this state, if that is needed. Each entry of the ticket book stays
+// where it stands.
+pub(crate) fn pack_if<P: PtrCore, B: BookBacking<P>>(
+    needed: bool,
+    held: &Held,
+    places: &mut SimpleOrdArena<P, Place, B::Places>,
+    stops: &mut ChainArena<P, Stop<P>, B::Stops>,
+    marks: &mut Arena<P, Mark<P>, B::Marks>,
+    tickets: &mut TicketBook<P, B::Book>,
+    mirrors: &mut Mirrors<P, B::Mirror>,
+    looks: &mut Probes,
+)
+    requires book { IsBook P.Inx.number held.now.state.rooms held.now.state.last held.now.state
+        places.old stops.old marks.old tickets.old.entries }
+    requires place_mirror { arena_capacity places.old.chains ≤ mirror_capacity mirrors.old.places }
+    requires stop_mirror { arena_capacity stops.old ≤ mirror_capacity mirrors.old.stops }
+    requires mark_mirror { arena_capacity marks.old ≤ mirror_capacity mirrors.old.marks }
+    ensures book { IsBook P.Inx.number held.now.state.rooms held.now.state.last held.now.state
+        places.new stops.new marks.new tickets.new.entries }
+    ensures ready { IsReady P.Inx.number P.Gen.last needed looks.old looks.new
+        (as_book held.now.state places.old stops.old marks.old)
+        (as_book held.now.state places.new stops.new marks.new) }
+    ensures stand { StandAs (entry_at tickets.old) (entry_at tickets.new) }
+    ensures rooms { KeepsRooms (as_book held.now.state places.old stops.old marks.old)
+        (as_book held.now.state places.new stops.new marks.new) }
+    ensures book_room { tickets.new.capacity ≡ tickets.old.capacity }
+    ensures place_mirror { mirrors.new.places.room ≡ mirrors.old.places.room }
+    ensures stop_mirror { mirrors.new.stops.room ≡ mirrors.old.stops.room }
+    ensures mark_mirror { mirrors.new.marks.room ≡ mirrors.old.marks.room }
+{
+    if !needed {
+        return;
+    }
+    let _ = held;
+    entries_stand_in_the_list::<P, Place>();
+    compress_all(places, stops, marks);
+    mirror_places(places, tickets, &mut mirrors.places);
+    mirror_stops(stops, tickets, &mut mirrors.stops);
+    mirror_marks(marks, tickets, &mut mirrors.marks);
+    recast_all_stops(stops, &mirrors.places, looks);
+    recast_all_marks(marks, &mirrors.places, &mirrors.stops, looks);
+    tickets.renew(&mirrors.places, &mirrors.stops, &mirrors.marks);
+}
+
 impl<P: PtrCore, B: BookBacking<P>> RouteBook<P, B> {
     /// Moves all items to the first indexes: places in the order of their keys, the stops of a route one after another.
     ///
@@ -63,19 +114,15 @@ impl<P: PtrCore, B: BookBacking<P>> RouteBook<P, B> {
         ensures packed { IsPacked P.Inx.number P.Gen.last counts.old.looks counts.new.looks self.old self.new }
         ensures counts { ComparesWithin counts.old counts.new 0 0 0 }
     {
-        entries_stand_in_the_list::<P, Place>();
-        compress_all(&mut self.places, &mut self.stops, &mut self.marks);
-        mirror_places(&self.places, &self.tickets, &mut self.place_mirror);
-        mirror_stops(&self.stops, &self.tickets, &mut self.stop_mirror);
-        mirror_marks(&self.marks, &self.tickets, &mut self.mark_mirror);
-        recast_all_stops(&mut self.stops, &self.place_mirror, &mut counts.looks);
-        recast_all_marks(
+        pack_if::<P, B>(
+            true,
+            &self.held,
+            &mut self.places,
+            &mut self.stops,
             &mut self.marks,
-            &self.place_mirror,
-            &self.stop_mirror,
+            &mut self.tickets,
+            &mut self.mirrors,
             &mut counts.looks,
         );
-        self.tickets
-            .renew(&self.place_mirror, &self.stop_mirror, &self.mark_mirror);
     }
 }

@@ -25,9 +25,9 @@ pub fn states_are_numbered()
 
 /// What a sound state keeps, it keeps at each change.
 pub fn changes_keep_states_sound()
-    ensures sound { (s : State) (change : Change) → IsPossible change → IsSound s
+    ensures sound { (s : State) (change : Change) → IsPossible s change → IsSound s
         → IsSound (changed s change) }
-    ensures numbered { (s : State) (change : Change) → IsPossible change → IsNumbered s
+    ensures numbered { (s : State) (change : Change) → IsPossible s change → IsNumbered s
         → IsNumbered (changed s change) }
 {}
 

@@ -1,12 +1,17 @@
 //! Insertions that look at no key.
-ghost use Rattle.std.specs.Prelude.{◌≡◌, ℕ, Some, IsSome, IfOk};
+ghost use Rattle.std.specs.Prelude.{◌≡◌, ◌<◌, ℕ, Some, None, IsSome, IfSome, IfOk};
+ghost use Rattle.std.specs.Option.{option_map};
+ghost use Rattle.triple_arena.specs.Content.{arena_capacity};
+ghost use Rattle.triple_arena_ord.specs.Inserted.{IsAdded, Replaces, StandsAt};
 ghost use Rattle.triple_arena_ord.specs.Inserted.{IsInsertedAt, growing_room, room_made, under};
-ghost use Rattle.triple_arena_ord.specs.Ordered.{IsOrdered, entry_in, size_in};
+ghost use Rattle.triple_arena_ord.specs.Ordered.{IsOrdered, entry_in, order_in, size_in};
 
 use crate::{OrdSlots, SimpleOrdArena};
+use rank_tree::Side;
 use std::cmp::Ordering;
-use triple_arena::PtrCore;
+use triple_arena::{ArenaTrait, PtrCore};
 use triple_arena_ptr::OrdInsertionError;
+use unreached::unreached;
 
 impl<P: PtrCore, T: Drop, S: OrdSlots<P, T>> SimpleOrdArena<P, T, S> {
     /// Puts an item in at an entry that is live, whatever the keys are: `Equal` replaces the item there, and answers it,
@@ -30,6 +35,41 @@ impl<P: PtrCore, T: Drop, S: OrdSlots<P, T>> SimpleOrdArena<P, T, S> {
         match self.insert_at_reallocating(place, t) {
             Ok((_, replaced)) => Ok(replaced),
             Err(error) => Err(error),
+        }
+    }
+
+    /// Puts an item in at a known place, for which there is room, and answers its pointer: as the
+    /// only one, by `None`, if there is no entry; else directly before an entry that is live, by
+    /// `Less`, or directly after it, by `Greater`. No key is compared.
+    pub fn insert_inx_manual_within_capacity(
+        &mut self,
+        place: Option<(P::Inx, Ordering)>,
+        t: T,
+    ) -> P
+        requires live { IfSome place (λ a. IsSome (entry_in self.old (P.Inx.number a.0))) }
+        requires empty { place ≡ None → size_in self.old ≡ 0 }
+        requires new { Replaces (option_map (λ a. (P.Inx.number a.0, a.1)) place) → ⊥ }
+        requires room { size_in self.old < arena_capacity self.old.chains }
+        ensures stands { StandsAt (option_map (λ a. (P.Inx.number a.0, a.1)) place)
+            (order_in P.Inx.number self.old) (order_in P.Inx.number self.new) (P.index result) }
+        ensures added { IsAdded P.Inx.number (P.index result) (P.generation result) t
+            self.old self.new }
+        ensures counter { self.new.chains.counter ≡ self.old.chains.counter }
+        ensures room { self.new.chains.room ≡ self.old.chains.room }
+        ensures ordered { IsOrdered P.Inx.number self.new }
+    {
+        // The list is as it must be.
+        let _ = self.len();
+        match self.settle(place) {
+            None => match self.insert_first(t) {
+                Ok(p) => p,
+                Err(_) => unreached!(),
+            },
+            Some((i, direction)) => match direction {
+                Ordering::Less => self.put_beside(i, Side::Left, t),
+                Ordering::Equal => unreached!(),
+                Ordering::Greater => self.put_beside(i, Side::Right, t),
+            },
         }
     }
 }

@@ -11,6 +11,7 @@ ghost use Rattle.triple_arena_ord.specs.Found.{IsFound, IsSimilar};
 use crate::ord_arena::found::{found_at, similar_at};
 use crate::{OrdSlots, SimpleOrdArena, SimpleOrdItem};
 use std::cmp::Ordering;
+use std::mem;
 use triple_arena::{ArenaTrait, PtrCore};
 use triple_arena_ptr::Probes;
 
@@ -26,21 +27,26 @@ impl<P: PtrCore, T: SimpleOrdItem + Drop, S: OrdSlots<P, T>> SimpleOrdArena<P, T
     {
         let mut link = self.root;
         let mut place = None;
+        // Counted in a local, since a count behind a reference is written at each node.
+        let mut count = mem::replace(probes, Probes::new());
         'down: while let Some(i) = link {
-            probes.tick();
+            count.tick();
             let node = self.chains.get_inx_unwrap(i);
             let left = node.p_tree0;
             let right = node.p_tree1;
             let answer = k.cmp(node.t.key());
             if answer.is_eq() {
+                *probes = count;
                 return Some((i, answer));
             }
             place = Some((i, answer));
             if left.is_none() && right.is_none() {
+                *probes = count;
                 return place;
             }
             link = if answer.is_lt() { left } else { right };
         }
+        *probes = count;
         place
     }
 

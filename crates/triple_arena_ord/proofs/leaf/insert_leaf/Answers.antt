@@ -1,7 +1,8 @@
-use Rattle.std.proofs.Common.{rules, ◌<◌, ◌^◌, None, ◌∙◌, arith}
+use Rattle.std.proofs.Common.{rules, refl, ◌<◌, ◌^◌, Some, None, ◌∙◌, arith}
 use Rattle.std.specs.Option.{option_map}
 use Rattle.triple_arena_ord.proofs.RestLemmas.{rested}
-use Rattle.triple_arena_ord.proofs.LeafLemmas.{Cut, Linked, Leaf, cut_found, leaf_gap, leaf_works}
+use Rattle.triple_arena_ord.proofs.LeafLemmas.{Cut, Linked, Leaf, cut_found}
+use Rattle.triple_arena_ord.proofs.LeafLemmas.{leaf_slot, leaf_gap, leaf_works}
 use Rattle.triple_arena_ord.proofs.leaf.insert_leaf.Goals.{After-gap_beside-prev, After-inx, After-bring_in}
 use Rattle.triple_arena_ord.proofs.leaf.insert_leaf.Goals as goal
 
@@ -19,7 +20,7 @@ linked : (g : _) (c : After-inx g)
     → Linked g.P.Inx.PtrInxCore.number (record { chains = c.args.chains.now; root = option_map g.P.Inx.PtrInxCore.number c.args.root.now })
     c.insert_in_gap_within_capacity.new.self (g.P.Inx.PtrInxCore.number c.args.holder) (g.P.Inx.PtrInxCore.number c.inx.result)
     (g.P.PtrCore.index c.in-Ok.p) (g.P.PtrCore.generation c.in-Ok.p) c.args.side
-    (record { t = c.args.t; p_back = None; p_tree0 = None; p_tree1 = None; rank = 1 })
+    (record { t = c.args.t; p_back = Some c.args.holder; p_tree0 = None; p_tree1 = None; rank = 1 })
 linked g c =
     let bound : c.capacity-capacity.result < 2 ^ 64 = search rules in
     let capacity_is = c.capacity-capacity.ensures.value in
@@ -44,6 +45,11 @@ leaf g c =
 
 pub bring_in-requires-clause-gap : goal.bring_in-requires-clause-gap
 bring_in-requires-clause-gap g c = leaf_gap g.P.Inx.PtrInxCore.number (linked g (goal.at.bring_in-requires-clause-gap g c).After-inx)
+
+pub bring_in-requires-clause-slot : goal.bring_in-requires-clause-slot
+bring_in-requires-clause-slot g c =
+    leaf_slot g.P.Inx.PtrInxCore.number
+    (linked g (goal.at.bring_in-requires-clause-slot g c).After-inx) refl
 
 pub returns-clause-ordered : goal.returns-clause-ordered
 returns-clause-ordered g c = (leaf g (goal.at.returns-clause-ordered g c).After-bring_in).ordered

@@ -1,16 +1,63 @@
-use Rattle.std.proofs.Common.{subst, Ok}
-use Rattle.route_book.specs.Removals.{Tries}
-use Rattle.route_book.proofs.AfterPackLemmas.{removed_after_pack}
+use Rattle.std.proofs.Common.{◌∙◌, ap, refl, sym, subst}
+use Rattle.ticket_book.specs.Tickets.{Entry}
+use Rattle.route_book.specs.Book.{Book, as_book}
+use Rattle.route_book.specs.Removals.{IsReady}
+use Rattle.route_book.proofs.AfterPackLemmas.{ends_as, held, removed_ok, removed_so, state_so}
+use Rattle.route_book.proofs.HoldLemmas.{lookup_given}
+use Rattle.route_book.proofs.OptionLemmas.{some_same}
 use Rattle.route_book.proofs.book.RouteBook.remove_counted.Goals as goal
+
+pub returns-clause-result : goal.returns-clause-result
+returns-clause-result g c =
+    let number = g.P.Inx.PtrInxCore.number in
+    let last = g.P.Gen.PtrGenCore.last in
+    let s = c.self.inside.held.state in
+    let there = c.in-Some.ensures.found in
+    let own = c.pack_if.ensures.stand (number c.in-Some.at) there.0 there.1 in
+    let ticket = own.1.1.0 ∙ (lookup_given _ 0 _ c.args.ticket there.0 c.self.invariant.book.held.rise there.2).0 in
+    let kind = own.1.1.1 ∙ ap (λ (e : Entry). e.kind) (some_same (sym there.1 ∙ c.entry.ensures)) ∙ sym c.kind.ensures in
+    let ready = as_book s c.pack_if.new.places c.pack_if.new.stops c.pack_if.new.marks in
+    let new = as_book c.end_at.new.held.state c.end_at.new.places c.end_at.new.stops c.end_at.new.marks in
+    let pack = subst (λ (b : Book g.row.P-Inx.Denot). IsReady number last c.removal_wraps-needed.result
+    c.args.counts.now.looks c.pack_if.new.looks b ready) c.self.view_is c.pack_if.ensures.ready in
+    let state = ap (λ (b : Book g.row.P-Inx.Denot). b.state) c.self.view_is in
+    let ends = ends_as last ready new _ c.args.ticket _ c.kind.result ticket kind (c.end_at.ensures.ends own.0 own.1.0) in
+    removed_ok c.args.self.now.state c.args.ticket ends.0
+    (held number last c.args.self.now ready c.args.counts.now.looks c.pack_if.new.looks c.kind.result
+    c.removal_wraps-needed.result c.removal_wraps-needed.ensures pack c.args.ticket new state ends)
 
 pub returns-clause-state : goal.returns-clause-state
 returns-clause-state g c =
-    (removed_after_pack g.P.Inx.PtrInxCore.number g.P.Gen.PtrGenCore.last c.args.ticket c.args.self.now c.try_remove.new.self c.pack_counted.new.self c.try_remove-2.new.self _ _
-    (subst (λ b. Tries g.P.Gen.PtrGenCore.last c.args.ticket c.args.self.now c.try_remove.new.self (Ok b)) c.if-branch.false c.in_ok-try_remove.ensures.tries) c.pack_counted.ensures.state
-    c.pack_counted.ensures.packed c.self.invariant.counts _ c.try_remove-2.ensures.tries).0
+    let number = g.P.Inx.PtrInxCore.number in
+    let last = g.P.Gen.PtrGenCore.last in
+    let s = c.self.inside.held.state in
+    let there = c.in-Some.ensures.found in
+    let own = c.pack_if.ensures.stand (number c.in-Some.at) there.0 there.1 in
+    let ticket = own.1.1.0 ∙ (lookup_given _ 0 _ c.args.ticket there.0 c.self.invariant.book.held.rise there.2).0 in
+    let kind = own.1.1.1 ∙ ap (λ (e : Entry). e.kind) (some_same (sym there.1 ∙ c.entry.ensures)) ∙ sym c.kind.ensures in
+    let ready = as_book s c.pack_if.new.places c.pack_if.new.stops c.pack_if.new.marks in
+    let new = as_book c.end_at.new.held.state c.end_at.new.places c.end_at.new.stops c.end_at.new.marks in
+    let pack = subst (λ (b : Book g.row.P-Inx.Denot). IsReady number last c.removal_wraps-needed.result
+    c.args.counts.now.looks c.pack_if.new.looks b ready) c.self.view_is c.pack_if.ensures.ready in
+    let state = ap (λ (b : Book g.row.P-Inx.Denot). b.state) c.self.view_is in
+    let ends = ends_as last ready new _ c.args.ticket _ c.kind.result ticket kind (c.end_at.ensures.ends own.0 own.1.0) in
+    state_so number last c.args.self.now ready c.args.counts.now.looks c.pack_if.new.looks c.kind.result
+    c.removal_wraps-needed.result c.removal_wraps-needed.ensures pack c.args.ticket new state ends
 
 pub returns-clause-removes : goal.returns-clause-removes
 returns-clause-removes g c =
-    (removed_after_pack g.P.Inx.PtrInxCore.number g.P.Gen.PtrGenCore.last c.args.ticket c.args.self.now c.try_remove.new.self c.pack_counted.new.self c.try_remove-2.new.self _ _
-    (subst (λ b. Tries g.P.Gen.PtrGenCore.last c.args.ticket c.args.self.now c.try_remove.new.self (Ok b)) c.if-branch.false c.in_ok-try_remove.ensures.tries) c.pack_counted.ensures.state
-    c.pack_counted.ensures.packed c.self.invariant.counts _ c.try_remove-2.ensures.tries).1
+    let number = g.P.Inx.PtrInxCore.number in
+    let last = g.P.Gen.PtrGenCore.last in
+    let s = c.self.inside.held.state in
+    let there = c.in-Some.ensures.found in
+    let own = c.pack_if.ensures.stand (number c.in-Some.at) there.0 there.1 in
+    let ticket = own.1.1.0 ∙ (lookup_given _ 0 _ c.args.ticket there.0 c.self.invariant.book.held.rise there.2).0 in
+    let kind = own.1.1.1 ∙ ap (λ (e : Entry). e.kind) (some_same (sym there.1 ∙ c.entry.ensures)) ∙ sym c.kind.ensures in
+    let ready = as_book s c.pack_if.new.places c.pack_if.new.stops c.pack_if.new.marks in
+    let new = as_book c.end_at.new.held.state c.end_at.new.places c.end_at.new.stops c.end_at.new.marks in
+    let pack = subst (λ (b : Book g.row.P-Inx.Denot). IsReady number last c.removal_wraps-needed.result
+    c.args.counts.now.looks c.pack_if.new.looks b ready) c.self.view_is c.pack_if.ensures.ready in
+    let state = ap (λ (b : Book g.row.P-Inx.Denot). b.state) c.self.view_is in
+    let ends = ends_as last ready new _ c.args.ticket _ c.kind.result ticket kind (c.end_at.ensures.ends own.0 own.1.0) in
+    removed_so number last c.args.self.now ready c.args.counts.now.looks c.pack_if.new.looks c.kind.result
+    c.removal_wraps-needed.result c.removal_wraps-needed.ensures pack c.args.ticket new state ends

@@ -30,7 +30,7 @@ invariant_of-self g c =
       sound = subst IsSound (sym c.changed-self-inside.ensures) sound;
       counts = c.self.invariant.counts;
       room = room;
-      place_mirror = subst (λ r. capacity r ≤ mirror_capacity c.self.inside.place_mirror) (sym replaced.kept.room) c.self.invariant.place_mirror;
+      place_mirror = subst (λ r. capacity r ≤ mirror_capacity c.self.inside.mirrors.places) (sym replaced.kept.room) c.self.invariant.place_mirror;
       stop_mirror = c.self.invariant.stop_mirror;
       mark_mirror = c.self.invariant.mark_mirror;
     }

@@ -1,8 +1,10 @@
-use Rattle.std.proofs.Common.{◌∙◌, ap, sym, subst, refl, map}
+use Rattle.std.proofs.Common.{◌∙◌, ap, sym, subst, refl, ℕ, IsSome, map, option_map}
+use Rattle.triple_arena_chain.specs.Chains.{On}
 use Rattle.triple_arena_ord.specs.Ordered.{entry_in, order_in}
 use Rattle.ticket_book.specs.Mirrors.{numbers, renewed_entry}
-use Rattle.ticket_book.specs.Tickets.{Tickets, TicketsRise}
+use Rattle.ticket_book.specs.Tickets.{Tickets, TicketsRise, entry_at}
 use Rattle.ticket_book.proofs.EndLemmas.{along_renewed, rise_renewed}
+use Rattle.ticket_book.proofs.StandingLemmas.{stands_renewed, stands_there}
 use Rattle.ticket_book.proofs.TicketLemmas.{along}
 use Rattle.ticket_book.proofs.book.TicketBook.renew.Goals as goal
 
@@ -16,6 +18,23 @@ invariant_of-self g c =
     let order = c.renew_entries.ensures.order in
     subst TicketsRise (sym (ap (along at') order ∙ along_renewed f at at' c.renew_entries.ensures.entries (order_in g.P.Inx.PtrInxCore.number c.self.inside.arena)))
     (rise_renewed f at at' c.renew_entries.ensures.entries (λ e. refl) _ c.self.invariant)
+
+pub returns-clause-stands : goal.returns-clause-stands
+returns-clause-stands g c =
+    let number = g.P.Inx.PtrInxCore.number in
+    let f = renewed_entry (numbers g.P.PtrCore.index g.P.PtrCore.generation (g.M.ArenaTrait.entry_at c.args.places.now))
+    (numbers g.P.PtrCore.index g.P.PtrCore.generation (g.N.ArenaTrait.entry_at c.args.stops.now))
+    (numbers g.P.PtrCore.index g.P.PtrCore.generation (g.O.ArenaTrait.entry_at c.args.marks.now)) in
+    let old = c.self.inside.arena in
+    let new = c.renew_entries.new.arena in
+    let on_old : (i : ℕ) → IsSome (entry_in old i) → On (order_in number old) i =
+    λ i some. c.entries_stand_in_the_list.ensures old i c.len.ensures.formed.ordered some in
+    let on_new : (i : ℕ) → IsSome (entry_in new i) → On (order_in number new) i =
+    λ i some. c.entries_stand_in_the_list.ensures new i c.len-2.ensures.formed.ordered some in
+    λ i. stands_there number new on_new i
+    ∙ stands_renewed f (entry_in old i) (entry_in new i) (c.renew_entries.ensures.entries i)
+    ∙ ap (option_map f) (sym (stands_there number old on_old i))
+    ∙ ap (λ (b : Tickets). option_map f (entry_at b i)) c.self.view_is
 
 pub returns-clause-entries : goal.returns-clause-entries
 returns-clause-entries g c =

@@ -1,4 +1,4 @@
-use Rattle.std.proofs.Common.{◌≡◌, ℕ, ◌+◌, Bool, Option, Some, IsSome, refl, sym, ap, ◌∙◌, subst, option_map, arith, true, false, true≢false}
+use Rattle.std.proofs.Common.{◌≡◌, ℕ, ◌+◌, Bool, Option, Some, None, IsSome, refl, sym, ap, ◌∙◌, subst, option_map, arith, true, false, true≢false}
 use Rattle.std.specs.Ordering.{is_eq, is_lt}
 use Rattle.std.specs.declared.cmp.Ordering.{Ordering}
 use Rattle.std.specs.declared.cmp.Ordering.TheVariants.{Less, Equal, Greater}
@@ -6,6 +6,7 @@ use Rattle.rank_tree.specs.Store.{Store}
 use Rattle.rank_tree.specs.Tree.{Tree}
 use Rattle.rank_tree.specs.Search.{IsAnswer, IsFreeAt}
 use Rattle.rank_tree.specs.Knot.{Knot}
+use Rattle.triple_arena_chain.specs.Links.{values_in}
 use Rattle.triple_arena_ord.specs.Node.{knots_in}
 use Rattle.triple_arena_ord.specs.Ordered.{asked_at}
 use Rattle.rank_tree.specs.DescentLaws.{Descent, falls_down, descent_ends, descent_asked, descent_lives}
@@ -39,6 +40,16 @@ answered_so f t i d e same = subst (λ o. IsAnswer f t (Some (i, o))) (sym same)
 lives_so : (v : Option Knot) (d : Ordering) → d ≡ Equal → IsSome v → IsFreeAt d v
 lives_so v d same = subst (λ o. IsFreeAt o v) (sym same)
 
+some_of : {A B : Type 0} (f : A → B) (v : Option A) → IsSome (option_map f v) → IsSome v
+some_of f None h = absurd (cc)
+some_of f (Some a) h = refl
+
+pub get_inx_unwrap-node-requires : goal.get_inx_unwrap-node-requires
+get_inx_unwrap-node-requires g c =
+    let i = g.P.Inx.PtrInxCore.number c.in-Some.i in
+    let lives = (descent_lives _ _ _ _ _ _ i (ap (option_map g.P.Inx.PtrInxCore.number) c.in-Some.is) c.down.invariant.1.1).1 in
+    subst (λ o. IsSome (values_in o.chains i)) (sym c.self.view_is) (some_of _ (values_in c.args.self.now.chains i) lives)
+
 -- the node at the link is asked
 step : (g : _) (c : After-cmp-answer g)
     → Step g.P.Inx.PtrInxCore.number g.T.Key.Ord.cmp g.T.SimpleOrdItem.key_of c.args.k.now c.args.self.now
@@ -60,18 +71,19 @@ returns-then-is_none-2-clause-answer g c =
 
 pub returns-then-is_none-2-clause-ticks : goal.returns-then-is_none-2-clause-ticks
 returns-then-is_none-2-clause-ticks g c =
+    let taken = c.replace-count.ensures.value in
     let at = (goal.at.returns-then-is_none-2-clause-ticks g c).After-cmp-answer in
     let number = g.P.Inx.PtrInxCore.number in
     let before = c.down.invariant.1.0 in
     let ticked = c.tick.ensures in
     let all = (leaf_ends _ _ _ _ _ _ (step g at).here (no_child number _ c.if-is_none.ensures) (no_child number _ c.if-is_none-2.ensures) _ (asked g at)).1 in
-    omega (arith, before, ticked, all)
+    omega (arith, taken, before, ticked, all)
 
 pub down-init : goal.down-init
 down-init g c = (
   0,
   (
-    omega arith,
+    (let taken = c.replace-count.ensures.value in omega (arith, taken)),
     seek_begins g.P.Inx.PtrInxCore.number g.T.Key.Ord.cmp g.T.SimpleOrdItem.key_of c.args.k.now c.args.self.now _ c.self.view_is
         c.self.invariant.0,
   ),
@@ -99,25 +111,28 @@ returns-then-is_eq-clause-answer g c =
 
 pub returns-then-is_eq-clause-ticks : goal.returns-then-is_eq-clause-ticks
 returns-then-is_eq-clause-ticks g c =
+    let taken = c.replace-count.ensures.value in
     let at = (goal.at.returns-then-is_eq-clause-ticks g c).After-cmp-answer in
     let before = c.down.invariant.1.0 in
     let ticked = c.tick.ensures in
     let equal = equal_of c.cmp-answer.result c.is_eq.result c.is_eq.ensures c.if-is_eq.true in
     let all = (step g at).here.all_asked (asked g at ∙ equal) in
-    omega (arith, before, ticked, all)
+    omega (arith, taken, before, ticked, all)
 
 pub returns-clause-ticks : goal.returns-clause-ticks
 returns-clause-ticks g c =
+    let taken = c.replace-count.ensures.value in
     let before = c.down.invariant.1.0 in
     let all = descent_asked _ _ _ _ _ _ (ap (option_map g.P.Inx.PtrInxCore.number) c.in_default.is) c.down.invariant.1.1 in
-    omega (arith, before, all)
+    omega (arith, taken, before, all)
 
 pub returns-then-is_eq-clause-bound : goal.returns-then-is_eq-clause-bound
 returns-then-is_eq-clause-bound g c =
+    let taken = c.replace-count.ensures.value in
     let before = c.down.invariant.1.0 in
     let ticked = c.tick.ensures in
     let bound = (step g (goal.at.returns-then-is_eq-clause-bound g c).After-cmp-answer).here.in_bound in
-    omega arith
+    omega (arith, taken, before, ticked, bound)
 
 pub down-smaller : goal.down-smaller
 down-smaller g c =

@@ -1,12 +1,9 @@
-use Rattle.std.proofs.Common.{◌≡◌, None, option_map, sym, ap, subst, ◌∙◌}
+use Rattle.std.proofs.Common.{◌≡◌, None, option_map, sym, ap, ◌∙◌}
 use Rattle.std.specs.List.{range_with_len}
 use Rattle.triple_arena.specs.ArenaRoom.{room_with}
 use Rattle.triple_arena.specs.Content.{live_count}
-use Rattle.triple_arena.specs.Transfer.{IsFilled}
 use Rattle.triple_arena_chain.specs.Chains.{first_or, last_or}
-use Rattle.triple_arena_ord.specs.CanonicalTransfer.{IsTransferredInOrder}
-use Rattle.triple_arena_ord.specs.Indexed.{indexed}
-use Rattle.triple_arena_ord.specs.Ordered.{Ordered, entry_in, size_in, counter_in, room_in}
+use Rattle.triple_arena_ord.specs.Ordered.{Ordered, size_in}
 use Rattle.triple_arena_ord.proofs.CanonicalTransferLemmas.{Transferred, transferred_by, transferred_along, nodes_are, run_linear, run_long}
 use Rattle.triple_arena_ord.proofs.ord_arena.SimpleOrdArena.transfer_canonical_reallocating.Goals as goal
 

@@ -2,7 +2,7 @@ use Rattle.std.proofs.Common.{sym, ◌∙◌, subst}
 use Rattle.std.specs.Option.{option_map}
 use Rattle.triple_arena_ord.specs.Ordered.{Ordered, StandsBeside, order_in}
 use Rattle.triple_arena_ord.proofs.EndLemmas.{first_moved, last_moved}
-use Rattle.triple_arena_ord.proofs.ord_arena.SimpleOrdArena.insert_beside.Goals as goal
+use Rattle.triple_arena_ord.proofs.ord_arena.SimpleOrdArena.put_beside.Goals as goal
 
 pub invariant_of-self : goal.invariant_of-self
 invariant_of-self g c =

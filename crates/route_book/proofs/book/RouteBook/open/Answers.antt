@@ -1,49 +1,50 @@
-use Rattle.std.proofs.Common.{◌∙◌, [], subst, sym, arith}
+use Rattle.std.proofs.Common.{◌∙◌, [], ap, subst, sym, arith}
+use Rattle.triple_arena.specs.ArenaRoom.{room_of}
 use Rattle.route_lines.specs.Sound.{IsSound}
 use Rattle.route_book.proofs.NewLemmas.{new_kept}
 use Rattle.route_book.proofs.RoomLemmas.{counts_long, mirror_fits, part_fits}
-use Rattle.route_book.proofs.book.RouteBook.new_after.Goals as goal
+use Rattle.route_book.proofs.book.RouteBook.open.Goals as goal
 
 pub make_arenas-requires-clause-places : goal.make_arenas-requires-clause-places
 make_arenas-requires-clause-places g c =
-    let sum = c.in_ok-sum.ensures.sum in
-    part_fits g.P.Gen.PtrGenCore.last g.P.Inx.PtrInxCore.greatest g.B.BookBacking.limit c.in_ok-sum.sum c.in_ok-sum.ensures.accepted g.B.BookBacking.room g.met.B.BookBacking.beyond
+    let sum = c.requires.sum in
+    part_fits g.P.Gen.PtrGenCore.last g.P.Inx.PtrInxCore.greatest g.B.BookBacking.limit c.args.sum c.requires.accepted g.B.BookBacking.room g.met.B.BookBacking.beyond
     (g.B.Places.NonZeroInxGenericStack.room_at c.args.places) c.args.places (g.met.B.BookBacking.places_room c.args.places) (omega (arith, sum))
 
 pub make_arenas-requires-clause-stops : goal.make_arenas-requires-clause-stops
 make_arenas-requires-clause-stops g c =
-    let sum = c.in_ok-sum.ensures.sum in
-    part_fits g.P.Gen.PtrGenCore.last g.P.Inx.PtrInxCore.greatest g.B.BookBacking.limit c.in_ok-sum.sum c.in_ok-sum.ensures.accepted g.B.BookBacking.room g.met.B.BookBacking.beyond
+    let sum = c.requires.sum in
+    part_fits g.P.Gen.PtrGenCore.last g.P.Inx.PtrInxCore.greatest g.B.BookBacking.limit c.args.sum c.requires.accepted g.B.BookBacking.room g.met.B.BookBacking.beyond
     (g.B.Stops.NonZeroInxGenericStack.room_at c.args.stops) c.args.stops (g.met.B.BookBacking.stops_room c.args.stops) (omega (arith, sum))
 
 pub make_arenas-requires-clause-marks : goal.make_arenas-requires-clause-marks
 make_arenas-requires-clause-marks g c =
-    let sum = c.in_ok-sum.ensures.sum in
-    part_fits g.P.Gen.PtrGenCore.last g.P.Inx.PtrInxCore.greatest g.B.BookBacking.limit c.in_ok-sum.sum c.in_ok-sum.ensures.accepted g.B.BookBacking.room g.met.B.BookBacking.beyond
+    let sum = c.requires.sum in
+    part_fits g.P.Gen.PtrGenCore.last g.P.Inx.PtrInxCore.greatest g.B.BookBacking.limit c.args.sum c.requires.accepted g.B.BookBacking.room g.met.B.BookBacking.beyond
     (g.B.Marks.NonZeroInxGenericStack.room_at c.args.marks) c.args.marks (g.met.B.BookBacking.marks_room c.args.marks) (omega (arith, sum))
 
 pub make_book-requires : goal.make_book-requires
 make_book-requires g c =
-    let sum = c.in_ok-sum.ensures.sum in
-    part_fits g.P.Gen.PtrGenCore.last g.P.Inx.PtrInxCore.greatest g.B.BookBacking.limit c.in_ok-sum.sum c.in_ok-sum.ensures.accepted g.B.BookBacking.room g.met.B.BookBacking.beyond
-    (g.B.Book.NonZeroInxGenericStack.room_at c.in_ok-sum.sum) c.in_ok-sum.sum (g.met.B.BookBacking.book_room c.in_ok-sum.sum) (omega (arith, sum))
+    let sum = c.requires.sum in
+    part_fits g.P.Gen.PtrGenCore.last g.P.Inx.PtrInxCore.greatest g.B.BookBacking.limit c.args.sum c.requires.accepted g.B.BookBacking.room g.met.B.BookBacking.beyond
+    (g.B.Book.NonZeroInxGenericStack.room_at c.args.sum) c.args.sum (g.met.B.BookBacking.book_room c.args.sum) (omega (arith, sum))
 
 pub make_mirrors-requires-clause-places : goal.make_mirrors-requires-clause-places
 make_mirrors-requires-clause-places g c =
-    let sum = c.in_ok-sum.ensures.sum in
-    part_fits g.P.Gen.PtrGenCore.last g.P.Inx.PtrInxCore.greatest g.B.BookBacking.limit c.in_ok-sum.sum c.in_ok-sum.ensures.accepted g.B.BookBacking.room g.met.B.BookBacking.beyond
+    let sum = c.requires.sum in
+    part_fits g.P.Gen.PtrGenCore.last g.P.Inx.PtrInxCore.greatest g.B.BookBacking.limit c.args.sum c.requires.accepted g.B.BookBacking.room g.met.B.BookBacking.beyond
     (g.B.Mirror.NonZeroInxGenericStack.room_at c.args.places) c.args.places (g.met.B.BookBacking.mirror_room c.args.places) (omega (arith, sum))
 
 pub make_mirrors-requires-clause-stops : goal.make_mirrors-requires-clause-stops
 make_mirrors-requires-clause-stops g c =
-    let sum = c.in_ok-sum.ensures.sum in
-    part_fits g.P.Gen.PtrGenCore.last g.P.Inx.PtrInxCore.greatest g.B.BookBacking.limit c.in_ok-sum.sum c.in_ok-sum.ensures.accepted g.B.BookBacking.room g.met.B.BookBacking.beyond
+    let sum = c.requires.sum in
+    part_fits g.P.Gen.PtrGenCore.last g.P.Inx.PtrInxCore.greatest g.B.BookBacking.limit c.args.sum c.requires.accepted g.B.BookBacking.room g.met.B.BookBacking.beyond
     (g.B.Mirror.NonZeroInxGenericStack.room_at c.args.stops) c.args.stops (g.met.B.BookBacking.mirror_room c.args.stops) (omega (arith, sum))
 
 pub make_mirrors-requires-clause-marks : goal.make_mirrors-requires-clause-marks
 make_mirrors-requires-clause-marks g c =
-    let sum = c.in_ok-sum.ensures.sum in
-    part_fits g.P.Gen.PtrGenCore.last g.P.Inx.PtrInxCore.greatest g.B.BookBacking.limit c.in_ok-sum.sum c.in_ok-sum.ensures.accepted g.B.BookBacking.room g.met.B.BookBacking.beyond
+    let sum = c.requires.sum in
+    part_fits g.P.Gen.PtrGenCore.last g.P.Inx.PtrInxCore.greatest g.B.BookBacking.limit c.args.sum c.requires.accepted g.B.BookBacking.room g.met.B.BookBacking.beyond
     (g.B.Mirror.NonZeroInxGenericStack.room_at c.args.marks) c.args.marks (g.met.B.BookBacking.mirror_room c.args.marks) (omega (arith, sum))
 
 pub invariant_of-result : goal.invariant_of-result
@@ -52,15 +53,26 @@ invariant_of-result g c =
     let mirrors = c.in_ok-mirrors.ensures in
     let kept = new_kept g.P.Inx.PtrInxCore.number (record { places = c.args.places; stops = c.args.stops; marks = c.args.marks }) c.args.last _ _ _ _ _ _ _ _ _
     made.places made.stops made.marks made.ordered made.places_fit made.stops_fit made.marks_fit in
-    let sum = c.in_ok-sum.ensures.sum in
+    let sum = c.requires.sum in
     let fits = c.in_ok-tickets.ensures.fits in
     let law = g.met.B.BookBacking in
     record {
       book = rw (c.changed.ensures, c.in_ok-tickets.ensures.empty) kept;
       sound = subst IsSound (sym c.changed.ensures) (c.states_are_sound.ensures (record { places = c.args.places; stops = c.args.stops; marks = c.args.marks }) c.args.last []);
-      counts = counts_long g.P.Gen.PtrGenCore.last g.P.Inx.PtrInxCore.greatest g.B.BookBacking.limit c.in_ok-sum.sum c.in_ok-sum.ensures.accepted;
+      counts = counts_long g.P.Gen.PtrGenCore.last g.P.Inx.PtrInxCore.greatest g.B.BookBacking.limit c.args.sum c.requires.accepted;
       room = omega (arith, sum, fits);
       place_mirror = mirror_fits _ _ _ _ _ _ made.places mirrors.places (law.places_room c.args.places ∙ sym (law.mirror_room c.args.places));
       stop_mirror = mirror_fits _ _ _ _ _ _ made.stops mirrors.stops (law.stops_room c.args.stops ∙ sym (law.mirror_room c.args.stops));
       mark_mirror = mirror_fits _ _ _ _ _ _ made.marks mirrors.marks (law.marks_room c.args.marks ∙ sym (law.mirror_room c.args.marks));
+    }
+
+pub returns-clause-rooms : goal.returns-clause-rooms
+returns-clause-rooms g c =
+    let made = c.in_ok-arenas.ensures in
+    let law = g.met.B.BookBacking in
+    let greatest = g.P.Inx.PtrInxCore.greatest in
+    record {
+      places = ap (λ r. r.room) made.places ∙ ap (room_of greatest) (law.places_room c.args.places);
+      stops = ap (λ r. r.room) made.stops ∙ ap (room_of greatest) (law.stops_room c.args.stops);
+      marks = ap (λ r. r.room) made.marks ∙ ap (room_of greatest) (law.marks_room c.args.marks);
     }

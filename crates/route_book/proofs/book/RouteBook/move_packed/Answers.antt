@@ -1,0 +1,129 @@
+use Rattle.std.proofs.Common.{◌≡◌, ◌∙◌, ◌≤◌, ap, sym, subst, length, arith}
+use Rattle.triple_arena_ptr.specs.Generation.{second_generation}
+use Rattle.triple_arena_ptr.specs.Index.{max_index_of}
+use Rattle.triple_arena_stack.specs.Room.{capacity}
+use Rattle.route_lines.specs.Sound.{IsSound}
+use Rattle.route_lines.specs.State.{Rooms, in_rooms, stop_list}
+use Rattle.route_lines.specs.declared.change.Change.TheVariants.{Move}
+use Rattle.route_book.specs.Book.{Book}
+use Rattle.route_book.specs.Removals.{IsPacked}
+use Rattle.route_book.proofs.MovedStoreLemmas.{moved_kept, moved_mark, moved_stop}
+use Rattle.route_book.proofs.book.RouteBook.move_packed.Goals as goal
+
+pub invariant_of-moved : goal.invariant_of-moved
+invariant_of-moved g c =
+    let moved = c.moved.inside in
+    let s = c.self.inside.held.state in
+    let places = c.transfer_places.ensures in
+    let stops = c.transfer_stops.ensures in
+    let marks = c.transfer_marks.ensures in
+    let packing =
+    subst (IsPacked g.P.Inx.PtrInxCore.number g.P.Gen.PtrGenCore.last 0 c.requires.packed.1.0
+    c.requires.packed.0)
+    (sym c.self.view_is) c.requires.packed.1.1 in
+    let rooms = c.moved.invariant.book.within.rooms_are in
+    let fit_p : length s.places ≤ moved.place_room =
+    (let need = c.requires.places in
+    let own = ap (λ (b : Book g.row.P-Inx.Denot). length b.state.places) c.self.view_is in
+    let room = ap (λ (b : Book g.row.Q-Inx.Denot). b.state.rooms.places) c.moved.view_is in
+    let same = ap (λ (r : Rooms). r.places) rooms in
+    omega (arith, need, own, room, same)) in
+    let fit_s : length (stop_list s.routes) ≤ moved.stop_room =
+    (let need = c.requires.stops in
+    let own = ap (λ (b : Book g.row.P-Inx.Denot). length (stop_list b.state.routes))
+    c.self.view_is in
+    let room = ap (λ (b : Book g.row.Q-Inx.Denot). b.state.rooms.stops) c.moved.view_is in
+    let same = ap (λ (r : Rooms). r.stops) rooms in
+    omega (arith, need, own, room, same)) in
+    let fit_m : length s.marks ≤ moved.mark_room =
+    (let need = c.requires.marks in
+    let own = ap (λ (b : Book g.row.P-Inx.Denot). length b.state.marks) c.self.view_is in
+    let room = ap (λ (b : Book g.row.Q-Inx.Denot). b.state.rooms.marks) c.moved.view_is in
+    let same = ap (λ (r : Rooms). r.marks) rooms in
+    omega (arith, need, own, room, same)) in
+    let kept =
+    moved_kept g.P.Inx.PtrInxCore.number g.Q.Inx.PtrInxCore.number g.P.Gen.PtrGenCore.last
+    (max_index_of g.Q.Inx.PtrInxCore.greatest) (second_generation g.Q.Gen.PtrGenCore.last) _
+    (record { places = moved.place_room; stops = moved.stop_room; marks = moved.mark_room })
+    c.self.inside.last s c.self.inside.places c.self.inside.stops c.self.inside.marks
+    c.self.inside.tickets.entries c.self.invariant.book c.transfer_places.new.to
+    c.transfer_stops.new.to c.transfer_marks.new.to c.requires.packed.0 c.requires.packed.1.0
+    packing places.entries places.within places.order stops.entries stops.within stops.on stops.next
+    marks.entries marks.within places.counter stops.counter places.size stops.live marks.live
+    fit_p fit_s fit_m
+    (subst (λ r. moved.place_room ≤ capacity r)
+    (sym places.room) c.moved.invariant.book.within.place_room)
+    (subst (λ r. moved.stop_room ≤ capacity r)
+    (sym stops.room) c.moved.invariant.book.within.stop_room)
+    (subst (λ r. moved.mark_room ≤ capacity r)
+    (sym marks.room) c.moved.invariant.book.within.mark_room) in
+    let room = c.moved.invariant.room in
+    let same = c.take_over.ensures.capacity in
+    record {
+      book = rw (c.changed-moved-inside.ensures, c.take_over.ensures.entries) kept;
+      sound = subst IsSound (sym c.changed-moved-inside.ensures)
+          (c.changes_keep_states_sound.ensures.sound s
+          (Move moved.place_room moved.stop_room moved.mark_room)
+          (fit_p, (fit_s, fit_m)) c.self.invariant.sound);
+      counts = c.moved.invariant.counts;
+      room = omega (arith, room, same);
+      place_mirror = subst (λ r. capacity r ≤ capacity moved.mirrors.places.room) (sym places.room)
+          c.moved.invariant.place_mirror;
+      stop_mirror = subst (λ r. capacity r ≤ capacity moved.mirrors.stops.room) (sym stops.room)
+          c.moved.invariant.stop_mirror;
+      mark_mirror = subst (λ r. capacity r ≤ capacity moved.mirrors.marks.room) (sym marks.room)
+          c.moved.invariant.mark_mirror;
+    }
+
+pub returns : goal.returns
+returns g c rooms same has =
+    let moved = c.moved.inside in
+    let s = c.self.inside.held.state in
+    let places = c.transfer_places.ensures in
+    let stops = c.transfer_stops.ensures in
+    let marks = c.transfer_marks.ensures in
+    let packing =
+    subst (IsPacked g.P.Inx.PtrInxCore.number g.P.Gen.PtrGenCore.last 0 c.requires.packed.1.0
+    c.requires.packed.0)
+    (sym c.self.view_is) c.requires.packed.1.1 in
+    let own : Rooms = record {
+      places = moved.place_room;
+      stops = moved.stop_room;
+      marks =
+          moved.mark_room;
+    } in
+    let wanted : own ≡ rooms =
+    sym c.moved.invariant.book.within.rooms_are
+    ∙ ap (λ (b : Book g.row.Q-Inx.Denot). b.state.rooms) c.moved.view_is ∙ same in
+    record {
+      state = c.changed-moved-inside.ensures ∙ ap (λ r. in_rooms r s) wanted
+          ∙ ap (λ (b : Book g.row.P-Inx.Denot). in_rooms rooms b.state) c.self.view_is;
+      place_counter = places.counter;
+      stop_counter = stops.counter;
+      mark_counter = marks.counter;
+      rooms = record {
+        places = places.room
+            ∙ ap (λ (b : Book g.row.Q-Inx.Denot). b.places.chains.room) c.moved.view_is
+            ∙ has.places;
+        stops = stops.room
+            ∙ ap (λ (b : Book g.row.Q-Inx.Denot). b.stops.room) c.moved.view_is ∙ has.stops;
+        marks = marks.room
+            ∙ ap (λ (b : Book g.row.Q-Inx.Denot). b.marks.room) c.moved.view_is ∙ has.marks;
+      };
+      stops = moved_stop g.P.Inx.PtrInxCore.number g.Q.Inx.PtrInxCore.number g.P.Gen.PtrGenCore.last
+          (max_index_of g.Q.Inx.PtrInxCore.greatest)
+          (second_generation g.Q.Gen.PtrGenCore.last) _ own
+          c.self.inside.last s c.self.inside.places c.self.inside.stops c.self.inside.marks
+          c.self.inside.tickets.entries c.self.invariant.book c.transfer_places.new.to
+          c.transfer_stops.new.to c.transfer_marks.new.to c.requires.packed.0 c.requires.packed.1.0
+          packing places.entries places.within places.order stops.entries stops.within stops.on
+          stops.next marks.entries marks.within places.counter stops.counter;
+      marks = moved_mark g.P.Inx.PtrInxCore.number g.Q.Inx.PtrInxCore.number g.P.Gen.PtrGenCore.last
+          (max_index_of g.Q.Inx.PtrInxCore.greatest)
+          (second_generation g.Q.Gen.PtrGenCore.last) _ own
+          c.self.inside.last s c.self.inside.places c.self.inside.stops c.self.inside.marks
+          c.self.inside.tickets.entries c.self.invariant.book c.transfer_places.new.to
+          c.transfer_stops.new.to c.transfer_marks.new.to c.requires.packed.0 c.requires.packed.1.0
+          packing places.entries places.within places.order stops.entries stops.within stops.on
+          stops.next marks.entries marks.within places.counter stops.counter;
+    }
