@@ -1,6 +1,6 @@
 -- The last place as a hint for a greater key.
 use Rattle.std.proofs.Common.{◌≡◌, ◌∙◌, sym, ap, subst, refl, true, ◌==◌, ℕ, suc, ◌+◌, ◌-◌}
-use Rattle.std.proofs.Common.{◌<◌, ◌≤◌, List, [], ◌∷◌, ◌++◌, length, nat_lt, Result, Ok, Err}
+use Rattle.std.proofs.Common.{◌≤◌, List, [], ◌∷◌, ◌++◌, length, nat_lt, Result, Ok, Err}
 use Rattle.std.proofs.Common.{inl, inr, arith}
 use Rattle.std.specs.List.{AllByRecursion}
 use Rattle.std.proofs.lemmas.Bool.{and_from, or_left, or_right, eq-eqb, le-ltb, lt-ltb}
