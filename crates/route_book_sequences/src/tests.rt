@@ -1,3 +1,4 @@
+mod moves;
 mod rows;
 mod streams;
 mod table;
