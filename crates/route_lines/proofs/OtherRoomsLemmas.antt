@@ -1,8 +1,8 @@
 -- Lines that are answered in other rooms: as in these ones, if they are `full` in neither.
 use Rattle.std.proofs.Common.{◌≡◌, ◌≢◌, ◌∙◌, sym, ap, subst, refl, Bool, true, false, ◌++◌, ◌∷◌, ℕ, List, [], Option, Some, None, Result, Ok, Err, append_assoc}
-use Rattle.route_lines.specs.Calls.{after_cut, after_extend, after_join, after_mark, after_place, after_place_near, after_removed, after_start, after_swap, after_word, and_then, extended, joined, marked, next_ticket, parted, place_holder, placed, placed_near, started, stop_holder, swapped, unless_refused}
+use Rattle.route_lines.specs.Calls.{after_place, after_removed, and_then, extended, joined, marked, next_ticket, parted, place_holder, placed, placed_near, started, stop_holder, swapped, unless_refused}
 use Rattle.route_lines.specs.Reply.{ended, next, refusal_line, reply, ticket_line}
-use Rattle.route_lines.specs.State.{Item, Place, Rooms, State, Stop, holder, in_rooms, is_full_of_marks, is_full_of_places, is_full_of_stops, place, stop, mark}
+use Rattle.route_lines.specs.State.{Item, Place, Rooms, State, holder, in_rooms, is_full_of_marks, is_full_of_places, is_full_of_stops, place, stop, mark}
 use Rattle.route_lines.specs.Text.{Line, NoneFull, after_lines, command_in, replies}
 use Rattle.route_lines.specs.declared.command.Command.{Command}
 use Rattle.route_lines.specs.declared.command.Command.TheVariants.{Place as PlaceLine, Word, Show, Find, Floor, After, Before, All, Remove, Start, Extend, Join, Cut, Swap, Walk, Mark as MarkLine, Pack}

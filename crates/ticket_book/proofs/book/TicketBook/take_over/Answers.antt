@@ -3,7 +3,6 @@ use Rattle.std.proofs.lemmas.List.{length-map}
 use Rattle.triple_arena_ptr.specs.Generation.{second_generation}
 use Rattle.triple_arena_ptr.specs.Index.{max_index_of}
 use Rattle.triple_arena_stack.specs.Room.{capacity}
-use Rattle.triple_arena.specs.Content.{arena_capacity}
 use Rattle.triple_arena.specs.TransferLaws.{room_kept, transferred_by}
 use Rattle.triple_arena_ord.specs.Ordered.{ordered_entries, room_in, size_in}
 use Rattle.ticket_book.specs.Moving.{entry_over}
