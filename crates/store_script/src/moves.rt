@@ -1,7 +1,7 @@
 //! A store that moves on the way through a section.
 use crate::books::{Heap, missing};
 use crate::runs::play_runs;
-use route_book::{BookBacking, OnArray, OnFixed, OnHeap, OnLimited, PtrCore, RouteBook};
+use route_book::{BookBacking, OnArray, OnFixed, OnHeap, OnLimited, PtrCore, RoomError, RouteBook};
 use script::Call;
 use std::alloc::AllocError;
 use std::fmt::Write;
@@ -96,19 +96,35 @@ impl<'a> Moving<'a> {
         text: String,
     ) -> Result<String, AllocError> {
         let mut store = store;
-        let mut text = play_rest(&mut store, self.before, text)?;
-        writeln!(text, ">move{}", self.line)?;
+        let text = play_rest(&mut store, self.before, text)?;
         let (places, stops, marks) = (self.call.first, self.call.second, self.call.third);
         match store.into_room::<Q, C>(backing, places as usize, stops as usize, marks as usize) {
-            Ok(mut moved) => {
-                writeln!(text, "moved")?;
-                play_rest(&mut moved, self.behind, text)
-            }
-            Err((refusal, mut same)) => {
-                writeln!(text, "not moved: {refusal}")?;
-                play_rest(&mut same, self.behind, text)
-            }
+            Ok(moved) => self.play_behind(moved, None, text),
+            Err((refusal, same)) => self.play_behind(same, Some(refusal), text),
         }
+    }
+
+    // Tells how the move ended, and plays the runs behind it.
+    fn play_behind<P: PtrCore, B: BookBacking<P>>(
+        &self,
+        store: RouteBook<P, B>,
+        refusal: Option<RoomError>,
+        text: String,
+    ) -> Result<String, AllocError> {
+        let mut store = store;
+        let text = self.tell(refusal, text)?;
+        play_rest(&mut store, self.behind, text)
+    }
+
+    // The line of the move, and how it ended.
+    fn tell(&self, refusal: Option<RoomError>, text: String) -> Result<String, AllocError> {
+        let mut text = text;
+        writeln!(text, ">move{}", self.line)?;
+        match refusal {
+            Some(refusal) => writeln!(text, "not moved: {refusal}")?,
+            None => writeln!(text, "moved")?,
+        }
+        Ok(text)
     }
 }
 
