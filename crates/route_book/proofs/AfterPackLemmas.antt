@@ -6,7 +6,7 @@ use Rattle.ticket_book.specs.declared.entry.Kind.TheVariants.{Place as OfPlace, 
 use Rattle.route_lines.specs.Calls.{after_removed, removed}
 use Rattle.route_lines.specs.State.{State, Item, holder}
 use Rattle.route_book.specs.Book.{Book}
-use Rattle.route_book.specs.Removals.{Ends, IsEnded, IsPacked, IsReady, IsRemoved, Removes, kind_of, removal_wraps}
+use Rattle.route_book.specs.Removals.{Ends, IsEnded, IsPacked, IsReady, IsRemoved, Removes, removal_wraps}
 use Rattle.route_book.specs.Rooms.{counts_short}
 use Rattle.route_book.proofs.OrderLemmas.{counts_on}
 

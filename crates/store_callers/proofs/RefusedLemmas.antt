@@ -1,5 +1,5 @@
 -- A start and an extension at a living place are refused where there is no room, and for no other reason.
-use Rattle.std.proofs.Common.{◌≡◌, ◌∙◌, sym, ap, subst, refl, Bool, true, false, ◌||◌, ◌==◌, ℕ, ◌+◌, ◌<◌, ◌≤◌, List, [], ◌∷◌, Some, None, IfSome, IfErr, Result, Ok, Err, cond, nat_lt, find, arith}
+use Rattle.std.proofs.Common.{◌≡◌, ◌∙◌, sym, ap, subst, refl, Bool, true, false, ◌||◌, ◌==◌, ℕ, ◌+◌, ◌≤◌, [], ◌∷◌, Some, None, IfErr, Result, Ok, Err, nat_lt, find, arith}
 use Rattle.std.specs.Option.{option_or}
 use Rattle.std.specs.Result.{IsErrAnd}
 use Rattle.std.proofs.lemmas.Bool.{eq-eqb, le-ltb, ltb-false}

@@ -61,22 +61,6 @@ pub fn move_from_heap<A: Allocator + Copy, Q: PtrCore, C: BookBacking<Q>>(
     book.into_room(backing, 1, 3, 0)
 }
 
-// Whether a new store moves.
-fn moves<P: PtrCore, B: BookBacking<P>, Q: PtrCore, C: BookBacking<Q>>(from: &B, to: &C) -> bool {
-    match RouteBook::<P, B>::new(from, 4, 4, 2) {
-        Ok(book) => match book.into_room::<Q, C>(to, 1, 3, 0) {
-            Ok(_) => true,
-            Err(_) => false,
-        },
-        Err(_) => false,
-    }
-}
-
-/// Whether a new store on the heap moves to arrays.
-pub fn moves_to_arrays<A: Allocator + Copy>(alloc: A) -> bool {
-    moves::<P0, _, P1, _>(&OnHeap(alloc), &OnArray::<4>)
-}
-
 /// Starts a route at a place. If the store is full it moves to other rooms, and the route starts
 /// there; a store that is not moved is left as the start leaves it. Nothing is lost.
 pub fn start_or_move<P: PtrCore, B: BookBacking<P>, Q: PtrCore, C: BookBacking<Q>>(

@@ -1,4 +1,4 @@
-use Rattle.std.proofs.Common.{◌≡◌, ◌∙◌, ap, sym, rules}
+use Rattle.std.proofs.Common.{◌∙◌, ap, sym, rules}
 use Rattle.triple_arena_ord.specs.Ordered.{entry_in, order_in}
 use Rattle.route_book.proofs.FirstLemmas.{first_noted, keeps_name, or_none}
 use Rattle.route_book.proofs.place_arena.first_ticket.Goals as goal

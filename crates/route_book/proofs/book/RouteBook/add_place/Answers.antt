@@ -12,7 +12,6 @@ use Rattle.route_lines.specs.declared.change.Change.TheVariants.{Place as PlaceC
 use Rattle.route_book.specs.Book.{Book, IsBook}
 use Rattle.route_book.specs.Holds.{entry}
 use Rattle.route_book.specs.Keys.{key_cmp, key_of}
-use Rattle.route_book.specs.declared.items.PlaceKey.{PlaceKey}
 use Rattle.route_book.proofs.HoldLemmas.{below_next}
 use Rattle.route_book.proofs.PlaceLemmas.{place_kept, ticket_given}
 use Rattle.route_book.proofs.book.RouteBook.add_place.Goals as goal

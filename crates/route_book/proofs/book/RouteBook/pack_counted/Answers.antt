@@ -1,4 +1,4 @@
-use Rattle.std.proofs.Common.{arith, sym, subst}
+use Rattle.std.proofs.Common.{arith, subst}
 use Rattle.route_book.specs.Book.{Book, as_book}
 use Rattle.route_book.specs.Removals.{IsPacked}
 use Rattle.route_book.proofs.WholeLemmas.{fits_still, in_store, of_state}

@@ -1,9 +1,8 @@
-use Rattle.std.proofs.Common.{◌≡◌, ◌+◌, subst, sym}
+use Rattle.std.proofs.Common.{◌+◌, subst, sym}
 use Rattle.triple_arena_ord.specs.Found.{IsSimilar}
 use Rattle.triple_arena_ord.specs.Ordered.{IsAscending, asked_at}
 use Rattle.route_book.specs.Book.{Book}
 use Rattle.route_book.specs.Keys.{key_cmp, key_of}
-use Rattle.route_book.specs.declared.items.PlaceKey.{PlaceKey}
 use Rattle.route_book.proofs.book.RouteBook.place_counted.Goals as goal
 
 pub add_place-requires-clause-similar : goal.add_place-requires-clause-similar

@@ -1,4 +1,4 @@
-use Rattle.std.proofs.Common.{◌∙◌, ap, refl, sym, subst}
+use Rattle.std.proofs.Common.{◌∙◌, ap, sym, subst}
 use Rattle.ticket_book.specs.Tickets.{Entry}
 use Rattle.route_book.specs.Book.{Book, as_book}
 use Rattle.route_book.specs.Removals.{IsReady}

@@ -1,6 +1,4 @@
-use Rattle.std.proofs.Common.{◌≡◌, ◌∙◌, ◌+◌, ◌≤◌, ap, sym, subst, refl}
-use Rattle.triple_arena_stack.specs.Room.{capacity}
-use Rattle.triple_arena.specs.Content.{arena_capacity}
+use Rattle.std.proofs.Common.{◌∙◌, sym, subst, refl}
 use Rattle.triple_arena_chain.specs.CanonicalLayout.{IsLaidOut}
 use Rattle.triple_arena_chain.specs.Links.{ends_in}
 use Rattle.triple_arena_chain.specs.CanonicalLayoutLaws.{laid_same}
