@@ -40,8 +40,9 @@ use triple_arena_ord::SimpleOrdArena;
 use triple_arena_ptr::{Probes, PtrCore};
 pub use walking::Walk;
 
-/// A store of places, routes of stops, and marks, over pointers of the type `P`, in the stacks that `B` names. Its room is taken
-/// once, when it is made; no call on a made store takes memory.
+/// A store of places, routes of stops, and marks, over pointers of the type `P`, in the stacks that
+/// `B` names. Its room is taken once, when it is made. No call on a made store takes memory but
+/// [`into_room`](RouteBook::into_room), which makes another one.
 ///
 /// Tickets are the numbers from 1 on, given in order, each once.
 #[derive(Drop)]

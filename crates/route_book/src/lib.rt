@@ -12,11 +12,12 @@
 //!
 //! [`run`] answers an input on an output, line by line, and [`program`] makes a store of the rooms
 //! that its arguments name and runs over it. [`RouteBook`] has the calls themselves. A store takes
-//! its memory when it is made, and none later.
+//! its memory when it is made, and none later. [`RouteBook::into_room`] makes another store, and
+//! moves all to it.
 //!
-//! A removal leaves the references to its item as they are; they find nothing. A pack moves all items
-//! to the first indexes, and makes each reference that finds nothing `Gone`. A pointer into a lent
-//! arena that a caller kept finds another item after a pack, or none.
+//! A removal leaves the references to its item as they are; they find nothing. A pack moves all
+//! items to the first indexes, and makes each reference that finds nothing `Gone`. A pointer into a
+//! lent arena that a caller kept finds another item after a pack, or none.
 #![tactic(auto)]
 
 mod answer;

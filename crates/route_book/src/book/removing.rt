@@ -88,9 +88,11 @@ fn end_at<P: PtrCore, B: BookBacking<P>>(
 }
 
 impl<P: PtrCore, B: BookBacking<P>> RouteBook<P, B> {
-    /// Removes a living place, stop or mark. Its ticket never comes again, and each stored reference to it is gone.
+    /// Removes a living place, stop or mark. Its ticket never comes again, and each stored
+    /// reference to it is gone.
     ///
-    /// `Unknown` if the ticket was never given, and `Gone` if its item has ended; then nothing changes.
+    /// `Unknown` if the ticket was never given, and `Gone` if its item has ended; then nothing
+    /// changes.
     pub fn remove(&mut self, ticket: u64) -> Result<(), Refusal>
         ensures result { result ≡ removed self.old.state ticket }
         ensures state { self.new.state ≡ after_removed self.old.state ticket }
@@ -99,11 +101,12 @@ impl<P: PtrCore, B: BookBacking<P>> RouteBook<P, B> {
         self.remove_counted(ticket, &mut Counts::new())
     }
 
-    /// The same, with the comparisons of its search counted as `first`, and the looks at stored references.
+    /// The same, with the comparisons of its search counted as `first`, and the looks at stored
+    /// references.
     ///
-    /// A reference to the removed item stays where it is and finds nothing, so no reference is looked at. If that cannot
-    /// be, since the arena's counter would start again, the store is packed first. The searches by ticket of a pack are not
-    /// counted.
+    /// A reference to the removed item stays as it is and finds nothing, so no reference is looked
+    /// at. If that cannot be, since the arena's counter would start again, the store is packed
+    /// first. The searches by ticket of a pack are not counted.
     pub fn remove_counted(&mut self, ticket: u64, counts: &mut Counts) -> Result<(), Refusal>
         ensures result { result ≡ removed self.old.state ticket }
         ensures state { self.new.state ≡ after_removed self.old.state ticket }
