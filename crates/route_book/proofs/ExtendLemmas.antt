@@ -158,7 +158,7 @@ module _ {I : Type 0} (number : I → ℕ) (rooms : Rooms) (last : ℕ) (s : Sta
     pub extend_keeps : (s' : State) → KeepsItems {I = I} (record { state = s; places = places; stops = stops; marks = marks }) (record { state = s'; places = places; stops = stops'; marks = marks })
     extend_keeps s' =
         kept_stop number s s' places stops stops' marks w n h
-        put.values vacant put.counter same_room
+        put.values vacant put.generation put.counter same_room
 
 -- ---- the same of the store that the calls see
 

@@ -22,7 +22,7 @@ use Rattle.route_book.specs.Item.{StopView, MarkView}
 use Rattle.route_book.specs.Holds.{Found, entry, state_stop, stop_under, stop_at, IsHeld}
 use Rattle.route_book.specs.Book.{found_in, in_order, IsBook, KeepsItems}
 use Rattle.route_book.proofs.HoldLemmas.{lookup_given}
-use Rattle.route_book.proofs.OptionLemmas.{found_has, some_same}
+use Rattle.route_book.proofs.OptionLemmas.{found_has, some_same, none_new}
 
 -- ---- live indexes
 
@@ -192,6 +192,9 @@ kept_links s s' places stops stops' marks same kept = record {
   places = λ j n p is. (p, (is, (refl, refl)));
   stops = λ j n u is. same j ∙ is;
   marks = λ j n m is. is;
+  new_places = none_new _ _ _ (λ k. refl);
+  new_stops = none_new stops.counter (values_in stops) (values_in stops') same;
+  new_marks = none_new _ _ _ (λ k. refl);
   place_counter = refl;
   stop_counter = kept.counter;
   mark_counter = refl;

@@ -23,7 +23,7 @@ use Rattle.route_book.specs.Holds.{Found, entry, state_mark, place_at, stop_at, 
 use Rattle.route_book.specs.Book.{MarksDiffer, found_in, in_order, IsBook, KeepsItems}
 use Rattle.route_book.proofs.HoldLemmas.{Rise-add, lookup_none, lookup_added, lookup_other, lookup_kept}
 use Rattle.route_book.proofs.SettledLemmas.{live_settled}
-use Rattle.route_book.proofs.OptionLemmas.{some_same}
+use Rattle.route_book.proofs.OptionLemmas.{some_same, none_new, one_new}
 
 -- a mark more, at an index where there was none
 module _ (s : State) (f : Found) (order : List Place) (ends : ℕ → Option Ends) (book : List Entry) (h : IsHeld s f order ends book)
@@ -274,12 +274,15 @@ module _ {I : Type 0} (number : I → ℕ) (rooms : Rooms) (last : ℕ) (s : Sta
 -- each item keeps its pointer where a mark is added
 pub kept_mark : {I : Type 0} (s s' : State) (places : Ordered I Place) (stops : Content (IndexLink I StopView)) (marks marks' : Content MarkView) (v : MarkView) (i g : ℕ)
     → entry_at marks i ≡ None → ((k : ℕ) → entry_at marks' k ≡ with_entry (entry_at marks) i (g, v) k)
-    → marks'.counter ≡ marks.counter → marks'.room ≡ marks.room
+    → g ≡ marks.counter → marks'.counter ≡ marks.counter → marks'.room ≡ marks.room
     → KeepsItems {I = I} (record { state = s; places = places; stops = stops; marks = marks }) (record { state = s'; places = places; stops = stops; marks = marks' })
-kept_mark s s' places stops marks marks' v i g vacant entries counter room = record {
+kept_mark s s' places stops marks marks' v i g vacant entries own counter room = record {
   places = λ j n p is. (p, (is, (refl, refl)));
   stops = λ j n t is. is;
   marks = stays;
+  new_places = none_new _ _ _ (λ k. refl);
+  new_stops = none_new _ _ _ (λ k. refl);
+  new_marks = one_new marks.counter (entry_at marks) (entry_at marks') i g v entries own;
   place_counter = refl;
   stop_counter = refl;
   mark_counter = counter;

@@ -61,7 +61,7 @@ module _ {I : Type 0} (number : I → ℕ) (rooms : Rooms) (last : ℕ) (s : Sta
       start_keeps s' =
           subst (λ x. KeepsItems x (record { state = s'; places = places; stops = stops'; marks = marks })) view
           (kept_stop number s s' places stops stops' marks w n h put.values
-          (ap (option_map valued) put.vacant) put.counter same_room)
+          (ap (option_map valued) put.vacant) put.generation put.counter same_room)
 
   -- ---- mark
 
@@ -99,8 +99,8 @@ module _ {I : Type 0} (number : I → ℕ) (rooms : Rooms) (last : ℕ) (s : Sta
           (subst (λ r. IfSome r (λ q. IsSome (value_if q.1 (values_in stops q.0)))) (sym of) (subst IsSome (sym stop.1) refl))
           named vacant entries live same_room))
 
-      pub mark_keeps : (s' : State) → marks'.counter ≡ marks.counter → marks'.room ≡ marks.room
+      pub mark_keeps : (s' : State) → h ≡ marks.counter → marks'.counter ≡ marks.counter → marks'.room ≡ marks.room
           → KeepsItems k (record { state = s'; places = places; stops = stops; marks = marks' })
-      mark_keeps s' counter room =
+      mark_keeps s' own counter room =
           subst (λ x. KeepsItems x (record { state = s'; places = places; stops = stops; marks = marks' })) view
-          (kept_mark s s' places stops marks marks' w n h vacant entries counter room)
+          (kept_mark s s' places stops marks marks' w n h vacant entries own counter room)

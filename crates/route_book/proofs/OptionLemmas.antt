@@ -1,7 +1,8 @@
 -- What is known of an option, of what a pointer finds, and of what a search finds.
-use Rattle.std.proofs.Common.{◌≡◌, ◌==◌, if◌then◌else◌, ℕ, List, [], ◌∷◌, Option, Some, None, IsSome, find, option_map, true≢false, refl, sym, ap, subst, ◌∙◌, inl, inr}
+use Rattle.std.proofs.Common.{◌≡◌, ◌==◌, if◌then◌else◌, Bool, false, ℕ, List, [], ◌∷◌, Option, Some, None, IsSome, find, option_map, true≢false, refl, sym, ap, subst, ◌∙◌, inl, inr}
 use Rattle.std.proofs.lemmas.Bool.Decides.{eqb_tells}
-use Rattle.triple_arena.specs.Entries.{value_if}
+use Rattle.triple_arena.specs.Entries.{value_if, with_entry}
+use Rattle.route_book.specs.Book.{NewHave}
 
 pub some_same : {X : Type 0} {x y : X} → ◌≡◌ {A = Option X} (Some x) (Some y) → x ≡ y
 some_same e = cc
@@ -31,3 +32,32 @@ found_has ticket t (y ∷ xs) x is = elim (eqb_tells (ticket y) t) [
       ap ticket (some_same (sym is ∙ found)) ∙ same.1
   | inr other ↦ let skip : find (λ z. ticket z == t) (y ∷ xs) ≡ find (λ z. ticket z == t) xs = rw other.0 refl in found_has ticket t xs x (sym skip ∙ is)
 ]
+
+-- what is new if each index keeps what it has
+pub none_new : {T : Type 0} (n : ℕ) (at at' : ℕ → Option (ℕ × T)) → ((k : ℕ) → at' k ≡ at k) → NewHave n at at'
+none_new {T} n at at' same i g x none is =
+    absurd (let no : ◌≡◌ {A = Option (ℕ × T)} None (Some (g, x)) = sym none ∙ sym (same i) ∙ is in cc)
+
+-- if one index has another item
+module _ {T : Type 0} (n : ℕ) (at at' : ℕ → Option (ℕ × T)) (k h : ℕ) (y : T)
+    (entries : (j : ℕ) → at' j ≡ with_entry at k (h, y) j) where
+  beside : (i g : ℕ) (x : T) → (i == k) ≡ false → at i ≡ None → at' i ≡ Some (g, x) → ⊥
+  beside i g x other none is =
+      let stays : at' i ≡ at i = entries i ∙ rw other refl in
+      absurd (let no : ◌≡◌ {A = Option (ℕ × T)} None (Some (g, x)) = sym none ∙ sym stays ∙ is in cc)
+
+  pub one_new : h ≡ n → NewHave n at at'
+  one_new own i g x none is = elim (eqb_tells i k) [
+    | inl same ↦
+        let here : at' i ≡ Some (h, y) = entries i ∙ rw same.0 refl in
+        let both : (h, y) ≡ (g, x) = some_same (sym here ∙ is) in
+        sym (ap (λ (p : ℕ × T). p.0) both) ∙ own
+    | inr other ↦ absurd (beside i g x other.0 none is)
+  ]
+
+  -- and had one before
+  pub replaced_new : (z : ℕ × T) → at k ≡ Some z → NewHave n at at'
+  replaced_new z was i g x none is = elim (eqb_tells i k) [
+    | inl same ↦ absurd (let no : ◌≡◌ {A = Option (ℕ × T)} None (Some z) = sym none ∙ ap at same.1 ∙ was in cc)
+    | inr other ↦ absurd (beside i g x other.0 none is)
+  ]

@@ -23,7 +23,7 @@ use Rattle.route_book.proofs.HoldLemmas.{lookup_given, place_added}
 use Rattle.route_book.proofs.KeyLemmas.{along}
 use Rattle.route_book.proofs.NeighborLemmas.{held_place}
 use Rattle.route_book.proofs.RewordLemmas.{reword_entry, length-reworded, along_reworded, as_reworded, place_reworded}
-use Rattle.route_book.proofs.OptionLemmas.{found_has, some_same}
+use Rattle.route_book.proofs.OptionLemmas.{found_has, some_same, none_new, one_new, replaced_new}
 
 -- ---- lists
 
@@ -178,6 +178,9 @@ module _ {I : Type 0} (s s' : State) (places places' : Ordered I Place) (stops :
     places = λ j n q is. (q, (stays j n q is, (refl, refl)));
     stops = λ j n v is. is;
     marks = λ j n v is. is;
+    new_places = one_new places.chains.counter (entry_in places) (entry_in places') i g p added.entries added.generation;
+    new_stops = none_new _ _ _ (λ k. refl);
+    new_marks = none_new _ _ _ (λ k. refl);
     place_counter = counter;
     stop_counter = refl;
     mark_counter = refl;
@@ -195,6 +198,9 @@ module _ {I : Type 0} (s s' : State) (places places' : Ordered I Place) (stops :
     places = stays;
     stops = λ j n v is. is;
     marks = λ j n v is. is;
+    new_places = replaced_new places.chains.counter (entry_in places) (entry_in places') i g (record p { word = word }) replaced.entries (g, p) replaced.was;
+    new_stops = none_new _ _ _ (λ k. refl);
+    new_marks = none_new _ _ _ (λ k. refl);
     place_counter = replaced.kept.counter;
     stop_counter = refl;
     mark_counter = refl;
@@ -221,6 +227,9 @@ kept_same b = record {
   places = λ i g p is. (p, (is, (refl, refl)));
   stops = λ i g v is. is;
   marks = λ i g v is. is;
+  new_places = none_new _ _ _ (λ k. refl);
+  new_stops = none_new _ _ _ (λ k. refl);
+  new_marks = none_new _ _ _ (λ k. refl);
   place_counter = refl;
   stop_counter = refl;
   mark_counter = refl;

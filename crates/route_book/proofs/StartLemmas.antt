@@ -26,7 +26,7 @@ use Rattle.route_book.proofs.NeighborLemmas.{held_place}
 use Rattle.route_book.proofs.FollowLemmas.{lead_started}
 use Rattle.route_book.proofs.LinkLemmas.{live_ends, unknown}
 use Rattle.route_book.proofs.StopLemmas.{stop_added, no_stop_yet}
-use Rattle.route_book.proofs.OptionLemmas.{found_has}
+use Rattle.route_book.proofs.OptionLemmas.{found_has, none_new, one_new}
 
 left_false : (a b : Bool) → (a || b) ≡ false → a ≡ false
 left_false true b h = h
@@ -145,12 +145,15 @@ module _ {I : Type 0} (number : I → ℕ) (rooms : Rooms) (last : ℕ) (s : Sta
 -- each item keeps its pointer where a stop is added
 pub kept_stop : {I : Type 0} (number : I → ℕ) (s s' : State) (places : Ordered I Place) (stops stops' : Content (IndexLink I StopView)) (marks : Content MarkView) (v : StopView) (i g : ℕ)
     → ((k : ℕ) → values_in stops' k ≡ with_entry (values_in stops) i (g, v) k)
-    → values_in stops i ≡ None → stops'.counter ≡ stops.counter → stops'.room ≡ stops.room
+    → values_in stops i ≡ None → g ≡ stops.counter → stops'.counter ≡ stops.counter → stops'.room ≡ stops.room
     → KeepsItems {I = I} (record { state = s; places = places; stops = stops; marks = marks }) (record { state = s'; places = places; stops = stops'; marks = marks })
-kept_stop number s s' places stops stops' marks v i g entries vacant counter room = record {
+kept_stop number s s' places stops stops' marks v i g entries vacant own counter room = record {
   places = λ j n p is. (p, (is, (refl, refl)));
   stops = stays;
   marks = λ j n m is. is;
+  new_places = none_new _ _ _ (λ k. refl);
+  new_stops = one_new stops.counter (values_in stops) (values_in stops') i g v entries own;
+  new_marks = none_new _ _ _ (λ k. refl);
   place_counter = refl;
   stop_counter = counter;
   mark_counter = refl;

@@ -60,6 +60,13 @@ fits at cap room zero_none all up (suc i) some = (omega arith, (let a = all (suc
 below : {T : Type 0} (at : ℕ → Option (ℕ × T)) (cap : ℕ) → ((i : ℕ) → IsSome (at i) → i ≤ cap) → (k : ℕ) → IsSome (at k) → k < cap + 1
 below at cap all k some = (let a = all k some in omega (arith, a))
 
+-- what a map made of each item under one generation has it
+pub have_all : {T U : Type 0} (g : ℕ) (f : T → U) (old : ℕ → Option (ℕ × T)) (new : ℕ → Option (ℕ × U))
+    → ((k : ℕ) → new k ≡ option_map (λ (e : ℕ × T). (let z : ℕ × U = (g, f e.1) in z)) (old k)) → HaveGeneration g new
+have_all {U = U} g f old new each i h x is =
+    let was = mapped_some (λ e. (let z : ℕ × U = (g, f e.1) in z)) (old i) (h, x) (sym (each i) ∙ is) in
+    sym (ap (λ (z : ℕ × U). z.0) was.1.1)
+
 -- what was moved has one generation, and what is written in place keeps its own
 moved_to : {T : Type 0} (to : ℕ → ℕ) (g : ℕ) (old new : ℕ → Option (ℕ × T)) → IsMoved to g old new
     → HaveGeneration g new

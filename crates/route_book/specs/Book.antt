@@ -1,5 +1,5 @@
 -- What a contract sees of a store, and what ties its parts.
-use Rattle.std.specs.Prelude.{◌≡◌, ℕ, ◌+◌, ◌≤◌, List, [], ◌∷◌, length, map, Some, None}
+use Rattle.std.specs.Prelude.{◌≡◌, ℕ, ◌+◌, ◌≤◌, List, [], ◌∷◌, length, map, Option, Some, None}
 use Rattle.triple_arena.specs.Content.{Content, entry_at, live_count, arena_capacity}
 use Rattle.triple_arena_chain.specs.declared.link.IndexLink.{IndexLink}
 use Rattle.triple_arena_chain.specs.Links.{ends_in, values_in}
@@ -21,6 +21,10 @@ pub record Book (I : Type 0) : Type 0 where
 abbrev pub MarksDiffer : List Mark → Type 0
 MarksDiffer [] = Unit {0}
 MarksDiffer (m ∷ marks) = (mark_of marks m.ticket ≡ None) × MarksDiffer marks
+
+-- an item at an index where none was has this generation
+abbrev pub NewHave : {T : Type 0} → ℕ → (ℕ → Option (ℕ × T)) → (ℕ → Option (ℕ × T)) → Type 0
+NewHave {T} n old new = (i g : ℕ) (x : T) → old i ≡ None → new i ≡ Some (g, x) → g ≡ n
 
 module _ {I : Type 0} where
   abbrev pub as_book : State → Ordered I Place → Content (IndexLink I StopView) → Content MarkView → Book I
@@ -72,12 +76,16 @@ module _ {I : Type 0} where
     pub marks : new.marks.room ≡ old.marks.room
 
   -- each item keeps its pointer, a place its ticket and its key, and a stop and a mark all that
-  -- they hold; the counters and the rooms stay
+  -- they hold. One that is new has the generation of its arena's counter. The counters and the rooms
+  -- stay
   pub record KeepsItems (old new : Book I) : Type 0 where
     pub places : (i g : ℕ) (p : Place) → entry_in old.places i ≡ Some (g, p)
         → (q : Place) × ((entry_in new.places i ≡ Some (g, q)) × ((q.ticket ≡ p.ticket) × (q.key ≡ p.key)))
     pub stops : (i g : ℕ) (t : StopView) → values_in old.stops i ≡ Some (g, t) → values_in new.stops i ≡ Some (g, t)
     pub marks : (i g : ℕ) (m : MarkView) → entry_at old.marks i ≡ Some (g, m) → entry_at new.marks i ≡ Some (g, m)
+    pub new_places : NewHave old.places.chains.counter (entry_in old.places) (entry_in new.places)
+    pub new_stops : NewHave old.stops.counter (values_in old.stops) (values_in new.stops)
+    pub new_marks : NewHave old.marks.counter (entry_at old.marks) (entry_at new.marks)
     pub place_counter : new.places.chains.counter ≡ old.places.chains.counter
     pub stop_counter : new.stops.counter ≡ old.stops.counter
     pub mark_counter : new.marks.counter ≡ old.marks.counter

@@ -13,6 +13,7 @@ use Rattle.route_lines.specs.declared.refusal.RoomError.TheVariants.{TooSmall}
 use Rattle.route_book.specs.Book.{Book}
 use Rattle.route_book.specs.Holds.{IsLive}
 use Rattle.route_book.specs.Item.{StopView, MarkView}
+use Rattle.route_book.specs.Removals.{HaveGeneration}
 use Rattle.route_book.specs.Rooms.{HasRooms, refusal_of}
 
 -- a reference over other pointers: the same index, or the greatest one if it is past that, and
@@ -45,14 +46,18 @@ move_refusal_of last greatest limit rooms s =
     (if is_too_small rooms s then Some TooSmall else None)
 
 module _ {I : Type 0} where
-  -- a store that was moved: its state is the old one in its rooms, its counters have started, its
-  -- arenas have the rooms of a new store's, and no reference is dead
+  -- a store that was moved: its state is the old one in its rooms, its counters have started, at the
+  -- generation that all items have, its arenas have the rooms of a new store's, and no reference is
+  -- dead
   pub record IsMovedIn (last : Option ℕ) (greatest : ℕ) (room : ℕ → Room) (wanted : Rooms)
       (old : State) (new : Book I) : Type 0 where
     pub state : new.state ≡ in_rooms wanted old
     pub place_counter : new.places.chains.counter ≡ second_generation last
     pub stop_counter : new.stops.counter ≡ second_generation last
     pub mark_counter : new.marks.counter ≡ second_generation last
+    pub place_generations : HaveGeneration (second_generation last) (entry_in new.places)
+    pub stop_generations : HaveGeneration (second_generation last) (values_in new.stops)
+    pub mark_generations : HaveGeneration (second_generation last) (entry_at new.marks)
     pub rooms : HasRooms greatest room wanted new
     pub stops : (i g : ℕ) (v : StopView) → values_in new.stops i ≡ Some (g, v)
         → IsLive (entry_in new.places) v.place

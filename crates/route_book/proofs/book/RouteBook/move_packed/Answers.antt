@@ -1,13 +1,18 @@
 use Rattle.std.proofs.Common.{◌≡◌, ◌∙◌, ◌≤◌, ap, sym, subst, length, arith}
+use Rattle.std.specs.List.{range_with_len}
 use Rattle.triple_arena_ptr.specs.Generation.{second_generation}
 use Rattle.triple_arena_ptr.specs.Index.{max_index_of}
 use Rattle.triple_arena_stack.specs.Room.{capacity}
+use Rattle.triple_arena.specs.Content.{entry_at}
+use Rattle.triple_arena_chain.specs.Links.{values_in}
+use Rattle.triple_arena_ord.specs.Ordered.{entry_in}
 use Rattle.route_lines.specs.Sound.{IsSound}
 use Rattle.route_lines.specs.State.{Rooms, in_rooms, stop_list}
 use Rattle.route_lines.specs.declared.change.Change.TheVariants.{Move}
 use Rattle.route_book.specs.Book.{Book}
 use Rattle.route_book.specs.Removals.{IsPacked}
 use Rattle.route_book.proofs.MovedStoreLemmas.{moved_kept, moved_mark, moved_stop}
+use Rattle.route_book.proofs.WholeLemmas.{have_all}
 use Rattle.route_book.proofs.book.RouteBook.move_packed.Goals as goal
 
 pub invariant_of-moved : goal.invariant_of-moved
@@ -101,6 +106,15 @@ returns g c rooms same has =
       place_counter = places.counter;
       stop_counter = stops.counter;
       mark_counter = marks.counter;
+      place_generations = have_all (second_generation g.Q.Gen.PtrGenCore.last) (λ p. p)
+          (entry_in c.self.inside.places) (entry_in c.transfer_places.new.to)
+          (places.entries (packing.order ∙ ap (range_with_len 1) c.self.invariant.book.within.place_count));
+      stop_generations = have_all (second_generation g.Q.Gen.PtrGenCore.last) _
+          (values_in c.self.inside.stops) (values_in c.transfer_stops.new.to)
+          (stops.entries packing.stop_runs);
+      mark_generations = have_all (second_generation g.Q.Gen.PtrGenCore.last) _
+          (entry_at c.self.inside.marks) (entry_at c.transfer_marks.new.to)
+          (marks.entries packing.mark_run);
       rooms = record {
         places = places.room
             ∙ ap (λ (b : Book g.row.Q-Inx.Denot). b.places.chains.room) c.moved.view_is
