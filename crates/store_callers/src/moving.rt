@@ -1,10 +1,11 @@
 //! Callers who move a store to other pointers, stacks and rooms.
-ghost use Rattle.std.specs.Prelude.{◌≡◌, ◌≤◌, ℕ, Err, IfOk, IfErr, IsOk, length};
+ghost use Rattle.std.specs.Prelude.{◌≡◌, ◌≤◌, ℕ, Err, IfOk, IfErr, IfSome, IsOk, length};
 ghost use Rattle.triple_arena_ptr.specs.Generation.{second_generation};
 ghost use Rattle.route_lines.specs.Calls.{after_start, started};
 ghost use Rattle.route_lines.specs.State.{in_rooms, stop_list};
 ghost use Rattle.route_lines.specs.declared.refusal.Refusal.TheVariants.{Full};
 ghost use Rattle.route_book.specs.Rooms.{HasRooms};
+ghost use Rattle.store_callers.specs.Moving.{grown};
 
 use route_book::{BookBacking, OnArray, OnHeap, PtrCore, Refusal, RoomError, RouteBook, Word};
 use std::alloc::Allocator;
@@ -87,23 +88,29 @@ pub fn start_or_move<P: PtrCore, B: BookBacking<P>, Q: PtrCore, C: BookBacking<Q
     }
 }
 
-// Whether a store of one place and one stop moves as a second stop comes.
-fn grows<P: PtrCore, B: BookBacking<P>, Q: PtrCore, C: BookBacking<Q>>(from: &B, to: &C) -> bool {
+/// A store of one place and one stop that moves as its second stop comes. `None` if it is not made,
+/// or does not move.
+pub fn grow<P: PtrCore, B: BookBacking<P>, Q: PtrCore, C: BookBacking<Q>>(
+    from: &B,
+    to: &C,
+    word: Word,
+) -> Option<RouteBook<Q, C>>
+    ensures { IfSome result (λ moved. moved.state ≡ grown word) }
+{
     let Ok(mut book) = RouteBook::<P, B>::new(from, 1, 1, 0) else {
-        return false;
-    };
-    let Some(word) = Word::new(b"oak") else {
-        return false;
+        return None;
     };
     let _ = book.place(50, word);
     let _ = book.start(1);
     match start_or_move::<P, B, Q, C>(book, to, 100, 1) {
-        Ok(_) => true,
-        Err(_) => false,
+        Ok(moved) => Some(moved),
+        Err(_) => None,
     }
 }
 
-/// Whether a store in small arrays, over narrow pointers, moves to the heap as it is full.
-pub fn grows_to_heap<A: Allocator + Copy>(alloc: A) -> bool {
-    grows::<P1, _, P0, _>(&OnArray::<4>, &OnHeap(alloc))
+/// The same out of small arrays, over narrow pointers, and onto the heap.
+pub fn grow_to_heap<A: Allocator + Copy>(alloc: A, word: Word) -> Option<RouteBook<P0, OnHeap<A>>>
+    ensures { IfSome result (λ moved. moved.state ≡ grown word) }
+{
+    grow::<P1, _, P0, _>(&OnArray::<4>, &OnHeap(alloc), word)
 }
