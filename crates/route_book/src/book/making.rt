@@ -21,6 +21,8 @@ impl<P: PtrCore, B: BookBacking<P>> RouteBook<P, B> {
         ensures counters { IfOk result (λ book.
             (book.places.chains.counter ≡ second_generation P.Gen.last)
             × (book.stops.counter ≡ second_generation P.Gen.last)) }
+        ensures mark_counter { IfOk result (λ book.
+            book.marks.counter ≡ second_generation P.Gen.last) }
         ensures rooms { IfOk result (λ book. HasRooms P.Inx.greatest B.room
             (record { places = places; stops = stops; marks = marks }) book) }
         ensures refused { (e : Refused)
@@ -53,6 +55,8 @@ impl<P: PtrCore, B: BookBacking<P>> RouteBook<P, B> {
         ensures counters { IfOk result (λ book.
             (book.places.chains.counter ≡ second_generation P.Gen.last)
             × (book.stops.counter ≡ second_generation P.Gen.last)) }
+        ensures mark_counter { IfOk result (λ book.
+            book.marks.counter ≡ second_generation P.Gen.last) }
         ensures rooms { IfOk result (λ book. HasRooms P.Inx.greatest B.room
             (record { places = places; stops = stops; marks = marks }) book) }
         ensures refused { (e : Refused)
@@ -84,6 +88,8 @@ impl<P: PtrCore, B: BookBacking<P>> RouteBook<P, B> {
         ensures counters { IfOk result (λ book.
             (book.places.chains.counter ≡ second_generation P.Gen.last)
             × (book.stops.counter ≡ second_generation P.Gen.last)) }
+        ensures mark_counter { IfOk result (λ book.
+            book.marks.counter ≡ second_generation P.Gen.last) }
         ensures rooms { IfOk result (λ book. HasRooms P.Inx.greatest B.room
             (record { places = places; stops = stops; marks = marks }) book) }
         ensures memory { IfErr result (λ e. (e ≡ RoomError.Memory)
