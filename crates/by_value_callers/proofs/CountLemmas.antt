@@ -6,7 +6,7 @@ use Rattle.triple_arena.specs.LiveEntries.{live_entries, live_entries-length, li
 use Rattle.triple_arena.specs.DirectContent.{DirectContent}
 use Rattle.triple_arena.specs.DirectContent as direct
 use Rattle.triple_arena_chain.specs.Listed.{listed_value, listed_values}
-use Rattle.triple_arena_chain.specs.declared.link.IndexLink.{IndexLink}
+use Rattle.triple_arena_chain.specs.LinkShape.{IndexLink}
 
 pub as_many : {T : Type 0} (c : Content T) → length (live_entries c) ≡ live_count c
 as_many c = live_entries-length c

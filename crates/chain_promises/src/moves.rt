@@ -16,7 +16,7 @@ ghost use Rattle.triple_arena_chain.specs.Values.{room_in};
 
 use std::alloc::AllocError;
 use triple_arena::{Arena, ArenaTrait, InvalidationOption, PtrCore, ReallocationError};
-use triple_arena_chain::{ChainArena, ChainSlots, LinkNoGen};
+use triple_arena_chain::{ChainArena, ChainSlots, LinkCloneSource, LinkNoGen};
 
 /// Moves the links to the first indexes, in their order, each with what `map` makes of its value.
 pub fn compress_with<P: PtrCore, T: Drop, S: ChainSlots<P, T>, F: FnMut(P, T, P) -> T>(
@@ -50,40 +50,42 @@ pub fn compress_canonical<P: PtrCore, T: Drop, S: ChainSlots<P, T>>(
 }
 
 /// Makes the first arena a copy of the second, each value what `map` makes of the link there.
-pub fn clone_from_with<P, T, S, U, R, F>(
+pub fn clone_from_with<P, T, S, A, F>(
     target: &mut ChainArena<P, T, S>,
-    source: &ChainArena<P, U, R>,
+    source: &A,
     map: F,
 ) -> Result<(), ReallocationError>
 where
     P: PtrCore,
     T: Drop,
     S: ChainSlots<P, T>,
-    U: Drop,
-    R: ChainSlots<P, U>,
-    F: FnMut(P, &LinkNoGen<P, U>) -> Result<T, AllocError>,
+    A: LinkCloneSource<P>,
+    F: FnMut(P, &A::Link) -> Result<T, AllocError>,
     requires { F.IsAlwaysCallable map }
     ensures mapped { OnOk result (IsMappedCopy P.index P.generation F.step map
-        (live_entries source.now) (listed_values target.new)) }
+        (A.Links.live_entries (A.links source.now)) (listed_values target.new)) }
     ensures linked { OnOk result ((k : ℕ)
-        → ends_in P.Inx.number target.new k ≡ ends_in P.Inx.number source.now k) }
-    ensures lists { OnOk result ((chain : Chain) → IsChainOf (ends_in P.Inx.number source.now) chain
+        → ends_in P.Inx.number target.new k ≡ A.ends source.now k) }
+    ensures lists { OnOk result ((chain : Chain) → IsChainOf (A.ends source.now) chain
         → IsChainOf (ends_in P.Inx.number target.new) chain) }
     ensures copied { OnOk result (IsCopy values_in live_count some_counter room_in
-        (values_in source.now) (live_count source.now) (last_listed (live_entries source.now))
-        (some_counter source.now) target.old target.new) }
+        (A.Links.entry_at (A.links source.now)) (A.Links.live_count (A.links source.now))
+        (last_listed (A.Links.live_entries (A.links source.now)))
+        (A.Links.counter (A.links source.now)) target.old target.new) }
     ensures exact { OnOk result (target.new
-        ≡ copied target.old (some_counter source.now) (live_entries target.new)) }
-    ensures succeeds { last_listed (live_entries source.now) ≤ capacity_of (room_in target.old)
-        → NeverRefuses F.step → IsOk result }
+        ≡ copied target.old (A.Links.counter (A.links source.now)) (live_entries target.new)) }
+    ensures succeeds { last_listed (A.Links.live_entries (A.links source.now))
+        ≤ capacity_of (room_in target.old) → NeverRefuses F.step → IsOk result }
     ensures beyond { IsErrOf result ReallocationError.BeyondMaxCapacity
-        ↔ IsBeyond (room_in target.old).limit (last_listed (live_entries source.now)) }
+        ↔ IsBeyond (room_in target.old).limit
+        (last_listed (A.Links.live_entries (A.links source.now))) }
     ensures kept { IsErrOf result ReallocationError.BeyondMaxCapacity → target.new ≡ target.old }
     ensures unmade { IsErrOf result ReallocationError.AllocError
         → IsUnmadeCopy values_in live_count some_counter room_in S.takes_memory
-        P.Gen.last (last_listed (live_entries source.now))
-        (λ c. cleared P.Gen.last (reallocated c (last_listed (live_entries source.now))))
-        (IsRefusedCopy P.index P.generation F.step map (live_entries source.now))
+        P.Gen.last (last_listed (A.Links.live_entries (A.links source.now)))
+        (λ c. cleared P.Gen.last
+        (reallocated c (last_listed (A.Links.live_entries (A.links source.now)))))
+        (IsRefusedCopy P.index P.generation F.step map (A.Links.live_entries (A.links source.now)))
         target.old target.new }
     ensures formed { IsChained P.Inx.number target.new }
 {

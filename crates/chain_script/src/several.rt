@@ -9,7 +9,7 @@ use triple_arena::{
     Arena, ArenaCloneFromWith, ArenaInsertTrait, ArenaSlots, ArenaTrait, Ptr, PtrInxCore,
     ReallocationError,
 };
-use triple_arena_chain::{ChainArena, ChainSlots, IndexLink, LinkNoGen};
+use triple_arena_chain::{ChainArena, ChainSlots, IndexLink, LinkCloneSource, LinkNoGen};
 
 impl<
     P: Ptr,

@@ -7,7 +7,7 @@ use Rattle.triple_arena_ptr.specs.Generation.{next_generation}
 use Rattle.triple_arena.specs.Content.{Content, get, entry_at, live_count}
 use Rattle.triple_arena.specs.Entries.{generation_at, value_if, with_entry, without}
 use Rattle.triple_arena_chain.specs.declared.kind.InsertKind.TheVariants.{NextTo}
-use Rattle.triple_arena_chain.specs.declared.link.IndexLink.{IndexLink}
+use Rattle.triple_arena_chain.specs.LinkShape.{IndexLink}
 use Rattle.triple_arena_chain.specs.declared.place.Place.{Place}
 use Rattle.triple_arena_chain.specs.KindLaws.{put-next_to}
 use Rattle.triple_arena_chain.specs.Links.{link_ends, values_in, ends_in, ends_found, place_among, IsChained, IsPlaced, IsTakenOut}

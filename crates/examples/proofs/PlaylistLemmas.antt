@@ -9,7 +9,7 @@ use Rattle.triple_arena_chain.specs.WalkLaws.{left-after, left-none}
 use Rattle.examples.specs.Playlists.{length_of, length_at, IsMoved}
 use Rattle.triple_arena.specs.Content.{Content}
 use Rattle.triple_arena_chain.specs.declared.kind.InsertKind.TheVariants.{NextTo}
-use Rattle.triple_arena_chain.specs.declared.link.IndexLink.{IndexLink}
+use Rattle.triple_arena_chain.specs.LinkShape.{IndexLink}
 use Rattle.triple_arena_chain.specs.declared.place.Place.{Place}
 use Rattle.triple_arena_chain.specs.Chains.{Ends, next_at, IsAgreed, Off, IsLinear, IsRing}
 use Rattle.triple_arena_chain.specs.InsertionListLaws.{linear-put_after, ring-put_after, others-put_after, linear-moved}

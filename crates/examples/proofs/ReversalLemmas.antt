@@ -4,7 +4,7 @@ use Rattle.std.proofs.lemmas.Bool.Decides.{eqb_tells}
 use Rattle.triple_arena.specs.Content.{Content, entry_at}
 use Rattle.triple_arena.specs.Entries.{generation_at, value_if}
 use Rattle.triple_arena_chain.specs.declared.kind.InsertKind.TheVariants.{Bridge}
-use Rattle.triple_arena_chain.specs.declared.link.IndexLink.{IndexLink}
+use Rattle.triple_arena_chain.specs.LinkShape.{IndexLink}
 use Rattle.triple_arena_chain.specs.Chains.{Ends, next_in, prev_in, next_at, prev_at, first_or, Off, IsLinear, IsRing, renext, reprev, with_next, with_prev, linked, unlinked, exchanged}
 use Rattle.triple_arena_chain.specs.ChainLaws.{Stands-back}
 use Rattle.triple_arena_chain.specs.InsertionListLaws.{linear-reversed, ring-reversed, linear-reversed_end}

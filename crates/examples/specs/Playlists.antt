@@ -1,7 +1,7 @@
 -- Songs by their lengths, and what becomes of the lists where a song is moved.
 use Rattle.std.specs.Prelude.{◌≡◌, ℕ, List, ◌∷◌, ◌++◌, Option, Some, None}
 use Rattle.triple_arena.specs.Content.{Content}
-use Rattle.triple_arena_chain.specs.declared.link.IndexLink.{IndexLink}
+use Rattle.triple_arena_chain.specs.LinkShape.{IndexLink}
 use Rattle.triple_arena_chain.specs.Chains.{Ends, Off, IsLinear, IsRing}
 use Rattle.triple_arena_chain.specs.Links.{values_in}
 use Rattle.triple_arena_chain.specs.Lists.{Chain, members, IsChainOf}

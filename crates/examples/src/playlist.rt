@@ -4,7 +4,7 @@ ghost use Rattle.std.specs.List.{sum};
 ghost use Rattle.triple_arena_ptr.specs.Generation.{next_generation};
 ghost use Rattle.triple_arena.specs.Content.{get, live_count, arena_capacity};
 ghost use Rattle.triple_arena.specs.Entries.{with_entry, without};
-ghost use Rattle.triple_arena_chain.specs.declared.link.IndexLink.{IndexLink};
+ghost use Rattle.triple_arena_chain.specs.LinkShape.{IndexLink};
 ghost use Rattle.triple_arena_chain.specs.Chains.{Off, next_in, IsLinear, IsRing};
 ghost use Rattle.triple_arena_chain.specs.Links.{ends_in, ends_found, values_in};
 ghost use Rattle.triple_arena_chain.specs.Lists.{Chain, members, IsChainOf};

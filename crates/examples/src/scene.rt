@@ -34,7 +34,7 @@ impl<P: Ptr> Model for Scene<P> {
     ghost use Rattle.examples.specs.declared.scene.Node.{Node};
     ghost use Rattle.examples.specs.declared.follow.Moved.{Moved};
 
-    ghost Value = { State P (Moved P Node P.Inx P.Gen) };
+    ghost Value = { State P (Moved P Node P.Inx P.Gen P.Inx.Word) };
 
     ghost view = { λ s. record { nodes = s.nodes; pointers = s.pointers.items } };
 

@@ -4,7 +4,7 @@ use ord_calls::{Copies, Gives, Limits};
 use script::{Call, ShownPtr, Transcript, generation};
 use std::alloc::AllocError;
 use triple_arena::{ArenaSlots, ArenaTrait, NonZeroInxLimitedStack, PtrCore, SetMaxCapacity};
-use triple_arena_chain::ChainSlots;
+use triple_arena_chain::{ChainSlots, LinkCloneSource};
 use triple_arena_ord::{OrdPair, OrdSlots};
 
 impl<P: ShownPtr, H: Copy, S: OrdSlots<P, Item, Alloc = H>> Copies<H> for Pairs<P, S> {

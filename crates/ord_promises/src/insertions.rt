@@ -88,7 +88,8 @@ pub fn entry_insert_within_capacity<'a, P: PtrCore, T: SimpleOrdItem + Drop, S: 
     ensures same_reference { IfOk result (λ e. entry_lender e ≡ arena.entry.ghost_name) }
     ensures arena { IfOk result (λ e. entry_arena e ≡ arena.old) }
     ensures* err { sem 𝓛 (RestsIfErr
-        (the_row P.row T.row S.row P.Inx.row P.Gen.row S.Alloc.row P.PtrCore P.Inx.PtrInxCore.own P.Inx.PartialEq P.Gen.PtrGenCore.own P.Gen.PartialEq
+        (the_row P.row T.row S.row P.Inx.row P.Gen.row P.Inx.Word.row S.Alloc.row
+        P.PtrCore P.Inx.PtrInxCore.own P.Inx.PartialEq P.Gen.PtrGenCore.own P.Gen.PartialEq
         S.NonZeroInxGenericStack) arena.entry entry_lender result (λ a. a ≡ arena.old)) }
 {
     arena.entry_insert_within_capacity(kind)

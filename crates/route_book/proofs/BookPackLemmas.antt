@@ -7,7 +7,7 @@ use Rattle.triple_arena.specs.Content.{Content, entry_at, live_count, some_count
 use Rattle.triple_arena.specs.Compression.{value_of}
 use Rattle.triple_arena.specs.Changes.{IsCompressed}
 use Rattle.triple_arena.specs.LiveEntries.{live_entries, entry-listed, live_entries-increase}
-use Rattle.triple_arena_chain.specs.declared.link.IndexLink.{IndexLink}
+use Rattle.triple_arena_chain.specs.LinkShape.{IndexLink}
 use Rattle.triple_arena_chain.specs.Chains.{Ends, On, next_at, next_in}
 use Rattle.triple_arena_chain.specs.Renaming.{ends_renamed}
 use Rattle.triple_arena_chain.specs.ListLaws.{On-first, live_prev_in}

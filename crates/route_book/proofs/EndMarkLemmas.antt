@@ -5,7 +5,7 @@ use Rattle.triple_arena_stack.specs.Room.{capacity}
 use Rattle.triple_arena.specs.Changes.{IsRemoved}
 use Rattle.triple_arena.specs.Content.{Content, entry_at, live_count, some_counter}
 use Rattle.triple_arena.specs.Entries.{value_if, without}
-use Rattle.triple_arena_chain.specs.declared.link.IndexLink.{IndexLink}
+use Rattle.triple_arena_chain.specs.LinkShape.{IndexLink}
 use Rattle.triple_arena_chain.specs.Chains.{Ends}
 use Rattle.triple_arena_chain.specs.Links.{ends_in}
 use Rattle.triple_arena_ord.specs.Ordered.{Ordered}

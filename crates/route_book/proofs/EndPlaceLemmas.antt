@@ -6,7 +6,7 @@ use Rattle.triple_arena_ptr.specs.Generation.{next_wraps}
 use Rattle.triple_arena_stack.specs.Room.{capacity}
 use Rattle.triple_arena.specs.Content.{Content}
 use Rattle.triple_arena.specs.Entries.{value_if, without}
-use Rattle.triple_arena_chain.specs.declared.link.IndexLink.{IndexLink}
+use Rattle.triple_arena_chain.specs.LinkShape.{IndexLink}
 use Rattle.triple_arena_chain.specs.Chains.{Apart, Ends, Off}
 use Rattle.triple_arena_chain.specs.ListLaws.{Apart-split}
 use Rattle.triple_arena_chain.specs.UniquenessLaws.{linear_apart}

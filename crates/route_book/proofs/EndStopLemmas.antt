@@ -7,7 +7,7 @@ use Rattle.triple_arena_ptr.specs.Generation.{next_wraps}
 use Rattle.triple_arena_stack.specs.Room.{capacity}
 use Rattle.triple_arena.specs.Content.{Content}
 use Rattle.triple_arena.specs.Entries.{value_if, without}
-use Rattle.triple_arena_chain.specs.declared.link.IndexLink.{IndexLink}
+use Rattle.triple_arena_chain.specs.LinkShape.{IndexLink}
 use Rattle.triple_arena_chain.specs.Chains.{Ends, IsAgreed, next_at, prev_at, next_in, prev_in, renext, with_next, with_next_if, bridged, taken_from, taken_out}
 use Rattle.triple_arena_chain.specs.Links.{ends_in, values_in, IsChained, IsTakenOut}
 use Rattle.triple_arena_ord.specs.Ordered.{Ordered}

@@ -6,7 +6,7 @@ use Rattle.triple_arena.specs.Content.{Content, entry_at, live_count, arena_capa
 use Rattle.triple_arena_stack.specs.Room.{capacity}
 use Rattle.triple_arena_chain.specs.Chains.{Ends, IsAgreed, next_at}
 use Rattle.triple_arena_chain.specs.Kinds.{after_link}
-use Rattle.triple_arena_chain.specs.declared.link.IndexLink.{IndexLink}
+use Rattle.triple_arena_chain.specs.LinkShape.{IndexLink}
 use Rattle.triple_arena_chain.specs.declared.place.Place.{Place as LinkPlace}
 use Rattle.triple_arena_chain.specs.declared.place.Place.TheVariants.{Between}
 use Rattle.triple_arena_chain.specs.Links.{ends_in, ends_found, entry_ends, values_in, valued, IsChained, IsPlaced}

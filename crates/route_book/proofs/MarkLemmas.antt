@@ -8,7 +8,7 @@ use Rattle.triple_arena.specs.Entries.{value_if, with_entry}
 use Rattle.triple_arena.specs.Content.{Content, entry_at, live_count}
 use Rattle.triple_arena_stack.specs.Room.{capacity}
 use Rattle.triple_arena_chain.specs.Chains.{Ends}
-use Rattle.triple_arena_chain.specs.declared.link.IndexLink.{IndexLink}
+use Rattle.triple_arena_chain.specs.LinkShape.{IndexLink}
 use Rattle.triple_arena_chain.specs.Links.{ends_in, values_in}
 use Rattle.triple_arena_ord.specs.Ordered.{Ordered, entry_in}
 use Rattle.ticket_book.specs.declared.entry.Kind.{Kind}

@@ -8,7 +8,7 @@ use Rattle.std.proofs.Math.Nat.{min-eq_right}
 use Rattle.std.proofs.lemmas.Bool.{eq-eqb, ne_eqb}
 use Rattle.triple_arena.specs.Entries.{value_if}
 use Rattle.triple_arena.specs.Content.{Content, entry_at, live_count, arena_capacity}
-use Rattle.triple_arena_chain.specs.declared.link.IndexLink.{IndexLink}
+use Rattle.triple_arena_chain.specs.LinkShape.{IndexLink}
 use Rattle.triple_arena_chain.specs.CanonicalLayout.{IsLaidOut}
 use Rattle.triple_arena_chain.specs.Chains.{Ends, next_at}
 use Rattle.triple_arena_chain.specs.Links.{ends_in, values_in}

@@ -10,7 +10,7 @@ use Rattle.rank_tree.specs.Search.{AllIn}
 use Rattle.triple_arena.specs.Content.{Content}
 use Rattle.triple_arena.specs.Entries.{value_if}
 use Rattle.triple_arena_chain.specs.Chains.{first_or, last_or}
-use Rattle.triple_arena_chain.specs.declared.link.IndexLink.{IndexLink}
+use Rattle.triple_arena_chain.specs.LinkShape.{IndexLink}
 use Rattle.triple_arena_ord.specs.Near.{IsNear, IsAtHand}
 use Rattle.triple_arena_ord.specs.Ordered.{Ordered, IsOrdered, IsAscending, asked_at, entry_in, order_in, size_in}
 use Rattle.ticket_book.specs.declared.entry.Kind.TheVariants.{Place as OfPlace}

@@ -4,7 +4,7 @@ use Rattle.std.specs.Option.{option_map}
 use Rattle.triple_arena.specs.Entries.{value_if, with_entry}
 use Rattle.triple_arena.specs.Content.{Content, entry_at, live_count, arena_capacity}
 use Rattle.triple_arena_chain.specs.Chains.{IsAgreed}
-use Rattle.triple_arena_chain.specs.declared.link.IndexLink.{IndexLink}
+use Rattle.triple_arena_chain.specs.LinkShape.{IndexLink}
 use Rattle.triple_arena_chain.specs.declared.place.Place.TheVariants.{Between}
 use Rattle.triple_arena_chain.specs.Links.{ends_in, values_in, valued, IsChained, IsPlaced}
 use Rattle.triple_arena_ord.specs.Ordered.{Ordered, entry_in}

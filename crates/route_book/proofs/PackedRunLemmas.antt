@@ -7,7 +7,7 @@ use Rattle.triple_arena.specs.Compression.{index_of}
 use Rattle.triple_arena.specs.Content.{Content, entry_at, live_count}
 use Rattle.triple_arena.specs.Entries.{look_up}
 use Rattle.triple_arena.specs.LiveEntries.{live_entries, entry-listed, live_entries-increase, live_entries-length}
-use Rattle.triple_arena_chain.specs.declared.link.IndexLink.{IndexLink}
+use Rattle.triple_arena_chain.specs.LinkShape.{IndexLink}
 use Rattle.triple_arena_chain.specs.AllChainsLaws.{all_live}
 use Rattle.triple_arena_chain.specs.CanonicalLayout.{IsLaidOut}
 use Rattle.triple_arena_chain.specs.CanonicalTransfer.{AreRising, IsMovedAlong}
@@ -19,7 +19,7 @@ use Rattle.triple_arena_chain.specs.ListLaws.{On-first, live_on, live_prev_in}
 use Rattle.triple_arena_chain.specs.Renaming.{ends_renamed}
 use Rattle.triple_arena_ord.specs.Ascending.{entries_along}
 use Rattle.triple_arena_ord.specs.Node.{itemed}
-use Rattle.triple_arena_ord.specs.declared.node.IndexNode.{IndexNode}
+use Rattle.triple_arena_ord.specs.NodeShape.{IndexNode}
 use Rattle.triple_arena_ord.specs.Ordered.{Ordered, IsOrdered, entry_in, order_in, ordered_entries, size_in}
 use Rattle.route_book.proofs.LinkLemmas.{live_ends, live_values}
 use Rattle.route_book.proofs.TransferLemmas.{along_index, beside, fixed_run, links_same, listed_index, on_run, run_on, split_run}

@@ -5,7 +5,7 @@ use Rattle.std.proofs.lemmas.Bool.{false≢true, leb-false}
 use Rattle.std.proofs.lemmas.Bool.Decides.{eqb_tells}
 use Rattle.triple_arena.specs.Content.{Content, entry_at, live_count, arena_capacity}
 use Rattle.triple_arena_stack.specs.Room.{capacity}
-use Rattle.triple_arena_chain.specs.declared.link.IndexLink.{IndexLink}
+use Rattle.triple_arena_chain.specs.LinkShape.{IndexLink}
 use Rattle.triple_arena_chain.specs.Chains.{Ends}
 use Rattle.triple_arena_chain.specs.Links.{ends_in, values_in}
 use Rattle.triple_arena_ord.specs.Inserted.{IsAdded, IsReplaced}

@@ -6,7 +6,7 @@ use Rattle.std.proofs.lemmas.List.Folds.{find-append}
 use Rattle.triple_arena.specs.Entries.{value_if}
 use Rattle.triple_arena.specs.Content.{Content, arena_capacity}
 use Rattle.triple_arena_stack.specs.Room.{capacity}
-use Rattle.triple_arena_chain.specs.declared.link.IndexLink.{IndexLink}
+use Rattle.triple_arena_chain.specs.LinkShape.{IndexLink}
 use Rattle.triple_arena_chain.specs.Chains.{Ends, IsAgreed, next_in, prev_in, next_at, prev_at, linked, unlinked, exchanged}
 use Rattle.triple_arena_chain.specs.Kinds.{at_bridge}
 use Rattle.triple_arena_chain.specs.ListLaws.{live_next_in, live_prev_in}

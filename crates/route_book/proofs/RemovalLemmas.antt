@@ -6,7 +6,7 @@ use Rattle.triple_arena_ptr.specs.Generation.{next_wraps}
 use Rattle.triple_arena.specs.Changes.{IsRemoved as IsGoneFrom}
 use Rattle.triple_arena.specs.Content.{Content, entry_at, get, live_count, some_counter}
 use Rattle.triple_arena.specs.Entries.{value_if}
-use Rattle.triple_arena_chain.specs.declared.link.IndexLink.{IndexLink}
+use Rattle.triple_arena_chain.specs.LinkShape.{IndexLink}
 use Rattle.triple_arena_chain.specs.Links.{values_in, valued, IsChained, IsTakenOut}
 use Rattle.triple_arena_ord.specs.Ordered.{Ordered, IsOrdered, entry_in}
 use Rattle.triple_arena_ord.specs.Removal.{IsEntryRemoved}

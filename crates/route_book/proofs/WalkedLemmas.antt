@@ -4,7 +4,7 @@ use Rattle.std.specs.List.{AllByRecursion}
 use Rattle.std.specs.Option.{option_map}
 use Rattle.triple_arena.specs.Entries.{value_if}
 use Rattle.triple_arena.specs.Content.{Content, entry_at, get}
-use Rattle.triple_arena_chain.specs.declared.link.IndexLink.{IndexLink}
+use Rattle.triple_arena_chain.specs.LinkShape.{IndexLink}
 use Rattle.triple_arena_chain.specs.Chains.{IsAgreed, next_at, prev_at}
 use Rattle.triple_arena_chain.specs.IterChains.{links_along}
 use Rattle.triple_arena_chain.specs.Links.{ends_in, link_ends, values_in}

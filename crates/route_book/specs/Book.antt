@@ -1,7 +1,7 @@
 -- What a contract sees of a store, and what ties its parts.
 use Rattle.std.specs.Prelude.{◌≡◌, ℕ, ◌+◌, ◌≤◌, List, [], ◌∷◌, length, map, Option, Some, None}
 use Rattle.triple_arena.specs.Content.{Content, entry_at, live_count, arena_capacity}
-use Rattle.triple_arena_chain.specs.declared.link.IndexLink.{IndexLink}
+use Rattle.triple_arena_chain.specs.LinkShape.{IndexLink}
 use Rattle.triple_arena_chain.specs.Links.{ends_in, values_in}
 use Rattle.triple_arena_ord.specs.Ordered.{Ordered, entry_in, ordered_entries, size_in}
 use Rattle.ticket_book.specs.Tickets.{Entry}

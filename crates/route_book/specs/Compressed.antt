@@ -4,7 +4,7 @@ use Rattle.triple_arena.specs.Changes.{IsCompressed}
 use Rattle.triple_arena.specs.Compression.{value_of}
 use Rattle.triple_arena.specs.Content.{Content, entry_at, live_count, some_counter, arena_capacity}
 use Rattle.triple_arena.specs.LiveEntries.{live_entries}
-use Rattle.triple_arena_chain.specs.declared.link.IndexLink.{IndexLink}
+use Rattle.triple_arena_chain.specs.LinkShape.{IndexLink}
 use Rattle.triple_arena_chain.specs.CanonicalLayout.{IsCanonical}
 use Rattle.triple_arena_chain.specs.Links.{values_in, IsChained}
 use Rattle.triple_arena_ord.specs.CanonicalLayout.{IsLaidInOrder}

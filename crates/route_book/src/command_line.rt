@@ -1,16 +1,18 @@
 //! The program over a store: its arguments, its exit status, and what it tells.
-ghost use Rattle.std.specs.Prelude.{◌≡◌, ◌<◌, ◌≤◌, ◌+◌, ◌-◌, ◌^◌, ◌↔◌, ◌⊎◌, ℕ, Some, IfSome, IsNone, codes, map, string_bytes};
+ghost use Rattle.std.specs.Prelude.{◌≡◌, ◌<◌, ◌≤◌, ◌+◌, ◌-◌, ◌^◌, ◌↔◌, ◌⊎◌, ℕ, Some, None, Err, IfSome, IfOk, IfErr, IsErr, IsNone, codes, map, string_bytes};
 ghost use Rattle.route_lines.specs.CommandLine.{Answers, AnswersWholeLines, BeginsToAnswer, Tells, refusal_of, refused_line, room_sum, rooms_of};
+ghost use Rattle.route_book.specs.Rooms.{refusal_of as refusal_over};
 ghost use Rattle.route_lines.specs.State.{Rooms, empty};
+ghost use Rattle.route_lines.specs.declared.refusal.RoomError.{RoomError as Refused};
 ghost use Rattle.route_lines.specs.Watched.{inner_of, failed_of, calls_of};
 
 use crate::backing::OnHeap;
 use crate::book::RouteBook;
 use crate::running::run;
-use route_lines::{Counts, RunFault, Watched, read_rooms, refused_line, tell};
+use route_lines::{Counts, RoomError, RunFault, Watched, read_rooms, refused_line, tell};
 use std::alloc::Global;
 use std::io::{Read, Write};
-use triple_arena_ptr::P0;
+use triple_arena_ptr::{P0, PtrCore};
 
 /// The program `route_book PLACES STOPS MARKS`: makes a store with these rooms and answers its input.
 ///
@@ -79,8 +81,8 @@ pub fn program<R: Read, W: Write, E: Write>(
         tell(errors, b"usage: route_book PLACES STOPS MARKS\n");
         return 2;
     };
-    match RouteBook::new(&OnHeap(alloc), places, stops, marks) {
-        Ok(book) => answer_input(book, input, output, errors),
+    match serve::<P0, R, W, E>(alloc, places, stops, marks, input, output, errors) {
+        Ok(status) => status,
         Err(refusal) => {
             tell(errors, refused_line(refusal));
             3
@@ -88,48 +90,63 @@ pub fn program<R: Read, W: Write, E: Write>(
     }
 }
 
-// The status of a run over a new store; a fault is told.
-fn answer_input<R: Read, W: Write, E: Write>(
-    mut book: RouteBook<P0, OnHeap>,
+// The status of a run over a new store, or why that is not made; a fault is told. It is generic in the
+// pointers, since the checker takes a whole store over `P0` in generic code alone.
+fn serve<P: PtrCore, R: Read, W: Write, E: Write>(
+    alloc: Global,
+    places: usize,
+    stops: usize,
+    marks: usize,
     input: &mut Watched<R>,
     output: &mut Watched<W>,
     errors: &mut Watched<E>,
-) -> u8
-    ensures status { result ≤ 1 }
-    ensures answered { result ≡ 0 → (rooms : Rooms) → book.state ≡ empty rooms 0
-        → Answers rooms (R.remaining (inner_of input.old)) (R.remaining (inner_of input.new))
-        (W.contents (inner_of output.old)) (W.contents (inner_of output.new)) }
-    ensures unfailed { result ≡ 0 → (failed_of input.new ≡ failed_of input.old)
-        × (failed_of output.new ≡ failed_of output.old) }
-    ensures silent { result ≡ 0 → errors.new ≡ errors.old }
-    ensures fault { result ≡ 1 → (rooms : Rooms) → book.state ≡ empty rooms 0 →
-        (AnswersWholeLines rooms (R.remaining (inner_of input.old)) (R.remaining (inner_of input.new))
+) -> Result<u8, RoomError>
+    ensures refused { (e : Refused)
+        → refusal_over P.Gen.last P.Inx.greatest None (places + stops + marks) ≡ Some e
+        → result ≡ Err e }
+    ensures accepted { refusal_over P.Gen.last P.Inx.greatest None (places + stops + marks) ≡ None
+        → IfErr result (λ e. (e ≡ RoomError.Memory) × (0 < places + stops + marks)) }
+    ensures untouched { IsErr result → (input.new ≡ input.old) × (output.new ≡ output.old)
+        × (errors.new ≡ errors.old) }
+    ensures status { IfOk result (λ status. status ≤ 1) }
+    ensures answered { IfOk result (λ status. status ≡ 0
+        → Answers (record { places = places; stops = stops; marks = marks })
+        (R.remaining (inner_of input.old)) (R.remaining (inner_of input.new))
+        (W.contents (inner_of output.old)) (W.contents (inner_of output.new))) }
+    ensures unfailed { IfOk result (λ status. status ≡ 0 → (failed_of input.new ≡ failed_of input.old)
+        × (failed_of output.new ≡ failed_of output.old)) }
+    ensures silent { IfOk result (λ status. status ≡ 0 → errors.new ≡ errors.old) }
+    ensures fault { IfOk result (λ status. status ≡ 1 →
+        (AnswersWholeLines (record { places = places; stops = stops; marks = marks })
+        (R.remaining (inner_of input.old)) (R.remaining (inner_of input.new))
         (W.contents (inner_of output.old)) (W.contents (inner_of output.new))
         × ((failed_of input.new ≡ failed_of input.old + 1)
         ⊎ (calls_of input.new ≡ calls_of input.old + (2 ^ 64 - 1)))
         × (failed_of output.new ≡ failed_of output.old)
         × Tells (failed_of errors.old) (failed_of errors.new) (E.contents (inner_of errors.old))
         (E.contents (inner_of errors.new)) (codes "read failed"))
-        ⊎ (BeginsToAnswer rooms (R.remaining (inner_of input.old)) (R.remaining (inner_of input.new))
+        ⊎ (BeginsToAnswer (record { places = places; stops = stops; marks = marks })
+        (R.remaining (inner_of input.old)) (R.remaining (inner_of input.new))
         (W.contents (inner_of output.old)) (W.contents (inner_of output.new))
         × (failed_of output.new ≡ failed_of output.old + 1)
         × (failed_of input.new ≡ failed_of input.old)
         × Tells (failed_of errors.old) (failed_of errors.new) (E.contents (inner_of errors.old))
-        (E.contents (inner_of errors.new)) (codes "write failed")) }
+        (E.contents (inner_of errors.new)) (codes "write failed"))) }
 {
+    let mut book = RouteBook::<P, OnHeap>::new(&OnHeap(alloc), places, stops, marks)?;
     match run(&mut book, input, output, &mut Counts::new()) {
-        Ok(()) => 0,
+        Ok(()) => Ok(0),
         Err(RunFault::Read(_)) => {
             tell(errors, b"read failed\n");
-            1
+            Ok(1)
         }
         Err(RunFault::Write(_)) => {
             tell(errors, b"write failed\n");
-            1
+            Ok(1)
         }
         Err(RunFault::TooLong) => {
             tell(errors, b"read failed\n");
-            1
+            Ok(1)
         }
     }
 }

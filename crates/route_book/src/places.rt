@@ -7,7 +7,7 @@ use route_lines::Word;
 use std::marker::Model;
 use triple_arena_ord::OrdSlots;
 use triple_arena_ord::ord_iterators::Iter;
-use triple_arena_ptr::PtrCore;
+use triple_arena_ptr::{PtrCore, PtrInxCore};
 
 /// The places of a store in the order of their keys, and under one key of their tickets, seen as
 /// the list of those that are left.
@@ -15,6 +15,7 @@ use triple_arena_ptr::PtrCore;
 pub struct Places<'a, P: PtrCore, S: OrdSlots<P, Place>>
 where
     P::Inx: 'a,
+    <P::Inx as PtrInxCore>::Word: 'a,
 {
     pub(crate) entries: Iter<'a, P, Place, S>,
 }
@@ -22,6 +23,7 @@ where
 impl<'a, P: PtrCore, S: OrdSlots<P, Place>> Model for Places<'a, P, S>
 where
     P::Inx: 'a,
+    <P::Inx as PtrInxCore>::Word: 'a,
 {
     ghost use Rattle.std.specs.Prelude.{List, map};
     ghost use Rattle.route_lines.specs.State.{Place as View};
@@ -34,6 +36,7 @@ where
 impl<'a, P: PtrCore, S: OrdSlots<P, Place>> Iterator for Places<'a, P, S>
 where
     P::Inx: 'a,
+    <P::Inx as PtrInxCore>::Word: 'a,
 {
     ghost use Rattle.route_lines.specs.Calls.{listed};
 

@@ -3,7 +3,7 @@ use Rattle.std.proofs.Common.{◌≡◌, ◌∙◌, sym, ap, refl, ℕ, Option, 
 use Rattle.std.proofs.lemmas.Bool.{eq-eqb}
 use Rattle.triple_arena.specs.Entries.{value_if}
 use Rattle.triple_arena.specs.Content.{Content}
-use Rattle.triple_arena_chain.specs.declared.link.IndexLink.{IndexLink}
+use Rattle.triple_arena_chain.specs.LinkShape.{IndexLink}
 use Rattle.triple_arena_chain.specs.Links.{values_in}
 use Rattle.triple_arena_ord.specs.Ordered.{entry_in}
 use Rattle.route_lines.specs.Calls.{unless_is, clear_stop, after_removed}

@@ -9,7 +9,7 @@ ghost use Rattle.store_callers.specs.Moving.{grown};
 
 use route_book::{BookBacking, OnArray, OnHeap, PtrCore, Refusal, RoomError, RouteBook, Word};
 use std::alloc::Allocator;
-use triple_arena_ptr::{P0, P1};
+use triple_arena_ptr::P1;
 
 /// Over every two pointer types and backings: what a caller knows of a new store, and that nothing
 /// is lost.
@@ -50,16 +50,19 @@ pub fn move_to_arrays<P: PtrCore, B: BookBacking<P>>(
     book.into_room(&OnArray::<4>, 1, 3, 0)
 }
 
-/// From the heap, over wide pointers.
-pub fn move_from_heap<A: Allocator + Copy, Q: PtrCore, C: BookBacking<Q>>(
-    book: RouteBook<P0, OnHeap<A>>,
+/// From the heap.
+pub fn move_from_heap<P: PtrCore, A: Allocator + Copy, Q: PtrCore, C: BookBacking<Q>>(
+    book: RouteBook<P, OnHeap<A>>,
     backing: &C,
-) -> Result<RouteBook<Q, C>, (RoomError, RouteBook<P0, OnHeap<A>>)>
+) -> Result<RouteBook<Q, C>, (RoomError, RouteBook<P, OnHeap<A>>)>
     ensures ok { IfOk result (λ moved. moved.state
         ≡ in_rooms (record { places = 1; stops = 3; marks = 0 }) book.state) }
     ensures err { IfErr result (λ refused. refused.1 ≡ book) }
 {
-    book.into_room(backing, 1, 3, 0)
+    match book.into_room(backing, 1, 3, 0) {
+        Ok(moved) => Ok(moved),
+        Err(refused) => Err(refused),
+    }
 }
 
 /// Starts a route at a place. If the store is full it moves to other rooms, and the route starts
@@ -109,8 +112,11 @@ pub fn grow<P: PtrCore, B: BookBacking<P>, Q: PtrCore, C: BookBacking<Q>>(
 }
 
 /// The same out of small arrays, over narrow pointers, and onto the heap.
-pub fn grow_to_heap<A: Allocator + Copy>(alloc: A, word: Word) -> Option<RouteBook<P0, OnHeap<A>>>
+pub fn grow_to_heap<P: PtrCore, A: Allocator + Copy>(
+    alloc: A,
+    word: Word,
+) -> Option<RouteBook<P, OnHeap<A>>>
     ensures { IfSome result (λ moved. moved.state ≡ grown word) }
 {
-    grow::<P1, _, P0, _>(&OnArray::<4>, &OnHeap(alloc), word)
+    grow::<P1, _, P, _>(&OnArray::<4>, &OnHeap(alloc), word)
 }

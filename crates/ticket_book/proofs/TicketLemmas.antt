@@ -12,8 +12,8 @@ use Rattle.triple_arena.specs.Content.{entry_at}
 use Rattle.triple_arena.specs.Entries.{with_entry}
 use Rattle.triple_arena_chain.specs.Chains.{Ends, Stands, On, first_or, last_or, next_in}
 use Rattle.triple_arena_chain.specs.Links.{ends_in}
-use Rattle.triple_arena_chain.specs.declared.link.IndexLink.{IndexLink}
-use Rattle.triple_arena_ord.specs.declared.node.IndexNode.{IndexNode}
+use Rattle.triple_arena_chain.specs.LinkShape.{IndexLink}
+use Rattle.triple_arena_ord.specs.NodeShape.{IndexNode}
 use Rattle.triple_arena_ord.specs.Ascending.{entries_along}
 use Rattle.triple_arena_ord.specs.Found.{Answers}
 use Rattle.triple_arena_ord.specs.Inserted.{IsAdded, StandsAt}

@@ -1,9 +1,9 @@
 //! The book of living tickets.
-ghost use Rattle.std.specs.Prelude.{◌≡◌, ℕ, ◌+◌, ◌<◌, ◌≤◌, ◌↔◌, ◌++◌, [], ◌∷◌, length, map, Some, None, IsTrue, IsOk, IsErrOf, IfOk, IfSome, IfNone, IsSome, ⊤};
+ghost use Rattle.std.specs.Prelude.{◌≡◌, ℕ, ◌+◌, ◌<◌, ◌≤◌, ◌↔◌, ◌⊎◌, ◌++◌, [], ◌∷◌, length, map, Some, None, IsTrue, IsOk, IsErrOf, IfOk, IfSome, IfNone, IsSome, ⊤};
 ghost use Rattle.std.specs.Option.{option_map};
 ghost use Rattle.counted_search.specs.Searches.{most_comparisons};
 ghost use Rattle.ticket_book.specs.Mirrors.{numbers, renewed_entry};
-ghost use Rattle.ticket_book.specs.Tickets.{AreBelow, Entry as EntryView, asked, entry_at, lookup, without_ticket};
+ghost use Rattle.ticket_book.specs.Tickets.{AreBelow, Entry as EntryView, asked, asked_among, entry_at, look_count, lookup, looked_at, without_ticket};
 ghost use Rattle.triple_arena.specs.ArenaRoom.{room_of};
 ghost use Rattle.triple_arena_stack.specs.Room.{capacity as capacity_of, IsBeyond};
 
@@ -11,11 +11,12 @@ use crate::entry::{Entry, Kind};
 use crate::renewal::renew_entries;
 use std::cmp::Ordering;
 use std::marker::Model;
+use std::num::NonZeroUsize;
 use triple_arena::{ArenaSlot, ArenaTrait};
 use triple_arena_chain::LinkNoGen;
 use triple_arena_ord::laws::{entries_stand_in_the_list, the_list_has_as_many_entries_as_are_live};
 use triple_arena_ord::{OrdSlots, SimpleOrdArena, SimpleOrdArenaNode};
-use triple_arena_ptr::{Probes, PtrCore, ReallocationError};
+use triple_arena_ptr::{Probes, PtrCore, PtrInxCore, ReallocationError};
 use unreached::unreached;
 
 /// A slot of a ticket book.
@@ -32,7 +33,7 @@ impl<P: PtrCore, S: OrdSlots<P, Entry<P>>> Model for TicketBook<P, S> {
 
     ghost Value = { Tickets };
 
-    ghost use Rattle.ticket_book.specs.InArena.{entries_of, standing_in, asked_in, asked_beside};
+    ghost use Rattle.ticket_book.specs.InArena.{entries_of, standing_in, spares_in, asked_in, asked_beside};
     ghost use Rattle.ticket_book.specs.Tickets.{TicketsRise};
     ghost use Rattle.triple_arena.specs.Content.{arena_capacity};
 
@@ -40,11 +41,23 @@ impl<P: PtrCore, S: OrdSlots<P, Entry<P>>> Model for TicketBook<P, S> {
       entries = entries_of P.Inx.number b.arena;
       standing = standing_in P.Inx.number b.arena;
       capacity = arena_capacity b.arena.chains;
+      spares = spares_in P.Inx.number b.arena;
       asked_below = asked_in P.Inx.number b.arena 0;
       asked_along = asked_beside P.Inx.number b.arena;
     } };
 
     ghost invariant = { λ b. TicketsRise (entries_of P.Inx.number b.arena) };
+}
+
+// The index with this number, if the type has it.
+fn index_of<I: PtrInxCore>(number: u64) -> Option<I>
+    ensures same { IfSome result (λ i. I.number i ≡ number) }
+    ensures none { IfNone result ((number ≡ 0) ⊎ (I.greatest < number)) }
+{
+    match NonZeroUsize::new(number as usize) {
+        Some(number) => I::try_from_usize(number),
+        None => None,
+    }
 }
 
 impl<P: PtrCore, S: OrdSlots<P, Entry<P>>> TicketBook<P, S> {
@@ -62,8 +75,9 @@ impl<P: PtrCore, S: OrdSlots<P, Entry<P>>> TicketBook<P, S> {
         })
     }
 
-    /// Where the entry of a ticket stands. Each comparison is a tick, and no entry is compared but
-    /// those on the way of one search. The index serves [`entry`](TicketBook::entry) and
+    /// Where the entry of a ticket stands. It looks at the entry at the index with the ticket's own
+    /// number, if the bound surely leaves a comparison for that. If it is not there, it makes one
+    /// search. Each comparison is a tick. The index serves [`entry`](TicketBook::entry) and
     /// [`take`](TicketBook::take) until a ticket is added or taken out; a renewal leaves it.
     pub fn locate(&self, ticket: u64, probes: &mut Probes) -> Option<P::Inx>
         ensures found { IfSome result (λ at. (e : EntryView)
@@ -72,6 +86,76 @@ impl<P: PtrCore, S: OrdSlots<P, Entry<P>>> TicketBook<P, S> {
         ensures none { IfNone result (lookup self.now.entries ticket ≡ None) }
         ensures ticks { probes.new ≡ probes.old + asked self.now ticket }
         ensures bound { asked self.now ticket ≤ most_comparisons (length self.now.entries) }
+    {
+        match self.look(ticket, probes) {
+            Some(at) => Some(at),
+            None => self.search(ticket, probes),
+        }
+    }
+
+    // The entry that is looked at before a search, with its index, which has the ticket's own
+    // number.
+    fn first(&self, ticket: u64) -> Option<(P::Inx, &Entry<P>)>
+        ensures entry { option_map (λ x. x.1.now) result ≡ looked_at self.now ticket }
+        ensures index { IfSome result (λ x. P.Inx.number x.0 ≡ ticket) }
+        ensures found { IfSome result (λ x. lookup self.now.entries x.1.now.ticket ≡ Some x.1.now) }
+        ensures spared { IsTrue self.now.spares
+            → asked_among self.now.asked_below self.now.entries self.now.asked_along ticket + 1
+            ≤ most_comparisons (length self.now.entries) }
+    {
+        entries_stand_in_the_list::<P, Entry<P>>();
+        the_list_has_as_many_entries_as_are_live::<P, Entry<P>>();
+        // The list is as it must be, and its indexes are within the capacity.
+        let _ = self.arena.len();
+        let _ = self.arena.capacity();
+        if !self.arena.spares_a_comparison() {
+            return None;
+        }
+        match index_of::<P::Inx>(ticket) {
+            Some(at) => match self.arena.get_inx(at) {
+                Some(found) => Some((at, found.1)),
+                None => None,
+            },
+            None => None,
+        }
+    }
+
+    // The index with the ticket's own number, if the entry there is looked at and has the ticket.
+    fn look(&self, ticket: u64, probes: &mut Probes) -> Option<P::Inx>
+        ensures found { IfSome result (λ at. (e : EntryView)
+            × (entry_at self.now (P.Inx.number at) ≡ Some e)
+            × (lookup self.now.entries ticket ≡ Some e)) }
+        ensures told { IsSome result
+            ↔ (option_map (λ (e : EntryView). e.ticket) (looked_at self.now ticket) ≡ Some ticket) }
+        ensures ticks { probes.new ≡ probes.old + look_count (looked_at self.now ticket) }
+        ensures spared { IsTrue self.now.spares
+            → asked_among self.now.asked_below self.now.entries self.now.asked_along ticket + 1
+            ≤ most_comparisons (length self.now.entries) }
+    {
+        match self.first(ticket) {
+            Some(looked) => {
+                probes.tick();
+                if looked.1.ticket() == ticket {
+                    Some(looked.0)
+                } else {
+                    None
+                }
+            }
+            None => None,
+        }
+    }
+
+    // As `locate`, by a search alone.
+    fn search(&self, ticket: u64, probes: &mut Probes) -> Option<P::Inx>
+        ensures found { IfSome result (λ at. (e : EntryView)
+            × (entry_at self.now (P.Inx.number at) ≡ Some e)
+            × (lookup self.now.entries ticket ≡ Some e)) }
+        ensures none { IfNone result (lookup self.now.entries ticket ≡ None) }
+        ensures ticks { probes.new ≡ probes.old
+            + asked_among self.now.asked_below self.now.entries self.now.asked_along ticket }
+        ensures bound {
+            asked_among self.now.asked_below self.now.entries self.now.asked_along ticket
+            ≤ most_comparisons (length self.now.entries) }
     {
         entries_stand_in_the_list::<P, Entry<P>>();
         the_list_has_as_many_entries_as_are_live::<P, Entry<P>>();
@@ -98,7 +182,7 @@ impl<P: PtrCore, S: OrdSlots<P, Entry<P>>> TicketBook<P, S> {
         }
     }
 
-    /// The entry of a ticket, by one search, as [`locate`](TicketBook::locate) makes it.
+    /// The entry of a ticket, found as by [`locate`](TicketBook::locate).
     pub fn find_counted(&self, ticket: u64, probes: &mut Probes) -> Option<&Entry<P>>
         ensures found { option_map (λ e. e.now) result ≡ lookup self.now.entries ticket }
         ensures ticks { probes.new ≡ probes.old + asked self.now ticket }

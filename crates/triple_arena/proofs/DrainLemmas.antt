@@ -178,10 +178,10 @@ pub removal_made : {T : Type 0} (last counter : Option ℕ) {after : Option ℕ}
     → removals last counter old ≡ (entry, wrapped) ∷ removals last after new
 removal_made last counter first told stepped = rw (first, stepped, told) refl
 
-module _ {P T A Inx Gen Alloc Adv : Type 0} (entry_of : A → ℕ → Option (ℕ × T)) (walk_of : Adv → Walk) (counter_of : A → Option ℕ)
+module _ {P T A Inx Gen Word Alloc Adv : Type 0} (entry_of : A → ℕ → Option (ℕ × T)) (walk_of : Adv → Walk) (counter_of : A → Option ℕ)
     (listed : A → List (ℕ × (ℕ × T))) (is_removed : A → ℕ → A → Type 0) (left : A → A) (last : Option ℕ) (index generation : P → ℕ) where
   -- what a drain keeps at a step it keeps at every later one
-  pub keeps_along : (first : Drain P T A Inx Gen Alloc Adv)
+  pub keeps_along : (first : Drain P T A Inx Gen Word Alloc Adv)
       → DrainKeepsAlong entry_of walk_of counter_of listed is_removed left last index generation first
   keeps_along first [] later run = subst (DrainKeeps left first) run (refl, refl)
   keeps_along first (item ∷ items) later run =

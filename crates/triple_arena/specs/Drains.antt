@@ -45,35 +45,35 @@ module _ {P T A : Type 0} (is_removed : A → ℕ → A → Type 0) (index : P �
   Takes None old new = new ≡ old
   Takes (Some item) old new = is_removed old (index (value_of item).0) new
 
-module _ {P T A Inx Gen Alloc Adv : Type 0} where
+module _ {P T A Inx Gen Word Alloc Adv : Type 0} where
   -- the arena as the drain has it
-  abbrev pub drain_arena : Drain P T A Inx Gen Alloc Adv → A
+  abbrev pub drain_arena : Drain P T A Inx Gen Word Alloc Adv → A
   drain_arena d = d.arena.now
 
   -- the ghost name of the reference to the arena
-  abbrev pub drain_lender : Drain P T A Inx Gen Alloc Adv → GName
+  abbrev pub drain_lender : Drain P T A Inx Gen Word Alloc Adv → GName
   drain_lender d = d.arena.ghost_name
 
   -- each entry is still to come
-  abbrev pub DrainCanStep : (A → ℕ → Option (ℕ × T)) → (Adv → Walk) → Drain P T A Inx Gen Alloc Adv → Type 0
+  abbrev pub DrainCanStep : (A → ℕ → Option (ℕ × T)) → (Adv → Walk) → Drain P T A Inx Gen Word Alloc Adv → Type 0
   DrainCanStep entry_of walk_of d = IsAllAhead (entry_of (drain_arena d)) (walk_of d.walk)
 
   -- the removals that are still to come
-  abbrev pub drain_rest : (A → Option ℕ) → (A → List (ℕ × (ℕ × T))) → Option ℕ → Drain P T A Inx Gen Alloc Adv → List ((ℕ × (ℕ × T)) × Bool)
+  abbrev pub drain_rest : (A → Option ℕ) → (A → List (ℕ × (ℕ × T))) → Option ℕ → Drain P T A Inx Gen Word Alloc Adv → List ((ℕ × (ℕ × T)) × Bool)
   drain_rest counter_of listed last d = removals last (counter_of (drain_arena d)) (listed (drain_arena d))
 
   -- both borrow the same arena, and leave it the same
-  abbrev pub DrainKeeps : (A → A) → Drain P T A Inx Gen Alloc Adv → Drain P T A Inx Gen Alloc Adv → Type 0
+  abbrev pub DrainKeeps : (A → A) → Drain P T A Inx Gen Word Alloc Adv → Drain P T A Inx Gen Word Alloc Adv → Type 0
   DrainKeeps left old new = (drain_lender new ≡ drain_lender old) × (left (drain_arena new) ≡ left (drain_arena old))
 
   module _ (entry_of : A → ℕ → Option (ℕ × T)) (walk_of : Adv → Walk) (counter_of : A → Option ℕ) (listed : A → List (ℕ × (ℕ × T)))
       (is_removed : A → ℕ → A → Type 0) (left : A → A) (last : Option ℕ) (index generation : P → ℕ) where
     -- a step gives the first removal that is still to come, which it has made, or nothing where there is none
-    abbrev pub DrainSteps : Drain P T A Inx Gen Alloc Adv → Option (InvalidationOption (P × T)) → Drain P T A Inx Gen Alloc Adv → Type 0
+    abbrev pub DrainSteps : Drain P T A Inx Gen Word Alloc Adv → Option (InvalidationOption (P × T)) → Drain P T A Inx Gen Word Alloc Adv → Type 0
     DrainSteps old item new = YieldsFirstBy (removal_of index generation) (drain_rest counter_of listed last) old item new × DrainKeeps left old new
         × DrainCanStep entry_of walk_of new × Takes is_removed index item (drain_arena old) (drain_arena new)
 
     -- each state that steps lead to keeps what the first one keeps
-    abbrev pub DrainKeepsAlong : Drain P T A Inx Gen Alloc Adv → Type 0
-    DrainKeepsAlong first = (items : List (InvalidationOption (P × T))) (later : Drain P T A Inx Gen Alloc Adv)
+    abbrev pub DrainKeepsAlong : Drain P T A Inx Gen Word Alloc Adv → Type 0
+    DrainKeepsAlong first = (items : List (InvalidationOption (P × T))) (later : Drain P T A Inx Gen Word Alloc Adv)
         → Yields DrainSteps first items later → DrainKeeps left first later

@@ -5,7 +5,7 @@ use Rattle.std.proofs.lemmas.Option.{slice_get-map}
 use Rattle.triple_arena.specs.Compression.{renewed, value_of}
 use Rattle.triple_arena.specs.Content.{Content, entry_at, live_count}
 use Rattle.triple_arena.specs.LiveEntries.{live_entries}
-use Rattle.triple_arena_chain.specs.declared.link.IndexLink.{IndexLink}
+use Rattle.triple_arena_chain.specs.LinkShape.{IndexLink}
 use Rattle.triple_arena_chain.specs.Chains.{Ends, next_in, prev_in, IsAgreed, On}
 use Rattle.triple_arena_chain.specs.AllChainsLaws.{all_live}
 use Rattle.triple_arena_chain.specs.ListLaws.{live_next_in, live_prev_in}

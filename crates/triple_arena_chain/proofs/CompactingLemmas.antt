@@ -9,7 +9,7 @@ use Rattle.triple_arena.specs.CompactedLaws.{entry-compacted, slots-compacted}
 use Rattle.triple_arena.specs.Compression.{renewed, generation_given, generation_of, value_of, index_of, entry_of_listed, compacted}
 use Rattle.triple_arena.specs.Content.{Content, entry_at, live_count, some_counter}
 use Rattle.triple_arena.specs.LiveEntries.{live_entries, live_entries-length}
-use Rattle.triple_arena_chain.specs.declared.link.IndexLink.{IndexLink}
+use Rattle.triple_arena_chain.specs.LinkShape.{IndexLink}
 use Rattle.triple_arena_chain.specs.Chains.{Ends, next_in, prev_in, next_at, prev_at, IsAgreed}
 use Rattle.triple_arena_chain.specs.ListLaws.{live_prev_in}
 use Rattle.triple_arena_chain.specs.Links.{valued, values_in, entry_ends, ends_in, IsKept, IsChained, IsRelinked}

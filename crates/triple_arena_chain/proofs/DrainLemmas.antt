@@ -8,7 +8,7 @@ use Rattle.triple_arena_ptr.specs.declared.invalidation.InvalidationOption.{Inva
 use Rattle.triple_arena.specs.Entries.{without, value_if}
 use Rattle.triple_arena.specs.Content.{Content, entry_at, get, removed}
 use Rattle.triple_arena.specs.RemovalLaws.{free-removed, slots-removed}
-use Rattle.triple_arena_chain.specs.declared.link.IndexLink.{IndexLink}
+use Rattle.triple_arena_chain.specs.LinkShape.{IndexLink}
 use Rattle.triple_arena_chain.specs.Chains.{Ends, taken_out, first_or, last_or, On}
 use Rattle.triple_arena_chain.specs.ChainLaws.{Stands-back}
 use Rattle.triple_arena_chain.specs.ListLaws.{Stands-where, chain_where, live_in, off_or_not}
@@ -191,9 +191,9 @@ module _ {I T : Type 0} (number : I → ℕ) (last : Option ℕ) where
   pub nothing_there : (c : Content (IndexLink I T)) (i : ℕ) → entry_at c i ≡ None → IsRestDrained number last (Some i) c c
   nothing_there c i vacant walk from = absurd (let never : false ≡ true = sym (ap is_some vacant) ∙ walk_live c i walk from in cc)
 
-module _ {P T S Inx Gen Alloc : Type 0} (number : Inx → ℕ) (last : Option ℕ) (index generation : P → ℕ) where
+module _ {P T S Inx Gen Word Alloc : Type 0} (number : Inx → ℕ) (last : Option ℕ) (index generation : P → ℕ) where
   -- what a drain keeps at a step it keeps at every later one
-  pub keeps_along : (first : ChainDrain P T S Inx Gen Alloc) → DrainKeepsAlong number last index generation first
+  pub keeps_along : (first : ChainDrain P T S Inx Gen Word Alloc) → DrainKeepsAlong number last index generation first
   keeps_along first [] later run = subst (DrainKeeps number last first) run (refl, λ left leaves. leaves)
   keeps_along first (item ∷ items) later run =
       let step = run.1.1 in
@@ -201,7 +201,7 @@ module _ {P T S Inx Gen Alloc : Type 0} (number : Inx → ℕ) (last : Option �
       (rest.0 ∙ step.0, λ left leaves. step.1 left (rest.1 left leaves))
 
   -- the items of a drain are the walk in order
-  pub goes_along : (first : ChainDrain P T S Inx Gen Alloc) → DrainGoesAlong number last index generation first
+  pub goes_along : (first : ChainDrain P T S Inx Gen Word Alloc) → DrainGoesAlong number last index generation first
   goes_along first [] later run walk is = (walk, refl, subst (λ d. IsLeft number d walk) run is)
   goes_along first (item ∷ items) later run walk is =
       let gives = run.1.0 in

@@ -8,7 +8,7 @@ use Rattle.std.proofs.lemmas.Bool.Decides.{eqb_tells}
 use Rattle.std.proofs.lemmas.List.FromFn.{length-range_with_len}
 use Rattle.triple_arena.specs.Content.{Content, IsWellFormed}
 use Rattle.triple_arena_chain.specs.LinkLaws.{kept_on}
-use Rattle.triple_arena_chain.specs.declared.link.IndexLink.{IndexLink}
+use Rattle.triple_arena_chain.specs.LinkShape.{IndexLink}
 use Rattle.triple_arena_chain.specs.Chains.{Ends, next_in, next_at, IsAgreed, first_or, On, Apart}
 use Rattle.triple_arena_chain.specs.ListLaws.{On-first, On-front, On-back, live_next_in, live_prev_in}
 use Rattle.triple_arena_chain.specs.Lists.{Chain, Linear, Cyclic, members, all_members, IsChainOf, IsWritten, AreAllChainsOf}

@@ -3,7 +3,7 @@ use Rattle.std.proofs.Common.{◌≡◌, ℕ, option_map, sym, ap, subst}
 use Rattle.triple_arena_stack.specs.Room.{room_after}
 use Rattle.triple_arena.specs.Content.{Content, live_count, grown_if_full}
 use Rattle.triple_arena.specs.InsertionLaws.{formed-grown, entry-in_room}
-use Rattle.triple_arena_chain.specs.declared.link.IndexLink.{IndexLink}
+use Rattle.triple_arena_chain.specs.LinkShape.{IndexLink}
 use Rattle.triple_arena_chain.specs.declared.place.Place.{Place}
 use Rattle.triple_arena_chain.specs.Links.{entry_ends, ends_in, IsChained, IsPlaced}
 use Rattle.triple_arena_chain.specs.ChainLaws.{IsAgreed-same}

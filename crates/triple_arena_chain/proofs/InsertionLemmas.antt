@@ -5,7 +5,7 @@ use Rattle.std.proofs.lemmas.Bool.Decides.{eqb_tells}
 use Rattle.triple_arena.specs.Entries.{with_entry}
 use Rattle.triple_arena.specs.Content.{Content, entry_at, live_count, next_index, arena_capacity, inserted, IsWellFormed}
 use Rattle.triple_arena.specs.InsertionLaws.{next-vacant, entry-inserted, live-inserted, room-inserted, counter-inserted, free-inserted, slots-inserted, formed-inserted}
-use Rattle.triple_arena_chain.specs.declared.link.IndexLink.{IndexLink}
+use Rattle.triple_arena_chain.specs.LinkShape.{IndexLink}
 use Rattle.triple_arena_chain.specs.declared.place.Place.{Place}
 use Rattle.triple_arena_chain.specs.declared.place.Place.TheVariants.{Between, OwnRing}
 use Rattle.triple_arena_chain.specs.Chains.{Ends, with_next_if, with_prev_if, added, put_in, IsPlace, IsAgreed, next_at, prev_at, next_in, prev_in}

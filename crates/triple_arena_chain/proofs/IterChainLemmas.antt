@@ -1,7 +1,7 @@
 -- A step of an iterator over a chain.
 use Rattle.std.proofs.Common.{◌≡◌, ℕ, ◌+◌, [], ◌∷◌, length, Option, Some, None, sym, ap, subst, ◌∙◌, arith}
 use Rattle.triple_arena.specs.Content.{Content, entry_at, get}
-use Rattle.triple_arena_chain.specs.declared.link.IndexLink.{IndexLink}
+use Rattle.triple_arena_chain.specs.LinkShape.{IndexLink}
 use Rattle.triple_arena_chain.specs.IterChains.{link_and, links_along}
 use Rattle.triple_arena_chain.specs.Links.{ends_in, values_in}
 use Rattle.triple_arena_chain.specs.Walks.{ChainWalk, Leaves, ChainSteps, left_over, IsEnding}

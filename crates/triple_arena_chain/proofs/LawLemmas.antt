@@ -2,7 +2,7 @@
 use Rattle.std.proofs.Common.{◌≡◌, ℕ, suc, ◌<◌, List, length, Option, Some, None, IsSome, option_map, true, false, refl, ap, ◌∙◌, arith}
 use Rattle.triple_arena.specs.Content.{Content, entry_at}
 use Rattle.triple_arena.specs.ContentLaws.{live_entry}
-use Rattle.triple_arena_chain.specs.declared.link.IndexLink.{IndexLink}
+use Rattle.triple_arena_chain.specs.LinkShape.{IndexLink}
 use Rattle.triple_arena_chain.specs.Chains.{Ends, with_next, with_prev, linked, unlinked, exchanged, next_in, prev_in, next_at}
 use Rattle.triple_arena_chain.specs.ChainLaws.{stands}
 use Rattle.triple_arena_chain.specs.AllChainsLaws.{all_chains}

@@ -1,7 +1,7 @@
 -- A value that is lent out of its link.
 use Rattle.std.proofs.Common.{◌≡◌, ℕ, Option, Some, None, option_map, refl, sym, ap, subst, ◌∙◌}
 use Rattle.triple_arena.specs.Content.{Content, entry_at, with_value}
-use Rattle.triple_arena_chain.specs.declared.link.IndexLink.{IndexLink}
+use Rattle.triple_arena_chain.specs.LinkShape.{IndexLink}
 use Rattle.triple_arena_chain.specs.LinkLaws.{chained-with_value_in}
 use Rattle.triple_arena_chain.specs.Links.{with_link_of, with_value_in, IsChained}
 

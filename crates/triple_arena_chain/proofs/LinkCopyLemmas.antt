@@ -12,15 +12,15 @@ use Rattle.triple_arena.specs.Copy.{copied, IsUnmadeCopy}
 use Rattle.triple_arena.specs.CopyLaws.{entry-copied, live_entries-rise}
 use Rattle.triple_arena.specs.Entries.{look_up}
 use Rattle.triple_arena.specs.LiveEntries.{live_entries, entry-listed}
-use Rattle.triple_arena_chain.specs.declared.link.IndexLink.{IndexLink}
-use Rattle.triple_arena_chain.specs.Chains.{Ends}
-use Rattle.triple_arena_chain.specs.LinkCopies.{IsLinkedCopy}
+use Rattle.triple_arena_chain.specs.LinkShape.{IndexLink}
+use Rattle.triple_arena_chain.specs.Chains.{Ends, IsAgreed}
+use Rattle.triple_arena_chain.specs.ChainLaws.{IsAgreed-same}
+use Rattle.triple_arena_chain.specs.LinkCopies.{IsLinkedCopy, listed_ends}
 use Rattle.triple_arena_chain.specs.ListLaws.{chain_where}
 use Rattle.triple_arena_chain.specs.Links.{valued, values_in, entry_ends, ends_in, IsChained}
 use Rattle.triple_arena_chain.specs.Lists.{Chain, IsChainOf}
 use Rattle.triple_arena_chain.specs.Listed.{listed_value}
 use Rattle.triple_arena_chain.specs.Values.{room_in}
-use Rattle.triple_arena_chain.proofs.SameLinksLemmas.{chained-same_ends}
 
 module _ {I T : Type 0} where
   -- the value of a link is listed where the link is
@@ -61,20 +61,20 @@ module _ {I T : Type 0} (number : I → ℕ) where
       ap (λ e. ends_in number e k) is
       ∙ ap (option_map (entry_ends number)) (entry-copied c counter (live_entries source) (live_entries-rise source) k ∙ sym (entry-listed source k))
 
-module _ {I U T : Type 0} (number : I → ℕ) where
+module _ {I T : Type 0} (number : I → ℕ) where
   -- whatever a copy answered, the interlinks agree
-  pub chained_after : (source : Content (IndexLink I U)) (old new : Content (IndexLink I T)) (emptied : Content (IndexLink I T) → Content (IndexLink I T)) (takes_memory : Bool)
-      (last_generation : Option ℕ) (last : ℕ) (refused : Type 0) (r : Result (Unit {0}) ReallocationError) → IsChained number source
-      → IsChained number old → IsWellFormed new → OnOk r ((k : ℕ) → ends_in number new k ≡ ends_in number source k)
+  pub chained_after : (source : ℕ → Option Ends) (old new : Content (IndexLink I T)) (emptied : Content (IndexLink I T) → Content (IndexLink I T)) (takes_memory : Bool)
+      (last_generation : Option ℕ) (last : ℕ) (refused : Type 0) (r : Result (Unit {0}) ReallocationError) → IsAgreed source
+      → IsChained number old → IsWellFormed new → OnOk r ((k : ℕ) → ends_in number new k ≡ source k)
       → (IsErrOf r BeyondMaxCapacity → new ≡ old)
       → (IsErrOf r AllocError
       → IsUnmadeCopy entry_at live_count some_counter room_in takes_memory last_generation last emptied refused old new)
       → IsChained number new
-  chained_after source old new emptied takes_memory last_generation last refused (Ok _) chained before formed same kept unmade =
-      chained-same_ends number number source new chained formed same
-  chained_after source old new emptied takes_memory last_generation last refused (Err BeyondMaxCapacity) chained before formed same kept unmade =
+  chained_after source old new emptied takes_memory last_generation last refused (Ok _) agreed before formed same kept unmade =
+      record { formed = formed; agreed = IsAgreed-same source (ends_in number new) same agreed }
+  chained_after source old new emptied takes_memory last_generation last refused (Err BeyondMaxCapacity) agreed before formed same kept unmade =
       subst (IsChained number) (sym (kept refl)) before
-  chained_after source old new emptied takes_memory last_generation last refused (Err AllocError) chained before formed same kept unmade =
+  chained_after source old new emptied takes_memory last_generation last refused (Err AllocError) agreed before formed same kept unmade =
       elim (unmade refl) [
         | inl memory ↦ subst (IsChained number) (sym memory.2) before
         | inr left ↦ chained-none number new formed left.1.entries
@@ -89,16 +89,16 @@ on_ok (Err _) gives x = x
 pub chains_where : (e f : ℕ → Option Ends) → ((k : ℕ) → f k ≡ e k) → (chain : Chain) → IsChainOf e chain → IsChainOf f chain
 chains_where e f same chain is = chain_where e f chain (λ k on. same k) is
 
-module _ {I U T : Type 0} (number : I → ℕ) where
+module _ {I L T : Type 0} (number : I → ℕ) (neighbors : L → Option I × Option I) where
   -- links that are listed with the interlinks of others have them at each index
-  pub ends_linked : (source : Content (IndexLink I U)) (new : Content (IndexLink I T)) → IsLinkedCopy (live_entries source) (live_entries new) → (k : ℕ)
-      → ends_in number new k ≡ ends_in number source k
-  ends_linked source new same k =
-      ap (option_map (entry_ends number)) (entry-listed new k) ∙ by_lists (live_entries source) (live_entries new) same
-      ∙ sym (ap (option_map (entry_ends number)) (entry-listed source k))
+  pub ends_linked : (links : List (ℕ × (ℕ × L))) (new : Content (IndexLink I T))
+      → IsLinkedCopy neighbors links (live_entries new) → (k : ℕ)
+      → ends_in number new k ≡ listed_ends neighbors number links k
+  ends_linked links new same k =
+      ap (option_map (entry_ends number)) (entry-listed new k) ∙ by_lists links (live_entries new) same
     where
-      by_lists : (xs : List (ℕ × (ℕ × IndexLink I U))) (ys : List (ℕ × (ℕ × IndexLink I T))) → IsLinkedCopy xs ys
-          → option_map (entry_ends number) (look_up ys k) ≡ option_map (entry_ends number) (look_up xs k)
+      by_lists : (xs : List (ℕ × (ℕ × L))) (ys : List (ℕ × (ℕ × IndexLink I T))) → IsLinkedCopy neighbors xs ys
+          → option_map (entry_ends number) (look_up ys k) ≡ listed_ends neighbors number xs k
       by_lists [] [] zip = refl
       by_lists [] (y ∷ ys) zip = absurd zip
       by_lists (x ∷ xs) [] zip = absurd zip

@@ -2,7 +2,7 @@
 use Rattle.std.proofs.Common.{◌≡◌, ℕ, suc, ◌+◌, List, [], ◌∷◌, map, get_or, Option, Some, None, option_map, refl, ap, ◌∙◌}
 use Rattle.triple_arena.specs.Content.{Content}
 use Rattle.triple_arena.specs.LiveEntries.{listed_from}
-use Rattle.triple_arena_chain.specs.declared.link.IndexLink.{IndexLink}
+use Rattle.triple_arena_chain.specs.LinkShape.{IndexLink}
 use Rattle.triple_arena_chain.specs.Links.{valued, values_in}
 use Rattle.triple_arena_chain.specs.Listed.{listed_value, listed_values}
 

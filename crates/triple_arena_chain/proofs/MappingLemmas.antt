@@ -1,11 +1,11 @@
 -- What the calls of a map of links say of the values, and of the interlinks.
-use Rattle.std.proofs.Common.{◌≡◌, ℕ, List, [], ◌∷◌, ◌++◌, map, refl, ap, subst, ◌∙◌}
+use Rattle.std.proofs.Common.{◌≡◌, Option, ℕ, List, [], ◌∷◌, ◌++◌, map, refl, ap, subst, ◌∙◌}
 use Rattle.std.specs.Prelude.{Result, Ok, Err}
 use Rattle.std.specs.Borrow.{Bor}
 use Rattle.std.specs.List.{FoldsTo}
 use Rattle.triple_arena.specs.Compression.{Move, entry_before, entry_after, listed_under, IsMapped}
 use Rattle.triple_arena.specs.Copy.{Call, Calls, IsMappedCopy, IsRefusedCopy}
-use Rattle.triple_arena_chain.specs.declared.link.IndexLink.{IndexLink}
+use Rattle.triple_arena_chain.specs.LinkShape.{IndexLink}
 use Rattle.triple_arena_chain.specs.LinkCopies.{IsLinkedCopy}
 use Rattle.triple_arena_chain.specs.Links.{prev_next_of}
 use Rattle.triple_arena_chain.specs.Listed.{listed_value}
@@ -46,41 +46,41 @@ module _ {P I T F G : Type 0} {index generation : P → ℕ} {step : F → P →
       by_moves [] h calls = ap state calls
       by_moves (x ∷ moves) h calls = (state calls.0, one h x.from x.value x.to x.given calls.0 calls.1, by_moves moves calls.0 calls.2)
 
-module _ {P I U T : Type 0} where
+module _ {P I L T : Type 0} where
   -- a call of a copy's map of links as a call of a map to their values
-  abbrev valued_call : Call P (IndexLink I U) (IndexLink I T) → Call P (IndexLink I U) T
+  abbrev valued_call : Call P L (IndexLink I T) → Call P L T
   valued_call call = record { pointer = call.pointer; lent = call.lent; given = call.given.t }
 
-module _ {P I U A : Type 0} (index generation : P → ℕ) where
-  abbrev seen : Call P (IndexLink I U) A → ℕ × (ℕ × IndexLink I U)
+module _ {P L A : Type 0} (index generation : P → ℕ) where
+  abbrev seen : Call P L A → ℕ × (ℕ × L)
   seen call = listed_under index generation call.pointer call.lent.now
 
-  abbrev made : Call P (IndexLink I U) A → ℕ × (ℕ × A)
+  abbrev made : Call P L A → ℕ × (ℕ × A)
   made call = listed_under index generation call.pointer call.given
 
-module _ {P I U T : Type 0} (index generation : P → ℕ) where
-  seens : (calls : List (Call P (IndexLink I U) (IndexLink I T))) → map (seen index generation) (map valued_call calls) ≡ map (seen index generation) calls
+module _ {P I L T : Type 0} (index generation : P → ℕ) where
+  seens : (calls : List (Call P L (IndexLink I T))) → map (seen index generation) (map valued_call calls) ≡ map (seen index generation) calls
   seens [] = refl
   seens (x ∷ calls) = ap (λ l. seen index generation x ∷ l) (seens calls)
 
-  mades : (calls : List (Call P (IndexLink I U) (IndexLink I T)))
+  mades : (calls : List (Call P L (IndexLink I T)))
       → map (made index generation) (map valued_call calls) ≡ map listed_value (map (made index generation) calls)
   mades [] = refl
   mades (x ∷ calls) = ap (λ l. listed_value (made index generation x) ∷ l) (mades calls)
 
-module _ {P I U T E F G : Type 0} (step : F → P → Bor (IndexLink I U) → Result T E → F → Type 0)
-    (linked : G → P → Bor (IndexLink I U) → Result (IndexLink I T) E → G → Type 0) (state : G → F) where
-  valued_calls : ((h : G) (p : P) (u : Bor (IndexLink I U)) (l : IndexLink I T) (k : G) → linked h p u (Ok l) k → step (state h) p u (Ok l.t) (state k))
-      → (calls : List (Call P (IndexLink I U) (IndexLink I T))) (h last : G) → Calls linked h calls last → Calls step (state h) (map valued_call calls) (state last)
+module _ {P I L T E F G : Type 0} (step : F → P → Bor L → Result T E → F → Type 0)
+    (linked : G → P → Bor L → Result (IndexLink I T) E → G → Type 0) (state : G → F) where
+  valued_calls : ((h : G) (p : P) (u : Bor L) (l : IndexLink I T) (k : G) → linked h p u (Ok l) k → step (state h) p u (Ok l.t) (state k))
+      → (calls : List (Call P L (IndexLink I T))) (h last : G) → Calls linked h calls last → Calls step (state h) (map valued_call calls) (state last)
   valued_calls one [] h last calls = ap state calls
   valued_calls one (x ∷ rest) h last calls =
       (state calls.0, one h x.pointer x.lent x.given calls.0 calls.1, valued_calls one rest calls.0 last calls.2)
 
-module _ {P I U T E F G : Type 0} {index generation : P → ℕ} {step : F → P → Bor (IndexLink I U) → Result T E → F → Type 0}
-    {linked : G → P → Bor (IndexLink I U) → Result (IndexLink I T) E → G → Type 0} (state : G → F) where
+module _ {P I L T E F G : Type 0} {index generation : P → ℕ} {step : F → P → Bor L → Result T E → F → Type 0}
+    {linked : G → P → Bor L → Result (IndexLink I T) E → G → Type 0} (state : G → F) where
   -- the values are those that a copy's map gave
-  pub values_mapped : {g : G} {old : List (ℕ × (ℕ × IndexLink I U))} {new : List (ℕ × (ℕ × IndexLink I T))}
-      → ((h : G) (p : P) (u : Bor (IndexLink I U)) (l : IndexLink I T) (k : G) → linked h p u (Ok l) k → step (state h) p u (Ok l.t) (state k))
+  pub values_mapped : {g : G} {old : List (ℕ × (ℕ × L))} {new : List (ℕ × (ℕ × IndexLink I T))}
+      → ((h : G) (p : P) (u : Bor L) (l : IndexLink I T) (k : G) → linked h p u (Ok l) k → step (state h) p u (Ok l.t) (state k))
       → IsMappedCopy index generation linked g old new → IsMappedCopy index generation step (state g) old (map listed_value new)
   values_mapped {g} one m =
       record {
@@ -92,9 +92,9 @@ module _ {P I U T E F G : Type 0} {index generation : P → ℕ} {step : F → P
       }
 
   -- and where it refused, the map refused
-  pub values_refused : {g : G} {old : List (ℕ × (ℕ × IndexLink I U))}
-      → ((h : G) (p : P) (u : Bor (IndexLink I U)) (l : IndexLink I T) (k : G) → linked h p u (Ok l) k → step (state h) p u (Ok l.t) (state k))
-      → ((h : G) (p : P) (u : Bor (IndexLink I U)) (e : E) (k : G) → linked h p u (Err e) k → step (state h) p u (Err e) (state k))
+  pub values_refused : {g : G} {old : List (ℕ × (ℕ × L))}
+      → ((h : G) (p : P) (u : Bor L) (l : IndexLink I T) (k : G) → linked h p u (Ok l) k → step (state h) p u (Ok l.t) (state k))
+      → ((h : G) (p : P) (u : Bor L) (e : E) (k : G) → linked h p u (Err e) k → step (state h) p u (Err e) (state k))
       → IsRefusedCopy index generation linked g old → IsRefusedCopy index generation step (state g) old
   values_refused {g} one refuses r =
       record {
@@ -110,15 +110,15 @@ module _ {P I U T E F G : Type 0} {index generation : P → ℕ} {step : F → P
         before = ap (λ l. l ++ listed_under index generation r.pointer r.lent.now ∷ r.rest) (seens index generation r.calls) ∙ r.before;
       }
 
-module _ {P I U T E G : Type 0} {index generation : P → ℕ} {linked : G → P → Bor (IndexLink I U) → Result (IndexLink I T) E → G → Type 0} where
+module _ {P I L T E G : Type 0} {index generation : P → ℕ} {linked : G → P → Bor L → Result (IndexLink I T) E → G → Type 0} where
   -- the interlinks are those of the links that were lent
-  pub links_copied : {g : G} {old : List (ℕ × (ℕ × IndexLink I U))} {new : List (ℕ × (ℕ × IndexLink I T))}
-      → ((h : G) (p : P) (u : Bor (IndexLink I U)) (l : IndexLink I T) (k : G) → linked h p u (Ok l) k → prev_next_of l ≡ prev_next_of u.now)
-      → IsMappedCopy index generation linked g old new → IsLinkedCopy old new
-  links_copied {g} {old} {new} one m =
-      subst (λ l. IsLinkedCopy l new) m.before (subst (IsLinkedCopy (map (seen index generation) m.calls)) m.after (by_calls m.calls g m.made))
+  pub links_copied : (neighbors : L → Option I × Option I) {g : G} {old : List (ℕ × (ℕ × L))} {new : List (ℕ × (ℕ × IndexLink I T))}
+      → ((h : G) (p : P) (u : Bor L) (l : IndexLink I T) (k : G) → linked h p u (Ok l) k → prev_next_of l ≡ neighbors u.now)
+      → IsMappedCopy index generation linked g old new → IsLinkedCopy neighbors old new
+  links_copied neighbors {g} {old} {new} one m =
+      subst (λ l. IsLinkedCopy neighbors l new) m.before (subst (IsLinkedCopy neighbors (map (seen index generation) m.calls)) m.after (by_calls m.calls g m.made))
     where
-      by_calls : (calls : List (Call P (IndexLink I U) (IndexLink I T))) (h : G) → Calls linked h calls m.last
-          → IsLinkedCopy (map (seen index generation) calls) (map (made index generation) calls)
+      by_calls : (calls : List (Call P L (IndexLink I T))) (h : G) → Calls linked h calls m.last
+          → IsLinkedCopy neighbors (map (seen index generation) calls) (map (made index generation) calls)
       by_calls [] h calls = tt
       by_calls (x ∷ rest) h calls = ((refl, one h x.pointer x.lent x.given calls.0 calls.1), by_calls rest calls.0 calls.2)

@@ -12,7 +12,7 @@ use Rattle.triple_arena.specs.Compression.{entry_of_listed}
 use Rattle.triple_arena.specs.Content.{Content, entry_at, live_count, some_counter}
 use Rattle.triple_arena.specs.Entries.{look_up}
 use Rattle.triple_arena.specs.Transfer.{entry_before, entry_after, wrapped, steps_wrap, IsTransferred, IsFilled}
-use Rattle.triple_arena_chain.specs.declared.link.IndexLink.{IndexLink}
+use Rattle.triple_arena_chain.specs.LinkShape.{IndexLink}
 use Rattle.triple_arena_chain.specs.Chains.{Ends, next_in, prev_in, next_at, prev_at, IsAgreed, On}
 use Rattle.triple_arena_chain.specs.AllChainsLaws.{all_live}
 use Rattle.triple_arena_chain.specs.ChainLaws.{off_or_on}

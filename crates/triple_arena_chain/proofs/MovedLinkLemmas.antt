@@ -17,7 +17,7 @@ use Rattle.triple_arena.specs.Entries.{with_entry}
 use Rattle.triple_arena.specs.InsertionLaws.{entry-inserted, live-inserted, counter-inserted, room-inserted, formed-inserted}
 use Rattle.triple_arena.specs.LiveEntries.{listed_from}
 use Rattle.triple_arena.specs.Transfer.{Transfer, entry_before, entry_after, wrapped, steps_wrap}
-use Rattle.triple_arena_chain.specs.declared.link.IndexLink.{IndexLink}
+use Rattle.triple_arena_chain.specs.LinkShape.{IndexLink}
 use Rattle.triple_arena_chain.specs.Chains.{Ends, Off, On, reprev, with_prev}
 use Rattle.triple_arena_chain.specs.ChainLaws.{Off-front, Off-back}
 use Rattle.triple_arena_chain.specs.IterChains.{link_and, links_along}

@@ -11,7 +11,7 @@ use Rattle.triple_arena.specs.RemovalLaws.{live-vacated}
 use Rattle.triple_arena.specs.LiveEntries.{listed_from}
 use Rattle.triple_arena.specs.Walk.{Walk, IsAhead, IsFirstLive}
 use Rattle.triple_arena.specs.Content.{AllVacant, Content, entry_at, live_count, some_counter, arena_capacity, inserted, IsWellFormed}
-use Rattle.triple_arena_chain.specs.declared.link.IndexLink.{IndexLink}
+use Rattle.triple_arena_chain.specs.LinkShape.{IndexLink}
 use Rattle.triple_arena_chain.specs.Chains.{Ends, next_in, prev_in, next_at, prev_at, IsAgreed, first_or, last_or, Off, On, Apart, reprev, with_prev}
 use Rattle.triple_arena_chain.specs.ChainLaws.{off_or_on, last_or-append}
 use Rattle.triple_arena_chain.specs.ListLaws.{On-back, On-split, Apart-split, Apart-append, on_differs, off_or_not, of_live, holds_next}

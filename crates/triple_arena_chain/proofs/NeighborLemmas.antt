@@ -1,7 +1,7 @@
 -- The pointers to the neighbors of a link.
 use Rattle.std.proofs.Common.{◌≡◌, ℕ, Option, Some, None, IsSome, IfSome, is_some, option_map, true≢false, refl, sym, ap, ◌∙◌}
 use Rattle.triple_arena.specs.Content.{Content, entry_at, get}
-use Rattle.triple_arena_chain.specs.declared.link.IndexLink.{IndexLink}
+use Rattle.triple_arena_chain.specs.LinkShape.{IndexLink}
 use Rattle.triple_arena_chain.specs.Chains.{Ends, prev_in, next_in}
 use Rattle.triple_arena_chain.specs.Links.{link_ends, ends_in, ends_found, IsChained}
 use Rattle.triple_arena_chain.specs.Values.{ptr_to}

@@ -6,7 +6,7 @@ use Rattle.std.proofs.lemmas.Bool.Decides.{eqb_tells, leb_tells}
 use Rattle.triple_arena.specs.Content.{Content, entry_at, IsWellFormed}
 use Rattle.triple_arena.specs.Entries.{generation_at}
 use Rattle.triple_arena.specs.Walk.{Walk, IsAhead, IsFirstLive, past}
-use Rattle.triple_arena_chain.specs.declared.link.IndexLink.{IndexLink}
+use Rattle.triple_arena_chain.specs.LinkShape.{IndexLink}
 use Rattle.triple_arena_chain.specs.Chains.{Ends, next_in, prev_in, next_at, prev_at, renext, reprev, IsAgreed}
 use Rattle.triple_arena_chain.specs.LinkLaws.{ends-with_prev_of, ends-with_next_of, values-with_prev_of, values-with_next_of, kept-with_prev_of, kept-with_next_of, kept_on, formed-with_prev_of, formed-with_next_of}
 use Rattle.triple_arena_chain.specs.Links.{valued, values_in, entry_ends, ends_in, with_next_of, with_prev_of, IsKept, IsRelinked}

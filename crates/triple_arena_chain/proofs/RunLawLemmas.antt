@@ -5,7 +5,7 @@ use Rattle.std.specs.List.{range_with_len}
 use Rattle.std.specs.Option.{option_map}
 use Rattle.triple_arena.specs.Compression.{renewed}
 use Rattle.triple_arena.specs.Content.{Content, live_count}
-use Rattle.triple_arena_chain.specs.declared.link.IndexLink.{IndexLink}
+use Rattle.triple_arena_chain.specs.LinkShape.{IndexLink}
 use Rattle.triple_arena_chain.specs.CanonicalLayout.{IsLaidOut, IsCanonical}
 use Rattle.triple_arena_chain.specs.Chains.{Ends, On, IsLinear}
 use Rattle.triple_arena_chain.specs.ChainLaws.{On-cons}

@@ -4,7 +4,7 @@ use Rattle.std.proofs.Common.{◌≡◌, ℕ, List, Option, Some, None, Result, 
 use Rattle.triple_arena.specs.Changes.{IsInvalidated}
 use Rattle.triple_arena.specs.Content.{Content, entry_at, live_count, some_counter, with_limit, IsWellFormed}
 use Rattle.triple_arena.specs.Recasting.{content_recasted}
-use Rattle.triple_arena_chain.specs.declared.link.IndexLink.{IndexLink}
+use Rattle.triple_arena_chain.specs.LinkShape.{IndexLink}
 use Rattle.triple_arena_chain.specs.LinkRecasting.{link_items, link_recasted}
 use Rattle.triple_arena_chain.specs.Links.{ends_in, IsChained}
 use Rattle.triple_arena_chain.specs.ChainLaws.{IsAgreed-same}

@@ -4,7 +4,7 @@ use Rattle.std.proofs.lemmas.Bool.Decides.{eqb_tells}
 use Rattle.triple_arena.specs.Entries.{with_values_exchanged, revalued}
 use Rattle.triple_arena.specs.Content.{Content, entry_at, with_exchange, IsWellFormed}
 use Rattle.triple_arena.specs.ExchangeLaws.{live-with_exchange, slots-with_exchange, counter-with_exchange, free-with_exchange, room-with_exchange, formed-with_exchange}
-use Rattle.triple_arena_chain.specs.declared.link.IndexLink.{IndexLink}
+use Rattle.triple_arena_chain.specs.LinkShape.{IndexLink}
 use Rattle.triple_arena_chain.specs.Chains.{Ends, with_next_if, with_prev_if, next_at, next_in, prev_in, IsAgreed}
 use Rattle.triple_arena_chain.specs.ListLaws.{live_next_in, live_prev_in}
 use Rattle.triple_arena_chain.specs.ChainLaws.{IsAgreed-same}

@@ -4,7 +4,7 @@ use Rattle.std.specs.List.{range_with_len}
 use Rattle.std.specs.Option.{option_map}
 use Rattle.triple_arena.specs.Compression.{renewed}
 use Rattle.triple_arena.specs.Content.{Content, live_count}
-use Rattle.triple_arena_chain.specs.declared.link.IndexLink.{IndexLink}
+use Rattle.triple_arena_chain.specs.LinkShape.{IndexLink}
 use Rattle.triple_arena_chain.specs.Chains.{Ends, next_at, prev_at, IsRing}
 use Rattle.triple_arena_chain.specs.Links.{ends_in, values_in, IsKept, IsChained}
 use Rattle.triple_arena_chain.specs.Lists.{Chain, members, all_members, IsChainOf, IsWritten, AreChains}

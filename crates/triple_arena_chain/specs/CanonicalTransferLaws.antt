@@ -2,7 +2,7 @@
 use Rattle.std.proofs.Common.{◌≡◌, ℕ, List, [], ◌∷◌, ◌++◌, map, Option, Some, None, IsSome, refl, sym, ap, subst, ◌∙◌, arith, inl, inr, append-nil}
 use Rattle.std.specs.List.{range_with_len}
 use Rattle.triple_arena.specs.Content.{Content, live_count}
-use Rattle.triple_arena_chain.specs.declared.link.IndexLink.{IndexLink}
+use Rattle.triple_arena_chain.specs.LinkShape.{IndexLink}
 use Rattle.triple_arena_chain.specs.Chains.{Ends, last_or, On, Apart, IsLinear, IsRing}
 use Rattle.triple_arena_chain.specs.ChainLaws.{Apart-both}
 use Rattle.triple_arena_chain.specs.AllChainsLaws.{all_live}

@@ -9,7 +9,7 @@ use Rattle.triple_arena_ptr.specs.InvalidationOption.{value_of, overflowed}
 use Rattle.triple_arena_ptr.specs.declared.invalidation.InvalidationOption.{InvalidationOption}
 use Rattle.triple_arena.specs.Content.{Content, entry_at, live_count, removed}
 use Rattle.triple_arena.specs.Entries.{without}
-use Rattle.triple_arena_chain.specs.declared.link.IndexLink.{IndexLink}
+use Rattle.triple_arena_chain.specs.LinkShape.{IndexLink}
 use Rattle.triple_arena_chain.specs.Chains.{Ends, Off, On, dropped}
 use Rattle.triple_arena_chain.specs.Links.{ends_in, values_in, IsTakenOut}
 use Rattle.triple_arena_chain.specs.Lists.{Chain, members, IsChainOf}
@@ -85,55 +85,55 @@ module _ {P I T : Type 0} (index : P → ℕ) where
   abbrev pub indexes_of : List (InvalidationOption (P × IndexLink I T)) → List ℕ
   indexes_of items = map (λ (item : InvalidationOption (P × IndexLink I T)). index (value_of item).0) items
 
-module _ {P T S Inx Gen Alloc : Type 0} where
+module _ {P T S Inx Gen Word Alloc : Type 0} where
   -- the links as the drain has them
-  abbrev pub drain_chains : ChainDrain P T S Inx Gen Alloc → Content (IndexLink Inx T)
+  abbrev pub drain_chains : ChainDrain P T S Inx Gen Word Alloc → Content (IndexLink Inx T)
   drain_chains d = d.chains.now
 
   -- the ghost name of the reference to the links
-  abbrev pub drain_lender : ChainDrain P T S Inx Gen Alloc → GName
+  abbrev pub drain_lender : ChainDrain P T S Inx Gen Word Alloc → GName
   drain_lender d = d.chains.ghost_name
 
   module _ (number : Inx → ℕ) where
     -- the index that goes next
-    abbrev pub drain_at : ChainDrain P T S Inx Gen Alloc → Option ℕ
+    abbrev pub drain_at : ChainDrain P T S Inx Gen Word Alloc → Option ℕ
     drain_at d = option_map number d.at
 
     -- these indexes are still to come
-    abbrev pub IsLeft : ChainDrain P T S Inx Gen Alloc → List ℕ → Type 0
+    abbrev pub IsLeft : ChainDrain P T S Inx Gen Word Alloc → List ℕ → Type 0
     IsLeft d walk = IsWalk (ends_in number (drain_chains d)) (drain_at d) walk
 
     -- what is still to come is a walk
-    abbrev pub DrainCanStep : ChainDrain P T S Inx Gen Alloc → Type 0
+    abbrev pub DrainCanStep : ChainDrain P T S Inx Gen Word Alloc → Type 0
     DrainCanStep d = (walk : List ℕ) × IsLeft d walk
 
     module _ (last : Option ℕ) where
       -- what the drain leaves once it is dropped: the links that are still to come are gone
-      abbrev pub DrainLeaves : ChainDrain P T S Inx Gen Alloc → Content (IndexLink Inx T) → Type 0
+      abbrev pub DrainLeaves : ChainDrain P T S Inx Gen Word Alloc → Content (IndexLink Inx T) → Type 0
       DrainLeaves d left = IsRestDrained number last (drain_at d) (drain_chains d) left
 
       -- both borrow the same arena, and what the later one leaves the earlier one leaves
-      abbrev pub DrainKeeps : ChainDrain P T S Inx Gen Alloc → ChainDrain P T S Inx Gen Alloc → Type 0
+      abbrev pub DrainKeeps : ChainDrain P T S Inx Gen Word Alloc → ChainDrain P T S Inx Gen Word Alloc → Type 0
       DrainKeeps old new = (drain_lender new ≡ drain_lender old)
           × ((left : Content (IndexLink Inx T)) → DrainLeaves new left → DrainLeaves old left)
 
       module _ (index generation : P → ℕ) where
         -- the first removal of those that are still to come, or nothing where there is none
-        abbrev pub DrainGives : ChainDrain P T S Inx Gen Alloc → Option (InvalidationOption (P × IndexLink Inx T)) → ChainDrain P T S Inx Gen Alloc → Type 0
+        abbrev pub DrainGives : ChainDrain P T S Inx Gen Word Alloc → Option (InvalidationOption (P × IndexLink Inx T)) → ChainDrain P T S Inx Gen Word Alloc → Type 0
         DrainGives old None new = (drain_at old ≡ None) × (drain_chains new ≡ drain_chains old)
         DrainGives old (Some item) new = (i : ℕ) × (drain_at old ≡ Some i)
             × IsStep number last index generation i item (drain_at new) (drain_chains old) (drain_chains new)
 
-        abbrev pub DrainSteps : ChainDrain P T S Inx Gen Alloc → Option (InvalidationOption (P × IndexLink Inx T)) → ChainDrain P T S Inx Gen Alloc → Type 0
+        abbrev pub DrainSteps : ChainDrain P T S Inx Gen Word Alloc → Option (InvalidationOption (P × IndexLink Inx T)) → ChainDrain P T S Inx Gen Word Alloc → Type 0
         DrainSteps old item new = DrainGives old item new × DrainKeeps old new × DrainCanStep new
 
         -- each state that steps lead to keeps what the first one keeps
-        abbrev pub DrainKeepsAlong : ChainDrain P T S Inx Gen Alloc → Type 0
-        DrainKeepsAlong first = (items : List (InvalidationOption (P × IndexLink Inx T))) (later : ChainDrain P T S Inx Gen Alloc)
+        abbrev pub DrainKeepsAlong : ChainDrain P T S Inx Gen Word Alloc → Type 0
+        DrainKeepsAlong first = (items : List (InvalidationOption (P × IndexLink Inx T))) (later : ChainDrain P T S Inx Gen Word Alloc)
             → Yields DrainSteps first items later → DrainKeeps first later
 
         -- the items are the walk in order: what is left at each state that steps lead to follows them
-        abbrev pub DrainGoesAlong : ChainDrain P T S Inx Gen Alloc → Type 0
-        DrainGoesAlong first = (items : List (InvalidationOption (P × IndexLink Inx T))) (later : ChainDrain P T S Inx Gen Alloc)
+        abbrev pub DrainGoesAlong : ChainDrain P T S Inx Gen Word Alloc → Type 0
+        DrainGoesAlong first = (items : List (InvalidationOption (P × IndexLink Inx T))) (later : ChainDrain P T S Inx Gen Word Alloc)
             → Yields DrainSteps first items later → (walk : List ℕ) → IsLeft first walk
             → (rest : List ℕ) × (walk ≡ indexes_of index items ++ rest) × IsLeft later rest

@@ -5,7 +5,7 @@ use Rattle.triple_arena.specs.DrainLaws.{drained-same}
 use Rattle.triple_arena.specs.Drains.{drained, LeavesGivenUp}
 use Rattle.triple_arena.specs.Transfer.{IsGivenUp}
 use Rattle.triple_arena.specs.TransferLaws.{entry-drained}
-use Rattle.triple_arena_chain.specs.declared.link.IndexLink.{IndexLink}
+use Rattle.triple_arena_chain.specs.LinkShape.{IndexLink}
 use Rattle.triple_arena_chain.specs.Links.{valued, values_in}
 use Rattle.triple_arena_chain.specs.Values.{room_in}
 

@@ -6,7 +6,7 @@ use Rattle.triple_arena_ptr.specs.declared.errors.ChainInsertionError.TheVariant
 use Rattle.triple_arena_stack.specs.Room.{Room, capacity}
 use Rattle.triple_arena.specs.Content.{Content, live_count, arena_capacity, next_index}
 use Rattle.triple_arena_chain.specs.declared.chain_arena.entry.ChainArenaInsertEntry.{ChainArenaInsertEntry}
-use Rattle.triple_arena_chain.specs.declared.link.IndexLink.{IndexLink}
+use Rattle.triple_arena_chain.specs.LinkShape.{IndexLink}
 use Rattle.triple_arena_chain.specs.declared.place.Place.{Place}
 use Rattle.triple_arena_chain.specs.Chains.{IsPlace}
 use Rattle.triple_arena_chain.specs.Kinds.{place_by}
@@ -27,21 +27,21 @@ pub record IsLinkRefusal {A : Type 0} (asked : Option (Place ℕ)) (takes_memory
   pub memory : IsErrOf result AllocError → IsSome asked × IsTrue takes_memory
   pub grows : IsErrOf result NotWithinCapacity → ⊥
 
-module _ {P T S Inx Gen Alloc : Type 0} where
+module _ {P T S Inx Gen Word Alloc : Type 0} where
   -- the links as the entry holds them
-  abbrev pub entry_chains : ChainArenaInsertEntry P T S Inx Gen Alloc → Content (IndexLink Inx T)
+  abbrev pub entry_chains : ChainArenaInsertEntry P T S Inx Gen Word Alloc → Content (IndexLink Inx T)
   entry_chains e = e.chains.now
 
   -- the ghost name of the reference to the links
-  abbrev pub entry_lender : ChainArenaInsertEntry P T S Inx Gen Alloc → GName
+  abbrev pub entry_lender : ChainArenaInsertEntry P T S Inx Gen Word Alloc → GName
   entry_lender e = e.chains.ghost_name
 
   -- the place that the link gets
-  abbrev pub entry_place : (Inx → ℕ) → ChainArenaInsertEntry P T S Inx Gen Alloc → Place ℕ
+  abbrev pub entry_place : (Inx → ℕ) → ChainArenaInsertEntry P T S Inx Gen Word Alloc → Place ℕ
   entry_place number e = place_by number e.place
 
   -- there is room, a link may stand at the place, and the pointer is the next one
-  pub record IsReady (number : Inx → ℕ) (index generation : P → ℕ) (e : ChainArenaInsertEntry P T S Inx Gen Alloc) : Type 0 where
+  pub record IsReady (number : Inx → ℕ) (index generation : P → ℕ) (e : ChainArenaInsertEntry P T S Inx Gen Word Alloc) : Type 0 where
     pub room : live_count (entry_chains e) < arena_capacity (entry_chains e)
     pub place : IsPlace (ends_in number (entry_chains e)) (entry_place number e)
     pub has_index : index e.ptr ≡ next_index (entry_chains e)

@@ -26,7 +26,9 @@ pub mod CanonicalTransfer
 pub mod CanonicalTransferLaws
 pub mod CanonicalLayoutLaws
 pub mod LinkCopies
+pub mod LinkCopyLaws
 pub mod LinkRecasting
 pub mod SameLinksLaws
+pub mod LinkShape
 pub mod LinkText
 pub mod EmptiedLaws

@@ -3,7 +3,10 @@ use Rattle.std.specs.Prelude.{◌≡◌, ℕ, List, Option}
 use Rattle.std.specs.List.{AllZip}
 use Rattle.triple_arena_stack.specs.Room.{Room}
 use Rattle.triple_arena.specs.Copy.{IsCopy}
-use Rattle.triple_arena_chain.specs.declared.link.IndexLink.{IndexLink}
+use Rattle.triple_arena_chain.specs.LinkShape.{IndexLink}
+use Rattle.std.specs.Option.{option_map}
+use Rattle.triple_arena.specs.Entries.{look_up}
+use Rattle.triple_arena_chain.specs.Chains.{Ends}
 use Rattle.triple_arena_chain.specs.Links.{prev_next_of}
 
 module _ {S T U : Type 0} (entry_of : S → ℕ → Option (ℕ × T)) (live_of : S → ℕ) (counter_of : S → Option ℕ) (room_of : S → Room)
@@ -13,11 +16,18 @@ module _ {S T U : Type 0} (entry_of : S → ℕ → Option (ℕ × T)) (live_of 
     pub copy : IsCopy entry_of live_of counter_of room_of source source_live last source_counter old new
     pub exact : new ≡ copied_of old source_counter (entries_of new)
 
-module _ {I U T : Type 0} where
+-- at links of any type, of which these are the indexes of the neighbors
+module _ {I L : Type 0} (neighbors : L → Option I × Option I) where
   -- two listed links with the same index and the same interlinks
-  abbrev pub HasEndsOf : ℕ × (ℕ × IndexLink I U) → ℕ × (ℕ × IndexLink I T) → Type 0
-  HasEndsOf old new = (new.0 ≡ old.0) × (prev_next_of new.1.1 ≡ prev_next_of old.1.1)
+  abbrev pub HasEndsOf : {T : Type 0} → ℕ × (ℕ × L) → ℕ × (ℕ × IndexLink I T) → Type 0
+  HasEndsOf old new = (new.0 ≡ old.0) × (prev_next_of new.1.1 ≡ neighbors old.1.1)
 
   -- each link has the index and the interlinks of the one that it is a copy of
-  abbrev pub IsLinkedCopy : List (ℕ × (ℕ × IndexLink I U)) → List (ℕ × (ℕ × IndexLink I T)) → Type 0
+  abbrev pub IsLinkedCopy : {T : Type 0} → List (ℕ × (ℕ × L)) → List (ℕ × (ℕ × IndexLink I T)) → Type 0
   IsLinkedCopy old new = AllZip HasEndsOf old new
+
+  -- the interlinks at an index, among listed links
+  abbrev pub listed_ends : (I → ℕ) → List (ℕ × (ℕ × L)) → ℕ → Option Ends
+  listed_ends number links i =
+      option_map (λ (e : ℕ × L). (option_map number (neighbors e.1).0, option_map number (neighbors e.1).1))
+      (look_up links i)

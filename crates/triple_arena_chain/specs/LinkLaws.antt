@@ -5,7 +5,7 @@ use Rattle.std.proofs.lemmas.Bool.Decides.{eqb_tells}
 use Rattle.triple_arena.specs.Entries.{with_value_at}
 use Rattle.triple_arena.specs.Content.{Content, entry_at, live_count, some_counter, IsWellFormed}
 use Rattle.triple_arena.specs.ContentLaws.{formed-with_value, entry-with_value, live-with_value, slots-with_value, counter-with_value, free-with_value, room-with_value}
-use Rattle.triple_arena_chain.specs.declared.link.IndexLink.{IndexLink}
+use Rattle.triple_arena_chain.specs.LinkShape.{IndexLink}
 use Rattle.triple_arena_chain.specs.Chains.{Ends, with_next_if, with_prev_if, renext, reprev}
 use Rattle.triple_arena_chain.specs.ChainLaws.{IsAgreed-same}
 use Rattle.triple_arena_chain.specs.Links.{valued, values_in, with_link, with_link_of, with_value_in, IsKept, IsChained, link_ends, entry_ends, ends_in, with_next_of, with_prev_of}

@@ -1,6 +1,6 @@
 -- The value of a link under a renaming of the items that it holds.
 use Rattle.std.specs.Prelude.{List}
-use Rattle.triple_arena_chain.specs.declared.link.IndexLink.{IndexLink}
+use Rattle.triple_arena_chain.specs.LinkShape.{IndexLink}
 
 module _ {N I T : Type 0} where
   -- the items of its value

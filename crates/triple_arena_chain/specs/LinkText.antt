@@ -1,7 +1,7 @@
 -- The texts of links.
 use Rattle.std.specs.Prelude.{ℕ, List, codes, Option, Some, None}
 use Rattle.std.specs.Fmt.{◌++?◌}
-use Rattle.triple_arena_chain.specs.declared.link.IndexLink.{IndexLink}
+use Rattle.triple_arena_chain.specs.LinkShape.{IndexLink}
 use Rattle.triple_arena_chain.specs.declared.ptr_link.Link.{Link}
 
 -- the text of a neighbor, or `-` where there is none
@@ -16,5 +16,6 @@ between_text prev next value = Some (codes "(") ++? prev ++? Some (codes ", ") +
 abbrev pub index_link_text : {I T : Type 0} → (I → Option (List ℕ)) → (T → Option (List ℕ)) → IndexLink I T → Option (List ℕ)
 index_link_text inx value link = between_text (neighbor_text inx link.prev) (neighbor_text inx link.next) (value link.t)
 
-abbrev pub link_text : {P T Inx Gen : Type 0} → (P → Option (List ℕ)) → (T → Option (List ℕ)) → Link P T Inx Gen → Option (List ℕ)
+abbrev pub link_text : {P T Inx Gen Word : Type 0} → (P → Option (List ℕ)) → (T → Option (List ℕ))
+    → Link P T Inx Gen Word → Option (List ℕ)
 link_text pointer value link = between_text (neighbor_text pointer link.prev) (neighbor_text pointer link.next) (value link.t)

@@ -7,7 +7,7 @@ use Rattle.triple_arena.specs.Compression.{index_of}
 use Rattle.triple_arena.specs.Content.{Content, live_count}
 use Rattle.triple_arena.specs.Entries.{look_up}
 use Rattle.triple_arena.specs.LiveEntries.{live_entries, entry-listed, live_entries-length, live_entries-increase}
-use Rattle.triple_arena_chain.specs.declared.link.IndexLink.{IndexLink}
+use Rattle.triple_arena_chain.specs.LinkShape.{IndexLink}
 use Rattle.triple_arena_chain.specs.Links.{valued, values_in}
 use Rattle.triple_arena_chain.specs.Listed.{listed_value, listed_values}
 

@@ -10,7 +10,7 @@ use Rattle.triple_arena.specs.ContentLaws.{entry-same_slots}
 use Rattle.triple_arena.specs.GenerationLaws.{entry-invalidated}
 use Rattle.triple_arena.specs.LimitLaws.{entry-with_limit}
 use Rattle.triple_arena.specs.Recasting.{slots_recasted, content_recasted}
-use Rattle.triple_arena_chain.specs.declared.link.IndexLink.{IndexLink}
+use Rattle.triple_arena_chain.specs.LinkShape.{IndexLink}
 use Rattle.triple_arena_chain.specs.LinkRecasting.{link_items, link_recasted}
 use Rattle.triple_arena_chain.specs.Links.{entry_ends, ends_in}
 

@@ -3,7 +3,7 @@ use Rattle.std.proofs.Common.{◌≡◌, ℕ, zero, suc, ◌≤◌, List, [], �
 use Rattle.triple_arena_chain.specs.Chains.{Ends}
 use Rattle.triple_arena_chain.specs.Walks.{ChainWalk, past_index, Leaves, from_index, from_where, steps_of, IsWalkAlong, ChainSteps, left_over, IsEnding}
 use Rattle.triple_arena.specs.Content.{Content, entry_at}
-use Rattle.triple_arena_chain.specs.declared.link.IndexLink.{IndexLink}
+use Rattle.triple_arena_chain.specs.LinkShape.{IndexLink}
 use Rattle.triple_arena_chain.specs.Links.{valued, values_in, entry_ends, ends_in}
 
 module _ (e : ℕ → Option Ends) where

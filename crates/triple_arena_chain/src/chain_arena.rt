@@ -11,6 +11,7 @@ mod canonical_transfer;
 mod chain_calls;
 mod compression;
 mod copy;
+pub(crate) mod copy_source;
 mod default;
 pub(crate) mod drain;
 pub(crate) mod entry;
@@ -77,7 +78,7 @@ pub type ArrayChainArena<P, T, const LIMIT: usize> = ChainArena<
 
 impl<P: PtrCore, T: Drop, S: ChainSlots<P, T>> Model for ChainArena<P, T, S> {
     ghost use Rattle.triple_arena.specs.Content.{Content};
-    ghost use Rattle.triple_arena_chain.specs.declared.link.IndexLink.{IndexLink};
+    ghost use Rattle.triple_arena_chain.specs.LinkShape.{IndexLink};
     ghost use Rattle.triple_arena_chain.specs.Links.{IsChained};
 
     ghost Value = { Content (IndexLink P.Inx T) };

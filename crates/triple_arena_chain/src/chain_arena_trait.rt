@@ -8,7 +8,7 @@ ghost use Rattle.triple_arena_stack.specs.Room.{Room, room_after};
 ghost use Rattle.triple_arena.specs.Content.{Content, get, entry_at, live_count, arena_capacity, some_counter, removed, empty, reallocated, invalidated, cleared};
 ghost use Rattle.triple_arena.specs.Entries.{value_if};
 ghost use Rattle.triple_arena_chain.specs.declared.kind.InsertKind.TheVariants.{Bridge};
-ghost use Rattle.triple_arena_chain.specs.declared.link.IndexLink.{IndexLink};
+ghost use Rattle.triple_arena_chain.specs.LinkShape.{IndexLink};
 ghost use Rattle.triple_arena_chain.specs.Chains.{next_in, prev_in, next_at, prev_at, linked, unlinked, exchanged};
 ghost use Rattle.triple_arena_chain.specs.InsertEntry.{IsLinkAnswer, IsLinkRefusal};
 ghost use Rattle.triple_arena_chain.specs.Links.{ends_in, ends_found, values_in, with_value_in, link_removed, place_among, bridged_over, IsChained, IsPlaced, IsRelinked, IsTakenOut};

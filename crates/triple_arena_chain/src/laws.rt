@@ -4,7 +4,7 @@ ghost use Rattle.triple_arena.specs.Content.{Content};
 ghost use Rattle.triple_arena_chain.specs.CanonicalLayout.{IsCanonical};
 ghost use Rattle.triple_arena_chain.specs.CanonicalTransfer.{AreInOrder};
 ghost use Rattle.triple_arena_chain.specs.declared.kind.InsertKind.TheVariants.{Bridge, NextTo, PrevTo};
-ghost use Rattle.triple_arena_chain.specs.declared.link.IndexLink.{IndexLink};
+ghost use Rattle.triple_arena_chain.specs.LinkShape.{IndexLink};
 ghost use Rattle.triple_arena_chain.specs.Chains.{Ends, next_in, next_at, linked, unlinked, exchanged, IsLinear, IsRing, On, Apart};
 ghost use Rattle.triple_arena_chain.specs.Lists.{Chain, members, IsChainOf, AreChains};
 ghost use Rattle.triple_arena_chain.specs.Runs.{IsRunFrom};

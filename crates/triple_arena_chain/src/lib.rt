@@ -79,6 +79,7 @@ pub mod chain_iterators {
     >;
 }
 
+pub use chain_arena::copy_source::{LinkCloneSource, Neighbors};
 pub use chain_arena::entry::ChainArenaInsertEntry;
 pub use chain_arena::{
     ArrayChainArena, BoxedChainArena, ChainArena, HeapChainArena, LimitedChainArena,

@@ -2,21 +2,25 @@
 ghost use Rattle.std.specs.Prelude.{◌≡◌};
 
 use triple_arena::Part;
-use triple_arena_ptr::{PtrCore, PtrInxCore};
+use triple_arena_ptr::{OptionalInx, PtrCore, PtrInxCore};
 
-/// A value with the indexes, of the type `I`, of the links before and after it.
+/// A value with the indexes of the links before and after it, each of the type `O`, an
+/// [`OptionalInx`].
 #[derive(Clone, Copy, Debug, PartialEq, Eq, PartialOrd, Ord, Hash)]
-pub struct IndexLink<I: PtrInxCore, T> {
-    pub(crate) prev: Option<I>,
-    pub(crate) next: Option<I>,
+pub struct IndexLink<O, T> {
+    pub(crate) prev: O,
+    pub(crate) next: O,
     /// The value.
     pub t: T,
 }
 
 /// A value with the indexes of the links before and after it.
-pub type LinkNoGen<P, T> = IndexLink<<P as PtrCore>::Inx, T>;
+pub type LinkNoGen<P, T> = IndexLink<
+    OptionalInx<<P as PtrCore>::Inx, <<P as PtrCore>::Inx as PtrInxCore>::Word>,
+    T,
+>;
 
-impl<I: PtrInxCore, T> IndexLink<I, T> {
+impl<I: PtrInxCore<Word = W>, W: Copy, T> IndexLink<OptionalInx<I, W>, T> {
     /// A link between the links at these two indexes, where there are any.
     pub fn new(prev_next: (Option<I>, Option<I>), t: T) -> Self
         ensures prev { result.prev ≡ prev_next.0 }
@@ -24,8 +28,8 @@ impl<I: PtrInxCore, T> IndexLink<I, T> {
         ensures value { result.t ≡ t }
     {
         IndexLink {
-            prev: prev_next.0,
-            next: prev_next.1,
+            prev: OptionalInx::of(prev_next.0),
+            next: OptionalInx::of(prev_next.1),
             t,
         }
     }
@@ -34,31 +38,31 @@ impl<I: PtrInxCore, T> IndexLink<I, T> {
     pub fn prev(&self) -> Option<I>
         ensures { result ≡ self.now.prev }
     {
-        self.prev
+        self.prev.get()
     }
 
     /// The index of the next link.
     pub fn next(&self) -> Option<I>
         ensures { result ≡ self.now.next }
     {
-        self.next
+        self.next.get()
     }
 
     /// The indexes of the previous and of the next link.
     pub fn prev_next(&self) -> (Option<I>, Option<I>)
         ensures { result ≡ (self.now.prev, self.now.next) }
     {
-        (self.prev, self.next)
+        (self.prev.get(), self.next.get())
     }
 }
 
 /// The marker of the value of a link.
 pub struct LinkValue;
 
-impl<I: PtrInxCore, T> Part<IndexLink<I, T>, T> for LinkValue {
+impl<O, T> Part<IndexLink<O, T>, T> for LinkValue {
     ghost part = { λ link. link.t };
 
-    fn part_of(link: &IndexLink<I, T>) -> &T {
+    fn part_of(link: &IndexLink<O, T>) -> &T {
         &link.t
     }
 }

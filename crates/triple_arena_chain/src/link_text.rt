@@ -5,7 +5,7 @@ ghost use Rattle.triple_arena_chain.specs.LinkText.{neighbor_text, index_link_te
 
 use crate::{IndexLink, Link};
 use std::fmt;
-use triple_arena_ptr::{Ptr, PtrInxCore};
+use triple_arena_ptr::{OptionalInx, Ptr, PtrInxCore};
 
 // An index as its digits, or `-`.
 #[derive(Drop)]
@@ -38,12 +38,13 @@ impl<P: Ptr> fmt::Display for PtrText<P> {
 }
 
 /// The indexes of the neighbors in lower-case hexadecimal digits, and the value: `(-, 2) hello`.
-impl<I: PtrInxCore, T: fmt::Display> fmt::Display for IndexLink<I, T> {
+impl<I: PtrInxCore<Word = W>, W: Copy, T: fmt::Display> fmt::Display
+    for IndexLink<OptionalInx<I, W>, T> {
     ghost output = { index_link_text (λ i. Some (hexadecimal (I.number i))) T.output };
 
-    fn fmt<W: fmt::Write>(&self, f: &mut fmt::Formatter<W>) -> fmt::Result {
-        let prev = InxText(self.prev);
-        let next = InxText(self.next);
+    fn fmt<V: fmt::Write>(&self, f: &mut fmt::Formatter<V>) -> fmt::Result {
+        let prev = InxText(self.prev());
+        let next = InxText(self.next());
         write!(f, "({prev}, {next}) {}", self.t)
     }
 }

@@ -7,10 +7,10 @@ use Rattle.std.specs.Ordering.{is_lt, ordering_reverse}
 use Rattle.std.specs.declared.cmp.Ordering.{Ordering}
 use Rattle.std.specs.declared.cmp.Ordering.TheVariants.{Less, Equal, Greater}
 use Rattle.triple_arena.specs.Content.{Content, entry_at}
-use Rattle.triple_arena_chain.specs.declared.link.IndexLink.{IndexLink}
+use Rattle.triple_arena_chain.specs.LinkShape.{IndexLink}
 use Rattle.triple_arena_chain.specs.Chains.{Ends, IsLinear, first_or, last_or}
 use Rattle.triple_arena_chain.specs.Links.{ends_in, link_ends, entry_ends, valued}
-use Rattle.triple_arena_ord.specs.declared.node.IndexNode.{IndexNode}
+use Rattle.triple_arena_ord.specs.NodeShape.{IndexNode}
 use Rattle.triple_arena_ord.specs.Node.{items_in, itemed}
 use Rattle.triple_arena_ord.specs.Ascending.{AscendsAlong}
 use Rattle.triple_arena_ord.proofs.AscendingLemmas.{first, tail, single, cons}

@@ -9,7 +9,7 @@ use Rattle.std.specs.declared.cmp.Ordering.{Ordering}
 use Rattle.std.specs.declared.cmp.Ordering.TheVariants.{Less, Equal, Greater}
 use Rattle.rank_tree.specs.Knot.{Knot}
 use Rattle.rank_tree.specs.declared.side.Side.TheVariants.{Left}
-use Rattle.triple_arena_ord.specs.declared.node.IndexNode.{IndexNode}
+use Rattle.triple_arena_ord.specs.NodeShape.{IndexNode}
 use Rattle.triple_arena_ord.specs.Node.{knot_of, itemed}
 use Rattle.rank_tree.specs.Store.{Store, rank_or_link, rank_or_zero}
 use Rattle.rank_tree.specs.Tree.{Tree, leaf, node, walk, rank_of, IsRanked}

@@ -4,15 +4,15 @@ use Rattle.std.specs.Option.{option_map}
 use Rattle.std.specs.List.{range_with_len}
 use Rattle.std.proofs.lemmas.List.FromFn.{length-range_with_len}
 use Rattle.triple_arena.specs.Compression.{renewed}
-use Rattle.triple_arena.specs.Content.{Content}
-use Rattle.triple_arena_chain.specs.declared.link.IndexLink.{IndexLink}
+use Rattle.triple_arena.specs.Content.{Content, live_count}
+use Rattle.triple_arena_chain.specs.LinkShape.{IndexLink}
 use Rattle.triple_arena_chain.specs.Chains.{Ends, first_or, last_or, On, IsLinear, IsRing}
 use Rattle.triple_arena_chain.specs.ListLaws.{On-first, linear_same, ring_or_linear, live_on}
 use Rattle.triple_arena_chain.specs.Lists.{Chain, Linear, Cyclic, all_members, AreAllChainsOf}
 use Rattle.triple_arena_chain.specs.Links.{ends_in, values_in}
 use Rattle.triple_arena_chain.specs.CanonicalLayout.{IsLaidOut, IsCanonical}
 use Rattle.rank_tree.specs.Halving.{IsHalvingOf}
-use Rattle.triple_arena_ord.specs.declared.node.IndexNode.{IndexNode}
+use Rattle.triple_arena_ord.specs.NodeShape.{IndexNode}
 use Rattle.triple_arena_ord.specs.Node.{knots_in, itemed, rest}
 use Rattle.triple_arena_ord.specs.Ordered.{Ordered, IsOrdered, size_in, tree_in, order_in}
 use Rattle.triple_arena_ord.specs.Rebuilt.{IsRebuilt}
@@ -64,10 +64,14 @@ one_run e n ys laid linear all long = by laid.chains laid.are.chains laid.runs
 module _ {I T : Type 0} (number : I → ℕ) (last : Option ℕ) (reset : Bool) (o : Ordered I T) (mid : Content (IndexLink I (IndexNode I T))) (is : IsOrdered number o)
     (c : IsCanonical number last reset o.chains mid) where
   -- the list is the run of all indexes
-  pub list_run : map c.to (order_in number o) ≡ range_with_len 1 (size_in o)
+  list_run : map c.to (order_in number o) ≡ range_with_len 1 (size_in o)
   list_run =
       one_run (ends_in number mid) (size_in o) (map c.to (order_in number o)) c.laid_out (list_linear number o mid c.to is c.renamed c.live)
       (on_list number o mid c.to is c.renamed c.live) (list_long number o mid c.to is c.renamed c.live ∙ c.live)
+
+  -- so it is the run of the live indexes
+  pub run_linear : IsLinear (ends_in number mid) (range_with_len 1 (live_count mid))
+  run_linear = subst (IsLinear (ends_in number mid)) (list_run ∙ ap (range_with_len 1) (sym c.live)) (list_linear number o mid c.to is c.renamed c.live)
 
   pub record Laid (new : Ordered I T) : Type 0 where
     pub ordered : IsOrdered number new
@@ -80,9 +84,10 @@ module _ {I T : Type 0} (number : I → ℕ) (last : Option ℕ) (reset : Bool) 
   renewed_item g (Some e) = refl
 
   -- what the rebuild leaves
-  pub laid_by : (new : Ordered I T) → rest new.chains ≡ rest mid → IsRebuilt (map c.to (order_in number o)) new.root (knots_in number new.chains) → Laid new
+  pub laid_by : (new : Ordered I T) → rest new.chains ≡ rest mid → IsRebuilt (range_with_len 1 (live_count mid)) new.root (knots_in number new.chains) → Laid new
   laid_by new keeps b =
-      let w = rewritten number o mid c.to is c.renamed c.live new keeps b in
+      let named = subst (λ l. IsRebuilt l new.root (knots_in number new.chains)) (ap (range_with_len 1) c.live ∙ sym list_run) b in
+      let w = rewritten number o mid c.to is c.renamed c.live new keeps named in
       let r = w.stays in
       record {
         ordered = w.ordered;

@@ -10,14 +10,14 @@ use Rattle.triple_arena.specs.Content.{Content, live_count, some_counter}
 use Rattle.triple_arena.specs.Transfer.{IsTransferred, IsFilled}
 use Rattle.triple_arena_chain.specs.CanonicalTransfer.{IsMovedAlong}
 use Rattle.triple_arena_chain.specs.CanonicalTransferLaws.{linear_order, linear_run, linear_moved}
-use Rattle.triple_arena_chain.specs.declared.link.IndexLink.{IndexLink}
+use Rattle.triple_arena_chain.specs.LinkShape.{IndexLink}
 use Rattle.triple_arena_chain.specs.Chains.{On, IsLinear}
 use Rattle.triple_arena_chain.specs.IterChains.{links_along}
 use Rattle.triple_arena_chain.specs.Links.{ends_in, values_in}
 use Rattle.triple_arena_chain.specs.Listed.{listed_values}
 use Rattle.triple_arena_chain.specs.Values.{room_in as chain_room}
 use Rattle.rank_tree.specs.Halving.{IsHalvingOf}
-use Rattle.triple_arena_ord.specs.declared.node.IndexNode.{IndexNode}
+use Rattle.triple_arena_ord.specs.NodeShape.{IndexNode}
 use Rattle.triple_arena_ord.specs.Indexed.{listed_item, indexed}
 use Rattle.triple_arena_ord.specs.Node.{knots_in, itemed, rest}
 use Rattle.triple_arena_ord.specs.Ordered.{Ordered, IsOrdered, entry_in, size_in, counter_in, room_in, tree_in, order_in, ordered_entries}
@@ -33,10 +33,14 @@ module _ {J I U T : Type 0} (old_number : J → ℕ) (number : I → ℕ) (o : O
     (mid : Content (IndexLink I (IndexNode I T))) (nodes : List (ℕ × (ℕ × IndexNode J U))) (m : IsMovedAlong old_number number nodes o.chains mid)
     (live : live_count mid ≡ size_in o) where
   -- the new list is the run of all indexes
-  pub run_linear : IsLinear (ends_in number mid) (range_with_len 1 (size_in o))
-  run_linear = linear_moved old_number number nodes o.chains mid (order_in old_number o) is.linear (on_order old_number o is) m
+  order_linear : IsLinear (ends_in number mid) (range_with_len 1 (size_in o))
+  order_linear = linear_moved old_number number nodes o.chains mid (order_in old_number o) is.linear (on_order old_number o is) m
 
-  pub run_long : length (range_with_len 1 (size_in o)) ≡ live_count mid
+  -- so it is the run of the live indexes
+  pub run_linear : IsLinear (ends_in number mid) (range_with_len 1 (live_count mid))
+  run_linear = subst (λ n. IsLinear (ends_in number mid) (range_with_len 1 n)) (sym live) order_linear
+
+  run_long : length (range_with_len 1 (size_in o)) ≡ live_count mid
   run_long = length-range_with_len 1 (size_in o) ∙ sym live
 
   run_whole : (k : ℕ) → IsSome (ends_in number mid k) → On (range_with_len 1 (size_in o)) k
@@ -62,9 +66,10 @@ module _ {J I U T : Type 0} (old_number : J → ℕ) (number : I → ℕ) (o : O
       pub free : new.chains.free ≡ mid.free
 
     -- what the rebuild leaves
-    pub transferred_by : (new : Ordered I T) → rest new.chains ≡ rest mid → IsRebuilt (range_with_len 1 (size_in o)) new.root (knots_in number new.chains) → Transferred new
+    pub transferred_by : (new : Ordered I T) → rest new.chains ≡ rest mid → IsRebuilt (range_with_len 1 (live_count mid)) new.root (knots_in number new.chains) → Transferred new
     transferred_by new keeps b =
-        let w = written number mid (range_with_len 1 (size_in o)) run_linear run_whole run_long new keeps b in
+        let counted = subst (λ n. IsRebuilt (range_with_len 1 n) new.root (knots_in number new.chains)) live b in
+        let w = written number mid (range_with_len 1 (size_in o)) order_linear run_whole run_long new keeps counted in
         let r = w.stays in
         let listed : indexed new ≡ map listed_item (listed_values mid) = same_items (record { chains = mid; root = new.root }) new r.items in
         let read : (k : ℕ) → slice_get (indexed new) k ≡ option_map listed_item (slice_get (listed_values mid) k) =

@@ -7,12 +7,12 @@ use Rattle.triple_arena.specs.Content.{Content, entry_at, live_count, some_count
 use Rattle.triple_arena.specs.Copy.{copied, IsUnmadeCopy}
 use Rattle.triple_arena.specs.CopyLaws.{entry-copied, live-copied, live_entries-rise}
 use Rattle.triple_arena.specs.LiveEntries.{live_entries, entry-listed, live_entries-length}
-use Rattle.triple_arena_chain.specs.declared.link.IndexLink.{IndexLink}
+use Rattle.triple_arena_chain.specs.LinkShape.{IndexLink}
 use Rattle.triple_arena_chain.specs.Links.{entry_ends, values_in, valued}
 use Rattle.triple_arena_chain.specs.Values.{room_in as chain_room}
 use Rattle.rank_tree.specs.Tree.{Tree, leaf, node, walk}
 use Rattle.rank_tree.specs.Shape.{root_of}
-use Rattle.triple_arena_ord.specs.declared.node.IndexNode.{IndexNode}
+use Rattle.triple_arena_ord.specs.NodeShape.{IndexNode}
 use Rattle.triple_arena_ord.specs.Copies.{copied_into, emptied_to, IsClone}
 use Rattle.triple_arena_ord.specs.Indexed.{listed_item}
 use Rattle.triple_arena_ord.specs.Node.{knots_in, knot_of, itemed}

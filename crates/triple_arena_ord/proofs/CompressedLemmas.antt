@@ -5,14 +5,14 @@ use Rattle.std.proofs.lemmas.Option.{slice_get-map}
 use Rattle.triple_arena.specs.Changes.{IsCompressed}
 use Rattle.triple_arena.specs.Compression.{renewed, generation_given, generation_of, value_of, index_of, entry_of_listed, IsMapped}
 use Rattle.triple_arena.specs.Content.{Content, entry_at, live_count, some_counter}
-use Rattle.triple_arena_chain.specs.declared.link.IndexLink.{IndexLink}
+use Rattle.triple_arena_chain.specs.LinkShape.{IndexLink}
 use Rattle.triple_arena_chain.specs.Chains.{IsLinear, On}
 use Rattle.triple_arena_chain.specs.Links.{ends_in, entry_ends, values_in, valued}
 use Rattle.triple_arena_chain.specs.Listed.{listed_values}
 use Rattle.triple_arena_chain.specs.Renaming.{new_index, IsCompacted}
 use Rattle.triple_arena_chain.specs.Values.{room_in as chain_room}
 use Rattle.triple_arena_chain.proofs.RenamingLemmas.{live_below-same}
-use Rattle.triple_arena_ord.specs.declared.node.IndexNode.{IndexNode}
+use Rattle.triple_arena_ord.specs.NodeShape.{IndexNode}
 use Rattle.triple_arena_ord.specs.Compressed.{IsCompressedInOrder}
 use Rattle.triple_arena_ord.specs.Indexed.{listed_item, indexed}
 use Rattle.triple_arena_ord.specs.Node.{knots_in, itemed, rest}

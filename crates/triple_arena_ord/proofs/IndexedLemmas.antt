@@ -3,11 +3,11 @@ use Rattle.std.proofs.Common.{◌≡◌, ℕ, List, [], ◌∷◌, map, refl, sy
 use Rattle.triple_arena.proofs.DrainLemmas.{same_listed}
 use Rattle.triple_arena.specs.Iterators.{pointer_of}
 use Rattle.triple_arena_chain.specs.Listed.{listed_value}
-use Rattle.triple_arena_chain.specs.declared.link.IndexLink.{IndexLink}
+use Rattle.triple_arena_chain.specs.LinkShape.{IndexLink}
 use Rattle.triple_arena_ord.specs.Indexed.{listed_item, indexed}
 use Rattle.triple_arena_ord.specs.IndexedLaws.{entry-indexed, indexed-increase}
 use Rattle.triple_arena_ord.specs.Ordered.{Ordered, entry_in}
-use Rattle.triple_arena_ord.specs.declared.node.IndexNode.{IndexNode}
+use Rattle.triple_arena_ord.specs.NodeShape.{IndexNode}
 
 module _ {I T : Type 0} where
   -- the same items at the same indexes

@@ -6,12 +6,12 @@ use Rattle.triple_arena.specs.Content.{Content, live_count, with_limit}
 use Rattle.triple_arena.specs.LimitLaws.{entry-with_limit, live-with_limit}
 use Rattle.triple_arena.specs.Recasting.{slots_recasted, content_recasted}
 use Rattle.triple_arena.specs.RecastingLaws.{live-recasted}
-use Rattle.triple_arena_chain.specs.declared.link.IndexLink.{IndexLink}
+use Rattle.triple_arena_chain.specs.LinkShape.{IndexLink}
 use Rattle.triple_arena_chain.specs.LinkRecasting.{link_items, link_recasted}
 use Rattle.triple_arena_chain.specs.Links.{ends_in, valued}
 use Rattle.triple_arena_chain.specs.SameLinksLaws.{ends-with_limit, ends-content_recasted}
 use Rattle.rank_tree.specs.Knot.{Knot}
-use Rattle.triple_arena_ord.specs.declared.node.IndexNode.{IndexNode}
+use Rattle.triple_arena_ord.specs.NodeShape.{IndexNode}
 use Rattle.triple_arena_ord.specs.ItemRecasting.{node_items, node_recasted}
 use Rattle.triple_arena_ord.specs.Node.{knots_in, knot_of}
 use Rattle.triple_arena_ord.specs.Ordered.{Ordered, IsOrdered}

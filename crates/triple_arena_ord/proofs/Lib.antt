@@ -4,6 +4,7 @@ pub mod NameLemmas
 pub mod LiveLemmas
 pub mod SortedLemmas
 pub mod SeekLemmas
+mod SparedLemmas
 pub mod GapLemmas
 pub mod NearLemmas
 pub mod WalkLemmas
@@ -31,6 +32,7 @@ pub mod OrderedWalkLemmas
 pub mod OrderedDrainLemmas
 pub mod IndexedLemmas
 pub mod RebuildLemmas
+pub mod RebuildRunLemmas
 pub mod WrittenListLemmas
 pub mod RenamedListLemmas
 pub mod CanonicalLayoutLemmas

@@ -9,7 +9,7 @@ use Rattle.triple_arena.specs.Iterators.{with_part}
 use Rattle.triple_arena.specs.Transfer.{Transfer, steps_wrap, wrapped, entry_before, entry_after, IsTransferred}
 use Rattle.triple_arena_chain.specs.IterChains.{link_and, links_along}
 use Rattle.triple_arena_ord.specs.Ascending.{entries_along}
-use Rattle.triple_arena_ord.specs.declared.node.IndexNode.{IndexNode}
+use Rattle.triple_arena_ord.specs.NodeShape.{IndexNode}
 use Rattle.triple_arena_ord.specs.Indexed.{listed_item}
 use Rattle.triple_arena_ord.specs.Node.{itemed, items_among}
 

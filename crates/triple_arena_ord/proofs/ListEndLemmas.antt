@@ -3,7 +3,7 @@ use Rattle.std.proofs.Common.{◌≡◌, ◌≢◌, ℕ, ◌+◌, ◌<◌, ◌�
 use Rattle.std.proofs.lemmas.Bool.Decides.{eqb_tells, leb_tells}
 use Rattle.triple_arena.specs.Content.{Content, entry_at}
 use Rattle.triple_arena.specs.Walk.{Walk, IsAhead, IsFirstLive}
-use Rattle.triple_arena_chain.specs.declared.link.IndexLink.{IndexLink}
+use Rattle.triple_arena_chain.specs.LinkShape.{IndexLink}
 use Rattle.triple_arena_chain.specs.Chains.{Ends, first_or, last_or, On, Stands, IsLinear}
 use Rattle.triple_arena_chain.specs.ListLaws.{On-either, on_differs}
 use Rattle.triple_arena_chain.specs.Links.{ends_in, entry_ends, values_in, valued}

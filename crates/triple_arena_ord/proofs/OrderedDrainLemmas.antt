@@ -113,9 +113,9 @@ module _ {I T : Type 0} (number : I → ℕ) (o : Ordered I T) (is : IsOrdered n
   pub removals_left : (last : Option ℕ) → length (removals last (counter_in o) (ordered_entries number o)) ≡ size_in o
   removals_left last = removals-length last (counter_in o) (ordered_entries number o) ∙ all_listed
 
-module _ {P T S Inx Gen Alloc : Type 0} (last : Option ℕ) (number : Inx → ℕ) (index generation : P → ℕ) where
+module _ {P T S Inx Gen Word Alloc : Type 0} (last : Option ℕ) (number : Inx → ℕ) (index generation : P → ℕ) where
   -- the first entry leaves: a drain gives its removal, and is on by one
-  pub drain_steps : (item : Option (InvalidationOption (P × T))) (old new : OrderedDrain P T S Inx Gen Alloc)
+  pub drain_steps : (item : Option (InvalidationOption (P × T))) (old new : OrderedDrain P T S Inx Gen Word Alloc)
       → TakesFirst number last index generation item (drain_arena old) (drain_arena new) → drain_lender new ≡ drain_lender old
       → DrainSteps last number index generation old item new
   drain_steps None old new took lender =
@@ -131,7 +131,7 @@ module _ {P T S Inx Gen Alloc : Type 0} (last : Option ℕ) (number : Inx → �
   )
 
   -- steps on, one after another
-  steps_on : (n : ℕ) (old mid new : OrderedDrain P T S Inx Gen Alloc) → IsOn last 1 old mid → IsOn last n mid new → IsOn last (suc n) old new
+  steps_on : (n : ℕ) (old mid new : OrderedDrain P T S Inx Gen Word Alloc) → IsOn last 1 old mid → IsOn last n mid new → IsOn last (suc n) old new
   steps_on n old mid new first rest =
       record {
         lender = rest.lender ∙ first.lender;
@@ -143,6 +143,6 @@ module _ {P T S Inx Gen Alloc : Type 0} (last : Option ℕ) (number : Inx → �
           → emptied_after last (suc n) (drain_arena mid) ≡ emptied_after last (suc (suc n)) (drain_arena old)
       go n counter room = rw (counter, room) refl
 
-  pub keeps_along : (first : OrderedDrain P T S Inx Gen Alloc) → DrainKeepsAlong last number index generation first
+  pub keeps_along : (first : OrderedDrain P T S Inx Gen Word Alloc) → DrainKeepsAlong last number index generation first
   keeps_along first [] later run = subst (IsOn last 0 first) run (record { lender = refl; leaves = refl })
   keeps_along first (item ∷ items) later run = steps_on (length items) first run.0 later run.1.1 (keeps_along run.0 items later run.2)

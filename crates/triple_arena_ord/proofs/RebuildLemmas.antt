@@ -5,7 +5,7 @@ use Rattle.std.specs.Prelude.{min}
 use Rattle.std.proofs.Math.Nat.{pow-succ'}
 use Rattle.std.proofs.lemmas.Bool.Decides.{eqb_tells, leb_tells}
 use Rattle.triple_arena.specs.Content.{Content, entry_at}
-use Rattle.triple_arena_chain.specs.declared.link.IndexLink.{IndexLink}
+use Rattle.triple_arena_chain.specs.LinkShape.{IndexLink}
 use Rattle.triple_arena_chain.specs.Chains.{Ends, next_in, next_at, first_or, Stands, Off, Apart, IsLinear}
 use Rattle.triple_arena_chain.specs.ChainLaws.{first_or-append, Stands-front, Stands-back, off_or_on, Off-front, Off-back, Apart-both}
 use Rattle.triple_arena_chain.specs.ListLaws.{Apart-front, Apart-back, Apart-split, Stands-where}
@@ -18,7 +18,7 @@ use Rattle.rank_tree.specs.Halving.{part_rank, IsTopRank, IsBuilt}
 use Rattle.rank_tree.specs.FrameLaws.{one-same, one-other}
 use Rattle.rank_tree.specs.ClimbLaws.{size-walk}
 use Rattle.rank_tree.specs.BuildLaws.{built_over}
-use Rattle.triple_arena_ord.specs.declared.node.IndexNode.{IndexNode}
+use Rattle.triple_arena_ord.specs.NodeShape.{IndexNode}
 use Rattle.triple_arena_ord.specs.Node.{knots_in, knot_of, rest}
 use Rattle.triple_arena_ord.proofs.RestLemmas.{rested}
 use Rattle.triple_arena_ord.specs.Rebuilt.{IsAhead, IsRebuilt}

@@ -3,9 +3,9 @@ use Rattle.std.proofs.Common.{◌≡◌, ℕ, zero, suc, ◌+◌, ◌-◌, List,
 use Rattle.std.specs.Option.{option_map}
 use Rattle.std.proofs.lemmas.List.Sums.{sum_by-cons}
 use Rattle.triple_arena.specs.Content.{Content, entry_at, live_count, with_value}
-use Rattle.triple_arena_chain.specs.declared.link.IndexLink.{IndexLink}
+use Rattle.triple_arena_chain.specs.LinkShape.{IndexLink}
 use Rattle.triple_arena_chain.specs.Links.{ends_in, entry_ends, values_in, valued, with_link_of, with_value_in, IsKept}
-use Rattle.triple_arena_ord.specs.declared.node.IndexNode.{IndexNode}
+use Rattle.triple_arena_ord.specs.NodeShape.{IndexNode}
 use Rattle.triple_arena_ord.specs.Node.{knots_in, knot_of, items_in, itemed, bare, rest}
 
 module _ {I T : Type 0} where

@@ -1,13 +1,13 @@
 -- A search by key over the nodes of an arena.
-use Rattle.std.proofs.Common.{◌≡◌, ◌≢◌, ℕ, ◌+◌, ◌*◌, ◌^◌, ◌<◌, ◌≤◌, ◌∷◌, Option, Some, None, IsSome, IfSome, is_some, false, refl, sym, ap, ◌∙◌, subst, arith, inl, inr}
-use Rattle.std.specs.Option.{option_map}
+use Rattle.std.proofs.Common.{◌≡◌, ◌≢◌, ℕ, ◌+◌, ◌*◌, ◌^◌, ◌<◌, ◌≤◌, ◌∷◌, Option, Some, None, IsSome, IfSome, true, false, refl, sym, ap, ◌∙◌, subst, arith, inl, inr}
+use Rattle.std.specs.Option.{option_map, is_none}
 use Rattle.std.proofs.lemmas.Bool.{cases_eq, cases_lt}
 use Rattle.std.specs.Cmp.{IsTotalOrder}
 use Rattle.std.specs.declared.cmp.Ordering.{Ordering}
 use Rattle.std.specs.declared.cmp.Ordering.TheVariants.{Less, Equal, Greater}
 use Rattle.triple_arena_chain.specs.Links.{values_in}
 use Rattle.rank_tree.specs.Knot.{Knot}
-use Rattle.triple_arena_ord.specs.declared.node.IndexNode.{IndexNode}
+use Rattle.triple_arena_ord.specs.NodeShape.{IndexNode}
 use Rattle.triple_arena_ord.specs.Node.{knots_in, knot_of, itemed}
 use Rattle.counted_search.specs.Searches.{most_comparisons}
 use Rattle.counted_search.specs.SearchLaws.{most_comparisons-greatest}
@@ -73,7 +73,7 @@ unequal f (node l x r_k r) (Some p) is not parted = by p.1 refl
         (AllIn-map (λ y. Before (f y) (f p.0)) (λ y. f y ≢ Equal) (λ y z u. let w = z.greater here in absurd (cc)) places.before down)
         ((λ u. absurd (cc)), AllIn-map (λ y. f y ≡ Less) (λ y. f y ≢ Equal) (λ y z u. absurd (cc)) places.after (places.greater refl)))
 
-pub no_child : {A B : Type 0} (f : A → B) (o : Option A) → is_some o ≡ false → option_map f o ≡ None
+pub no_child : {A B : Type 0} (f : A → B) (o : Option A) → true ≡ is_none o → option_map f o ≡ None
 no_child f None e = refl
 no_child f (Some a) e = absurd (cc)
 

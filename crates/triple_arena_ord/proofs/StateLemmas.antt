@@ -6,10 +6,10 @@ use Rattle.triple_arena.specs.Content.{Content, entry_at, live_count, invalidate
 use Rattle.triple_arena.specs.ContentLaws.{entry-same_slots}
 use Rattle.triple_arena.specs.GenerationLaws.{entry-invalidated, live-invalidated}
 use Rattle.triple_arena_ptr.specs.Generation.{next_generation}
-use Rattle.triple_arena_chain.specs.declared.link.IndexLink.{IndexLink}
+use Rattle.triple_arena_chain.specs.LinkShape.{IndexLink}
 use Rattle.triple_arena_chain.specs.Links.{ends_in, values_in, valued, with_link, with_link_of, with_value_in}
 use Rattle.triple_arena_chain.specs.SameLinksLaws.{ends-same_slots, ends-invalidated}
-use Rattle.triple_arena_ord.specs.declared.node.IndexNode.{IndexNode}
+use Rattle.triple_arena_ord.specs.NodeShape.{IndexNode}
 use Rattle.triple_arena_ord.specs.Node.{knots_in, knot_of, itemed}
 use Rattle.triple_arena_ord.specs.Inserted.{IsRenewed, IsReplaced}
 use Rattle.rank_tree.specs.Tree.{walk}

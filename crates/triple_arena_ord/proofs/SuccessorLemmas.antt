@@ -1,13 +1,13 @@
 -- The next index of the list, which has no left child, takes the place of a node with a right child.
 use Rattle.std.proofs.Common.{◌≡◌, ◌≢◌, ℕ, ◌+◌, ◌^◌, ◌<◌, List, [], ◌∷◌, ◌++◌, length, append_assoc, Option, Some, None, IsSome, sym, ap, ◌∙◌, subst, arith}
 use Rattle.triple_arena.specs.Content.{Content, live_count}
-use Rattle.triple_arena_chain.specs.declared.link.IndexLink.{IndexLink}
+use Rattle.triple_arena_chain.specs.LinkShape.{IndexLink}
 use Rattle.triple_arena_chain.specs.Chains.{IsLinear, Apart, next_in, next_at}
 use Rattle.triple_arena_chain.specs.ChainLaws.{Apart-taken}
 use Rattle.triple_arena_chain.specs.Links.{ends_in}
 use Rattle.triple_arena_chain.specs.UniquenessLaws.{linear_apart}
 use Rattle.rank_tree.specs.declared.side.Side.TheVariants.{Left, Right}
-use Rattle.triple_arena_ord.specs.declared.node.IndexNode.{IndexNode}
+use Rattle.triple_arena_ord.specs.NodeShape.{IndexNode}
 use Rattle.rank_tree.specs.Knot.{Knot}
 use Rattle.triple_arena_ord.specs.Node.{knots_in, rest}
 use Rattle.rank_tree.specs.Tree.{Tree, leaf, node, walk, IsRanked}

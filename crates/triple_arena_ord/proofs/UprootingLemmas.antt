@@ -6,13 +6,13 @@ use Rattle.triple_arena_ptr.specs.Generation.{next_generation}
 use Rattle.triple_arena.specs.Content.{Content, entry_at, live_count, removed as without_entry}
 use Rattle.triple_arena.specs.Entries.{without}
 use Rattle.triple_arena.specs.RemovalLaws.{free-removed, slots-removed}
-use Rattle.triple_arena_chain.specs.declared.link.IndexLink.{IndexLink}
+use Rattle.triple_arena_chain.specs.LinkShape.{IndexLink}
 use Rattle.triple_arena_chain.specs.Chains.{IsLinear}
 use Rattle.triple_arena_chain.specs.Links.{ends_in, values_in, valued, IsTakenOut}
 use Rattle.triple_arena_chain.specs.Lists.{Linear}
 use Rattle.triple_arena_chain.specs.ListLaws.{chain_where}
 use Rattle.rank_tree.specs.declared.side.Side.TheVariants.{Left}
-use Rattle.triple_arena_ord.specs.declared.node.IndexNode.{IndexNode}
+use Rattle.triple_arena_ord.specs.NodeShape.{IndexNode}
 use Rattle.rank_tree.specs.Knot.{Knot}
 use Rattle.triple_arena_ord.specs.Node.{knots_in, items_in, knot_of, itemed, rest}
 use Rattle.rank_tree.specs.Tree.{leaf, node, walk, IsRanked}

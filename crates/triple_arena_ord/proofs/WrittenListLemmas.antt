@@ -3,7 +3,7 @@ use Rattle.std.proofs.Common.{◌≡◌, ℕ, ◌<◌, List, [], ◌∷◌, leng
 use Rattle.std.specs.Option.{option_map}
 use Rattle.std.proofs.lemmas.Bool.Decides.{eqb_tells}
 use Rattle.triple_arena.specs.Content.{Content, entry_at, live_count}
-use Rattle.triple_arena_chain.specs.declared.link.IndexLink.{IndexLink}
+use Rattle.triple_arena_chain.specs.LinkShape.{IndexLink}
 use Rattle.triple_arena_chain.specs.Chains.{On, IsLinear}
 use Rattle.triple_arena_chain.specs.ChainLaws.{off_or_on}
 use Rattle.triple_arena_chain.specs.ListLaws.{On-either, on_differs, chain_where}
@@ -16,7 +16,7 @@ use Rattle.rank_tree.specs.FrameLaws.{one-same}
 use Rattle.rank_tree.specs.UniqueLaws.{tree_is}
 use Rattle.rank_tree.specs.HalvingLaws.{halving_ranked}
 use Rattle.rank_tree.specs.Halving.{IsHalvingOf}
-use Rattle.triple_arena_ord.specs.declared.node.IndexNode.{IndexNode}
+use Rattle.triple_arena_ord.specs.NodeShape.{IndexNode}
 use Rattle.triple_arena_ord.specs.Node.{knots_in, knot_of, rest}
 use Rattle.triple_arena_ord.specs.Ordered.{Ordered, IsOrdered, tree_in, order_in}
 use Rattle.triple_arena_ord.specs.Rebuilt.{IsRebuilt}

@@ -3,21 +3,20 @@ use Rattle.std.specs.Prelude.{◌≡◌, ℕ, List, map, Option}
 use Rattle.triple_arena.specs.Content.{Content, live_count, some_counter, reallocated}
 use Rattle.triple_arena.specs.Copy.{last_listed, copied, IsCopy}
 use Rattle.triple_arena.specs.LiveEntries.{live_entries}
-use Rattle.triple_arena_chain.specs.declared.link.IndexLink.{IndexLink}
+use Rattle.triple_arena_chain.specs.Chains.{Ends}
+use Rattle.triple_arena_chain.specs.LinkShape.{IndexLink}
 use Rattle.triple_arena_chain.specs.Links.{ends_in, values_in}
-use Rattle.triple_arena_chain.specs.Listed.{listed_value}
 use Rattle.triple_arena_chain.specs.Values.{room_in}
-use Rattle.triple_arena_ord.specs.declared.node.IndexNode.{IndexNode}
-use Rattle.triple_arena_ord.specs.Indexed.{listed_item}
+use Rattle.triple_arena_ord.specs.NodeShape.{IndexNode}
 use Rattle.triple_arena_ord.specs.Node.{knots_in}
 use Rattle.triple_arena_ord.specs.Ordered.{Ordered, order_in, entry_in, counter_in}
 use Rattle.triple_arena_ord.specs.States.{cleared_in}
 
-module _ {I T : Type 0} where
-  -- listed links with their items alone
-  abbrev pub listed_items : List (ℕ × (ℕ × IndexLink I (IndexNode I T))) → List (ℕ × (ℕ × T))
-  listed_items links = map listed_item (map listed_value links)
+-- listed links with their items alone
+abbrev pub listed_items : {L T : Type 0} → (L → T) → List (ℕ × (ℕ × L)) → List (ℕ × (ℕ × T))
+listed_items item links = map (λ e. (e.0, (e.1.0, item e.1.1))) links
 
+module _ {I T : Type 0} where
   -- the last live index, or 0 where there is none
   abbrev pub last_inx : Ordered I T → ℕ
   last_inx o = last_listed (live_entries o.chains)
@@ -38,9 +37,11 @@ module _ {I T : Type 0} (number : I → ℕ) where
     pub knots : (k : ℕ) → knots_in number new.chains k ≡ knots_in number source.chains k
     pub order : order_in number new ≡ order_in number source
 
-module _ {I V U : Type 0} (number : I → ℕ) where
-  -- links with the pointers, the interlinks and the counter of a source, where the smallest free index is the next one to be taken
-  pub record IsChainCopy (source : Content (IndexLink I V)) (old new : Content (IndexLink I U)) : Type 0 where
-    pub exact : new ≡ copied old (some_counter source) (live_entries new)
-    pub ends : (k : ℕ) → ends_in number new k ≡ ends_in number source k
-    pub copy : IsCopy values_in live_count some_counter room_in (values_in source) (live_count source) (last_listed (live_entries source)) (some_counter source) old new
+module _ {I L U : Type 0} (number : I → ℕ) where
+  -- links with the pointers, the interlinks and the counter of a source, where the smallest free
+  -- index is the next one to be taken
+  pub record IsChainCopy (source : ℕ → Option (ℕ × L)) (live last : ℕ) (counter : Option ℕ)
+      (ends : ℕ → Option Ends) (old new : Content (IndexLink I U)) : Type 0 where
+    pub exact : new ≡ copied old counter (live_entries new)
+    pub same_ends : (k : ℕ) → ends_in number new k ≡ ends k
+    pub copy : IsCopy values_in live_count some_counter room_in source live last counter old new

@@ -6,8 +6,8 @@ use Rattle.triple_arena.specs.DrainLaws.{drained-same}
 use Rattle.triple_arena.specs.Drains.{LeavesGivenUp}
 use Rattle.triple_arena.specs.Transfer.{IsGivenUp}
 use Rattle.triple_arena_chain.specs.EmptiedLaws.{drained-gives_up as chains-given_up}
-use Rattle.triple_arena_chain.specs.declared.link.IndexLink.{IndexLink}
-use Rattle.triple_arena_ord.specs.declared.node.IndexNode.{IndexNode}
+use Rattle.triple_arena_chain.specs.LinkShape.{IndexLink}
+use Rattle.triple_arena_ord.specs.NodeShape.{IndexNode}
 use Rattle.triple_arena_ord.specs.Node.{itemed}
 use Rattle.triple_arena_ord.specs.Ordered.{Ordered, entry_in, size_in, counter_in, room_in}
 use Rattle.triple_arena_ord.specs.States.{drained_in}

@@ -1,7 +1,7 @@
 -- The entries in the order of their indexes.
 use Rattle.std.specs.Prelude.{ℕ, List, map}
 use Rattle.triple_arena_chain.specs.Listed.{listed_values}
-use Rattle.triple_arena_ord.specs.declared.node.IndexNode.{IndexNode}
+use Rattle.triple_arena_ord.specs.NodeShape.{IndexNode}
 use Rattle.triple_arena_ord.specs.Node.{itemed}
 use Rattle.triple_arena_ord.specs.Ordered.{Ordered}
 

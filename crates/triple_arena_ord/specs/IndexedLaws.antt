@@ -7,7 +7,7 @@ use Rattle.triple_arena.specs.Compression.{index_of}
 use Rattle.triple_arena.specs.Entries.{look_up}
 use Rattle.triple_arena_chain.specs.Listed.{listed_values}
 use Rattle.triple_arena_chain.specs.ListedLaws.{value-listed, listed_values-increase, listed_values-length}
-use Rattle.triple_arena_ord.specs.declared.node.IndexNode.{IndexNode}
+use Rattle.triple_arena_ord.specs.NodeShape.{IndexNode}
 use Rattle.triple_arena_ord.specs.Indexed.{listed_item, indexed}
 use Rattle.triple_arena_ord.specs.Node.{itemed}
 use Rattle.triple_arena_ord.specs.Ordered.{Ordered, entry_in, size_in}

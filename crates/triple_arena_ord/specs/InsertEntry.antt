@@ -31,21 +31,21 @@ pub record IsReadyAt {I T : Type 0} (place : Option (ℕ × Ordering)) (i g : �
   pub replacing : Replaces place → (place ≡ Some (i, Equal)) × (generation_at (entry_in o) i ≡ Some g)
   pub new : (Replaces place → ⊥) → (size_in o < arena_capacity o.chains) × ((i ≡ next_index o.chains) × (g ≡ o.chains.counter))
 
-module _ {P T S Inx Gen Alloc : Type 0} where
+module _ {P T S Inx Gen Word Alloc : Type 0} where
   -- the arena as the entry holds it
-  abbrev pub entry_arena : SimpleOrdArenaInsertEntry P T S Inx Gen Alloc → Ordered Inx T
+  abbrev pub entry_arena : SimpleOrdArenaInsertEntry P T S Inx Gen Word Alloc → Ordered Inx T
   entry_arena e = e.arena.now
 
   -- the ghost name of the reference to the arena
-  abbrev pub entry_lender : SimpleOrdArenaInsertEntry P T S Inx Gen Alloc → GName
+  abbrev pub entry_lender : SimpleOrdArenaInsertEntry P T S Inx Gen Word Alloc → GName
   entry_lender e = e.arena.ghost_name
 
   -- the place of the item
-  abbrev pub entry_place : (Inx → ℕ) → SimpleOrdArenaInsertEntry P T S Inx Gen Alloc → Option (ℕ × Ordering)
+  abbrev pub entry_place : (Inx → ℕ) → SimpleOrdArenaInsertEntry P T S Inx Gen Word Alloc → Option (ℕ × Ordering)
   entry_place number e = option_map (λ a. (number a.0, a.1)) e.place
 
   -- the insertion can be made
-  abbrev pub IsReady : (Inx → ℕ) → (P → ℕ) → (P → ℕ) → SimpleOrdArenaInsertEntry P T S Inx Gen Alloc → Type 0
+  abbrev pub IsReady : (Inx → ℕ) → (P → ℕ) → (P → ℕ) → SimpleOrdArenaInsertEntry P T S Inx Gen Word Alloc → Type 0
   IsReady number index generation e = IsReadyAt (entry_place number e) (index e.ptr) (generation e.ptr) (entry_arena e)
 
 -- what is answered where an entry is asked for: whether the kind's requirement fails, and else a place that it asks for, and

@@ -9,9 +9,9 @@ use Rattle.triple_arena.specs.Entries.{with_entry}
 use Rattle.triple_arena_ptr.specs.declared.errors.OrdInsertionError.{OrdInsertionError}
 use Rattle.triple_arena_ptr.specs.declared.errors.OrdInsertionError.TheVariants.{FailedOrdRequirement, NotWithinCapacity, BeyondMaxCapacity, AllocError}
 use Rattle.triple_arena_chain.specs.Links.{IsKept, ends_in}
-use Rattle.triple_arena_chain.specs.declared.link.IndexLink.{IndexLink}
+use Rattle.triple_arena_chain.specs.LinkShape.{IndexLink}
 use Rattle.rank_tree.specs.declared.side.Side.TheVariants.{Left, Right}
-use Rattle.triple_arena_ord.specs.declared.node.IndexNode.{IndexNode}
+use Rattle.triple_arena_ord.specs.NodeShape.{IndexNode}
 use Rattle.triple_arena_ord.specs.Node.{knots_in, items_in}
 use Rattle.rank_tree.specs.Search.{AllIn}
 use Rattle.triple_arena_ord.specs.Ordered.{Ordered, IsAscending, StandsBeside, order_in, entry_in, size_in, asked_at}

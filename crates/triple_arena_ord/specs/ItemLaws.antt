@@ -6,8 +6,8 @@ use Rattle.triple_arena.specs.Content.{entry_at}
 use Rattle.triple_arena.specs.Entries.{with_value_at}
 use Rattle.triple_arena_chain.specs.LinkLaws.{entry-with_link, kept-with_link}
 use Rattle.triple_arena_chain.specs.Links.{valued, IsKept}
-use Rattle.triple_arena_chain.specs.declared.link.IndexLink.{IndexLink}
-use Rattle.triple_arena_ord.specs.declared.node.IndexNode.{IndexNode}
+use Rattle.triple_arena_chain.specs.LinkShape.{IndexLink}
+use Rattle.triple_arena_ord.specs.NodeShape.{IndexNode}
 use Rattle.triple_arena_ord.specs.Node.{itemed}
 use Rattle.triple_arena_ord.specs.Ordered.{Ordered, entry_in, size_in, counter_in, room_in}
 use Rattle.triple_arena_ord.specs.States.{with_item}

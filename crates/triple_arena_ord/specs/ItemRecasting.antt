@@ -4,7 +4,7 @@ use Rattle.triple_arena_ptr.specs.Recast.{renamed}
 use Rattle.triple_arena.specs.Recasting.{content_items, content_recasted}
 use Rattle.triple_arena.specs.RecastingLaws.{items-recasted}
 use Rattle.triple_arena_chain.specs.LinkRecasting.{link_items, link_recasted}
-use Rattle.triple_arena_ord.specs.declared.node.IndexNode.{IndexNode}
+use Rattle.triple_arena_ord.specs.NodeShape.{IndexNode}
 use Rattle.triple_arena_ord.specs.Ordered.{Ordered}
 
 module _ {N I T : Type 0} (items : T → List N) where

@@ -1,3 +1,4 @@
+pub mod NodeShape
 pub mod Node
 pub mod Kinds
 pub mod Pairs
@@ -12,6 +13,7 @@ pub mod InsertEntry
 pub mod Growth
 pub mod Removal
 pub mod Found
+pub mod Spared
 pub mod Asked
 pub mod Near
 pub mod AskedLaws
@@ -22,6 +24,7 @@ pub mod Indexed
 pub mod IndexedLaws
 pub mod EmptiedLaws
 pub mod Rebuilt
+pub mod RebuiltRun
 pub mod CanonicalLayout
 pub mod CanonicalTransfer
 pub mod Copies

@@ -6,10 +6,10 @@ use Rattle.triple_arena_stack.specs.Room.{Room}
 use Rattle.triple_arena.specs.Content.{Content, live_count, some_counter}
 use Rattle.triple_arena_chain.specs.Chains.{IsLinear}
 use Rattle.triple_arena_chain.specs.Links.{ends_in}
-use Rattle.triple_arena_chain.specs.declared.link.IndexLink.{IndexLink}
+use Rattle.triple_arena_chain.specs.LinkShape.{IndexLink}
 use Rattle.rank_tree.specs.declared.side.Side.{Side}
 use Rattle.rank_tree.specs.declared.side.Side.TheVariants.{Left, Right}
-use Rattle.triple_arena_ord.specs.declared.node.IndexNode.{IndexNode}
+use Rattle.triple_arena_ord.specs.NodeShape.{IndexNode}
 use Rattle.triple_arena_ord.specs.Node.{knots_in, items_in}
 use Rattle.triple_arena_ord.specs.Ascending.{entries_along, AscendsAlong}
 use Rattle.rank_tree.specs.Tree.{Tree, walk}

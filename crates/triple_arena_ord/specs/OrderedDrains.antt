@@ -36,37 +36,37 @@ module _ {P I T : Type 0} (number : I → ℕ) (last : Option ℕ) (index genera
   TakesFirst None old new = (ordered_entries number old ≡ []) × (new ≡ old)
   TakesFirst (Some item) old new = IsFirstTaken item old new
 
-module _ {P T S Inx Gen Alloc : Type 0} where
+module _ {P T S Inx Gen Word Alloc : Type 0} where
   -- the arena as the drain has it
-  abbrev pub drain_arena : OrderedDrain P T S Inx Gen Alloc → Ordered Inx T
+  abbrev pub drain_arena : OrderedDrain P T S Inx Gen Word Alloc → Ordered Inx T
   drain_arena d = d.arena.now
 
   -- the ghost name of the reference to it
-  abbrev pub drain_lender : OrderedDrain P T S Inx Gen Alloc → GName
+  abbrev pub drain_lender : OrderedDrain P T S Inx Gen Word Alloc → GName
   drain_lender d = d.arena.ghost_name
 
   module _ (last : Option ℕ) where
     -- the arena once the drain is dropped: it is cleared, by one step
-    abbrev pub drain_leaves : OrderedDrain P T S Inx Gen Alloc → Ordered Inx T
+    abbrev pub drain_leaves : OrderedDrain P T S Inx Gen Word Alloc → Ordered Inx T
     drain_leaves d = emptied_after last 1 (drain_arena d)
 
     -- both borrow the same arena, and the later one leaves it after so many steps more
-    pub record IsOn (n : ℕ) (old new : OrderedDrain P T S Inx Gen Alloc) : Type 0 where
+    pub record IsOn (n : ℕ) (old new : OrderedDrain P T S Inx Gen Word Alloc) : Type 0 where
       pub lender : drain_lender new ≡ drain_lender old
       pub leaves : drain_leaves new ≡ emptied_after last (suc n) (drain_arena old)
 
     module _ (number : Inx → ℕ) where
       -- the removals that are still to come
-      abbrev pub drain_rest : OrderedDrain P T S Inx Gen Alloc → List ((ℕ × (ℕ × T)) × Bool)
+      abbrev pub drain_rest : OrderedDrain P T S Inx Gen Word Alloc → List ((ℕ × (ℕ × T)) × Bool)
       drain_rest d = removals last (counter_in (drain_arena d)) (ordered_entries number (drain_arena d))
 
       module _ (index generation : P → ℕ) where
         -- a step gives the first removal that is still to come, which it has made, or nothing where there is none
-        abbrev pub DrainSteps : OrderedDrain P T S Inx Gen Alloc → Option (InvalidationOption (P × T)) → OrderedDrain P T S Inx Gen Alloc → Type 0
+        abbrev pub DrainSteps : OrderedDrain P T S Inx Gen Word Alloc → Option (InvalidationOption (P × T)) → OrderedDrain P T S Inx Gen Word Alloc → Type 0
         DrainSteps old item new = YieldsFirstBy (removal_of index generation) drain_rest old item new × IsOn (steps_made item) old new
             × TakesFirst number last index generation item (drain_arena old) (drain_arena new)
 
         -- each state that steps lead to is on by as many as the items that they gave
-        abbrev pub DrainKeepsAlong : OrderedDrain P T S Inx Gen Alloc → Type 0
-        DrainKeepsAlong first = (items : List (InvalidationOption (P × T))) (later : OrderedDrain P T S Inx Gen Alloc)
+        abbrev pub DrainKeepsAlong : OrderedDrain P T S Inx Gen Word Alloc → Type 0
+        DrainKeepsAlong first = (items : List (InvalidationOption (P × T))) (later : OrderedDrain P T S Inx Gen Word Alloc)
             → Yields DrainSteps first items later → IsOn (length items) first later

@@ -4,7 +4,7 @@ use Rattle.std.specs.Borrow.{Bor}
 use Rattle.std.specs.Option.{option_map}
 use Rattle.triple_arena.specs.Entries.{generation_at}
 use Rattle.triple_arena_chain.specs.Chains.{first_or}
-use Rattle.triple_arena_chain.specs.declared.link.IndexLink.{IndexLink}
+use Rattle.triple_arena_chain.specs.LinkShape.{IndexLink}
 use Rattle.triple_arena_ord.specs.Ordered.{Ordered, order_in, entry_in, entries_at, size_in}
 
 -- the index that a walk gives next, if there is one, and whether it goes backward

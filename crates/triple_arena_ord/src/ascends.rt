@@ -8,14 +8,14 @@ ghost use Rattle.triple_arena_ord.specs.Node.{items_in};
 ghost use Rattle.triple_arena_ord.specs.Ascending.{AscendsAlong};
 
 use crate::links::Links;
-use crate::{IndexNode, SimpleOrdItem};
+use crate::{SimpleOrdArenaNode, SimpleOrdItem};
 use std::cmp::Ordering;
 use triple_arena::{PtrCore, PtrInxCore};
-use triple_arena_chain::IndexLink;
+use triple_arena_chain::LinkNoGen;
 use unreached::unreached;
 
 // The link at an index that is live.
-fn link_at<P, T, A>(arena: &A, i: P::Inx) -> &IndexLink<P::Inx, IndexNode<P::Inx, T>>
+fn link_at<P, T, A>(arena: &A, i: P::Inx) -> &LinkNoGen<P, SimpleOrdArenaNode<P, T>>
 where
     P: PtrCore,
     T: Drop,

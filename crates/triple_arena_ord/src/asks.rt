@@ -6,10 +6,10 @@ ghost use Rattle.rank_tree.specs.Whole.{tree_of, IsWhole};
 ghost use Rattle.triple_arena_ord.specs.Asked.{IsAsked};
 ghost use Rattle.triple_arena_ord.specs.Node.{knots_among, items_among};
 
-use crate::IndexNode;
+use crate::SimpleOrdArenaNode;
 use std::cmp::Ordering;
 use triple_arena::{ArenaTrait, PtrCore};
-use triple_arena_ptr::Probes;
+use triple_arena_ptr::{OptionalInx, Probes};
 use unreached::unreached;
 
 /// Asks `f` on the way down from the root, and says what it answered last, and where. It is left in
@@ -23,7 +23,7 @@ pub(crate) fn ask_down<P, T, A, F>(
 where
     P: PtrCore,
     T: Drop,
-    A: ArenaTrait<P, IndexNode<P::Inx, T>>,
+    A: ArenaTrait<P, SimpleOrdArenaNode<P, T>>,
     F: FnMut(P, &T) -> Ordering,
     requires whole { IsWhole (knots_among P.Inx.number (A.entry_at arena.now)) (option_map P.Inx.number root) }
     requires callable { F.IsAlwaysCallable f.old }
@@ -34,9 +34,9 @@ where
     ensures bound { probes.new ≤ probes.old
         + rank_of (tree_of (knots_among P.Inx.number (A.entry_at arena.now)) (option_map P.Inx.number root)) }
 {
-    let mut link = root;
+    let mut link = OptionalInx::of(root);
     let mut place = None;
-    'down: while let Some(i) = link {
+    'down: while let Some(i) = link.get() {
         let (generation, node) = match arena.get_inx(i) {
             Some(entry) => entry,
             None => unreached!(),
@@ -52,7 +52,7 @@ where
         }
         link = match answer {
             Ordering::Less => left,
-            Ordering::Equal => None,
+            Ordering::Equal => OptionalInx::none(),
             Ordering::Greater => right,
         };
     }

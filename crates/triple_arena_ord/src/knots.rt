@@ -1,14 +1,15 @@
 //! The nodes as the tree sees them: those in the links of a list.
 
-use crate::{IndexNode, OrdSlots};
+use crate::{OrdSlots, SimpleOrdArenaNode};
 use rank_tree::{Knots, Side, TreeLinks};
 use triple_arena::{ArenaTrait, PtrCore};
 use triple_arena_chain::ChainArena;
+use triple_arena_ptr::OptionalInx;
 
-impl<P: PtrCore, T: Drop, S: OrdSlots<P, T>> Knots<IndexNode<P::Inx, T>, P>
-    for ChainArena<P, IndexNode<P::Inx, T>, S> {
+impl<P: PtrCore, T: Drop, S: OrdSlots<P, T>> Knots<SimpleOrdArenaNode<P, T>, P>
+    for ChainArena<P, SimpleOrdArenaNode<P, T>, S> {
     ghost use Rattle.triple_arena.specs.Content.{Content};
-    ghost use Rattle.triple_arena_chain.specs.declared.link.IndexLink.{IndexLink};
+    ghost use Rattle.triple_arena_chain.specs.LinkShape.{IndexLink};
     ghost use Rattle.triple_arena_ord.specs.Node.{knots_in, rest};
 
     ghost knots = { knots_in P.Inx.number };
@@ -20,29 +21,29 @@ impl<P: PtrCore, T: Drop, S: OrdSlots<P, T>> Knots<IndexNode<P::Inx, T>, P>
     fn read(&self, i: P::Inx) -> TreeLinks<P::Inx> {
         let node = self.get_inx_unwrap(i);
         TreeLinks {
-            parent: node.p_back,
-            left: node.p_tree0,
-            right: node.p_tree1,
+            parent: node.p_back.get(),
+            left: node.p_tree0.get(),
+            right: node.p_tree1.get(),
             rank: node.rank,
         }
     }
 
     fn write(&mut self, i: P::Inx, knot: &TreeLinks<P::Inx>) {
         let node = self.get_inx_mut_unwrap(i);
-        node.p_back = knot.parent;
-        node.p_tree0 = knot.left;
-        node.p_tree1 = knot.right;
+        node.p_back = OptionalInx::of(knot.parent);
+        node.p_tree0 = OptionalInx::of(knot.left);
+        node.p_tree1 = OptionalInx::of(knot.right);
         node.rank = knot.rank;
     }
 
     fn set_parent(&mut self, i: P::Inx, parent: &Option<P::Inx>) {
-        self.get_inx_mut_unwrap(i).p_back = *parent;
+        self.get_inx_mut_unwrap(i).p_back = OptionalInx::of(*parent);
     }
 
     fn set_child(&mut self, i: P::Inx, side: Side, child: &Option<P::Inx>) {
         match side {
-            Side::Left => self.get_inx_mut_unwrap(i).p_tree0 = *child,
-            Side::Right => self.get_inx_mut_unwrap(i).p_tree1 = *child,
+            Side::Left => self.get_inx_mut_unwrap(i).p_tree0 = OptionalInx::of(*child),
+            Side::Right => self.get_inx_mut_unwrap(i).p_tree1 = OptionalInx::of(*child),
         }
     }
 

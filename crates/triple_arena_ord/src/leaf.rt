@@ -40,13 +40,7 @@ pub(crate) fn insert_leaf<P: PtrCore, T: Drop, S: OrdSlots<P, T>>(
 {
     let _capacity = chains.capacity();
     let (prev, next) = gap_beside(chains, *root, holder, side);
-    let node: SimpleOrdArenaNode<P, T> = IndexNode {
-        t,
-        p_back: Some(holder),
-        p_tree0: None,
-        p_tree1: None,
-        rank: 1,
-    };
+    let node: SimpleOrdArenaNode<P, T> = IndexNode::under(Some(holder), t);
     match chains.insert_in_gap_within_capacity(prev, next, node) {
         Ok(p) => {
             bring_in(chains, root, holder, side, p.inx());

@@ -34,6 +34,7 @@ mod node;
 mod ord_arena;
 mod pair;
 mod rebuild;
+mod rebuild_run;
 mod slots;
 mod uprooting;
 

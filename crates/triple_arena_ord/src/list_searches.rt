@@ -12,11 +12,15 @@ use crate::links::Links;
 use std::cmp::Ordering;
 use triple_arena::{PtrCore, PtrInxCore};
 use triple_arena_chain::IndexLink;
-use triple_arena_ptr::Probes;
+use triple_arena_ptr::{OptionalInx, Probes};
 use unreached::unreached;
 
 // Where a search along the list goes from a link that answered so, after it went `way`: nowhere, where it ends.
-fn onward<I: PtrInxCore, N>(link: &IndexLink<I, N>, way: Ordering, answer: Ordering) -> Option<I>
+fn onward<I: PtrInxCore<Word = W>, W: Copy, N>(
+    link: &IndexLink<OptionalInx<I, W>, N>,
+    way: Ordering,
+    answer: Ordering,
+) -> Option<I>
     ensures { option_map I.number result ≡ onward_of way answer (link_ends I.number link.now) }
 {
     match answer {

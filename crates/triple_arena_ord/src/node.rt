@@ -1,34 +1,73 @@
 //! A node of the tree, which holds its item.
+ghost use Rattle.std.specs.Prelude.{◌≡◌, None};
 
 use triple_arena::{Part, PtrCore, PtrInxCore};
 use triple_arena_chain::IndexLink;
+use triple_arena_ptr::OptionalInx;
 
-/// An item with its place in the tree: the indexes, of the type `I`, of the parent, of the left and of the right child, and
-/// the rank.
+/// An item with its place in the tree: the indexes of the parent, of the left and of the right
+/// child, each of the type `O`, an [`OptionalInx`], and the rank.
 #[derive(Clone, Drop)]
-pub struct IndexNode<I: PtrInxCore, T> {
-    /// The index of the left child.
-    pub p_tree0: Option<I>,
-    /// The index of the right child.
-    pub p_tree1: Option<I>,
+pub struct IndexNode<O, T> {
+    pub(crate) p_tree0: O,
+    pub(crate) p_tree1: O,
     /// The item.
     pub t: T,
-    /// The index of the parent.
-    pub p_back: Option<I>,
+    pub(crate) p_back: O,
     /// The rank: 1 for a node without children.
     pub rank: u8,
 }
 
 /// An item with its place in the tree, by the indexes of a pointer type.
-pub type SimpleOrdArenaNode<P, T> = IndexNode<<P as PtrCore>::Inx, T>;
+pub type SimpleOrdArenaNode<P, T> = IndexNode<
+    OptionalInx<<P as PtrCore>::Inx, <<P as PtrCore>::Inx as PtrInxCore>::Word>,
+    T,
+>;
+
+impl<I: PtrInxCore<Word = W>, W: Copy, T> IndexNode<OptionalInx<I, W>, T> {
+    // A node without children, under this parent if there is one.
+    pub(crate) fn under(parent: Option<I>, t: T) -> Self
+        ensures { result
+            ≡ record { p_tree0 = None; p_tree1 = None; t = t; p_back = parent; rank = 1 } }
+    {
+        IndexNode {
+            p_tree0: OptionalInx::none(),
+            p_tree1: OptionalInx::none(),
+            t,
+            p_back: OptionalInx::of(parent),
+            rank: 1,
+        }
+    }
+
+    /// The index of the parent.
+    pub fn p_back(&self) -> Option<I>
+        ensures { result ≡ self.now.p_back }
+    {
+        self.p_back.get()
+    }
+
+    /// The index of the left child.
+    pub fn p_tree0(&self) -> Option<I>
+        ensures { result ≡ self.now.p_tree0 }
+    {
+        self.p_tree0.get()
+    }
+
+    /// The index of the right child.
+    pub fn p_tree1(&self) -> Option<I>
+        ensures { result ≡ self.now.p_tree1 }
+    {
+        self.p_tree1.get()
+    }
+}
 
 /// The marker of the item of a link's node.
 pub struct NodeItem;
 
-impl<I: PtrInxCore, T> Part<IndexLink<I, IndexNode<I, T>>, T> for NodeItem {
+impl<O, T> Part<IndexLink<O, IndexNode<O, T>>, T> for NodeItem {
     ghost part = { λ link. link.t.t };
 
-    fn part_of(link: &IndexLink<I, IndexNode<I, T>>) -> &T {
+    fn part_of(link: &IndexLink<O, IndexNode<O, T>>) -> &T {
         &link.t.t
     }
 }

@@ -166,13 +166,7 @@ impl<P: PtrCore, T: Drop, S: OrdSlots<P, T>> SimpleOrdArena<P, T, S> {
         ensures ordered { IsOrdered P.Inx.number self.new }
         ensures err { OnErr result (self.new ≡ self.old) }
     {
-        let node: SimpleOrdArenaNode<P, T> = IndexNode {
-            t,
-            p_back: None,
-            p_tree0: None,
-            p_tree1: None,
-            rank: 1,
-        };
+        let node: SimpleOrdArenaNode<P, T> = IndexNode::under(None, t);
         let p = self.chains.insert_in_gap_within_capacity(None, None, node)?;
         let inx = p.inx();
         self.root = Some(inx);

@@ -15,14 +15,14 @@ use triple_arena_chain::{ChainArena, ChainArenaTrait};
 use unreached::unreached;
 
 // The rank of the root of a part of so many entries, if that of a greater one is `top`.
-fn rank_of_part(count: usize, top: u8) -> u8
+pub(crate) fn rank_of_part(count: usize, top: u8) -> u8
     ensures { result ≡ part_rank top count }
 {
     if count < 5 { count.min(3) as u8 } else { top }
 }
 
 // The rank of the root of so many entries, if they are more than four.
-fn top_rank(count: usize) -> u8
+pub(crate) fn top_rank(count: usize) -> u8
     ensures top { IsTopRank count result }
 {
     let mut exponent = 0;

@@ -6,6 +6,8 @@ pub mod InvalidationOption
 pub mod InvalidationResult
 pub mod NonZeroUsizeIterator
 pub mod NonZeros
+pub mod OptionLaws
 pub mod Pointer
 pub mod Recast
 pub mod RecastLaws
+pub mod Words

@@ -57,6 +57,7 @@ mod hexadecimal;
 mod indexes;
 mod invalidation;
 mod nzusize;
+mod optional_inx;
 mod pointer;
 mod pointer_text;
 mod probes;
@@ -71,8 +72,10 @@ pub use errors::{
     AllocError, ChainInsertionError, DirectInsertionError, GetDisjointMutError,
     MaxCapacityReductionError, NotWithinCapacityError, OrdInsertionError, ReallocationError,
 };
+pub use indexes::{U64Word, UsizeWord};
 pub use invalidation::{InvalidationOption, InvalidationResult};
 pub use nzusize::{IntoNonZeroUsizeIterator, NonZeroUsizeIterator, nzusize_iter};
+pub use optional_inx::OptionalInx;
 pub use pointer::{Pointer, PtrKind};
 pub use pointer_text::fmt_pointer;
 pub use probes::Probes;

@@ -1,5 +1,5 @@
 //! What an index, a generation and a pointer are.
-ghost use Rattle.std.specs.Prelude.{◌≡◌, ℕ, ◌<◌, ◌≤◌, ◌^◌, ◌==◌, ◌&&◌, ◌↔◌, List, Option, Some, IsNone, IfSome};
+ghost use Rattle.std.specs.Prelude.{◌≡◌, ℕ, ◌<◌, ◌≤◌, ◌^◌, ◌==◌, ◌&&◌, ◌↔◌, List, Option, Some, None, IsNone, IfSome};
 ghost use Rattle.std.specs.Ordering.{nat_cmp, on, then_cmp};
 ghost use Rattle.std.specs.Fmt.{WritesOnOk};
 ghost use Rattle.std.specs.Int.NonZero.{non_zero_usize_get};
@@ -57,6 +57,9 @@ pub trait PtrGenCore: Copy + PartialEq + Drop {
 
 /// An index, from 1 to a greatest one. [`PtrInx`] stands above it, and asks that it is ordered, hashed and shown too.
 pub trait PtrInxCore: Copy + PartialEq + Drop {
+    /// A word as wide as the index, which holds an index or none: [`crate::OptionalInx`].
+    type Word: Copy + Drop;
+
     ghost number: { Self → ℕ };
 
     // The greatest index of the type.
@@ -80,6 +83,29 @@ pub trait PtrInxCore: Copy + PartialEq + Drop {
     /// The index that an arena is least likely to hold: `max_index`.
     fn best_effort_invalid() -> Self
         ensures { number result ≡ max_index_of greatest };
+
+    // What a word holds.
+    ghost held: { Self.Word → Option Self };
+
+    // The word that holds this.
+    ghost word: { Option Self → Self.Word };
+
+    /// The word that holds no index.
+    fn no_word() -> Self::Word
+        ensures { result ≡ word None };
+
+    /// The word that holds the index.
+    fn into_word(self) -> Self::Word
+        ensures { result ≡ word (Some self) };
+
+    /// The index that the word holds, or `None` if it holds none.
+    fn from_word(word_raw: Self::Word) -> Option<Self>
+        ensures { result ≡ held word_raw };
+
+    // Each word holds one thing, and each thing has its word.
+    ghost word_held: { (w : Self.Word) → word (held w) ≡ w };
+
+    ghost held_word: { (o : Option Self) → held (word o) ≡ o };
 
     /// Writes the index in lower-case hexadecimal digits without a prefix.
     fn fmt_hex<W: fmt::Write>(&self, f: &mut fmt::Formatter<W>) -> fmt::Result

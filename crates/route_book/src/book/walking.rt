@@ -18,7 +18,7 @@ use triple_arena::ArenaTrait;
 use triple_arena_chain::ChainSlots;
 use triple_arena_chain::chain_iterators::IterChain;
 use triple_arena_ord::{OrdSlots, SimpleOrdArena};
-use triple_arena_ptr::PtrCore;
+use triple_arena_ptr::{PtrCore, PtrInxCore};
 use unreached::unreached;
 
 /// The stops of a route from one of them on, seen as the list of those that are left: to the end and then backwards from the
@@ -28,6 +28,7 @@ pub struct Walk<'a, P: PtrCore, S: OrdSlots<P, Place>, C: ChainSlots<P, Stop<P>>
 where
     P: 'a,
     P::Inx: 'a,
+    <P::Inx as PtrInxCore>::Word: 'a,
     P::Gen: 'a,
 {
     stops: IterChain<'a, P, Stop<P>, C>,
@@ -38,6 +39,7 @@ impl<'a, P: PtrCore, S: OrdSlots<P, Place>, C: ChainSlots<P, Stop<P>>> Model for
 where
     P: 'a,
     P::Inx: 'a,
+    <P::Inx as PtrInxCore>::Word: 'a,
     P::Gen: 'a,
 {
     ghost use Rattle.std.specs.Prelude.{List, map};
@@ -55,6 +57,7 @@ impl<'a, P: PtrCore, S: OrdSlots<P, Place>, C: ChainSlots<P, Stop<P>>> Iterator
 where
     P: 'a,
     P::Inx: 'a,
+    <P::Inx as PtrInxCore>::Word: 'a,
     P::Gen: 'a,
 {
     ghost use Rattle.route_lines.specs.Calls.{listed_stop};

@@ -61,11 +61,11 @@ where
         return;
     }
     let first = arena.get_inx_unwrap(i);
-    let first_prev = swapped(first.prev, i, j);
-    let first_next = swapped(first.next, i, j);
+    let first_prev = swapped(first.prev(), i, j);
+    let first_next = swapped(first.next(), i, j);
     let second = arena.get_inx_unwrap(j);
-    let second_prev = swapped(second.prev, i, j);
-    let second_next = swapped(second.next, i, j);
+    let second_prev = swapped(second.prev(), i, j);
+    let second_next = swapped(second.next(), i, j);
     arena.swap_inx(i, j);
     relink(arena, Some(i), second_next, Some(i), second_prev);
     relink(arena, Some(j), first_next, Some(j), first_prev);

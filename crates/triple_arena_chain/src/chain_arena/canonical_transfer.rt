@@ -24,6 +24,7 @@ use triple_arena::{
     Advancer, Arena, ArenaInsertTrait, ArenaTrait, InvalidationOption, PtrCore, PtrInxCore,
     ReallocationError,
 };
+use triple_arena_ptr::OptionalInx;
 
 // Takes the link at `i`, which is live, out of an arena, and leaves the interlinks of all others as they are. It answers
 // the pointer, the value with what its removal tells, and the next index.
@@ -50,7 +51,7 @@ where
         Some(taken) => {
             let ((generation, link), wrapped) = taken;
             let from = Q::_from_raw(i, generation);
-            let next = link.next;
+            let next = link.next();
             if wrapped {
                 (from, InvalidationOption::GenerationOverflow(link.t), next)
             } else {
@@ -123,7 +124,7 @@ where
         Some(j) => {
             if is_one(j, start) {
                 if let Some(link) = target.get_inx_mut(first) {
-                    link.prev = Some(last);
+                    link.prev = OptionalInx::of(Some(last));
                 }
                 None
             } else {
@@ -185,8 +186,8 @@ where
             append_link(
                 target,
                 IndexLink {
-                    prev: last,
-                    next,
+                    prev: OptionalInx::of(last),
+                    next: OptionalInx::of(next),
                     t,
                 },
             );

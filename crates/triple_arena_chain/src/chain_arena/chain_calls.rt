@@ -51,7 +51,7 @@ impl<P: PtrCore, T: Drop, S: ChainSlots<P, T>> ChainArenaTrait<P, T> for ChainAr
     fn get_link(&self, p: P) -> Option<Link<P, &T>> {
         match self.arena.get(p) {
             Some(link) => Some(Link::new(
-                (self.ptr_at(link.prev), self.ptr_at(link.next)),
+                (self.ptr_at(link.prev()), self.ptr_at(link.next())),
                 &link.t,
             )),
             None => None,
@@ -162,8 +162,8 @@ impl<P: PtrCore, T: Drop, S: ChainSlots<P, T>> ChainArenaTrait<P, T> for ChainAr
     fn remove_link_no_gen(&mut self, p: P) -> InvalidationResult<LinkNoGen<P, T>> {
         match self.arena.get(p) {
             Some(link) => {
-                let prev = link.prev;
-                let next = link.next;
+                let prev = link.prev();
+                let next = link.next();
                 relink(&mut self.arena, prev, next, next, prev);
                 self.arena.remove(p)
             }
@@ -177,8 +177,8 @@ impl<P: PtrCore, T: Drop, S: ChainSlots<P, T>> ChainArenaTrait<P, T> for ChainAr
     ) -> InvalidationResult<(P::Gen, LinkNoGen<P, T>)> {
         match self.arena.get_inx(i) {
             Some((_, link)) => {
-                let before = link.prev;
-                let after = link.next;
+                let before = link.prev();
+                let after = link.next();
                 relink(&mut self.arena, before, after, after, before);
                 self.arena.remove_inx(i)
             }

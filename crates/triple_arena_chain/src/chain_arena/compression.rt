@@ -49,7 +49,7 @@ where
         ≡ next_at (ends_in P.Inx.number arena.now) (P.Inx.number i) }
 {
     match arena.get_inx(i) {
-        Some((_, link)) => link.next,
+        Some((_, link)) => link.next(),
         None => None,
     }
 }
@@ -68,7 +68,7 @@ where
 {
     match at {
         Some(i) => match arena.get_inx(i) {
-            Some((_, link)) => link.prev,
+            Some((_, link)) => link.prev(),
             None => None,
         },
         None => None,

@@ -12,8 +12,8 @@ ghost use Rattle.triple_arena_chain.specs.Lists.{Chain, IsChainOf};
 ghost use Rattle.triple_arena_chain.specs.Values.{room_in};
 
 use crate::chain_arena::link_copies::copy_links;
-use crate::{ChainArena, ChainSlots, LinkNoGen};
-use triple_arena::{AllocError, Arena, ArenaCloneFromWith, PtrCore, ReallocationError};
+use crate::{ChainArena, ChainSlots, LinkCloneSource, LinkNoGen};
+use triple_arena::{AllocError, Arena, PtrCore, PtrInxCore, ReallocationError};
 
 impl<P: PtrCore, T: Drop, S: ChainSlots<P, T>> ChainArena<P, T, S> {
     /// Makes this arena a copy of `source`: with its pointers, its interlinks and its counter, each value what `map` makes
@@ -26,80 +26,49 @@ impl<P: PtrCore, T: Drop, S: ChainSlots<P, T>> ChainArena<P, T, S> {
     ///
     /// It also answers `AllocError` where `map` refused, and calls it no more. The arena then has room for the copy, no
     /// link, and the counter that a removal of all at once leaves.
-    pub fn clone_from_with<U, R, F>(
-        &mut self,
-        source: &ChainArena<P, U, R>,
-        map: F,
-    ) -> Result<(), ReallocationError>
+    pub fn clone_from_with<A, F>(&mut self, source: &A, map: F) -> Result<(), ReallocationError>
     where
-        U: Drop,
-        R: ChainSlots<P, U>,
-        F: FnMut(P, &LinkNoGen<P, U>) -> Result<T, AllocError>,
+        A: LinkCloneSource<P>,
+        F: FnMut(P, &A::Link) -> Result<T, AllocError>,
         requires { F.IsAlwaysCallable map }
         ensures mapped { OnOk result (IsMappedCopy P.index P.generation F.step map
-            (live_entries source.now) (listed_values self.new)) }
+            (A.Links.live_entries (A.links source.now)) (listed_values self.new)) }
         ensures linked { OnOk result ((k : ℕ)
-            → ends_in P.Inx.number self.new k ≡ ends_in P.Inx.number source.now k) }
-        ensures lists { OnOk result ((chain : Chain) → IsChainOf (ends_in P.Inx.number source.now) chain
+            → ends_in P.Inx.number self.new k ≡ A.ends source.now k) }
+        ensures lists { OnOk result ((chain : Chain) → IsChainOf (A.ends source.now) chain
             → IsChainOf (ends_in P.Inx.number self.new) chain) }
         ensures copied { OnOk result (IsCopy values_in live_count some_counter room_in
-            (values_in source.now) (live_count source.now) (last_listed (live_entries source.now))
-            (some_counter source.now) self.old self.new) }
+            (A.Links.entry_at (A.links source.now)) (A.Links.live_count (A.links source.now))
+            (last_listed (A.Links.live_entries (A.links source.now)))
+            (A.Links.counter (A.links source.now)) self.old self.new) }
         ensures exact { OnOk result (self.new
-            ≡ copied self.old (some_counter source.now) (live_entries self.new)) }
-        ensures succeeds { last_listed (live_entries source.now) ≤ capacity_of (room_in self.old)
-            → NeverRefuses F.step → IsOk result }
+            ≡ copied self.old (A.Links.counter (A.links source.now)) (live_entries self.new)) }
+        ensures succeeds { last_listed (A.Links.live_entries (A.links source.now))
+            ≤ capacity_of (room_in self.old) → NeverRefuses F.step → IsOk result }
         ensures beyond { IsErrOf result ReallocationError.BeyondMaxCapacity
-            ↔ IsBeyond (room_in self.old).limit (last_listed (live_entries source.now)) }
+            ↔ IsBeyond (room_in self.old).limit
+            (last_listed (A.Links.live_entries (A.links source.now))) }
         ensures kept { IsErrOf result ReallocationError.BeyondMaxCapacity → self.new ≡ self.old }
         ensures unmade { IsErrOf result ReallocationError.AllocError
             → IsUnmadeCopy values_in live_count some_counter room_in S.takes_memory
-            P.Gen.last (last_listed (live_entries source.now))
-            (λ c. cleared P.Gen.last (reallocated c (last_listed (live_entries source.now))))
-            (IsRefusedCopy P.index P.generation F.step map (live_entries source.now))
+            P.Gen.last (last_listed (A.Links.live_entries (A.links source.now)))
+            (λ c. cleared P.Gen.last
+            (reallocated c (last_listed (A.Links.live_entries (A.links source.now)))))
+            (IsRefusedCopy P.index P.generation F.step map
+            (A.Links.live_entries (A.links source.now)))
             self.old self.new }
         ensures formed { IsChained P.Inx.number self.new }
     {
         copy_links::<
             P,
             P::Inx,
-            U,
+            <P::Inx as PtrInxCore>::Word,
+            A::Link,
             T,
-            Arena<P, LinkNoGen<P, U>, R>,
+            A::Links,
             Arena<P, LinkNoGen<P, T>, S>,
             F,
-        >(&mut self.arena, &source.arena, map)
-    }
-
-    /// Makes `target` a copy of this arena: with its pointers, each value what `map` makes of the link there, and with its
-    /// counter where `target` has one. It answers what `clone_from_with` of `target` does.
-    pub fn clone_to_arena<U, A, F>(&self, target: &mut A, map: F) -> Result<(), ReallocationError>
-    where
-        U: Drop,
-        A: ArenaCloneFromWith<P, U>,
-        F: FnMut(P, &LinkNoGen<P, T>) -> Result<U, AllocError>,
-        requires { F.IsAlwaysCallable map }
-        ensures mapped { OnOk result (IsMappedCopy P.index P.generation F.step map
-            (live_entries self.now) (A.live_entries target.new)) }
-        ensures copied { OnOk result (IsCopy A.entry_at A.live_count A.counter A.room
-            (entry_at self.now) (live_count self.now) (last_listed (live_entries self.now))
-            (some_counter self.now) target.old target.new) }
-        ensures exact { OnOk result (target.new
-            ≡ A.copied target.old (some_counter self.now) (A.live_entries target.new)) }
-        ensures succeeds { last_listed (live_entries self.now) ≤ capacity_of (A.room target.old)
-            → NeverRefuses F.step → IsOk result }
-        ensures beyond { IsErrOf result ReallocationError.BeyondMaxCapacity
-            ↔ IsBeyond (A.room target.old).limit (last_listed (live_entries self.now)) }
-        ensures kept { IsErrOf result ReallocationError.BeyondMaxCapacity → target.new ≡ target.old }
-        ensures unmade { IsErrOf result ReallocationError.AllocError
-            → IsUnmadeCopy A.entry_at A.live_count A.counter A.room A.takes_memory
-            P.Gen.last (last_listed (live_entries self.now))
-            (λ s. A.cleared (A.reallocated s (last_listed (live_entries self.now))))
-            (IsRefusedCopy P.index P.generation F.step map (live_entries self.now))
-            target.old target.new }
-        ensures formed { A.is_formed target.new }
-    {
-        target.clone_from_with(&self.arena, map)
+        >(&mut self.arena, source.links(), map)
     }
 }
 

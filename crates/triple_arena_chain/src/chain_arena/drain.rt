@@ -54,7 +54,8 @@ impl<P: PtrCore, T: Drop, S: ChainSlots<P, T>> ChainArena<P, T, S> {
         ensures stays { IfSome result (λ d. DrainKeepsAlong P.Inx.number P.Gen.last P.index P.generation d) }
         ensures in_order { IfSome result (λ d. DrainGoesAlong P.Inx.number P.Gen.last P.index P.generation d) }
         ensures* none { sem 𝓛 (RestsIfNone
-            (the_row P.row T.row S.row P.Inx.row P.Gen.row S.Alloc.row P.PtrCore P.Inx.PtrInxCore.own P.Inx.PartialEq P.Gen.PtrGenCore.own P.Gen.PartialEq
+            (the_row P.row T.row S.row P.Inx.row P.Gen.row P.Inx.Word.row S.Alloc.row
+            P.PtrCore P.Inx.PtrInxCore.own P.Inx.PartialEq P.Gen.PtrGenCore.own P.Gen.PartialEq
             S.NonZeroInxGenericStack) self.entry drain_lender result (λ a. a ≡ self.old)) }
     {
         // The interlinks agree.

@@ -26,7 +26,8 @@ impl<P: PtrCore, T: Drop, S: ChainSlots<P, T>> ChainArena<P, T, S> {
         ensures place { IfOk result (λ e. place_among P.index P.generation P.Inx.number self.old kind
             ≡ Some (entry_place P.Inx.number e)) }
         ensures* err { sem 𝓛 (RestsIfErr
-            (the_row P.row T.row S.row P.Inx.row P.Gen.row S.Alloc.row P.PtrCore P.Inx.PtrInxCore.own P.Inx.PartialEq P.Gen.PtrGenCore.own P.Gen.PartialEq
+            (the_row P.row T.row S.row P.Inx.row P.Gen.row P.Inx.Word.row S.Alloc.row
+            P.PtrCore P.Inx.PtrInxCore.own P.Inx.PartialEq P.Gen.PtrGenCore.own P.Gen.PartialEq
             S.NonZeroInxGenericStack) self.entry entry_lender result (λ a. a ≡ self.old)) }
     {
         self.entry_insert_reallocating(kind)

@@ -22,7 +22,7 @@ fn goes_back<P: PtrCore, T: Drop, S: ChainSlots<P, T>>(
         return true;
     };
     match arena.get_inx(at) {
-        Some((_, link)) => match link.prev {
+        Some((_, link)) => match link.prev() {
             Some(prev) => prev == i,
             None => false,
         },
@@ -43,7 +43,7 @@ fn goes_on<P: PtrCore, T: Drop, S: ChainSlots<P, T>>(
         return true;
     };
     match arena.get_inx(at) {
-        Some((_, link)) => match link.next {
+        Some((_, link)) => match link.next() {
             Some(next) => next == i,
             None => false,
         },
@@ -60,7 +60,9 @@ impl<P: PtrCore, T: Drop, S: ChainSlots<P, T>> ChainArena<P, T, S> {
         let mut links = arena.advancer();
         while let Some(p) = links.advance(arena) {
             if let Some(link) = arena.get(p) {
-                if !goes_back(arena, link.next, p.inx()) || !goes_on(arena, link.prev, p.inx()) {
+                if !goes_back(arena, link.next(), p.inx())
+                    || !goes_on(arena, link.prev(), p.inx())
+                {
                     return false;
                 }
             }

@@ -32,7 +32,8 @@ impl<P: PtrCore, T: Drop, S: ChainSlots<P, T>> IndexMut<P> for ChainArena<P, T, 
     fn index_mut(&mut self, p: P) -> &mut T
         requires { IsSome (value_if (P.generation p) (values_in self.old (P.index p))) }
         ensures* writes_back { sem 𝓛 (Lends
-            (the_row P.row T.row S.row P.Inx.row P.Gen.row S.Alloc.row P.PtrCore P.Inx.PtrInxCore.own P.Inx.PartialEq P.Gen.PtrGenCore.own P.Gen.PartialEq
+            (the_row P.row T.row S.row P.Inx.row P.Gen.row P.Inx.Word.row S.Alloc.row
+            P.PtrCore P.Inx.PtrInxCore.own P.Inx.PartialEq P.Gen.PtrGenCore.own P.Gen.PartialEq
             S.NonZeroInxGenericStack) T.row self.entry result
             (with_value_in self.old (P.index p))) }
         ensures value { value_if (P.generation p) (values_in self.old (P.index p)) ≡ Some result.now }

@@ -9,20 +9,21 @@ use crate::chain_arena::interlinks::join;
 use crate::place::Place;
 use crate::{ChainArena, ChainSlots, IndexLink};
 use triple_arena::{ArenaInsertEntries, ArenaInsertEntryTrait, PtrCore, PtrInxCore};
+use triple_arena_ptr::OptionalInx;
 use unreached::unreached;
 
 // The link for `t` at a place, where its own index is `i`.
 #[inline(always)]
-fn link_at<I: PtrInxCore, T>(place: Place<I>, i: I, t: T) -> IndexLink<I, T>
+fn link_at<I: PtrInxCore<Word = W>, W: Copy, T>(
+    place: Place<I>,
+    i: I,
+    t: T,
+) -> IndexLink<OptionalInx<I, W>, T>
     ensures { result ≡ link_for I.number place i t }
 {
     match place {
-        Place::Between(prev, next) => IndexLink { prev, next, t },
-        Place::OwnRing => IndexLink {
-            prev: Some(i),
-            next: Some(i),
-            t,
-        },
+        Place::Between(prev, next) => IndexLink::new((prev, next), t),
+        Place::OwnRing => IndexLink::new((Some(i), Some(i)), t),
     }
 }
 

@@ -6,6 +6,7 @@ ghost use Rattle.triple_arena_chain.specs.Links.{with_next_of, with_prev_of, joi
 use crate::place::Place;
 use crate::{ChainSlots, LinkNoGen};
 use triple_arena::{Arena, ArenaTrait, PtrCore};
+use triple_arena_ptr::OptionalInx;
 
 // Tells the proof that an arena is well-formed, as each one is. It does nothing.
 #[inline(always)]
@@ -27,7 +28,7 @@ pub(crate) fn set_next<P: PtrCore, T: Drop, S: ChainSlots<P, T>>(
     ensures { arena.new ≡ with_next_of P.Inx.number arena.old at next }
 {
     if let Some(i) = at {
-        arena.get_inx_mut_unwrap(i).next = next;
+        arena.get_inx_mut_unwrap(i).next = OptionalInx::of(next);
     }
 }
 
@@ -41,7 +42,7 @@ pub(crate) fn set_prev<P: PtrCore, T: Drop, S: ChainSlots<P, T>>(
     ensures { arena.new ≡ with_prev_of P.Inx.number arena.old at prev }
 {
     if let Some(i) = at {
-        arena.get_inx_mut_unwrap(i).prev = prev;
+        arena.get_inx_mut_unwrap(i).prev = OptionalInx::of(prev);
     }
 }
 

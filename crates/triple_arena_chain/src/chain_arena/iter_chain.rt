@@ -9,7 +9,7 @@ ghost use Rattle.triple_arena_chain.specs.Walks.{IsWalkFrom};
 use crate::chain_arena::walk::ChainPtrAdvancer;
 use crate::{ChainArena, ChainArenaTrait, ChainSlots, LinkNoGen};
 use std::marker::Model;
-use triple_arena::{Advancer, PtrCore};
+use triple_arena::{Advancer, PtrCore, PtrInxCore};
 
 /// The pointers and the links of one chain, from a link on to the end and then backwards from the link before it, or
 /// once round a ring: seen as the list of the entries that are left.
@@ -17,6 +17,7 @@ use triple_arena::{Advancer, PtrCore};
 pub struct IterChain<'a, P: PtrCore, T: Drop, S: ChainSlots<P, T>>
 where
     P::Inx: 'a,
+    <P::Inx as PtrInxCore>::Word: 'a,
 {
     chains: &'a ChainArena<P, T, S>,
     advancer: ChainPtrAdvancer<P>,
@@ -25,10 +26,11 @@ where
 impl<'a, P: PtrCore, T: Drop, S: ChainSlots<P, T>> Model for IterChain<'a, P, T, S>
 where
     P::Inx: 'a,
+    <P::Inx as PtrInxCore>::Word: 'a,
 {
     ghost use Rattle.std.specs.Prelude.{ℕ, List};
     ghost use Rattle.triple_arena.specs.Content.{entry_at};
-    ghost use Rattle.triple_arena_chain.specs.declared.link.IndexLink.{IndexLink};
+    ghost use Rattle.triple_arena_chain.specs.LinkShape.{IndexLink};
     ghost use Rattle.triple_arena_chain.specs.IterChains.{links_along};
     ghost use Rattle.triple_arena_chain.specs.Walks.{left_over, IsEnding};
 
@@ -43,6 +45,7 @@ where
 impl<'a, P: PtrCore, T: Drop, S: ChainSlots<P, T>> Iterator for IterChain<'a, P, T, S>
 where
     P::Inx: 'a,
+    <P::Inx as PtrInxCore>::Word: 'a,
 {
     type Item = (P, &'a LinkNoGen<P, T>);
 

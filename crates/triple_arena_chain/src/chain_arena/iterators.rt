@@ -7,7 +7,7 @@ ghost use Rattle.triple_arena_chain.specs.Listed.{listed_values};
 
 use crate::chain_iterators::{Iter, Ptrs, Vals};
 use crate::{ChainArena, ChainSlots};
-use triple_arena::PtrCore;
+use triple_arena::{PtrCore, PtrInxCore};
 
 impl<P: PtrCore, T: Drop, S: ChainSlots<P, T>> ChainArena<P, T, S> {
     /// The pointers to the links, in the order of the indexes.
@@ -35,6 +35,7 @@ impl<P: PtrCore, T: Drop, S: ChainSlots<P, T>> ChainArena<P, T, S> {
 impl<'a, P: PtrCore, T: Drop, S: ChainSlots<P, T>> IntoIterator for &'a ChainArena<P, T, S>
 where
     P::Inx: 'a,
+    <P::Inx as PtrInxCore>::Word: 'a,
 {
     type Item = (P, &'a T);
 

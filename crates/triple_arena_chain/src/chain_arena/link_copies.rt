@@ -12,11 +12,12 @@ ghost use Rattle.triple_arena_chain.specs.LinkCopies.{IsCopyMade, IsLinkedCopy};
 ghost use Rattle.triple_arena_chain.specs.Links.{prev_next_of};
 ghost use Rattle.triple_arena_chain.specs.Listed.{listed_value};
 
-use crate::IndexLink;
+use crate::{IndexLink, Neighbors};
 use triple_arena::{
     AllocError, Arena, ArenaCloneFromWith, ArenaCloneSource, ArenaSlots, PtrCore, PtrInxCore,
     ReallocationError,
 };
+use triple_arena_ptr::OptionalInx;
 
 // What becomes a copy of a source of the type `A`. It stands between the base's trait and `copy_links`, so that the closure
 // there is in a function that knows nothing of pointers and arenas: the check of its call grows with what is known.
@@ -106,23 +107,24 @@ where
 }
 
 // Makes `target` a copy of `source`, with the interlinks of its links, and with what `map` makes of each link as the value.
-pub(crate) fn copy_links<P, I, U, T, A, B, F>(
+pub(crate) fn copy_links<P, I, W, L, T, A, B, F>(
     target: &mut B,
     source: &A,
     mut map: F,
 ) -> Result<(), ReallocationError>
 where
     P: Copy,
-    I: PtrInxCore,
-    U: Drop,
+    I: PtrInxCore<Word = W>,
+    W: Copy,
+    L: Neighbors<I> + Drop,
     T: Drop,
-    B: CopiesFrom<P, IndexLink<I, U>, IndexLink<I, T>, A>,
-    F: FnMut(P, &IndexLink<I, U>) -> Result<T, AllocError>,
+    B: CopiesFrom<P, L, IndexLink<OptionalInx<I, W>, T>, A>,
+    F: FnMut(P, &L) -> Result<T, AllocError>,
     requires callable { F.IsAlwaysCallable map }
     requires no_more { ⊤ }
     ensures mapped { OnOk result (IsMappedCopy B.index B.generation F.step map
         (B.source_entries source.now) (list_map listed_value (B.entries target.new))) }
-    ensures linked { OnOk result (IsLinkedCopy (B.source_entries source.now)
+    ensures linked { OnOk result (IsLinkedCopy L.neighbors (B.source_entries source.now)
         (B.entries target.new)) }
     ensures copied { OnOk result (B.is_copied source.now target.old target.new) }
     ensures succeeds { B.fits source.now target.old → NeverRefuses F.step → IsOk result }
@@ -137,19 +139,15 @@ where
 {
     target.copy_from(
         source,
-        move |p, link| -> Result<IndexLink<I, T>, AllocError>
+        move |p, link| -> Result<IndexLink<OptionalInx<I, W>, T>, AllocError>
             requires { F.IsAlwaysCallable map }
             ensures given { IfOk result (λ made. F.step map.entry p link.entry (Ok made.t) map.exit) }
-            ensures linked { IfOk result (λ made. prev_next_of made ≡ prev_next_of link.now) }
+            ensures linked { IfOk result (λ made. prev_next_of made ≡ L.neighbors link.now) }
             ensures refused { IfErr result (λ error. F.step map.entry p link.entry (Err error) map.exit) }
             ensures again { F.IsAlwaysCallable map.exit }
         {
             match map(p, link) {
-                Ok(t) => Ok(IndexLink {
-                    prev: link.prev,
-                    next: link.next,
-                    t,
-                }),
+                Ok(t) => Ok(IndexLink::new(link.neighbors(), t)),
                 Err(refused) => Err(refused),
             }
         },

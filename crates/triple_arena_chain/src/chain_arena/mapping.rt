@@ -9,6 +9,7 @@ ghost use Rattle.triple_arena_chain.specs.Renaming.{IsLeftWithNext};
 
 use crate::IndexLink;
 use triple_arena::{ArenaTrait, InvalidationOption, PtrCore, PtrInxCore};
+use triple_arena_ptr::OptionalInx;
 
 // What `compress_with` does, with a clause that asks no more: the answer to a lone one would cost far more to state.
 fn compress_by<P, L, A, G>(arena: &mut A, reset: bool, map: G) -> InvalidationOption<()>
@@ -32,16 +33,17 @@ where
 }
 
 // Moves the links to the first indexes, each with what `map` makes of its value, and forgets the previous indexes.
-pub(crate) fn compact_links<P, I, T, A, F>(
+pub(crate) fn compact_links<P, I, W, T, A, F>(
     arena: &mut A,
     reset: bool,
     mut map: F,
 ) -> InvalidationOption<()>
 where
     P: PtrCore,
-    I: PtrInxCore,
+    I: PtrInxCore<Word = W>,
+    W: Copy,
     T: Drop,
-    A: ArenaTrait<P, IndexLink<I, T>>,
+    A: ArenaTrait<P, IndexLink<OptionalInx<I, W>, T>>,
     F: FnMut(P, T, P) -> T,
     requires callable { F.IsAlwaysCallable map }
     requires no_more { ⊤ }
@@ -58,14 +60,14 @@ where
     compress_by(
         arena,
         reset,
-        move |from, link, to| -> IndexLink<I, T>
+        move |from, link, to| -> IndexLink<OptionalInx<I, W>, T>
             requires { F.IsAlwaysCallable map }
             ensures step { F.step map.entry from link.t to result.t map.exit }
             ensures ends { (result.prev ≡ None) × (result.next ≡ link.next) }
             ensures again { F.IsAlwaysCallable map.exit }
         {
             IndexLink {
-                prev: None,
+                prev: OptionalInx::none(),
                 next: link.next,
                 t: map(from, link.t, to),
             }

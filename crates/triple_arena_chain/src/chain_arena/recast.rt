@@ -6,9 +6,11 @@ ghost use Rattle.triple_arena_chain.specs.LinkRecasting.{link_items, link_recast
 use crate::chain_arena::interlinks::recall_formed;
 use crate::{ChainArena, ChainSlots, IndexLink};
 use triple_arena::{ArenaTrait, PtrCore, PtrInxCore, Recast, Recaster};
+use triple_arena_ptr::OptionalInx;
 
 /// The items are those of the value.
-impl<N, I: PtrInxCore, T: Recast<N>> Recast<N> for IndexLink<I, T> {
+impl<N, I: PtrInxCore<Word = W>, W: Copy, T: Recast<N>> Recast<N>
+    for IndexLink<OptionalInx<I, W>, T> {
     ghost items = { link_items T.items };
 
     ghost recasted = { λ f link. link_recasted (T.recasted f) link };

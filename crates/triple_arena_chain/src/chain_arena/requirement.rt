@@ -18,7 +18,7 @@ impl<P: PtrCore, T: Drop, S: ChainSlots<P, T>> ChainArena<P, T, S> {
             ≡ ends_found P.Inx.number self.now (P.index p) (P.generation p) }
     {
         match self.arena.get(p) {
-            Some(link) => Some((link.prev, link.next)),
+            Some(link) => Some((link.prev(), link.next())),
             None => None,
         }
     }
@@ -29,7 +29,7 @@ impl<P: PtrCore, T: Drop, S: ChainSlots<P, T>> ChainArena<P, T, S> {
             ≡ ends_in P.Inx.number self.now (P.Inx.number i) }
     {
         match self.arena.get_inx(i) {
-            Some((_, link)) => Some((link.prev, link.next)),
+            Some((_, link)) => Some((link.prev(), link.next())),
             None => None,
         }
     }

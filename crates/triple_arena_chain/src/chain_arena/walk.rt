@@ -95,7 +95,7 @@ impl<P: PtrCore> ChainPtrAdvancer<P> {
         let i = self.at?;
         match chains.arena.get_inx(i) {
             Some((generation, link)) => {
-                self.go_on(chains, link.prev, link.next);
+                self.go_on(chains, link.prev(), link.next());
                 Some((P::_from_raw(i, generation), link))
             }
             None => {

@@ -9,7 +9,7 @@ ghost use Rattle.triple_arena_chain.specs.Chains.{first_or, last_or};
 ghost use Rattle.triple_arena_ord.specs.Ordered.{IsOrdered};
 ghost use Rattle.triple_arena_ord.specs.CanonicalLayout.{IsLaidInOrder};
 
-use crate::rebuild::rebuild;
+use crate::rebuild_run::rebuild_run;
 use crate::{OrdSlots, SimpleOrdArena};
 use std::num::NonZeroUsize;
 use triple_arena::{ArenaTrait, InvalidationOption, PtrCore, PtrInxCore};
@@ -43,7 +43,7 @@ impl<P: PtrCore, T: Drop, S: OrdSlots<P, T>> SimpleOrdArena<P, T, S> {
         let (first, last) = ends_of_run(self.chains.len());
         self.first = first;
         self.last = last;
-        self.root = rebuild(&mut self.chains, first);
+        self.root = rebuild_run(&mut self.chains);
         answer
     }
 }

@@ -10,7 +10,7 @@ ghost use Rattle.triple_arena_ord.specs.States.{drained_in};
 
 use crate::ord_arena::canonical_layout::ends_of_run;
 use crate::ord_arena::link_moves::move_items;
-use crate::rebuild::rebuild;
+use crate::rebuild_run::rebuild_run;
 use crate::{OrdSlots, SimpleOrdArena, SimpleOrdArenaNode};
 use triple_arena::{ArenaTrait, InvalidationOption, PtrCore, ReallocationError};
 use triple_arena_chain::ChainArena;
@@ -78,7 +78,7 @@ impl<P: PtrCore, T: Drop, S: OrdSlots<P, T>> SimpleOrdArena<P, T, S> {
         let (first, last) = ends_of_run(self.chains.len());
         self.first = first;
         self.last = last;
-        self.root = rebuild(&mut self.chains, first);
+        self.root = rebuild_run(&mut self.chains);
         Ok(())
     }
 }

@@ -16,46 +16,27 @@ ghost use Rattle.triple_arena_ord.specs.Ordered.{IsOrdered, order_in, entry_in, 
 
 use crate::ord_arena::link_copies::copy_items;
 use crate::{OrdSlots, SimpleOrdArena, SimpleOrdArenaNode};
-use triple_arena::{AllocError, ArenaCloneFromWith, ArenaTrait, PtrCore, ReallocationError};
-use triple_arena_chain::{ChainArena, ChainSlots, LinkNoGen};
+use triple_arena::{AllocError, Arena, ArenaTrait, PtrCore, ReallocationError};
+use triple_arena_chain::{ChainArena, ChainSlots, LinkCloneSource, LinkNoGen};
 
-impl<P: PtrCore, T: Drop, S: OrdSlots<P, T>> SimpleOrdArena<P, T, S> {
-    /// Makes `target` a copy of this arena: with its pointers, each value what `map` makes of the link there, whose value is
-    /// the node of the tree, and with its counter where `target` has one. `map` is called once for each entry, in the order of
-    /// the indexes. What `target` held is dropped, and its smallest free index is the next one to be taken.
-    ///
-    /// No memory is taken where the last live index is within the capacity of `target`, which then stays. Else `target`
-    /// first grows to exactly that index. It answers `BeyondMaxCapacity` where that is past the greatest capacity, and
-    /// `AllocError` where the memory was refused; `target` is then as it was, and `map` was not called.
-    ///
-    /// It also answers `AllocError` where `map` refused, and calls it no more. `target` then has room for the copy, no
-    /// entry, and the counter that `clear` leaves.
-    pub fn clone_to_arena<U, A, F>(&self, target: &mut A, map: F) -> Result<(), ReallocationError>
-    where
-        U: Drop,
-        A: ArenaCloneFromWith<P, U>,
-        F: FnMut(P, &LinkNoGen<P, SimpleOrdArenaNode<P, T>>) -> Result<U, AllocError>,
-        requires { F.IsAlwaysCallable map }
-        ensures mapped { OnOk result (IsMappedCopy P.index P.generation F.step map
-            (live_entries self.now.chains) (A.live_entries target.new)) }
-        ensures copied { OnOk result (IsCopy A.entry_at A.live_count A.counter A.room
-            (entry_at self.now.chains) (size_in self.now) (last_inx self.now)
-            (counter_in self.now) target.old target.new) }
-        ensures exact { OnOk result (target.new
-            ≡ A.copied target.old (counter_in self.now) (A.live_entries target.new)) }
-        ensures succeeds { last_inx self.now ≤ capacity_of (A.room target.old)
-            → NeverRefuses F.step → IsOk result }
-        ensures beyond { IsErrOf result ReallocationError.BeyondMaxCapacity
-            ↔ IsBeyond (A.room target.old).limit (last_inx self.now) }
-        ensures kept { IsErrOf result ReallocationError.BeyondMaxCapacity → target.new ≡ target.old }
-        ensures unmade { IsErrOf result ReallocationError.AllocError
-            → IsUnmadeCopy A.entry_at A.live_count A.counter A.room A.takes_memory
-            P.Gen.last (last_inx self.now) (λ s. A.cleared (A.reallocated s (last_inx self.now)))
-            (IsRefusedCopy P.index P.generation F.step map (live_entries self.now.chains))
-            target.old target.new }
-        ensures formed { A.is_formed target.new }
-    {
-        self.chains.clone_to_arena(target, map)
+/// [`clone_to_arena`](LinkCloneSource::clone_to_arena) makes an arena a copy of this one by a map
+/// that sees the links with their nodes.
+impl<P: PtrCore, T: Drop, S: OrdSlots<P, T>> LinkCloneSource<P> for SimpleOrdArena<P, T, S> {
+    ghost use Rattle.triple_arena_chain.specs.LinkCopyLaws.{listed_ends-is};
+    ghost use Rattle.triple_arena_chain.specs.Links.{ends_in};
+
+    type Link = LinkNoGen<P, SimpleOrdArenaNode<P, T>>;
+
+    type Links = Arena<P, LinkNoGen<P, SimpleOrdArenaNode<P, T>>, S>;
+
+    ghost links = { λ o. o.chains };
+
+    ghost ends = { λ o. ends_in P.Inx.number o.chains };
+
+    ghost linked = { λ o i. listed_ends-is P.Inx.number o.chains i };
+
+    fn links(&self) -> &Arena<P, LinkNoGen<P, SimpleOrdArenaNode<P, T>>, S> {
+        self.chains.links()
     }
 }
 
@@ -75,7 +56,9 @@ impl<P: PtrCore, T: Drop, S: OrdSlots<P, T>> SimpleOrdArena<P, T, S> {
         requires { F.IsAlwaysCallable map }
         ensures mapped { OnOk result (IsMappedCopy P.index P.generation F.step map
             (indexed self.now) (listed_values target.new)) }
-        ensures copied { OnOk result (IsChainCopy P.Inx.number self.now.chains target.old target.new) }
+        ensures copied { OnOk result (IsChainCopy P.Inx.number (entry_at self.now.chains)
+            (size_in self.now) (last_inx self.now) (counter_in self.now)
+            (ends_in P.Inx.number self.now.chains) target.old target.new) }
         ensures list { OnOk result (IsLinear (ends_in P.Inx.number target.new)
             (order_in P.Inx.number self.now)) }
         ensures succeeds { last_inx self.now ≤ capacity_of (chain_room target.old)
@@ -91,11 +74,15 @@ impl<P: PtrCore, T: Drop, S: OrdSlots<P, T>> SimpleOrdArena<P, T, S> {
             target.old target.new }
         ensures formed { IsChained P.Inx.number target.new }
     {
-        copy_items::<P, T, U, ChainArena<P, SimpleOrdArenaNode<P, T>, S>, ChainArena<P, U, R>, F>(
-            target,
-            &self.chains,
-            map,
-        )
+        copy_items::<
+            P,
+            LinkNoGen<P, SimpleOrdArenaNode<P, T>>,
+            T,
+            U,
+            ChainArena<P, SimpleOrdArenaNode<P, T>, S>,
+            ChainArena<P, U, R>,
+            F,
+        >(target, &self.chains, map)
     }
 }
 

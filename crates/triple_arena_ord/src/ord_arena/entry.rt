@@ -130,7 +130,8 @@ impl<P: PtrCore, T: SimpleOrdItem + Drop, S: OrdSlots<P, T>> SimpleOrdArena<P, T
         ensures same_reference { IfOk result (λ e. entry_lender e ≡ self.entry.ghost_name) }
         ensures arena { IfOk result (λ e. entry_arena e ≡ self.old) }
         ensures* err { sem 𝓛 (RestsIfErr
-            (the_row P.row T.row S.row P.Inx.row P.Gen.row S.Alloc.row P.PtrCore P.Inx.PtrInxCore.own P.Inx.PartialEq P.Gen.PtrGenCore.own P.Gen.PartialEq
+            (the_row P.row T.row S.row P.Inx.row P.Gen.row P.Inx.Word.row S.Alloc.row
+            P.PtrCore P.Inx.PtrInxCore.own P.Inx.PartialEq P.Gen.PtrGenCore.own P.Gen.PartialEq
             S.NonZeroInxGenericStack) self.entry entry_lender result (λ a. a ≡ self.old)) }
     {
         let Some(place) = self.place_for(kind) else {
@@ -160,7 +161,8 @@ impl<P: PtrCore, T: SimpleOrdItem + Drop, S: OrdSlots<P, T>> SimpleOrdArena<P, T
         ensures arena { IfOk result (λ e. IsInRoom P.Inx.number (room_for (entry_place P.Inx.number e)
             (size_in self.old) self.old.chains.room) self.old (entry_arena e)) }
         ensures* err { sem 𝓛 (RestsIfErr
-            (the_row P.row T.row S.row P.Inx.row P.Gen.row S.Alloc.row P.PtrCore P.Inx.PtrInxCore.own P.Inx.PartialEq P.Gen.PtrGenCore.own P.Gen.PartialEq
+            (the_row P.row T.row S.row P.Inx.row P.Gen.row P.Inx.Word.row S.Alloc.row
+            P.PtrCore P.Inx.PtrInxCore.own P.Inx.PartialEq P.Gen.PtrGenCore.own P.Gen.PartialEq
             S.NonZeroInxGenericStack) self.entry entry_lender result (λ a. a ≡ self.old)) }
     {
         let Some(place) = self.place_for(kind) else {
@@ -187,7 +189,8 @@ impl<P: PtrCore, T: SimpleOrdItem + Drop, S: OrdSlots<P, T>> SimpleOrdArena<P, T
         ensures arena { IfOk result (λ e. IsInRoom P.Inx.number (room_for (entry_place P.Inx.number e)
             (size_in self.old) self.old.chains.room) self.old (entry_arena e)) }
         ensures* err { sem 𝓛 (RestsIfErr
-            (the_row P.row T.row S.row P.Inx.row P.Gen.row S.Alloc.row P.PtrCore P.Inx.PtrInxCore.own P.Inx.PartialEq P.Gen.PtrGenCore.own P.Gen.PartialEq
+            (the_row P.row T.row S.row P.Inx.row P.Gen.row P.Inx.Word.row S.Alloc.row
+            P.PtrCore P.Inx.PtrInxCore.own P.Inx.PartialEq P.Gen.PtrGenCore.own P.Gen.PartialEq
             S.NonZeroInxGenericStack) self.entry entry_lender result (λ a. a ≡ self.old)) }
     {
         self.entry_insert_reallocating(kind)

@@ -8,7 +8,7 @@ use crate::ord_arena::walk::OrderedPtrAdvancer;
 use crate::{OrdSlots, SimpleOrdArena};
 use std::iter::FusedIterator;
 use std::marker::Model;
-use triple_arena::{ArenaTrait, PtrCore};
+use triple_arena::{ArenaTrait, PtrCore, PtrInxCore};
 
 /// The pointers and the items of the entries, from the first of the list to the last, seen as the list of the entries that
 /// are left. It tells how many these are.
@@ -16,6 +16,7 @@ use triple_arena::{ArenaTrait, PtrCore};
 pub struct Iter<'a, P: PtrCore, T: Drop, S: OrdSlots<P, T>>
 where
     P::Inx: 'a,
+    <P::Inx as PtrInxCore>::Word: 'a,
 {
     arena: &'a SimpleOrdArena<P, T, S>,
     advancer: OrderedPtrAdvancer<P>,
@@ -26,6 +27,7 @@ where
 impl<'a, P: PtrCore, T: Drop, S: OrdSlots<P, T>> Model for Iter<'a, P, T, S>
 where
     P::Inx: 'a,
+    <P::Inx as PtrInxCore>::Word: 'a,
 {
     ghost use Rattle.std.specs.Prelude.{◌≡◌, ℕ, List, length};
     ghost use Rattle.triple_arena_ord.specs.OrderedWalks.{entries_left};
@@ -40,6 +42,7 @@ where
 impl<'a, P: PtrCore, T: Drop, S: OrdSlots<P, T>> Iterator for Iter<'a, P, T, S>
 where
     P::Inx: 'a,
+    <P::Inx as PtrInxCore>::Word: 'a,
 {
     type Item = (P, &'a T);
 
@@ -63,6 +66,7 @@ where
 impl<'a, P: PtrCore, T: Drop, S: OrdSlots<P, T>> ExactSizeIterator for Iter<'a, P, T, S>
 where
     P::Inx: 'a,
+    <P::Inx as PtrInxCore>::Word: 'a,
 {
     fn len(&self) -> usize {
         self.left
@@ -72,6 +76,7 @@ where
 impl<'a, P: PtrCore, T: Drop, S: OrdSlots<P, T>> FusedIterator for Iter<'a, P, T, S>
 where
     P::Inx: 'a,
+    <P::Inx as PtrInxCore>::Word: 'a,
 {}
 
 impl<P: PtrCore, T: Drop, S: OrdSlots<P, T>> SimpleOrdArena<P, T, S> {
@@ -90,6 +95,7 @@ impl<P: PtrCore, T: Drop, S: OrdSlots<P, T>> SimpleOrdArena<P, T, S> {
 impl<'a, P: PtrCore, T: Drop, S: OrdSlots<P, T>> IntoIterator for &'a SimpleOrdArena<P, T, S>
 where
     P::Inx: 'a,
+    <P::Inx as PtrInxCore>::Word: 'a,
 {
     type Item = (P, &'a T);
 

@@ -16,6 +16,7 @@ ghost use Rattle.triple_arena_chain.specs.Values.{room_in};
 use crate::IndexNode;
 use triple_arena::{InvalidationOption, PtrCore, PtrInxCore, ReallocationError};
 use triple_arena_chain::{ChainArena, ChainSlots};
+use triple_arena_ptr::OptionalInx;
 
 // What takes over the links of a source of the type `A`. It stands between the chain arena's call and `move_items`, so that
 // the closure there is in a function that knows nothing of arenas: the check of its call grows with what is known.
@@ -147,7 +148,7 @@ pub(crate) trait HoldsItem<T: Drop> {
         ensures { item result ≡ t };
 }
 
-impl<I: PtrInxCore, T: Drop> HoldsItem<T> for IndexNode<I, T> {
+impl<I: PtrInxCore<Word = W>, W: Copy, T: Drop> HoldsItem<T> for IndexNode<OptionalInx<I, W>, T> {
     ghost item = { λ node. node.t };
 
     fn into_item(self) -> T {
@@ -155,13 +156,7 @@ impl<I: PtrInxCore, T: Drop> HoldsItem<T> for IndexNode<I, T> {
     }
 
     fn leaf(t: T) -> Self {
-        IndexNode {
-            t,
-            p_back: None,
-            p_tree0: None,
-            p_tree1: None,
-            rank: 1,
-        }
+        IndexNode::under(None, t)
     }
 }
 

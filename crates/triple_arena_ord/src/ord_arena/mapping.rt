@@ -3,26 +3,27 @@ ghost use Rattle.std.specs.Prelude.{◌≡◌, map as list_map};
 ghost use Rattle.triple_arena_ptr.specs.InvalidationOption.{overflowed};
 ghost use Rattle.triple_arena.specs.Changes.{IsCompressed};
 ghost use Rattle.triple_arena.specs.Compression.{compression_wraps, generation_of, value_of, IsMapped};
-ghost use Rattle.triple_arena_ord.specs.Indexed.{listed_item};
+ghost use Rattle.triple_arena_ord.specs.Copies.{listed_items};
 
-use crate::IndexNode;
-use triple_arena::{ArenaTrait, InvalidationOption, PtrCore, PtrInxCore};
+use crate::ord_arena::link_moves::HoldsItem;
+use triple_arena::{ArenaTrait, InvalidationOption, PtrCore};
 
 // Moves the nodes to the first indexes, each with what `map` makes of its item, and forgets the tree.
-pub(crate) fn compact_nodes<P, I, T, A, F>(
+pub(crate) fn compact_nodes<P, N, T, A, F>(
     arena: &mut A,
     reset: bool,
     mut map: F,
 ) -> InvalidationOption<()>
 where
     P: PtrCore,
-    I: PtrInxCore,
+    N: HoldsItem<T> + Drop,
     T: Drop,
-    A: ArenaTrait<P, IndexNode<I, T>>,
+    A: ArenaTrait<P, N>,
     F: FnMut(P, T, P) -> T,
     requires { F.IsAlwaysCallable map }
-    ensures mapped { IsMapped P.index P.generation F.step map (list_map listed_item (A.live_entries arena.old))
-        (list_map listed_item (A.live_entries arena.new)) }
+    ensures mapped { IsMapped P.index P.generation F.step map
+        (listed_items N.item (A.live_entries arena.old))
+        (listed_items N.item (A.live_entries arena.new)) }
     ensures overflow { overflowed result ≡ compression_wraps P.Gen.last reset (A.counter arena.old)
         (list_map generation_of (A.live_entries arena.old)) }
     ensures compressed { IsCompressed A.entry_at A.live_count A.counter A.room P.Gen.last
@@ -31,18 +32,10 @@ where
 {
     arena.compress_with(
         reset,
-        move |from, node, to| -> IndexNode<I, T>
+        move |from, node, to| -> N
             requires { F.IsAlwaysCallable map }
-            ensures step { F.step map.entry from node.t to result.t map.exit }
+            ensures step { F.step map.entry from (N.item node) to (N.item result) map.exit }
             ensures again { F.IsAlwaysCallable map.exit }
-        {
-            IndexNode {
-                t: map(from, node.t, to),
-                p_back: None,
-                p_tree0: None,
-                p_tree1: None,
-                rank: 1,
-            }
-        },
+        { N::leaf(map(from, node.into_item(), to)) },
     )
 }

@@ -3,9 +3,11 @@ ghost use Rattle.triple_arena_ord.specs.ItemRecasting.{node_items, node_recasted
 
 use crate::{IndexNode, OrdSlots, SimpleOrdArena};
 use triple_arena::{PtrCore, PtrInxCore, Recast, Recaster};
+use triple_arena_ptr::OptionalInx;
 
 /// What is renamed is what the item of the node holds. The place in the tree stays.
-impl<N, I: PtrInxCore, T: Recast<N>> Recast<N> for IndexNode<I, T> {
+impl<N, I: PtrInxCore<Word = W>, W: Copy, T: Recast<N>> Recast<N>
+    for IndexNode<OptionalInx<I, W>, T> {
     ghost items = { node_items T.items };
 
     ghost recasted = { λ f node. node_recasted (T.recasted f) node };

@@ -8,8 +8,8 @@ ghost use Rattle.triple_arena_chain.specs.Links.{ends_in};
 ghost use Rattle.triple_arena_ord.specs.Node.{knots_in};
 ghost use Rattle.triple_arena_ord.specs.Ordered.{IsOrdered, entry_in};
 ghost use Rattle.triple_arena_ord.specs.Removal.{IsEntryRemoved, ended};
-ghost use Rattle.triple_arena_chain.specs.declared.link.IndexLink.{IndexLink};
-ghost use Rattle.triple_arena_ord.specs.declared.node.IndexNode.{IndexNode};
+ghost use Rattle.triple_arena_chain.specs.LinkShape.{IndexLink};
+ghost use Rattle.triple_arena_ord.specs.NodeShape.{IndexNode};
 
 use crate::uprooting::take_entry;
 use crate::{OrdSlots, SimpleOrdArena, SimpleOrdArenaNode};

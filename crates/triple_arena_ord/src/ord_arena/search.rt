@@ -1,19 +1,21 @@
 //! Searches by key.
-ghost use Rattle.std.specs.Prelude.{◌≡◌, ◌+◌, ◌≤◌, IfSome};
+ghost use Rattle.std.specs.Prelude.{◌≡◌, ℕ, ◌+◌, ◌≤◌, IfSome, IsTrue};
 ghost use Rattle.std.specs.Option.{option_map};
+ghost use Rattle.std.specs.declared.cmp.Ordering.{Ordering as Way};
 ghost use Rattle.counted_search.specs.Searches.{most_comparisons};
 ghost use Rattle.rank_tree.specs.Tree.{rank_of};
 ghost use Rattle.triple_arena_ord.specs.Node.{knots_in};
 ghost use Rattle.rank_tree.specs.Search.{IsAnswer, IsFreeAt, asked_down};
 ghost use Rattle.triple_arena_ord.specs.Ordered.{IsOrdered, IsAscending, tree_in, size_in, asked_at};
 ghost use Rattle.triple_arena_ord.specs.Found.{IsFound, IsSimilar};
+ghost use Rattle.triple_arena_ord.specs.Spared.{spares};
 
 use crate::ord_arena::found::{found_at, similar_at};
 use crate::{OrdSlots, SimpleOrdArena, SimpleOrdItem};
 use std::cmp::Ordering;
 use std::mem;
 use triple_arena::{ArenaTrait, PtrCore};
-use triple_arena_ptr::Probes;
+use triple_arena_ptr::{OptionalInx, Probes};
 
 impl<P: PtrCore, T: SimpleOrdItem + Drop, S: OrdSlots<P, T>> SimpleOrdArena<P, T, S> {
     // Where a search by key ends, with the last answer.
@@ -25,11 +27,11 @@ impl<P: PtrCore, T: SimpleOrdItem + Drop, S: OrdSlots<P, T>> SimpleOrdArena<P, T
         ensures bound { probes.new ≤ probes.old + rank_of (tree_in P.Inx.number self.now) }
         ensures ordered { IsOrdered P.Inx.number self.now }
     {
-        let mut link = self.root;
+        let mut link = OptionalInx::of(self.root);
         let mut place = None;
         // Counted in a local, since a count behind a reference is written at each node.
         let mut count = mem::replace(probes, Probes::new());
-        'down: while let Some(i) = link {
+        'down: while let Some(i) = link.get() {
             count.tick();
             let node = self.chains.get_inx_unwrap(i);
             let left = node.p_tree0;
@@ -48,6 +50,27 @@ impl<P: PtrCore, T: SimpleOrdItem + Drop, S: OrdSlots<P, T>> SimpleOrdArena<P, T
         }
         *probes = count;
         place
+    }
+
+    /// Whether the bound on the comparisons of a search surely leaves one more than any search takes
+    /// here. If so, a caller may look at one entry before it searches. The rank of the root tells
+    /// it, at no comparison: the answer is yes if `2^h` is at most the number of entries, where h is
+    /// the half of that rank and 3.
+    pub fn spares_a_comparison(&self) -> bool
+        ensures told { result
+            ≡ spares (rank_of (tree_in P.Inx.number self.now)) (size_in self.now) }
+        ensures left { IsTrue result → (f : ℕ → Way)
+            → asked_down f (tree_in P.Inx.number self.now) + 1
+            ≤ most_comparisons (size_in self.now) }
+    {
+        let len = self.chains.len();
+        match self.root {
+            Some(root) => {
+                let half = (self.chains.get_inx_unwrap(root).rank as u32 + 3) / 2;
+                half < usize::BITS && len >> half != 0
+            }
+            None => false,
+        }
     }
 
     /// The pointer to an entry with an equal key; in a list whose keys ascend, exactly where there is one. Each comparison is a

@@ -20,7 +20,7 @@ build-left-requires g t c κs within =
     let number = g.P.Inx.PtrInxCore.number in
     let some : 1 ≤ c.args.count = omega arith in
     let p = parts (ends_in number c.args.chains.now) (option_map number c.args.cursor.now) c.args.count c.requires.0 c.requires.1 some in
-    (omega arith, (within.0, (within.1.0, (within.1.1.0, (within.1.1.1.0, (within.1.1.1.1.0, (within.1.1.1.1.1, (p.v, p.left))))))))
+    (omega arith, (within.0, (within.1.0, (within.1.1.0, (within.1.1.1.0, (within.1.1.1.1.0, (within.1.1.1.1.1.0, (within.1.1.1.1.1.1, (p.v, p.left)))))))))
 
 pub unreached-unreachable-requires : goal.unreached-unreachable-requires
 unreached-unreachable-requires g t c =
@@ -41,7 +41,7 @@ build-right-requires g t c κs within =
     let is : number c.in-Some.root ≡ p.i = cc came in
     let r = right_ahead number c.args.chains.now c.build-left.new.chains (option_map number c.args.cursor.now) (option_map number c.next_of.result) c.args.count
     (number c.in-Some.root) c.requires.0 c.requires.1.after c.build-left.ensures.keeps p is c.next_of.ensures in
-    (omega arith, (within.0, (within.1.0, (within.1.1.0, (within.1.1.1.0, (within.1.1.1.1.0, (within.1.1.1.1.1, (p.u, r.0))))))))
+    (omega arith, (within.0, (within.1.0, (within.1.1.0, (within.1.1.1.0, (within.1.1.1.1.0, (within.1.1.1.1.1.0, (within.1.1.1.1.1.1, (p.u, r.0)))))))))
 
 pub reparent-requires-clause-live : goal.reparent-requires-clause-live
 reparent-requires-clause-live g t c =

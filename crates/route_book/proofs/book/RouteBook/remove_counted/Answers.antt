@@ -1,11 +1,25 @@
 use Rattle.std.proofs.Common.{◌∙◌, ap, sym, subst}
 use Rattle.ticket_book.specs.Tickets.{Entry}
 use Rattle.route_book.specs.Book.{Book, as_book}
-use Rattle.route_book.specs.Removals.{IsReady}
-use Rattle.route_book.proofs.AfterPackLemmas.{ends_as, held, removed_ok, removed_so, state_so}
+use Rattle.route_book.specs.Removals.{IsReady, removal_wraps}
+use Rattle.route_book.proofs.AfterPackLemmas.{calm_ready, ends_as, held, removed_ok, removed_so, state_so}
 use Rattle.route_book.proofs.HoldLemmas.{lookup_given}
 use Rattle.route_book.proofs.OptionLemmas.{some_same}
 use Rattle.route_book.proofs.book.RouteBook.remove_counted.Goals as goal
+
+pub end_at-requires-clause-stands : goal.end_at-requires-clause-stands
+end_at-requires-clause-stands g c =
+    let number = g.P.Inx.PtrInxCore.number in
+    let last = g.P.Gen.PtrGenCore.last in
+    let there = c.in-Some.ensures.found in
+    let own = c.pack_if.ensures.stand (number c.in-Some.at) there.0 there.1 in
+    let kind = own.1.1.1 ∙ ap (λ (e : Entry). e.kind) (some_same (sym there.1 ∙ c.entry.ensures)) ∙ sym c.kind.ensures in
+    let ready = as_book c.self.inside.held.state c.pack_if.new.places c.pack_if.new.stops c.pack_if.new.marks in
+    let pack = subst (λ (b : Book g.row.P-Inx.Denot). IsReady number last c.removal_wraps-needed.result
+    c.args.counts.now.looks c.pack_if.new.looks b ready) c.self.view_is c.pack_if.ensures.ready in
+    let calm = calm_ready number last c.args.self.now ready c.args.counts.now.looks c.pack_if.new.looks c.kind.result
+    c.removal_wraps-needed.result c.removal_wraps-needed.ensures pack c.self.invariant.counts in
+    (own.0, own.1.0, ap (removal_wraps last ready) kind ∙ calm)
 
 pub returns-clause-result : goal.returns-clause-result
 returns-clause-result g c =

@@ -2,15 +2,15 @@ use Rattle.std.proofs.Common.{rules, Some}
 use Rattle.triple_arena.specs.Content.{cleared, reallocated}
 use Rattle.triple_arena.specs.Copy.{last_listed}
 use Rattle.triple_arena.specs.LiveEntries.{live_entries}
-use Rattle.triple_arena_chain.specs.Links.{IsChained}
+use Rattle.triple_arena_chain.specs.Links.{ends_in, IsChained}
 use Rattle.triple_arena_chain.specs.Listed.{listed_value}
 use Rattle.triple_arena_chain.proofs.LinkCopyLemmas.{listed_as_value, values_unmade, ends-cloned, chained_after, on_ok, chains_where}
 use Rattle.triple_arena_chain.proofs.chain_arena.ChainArena.clone_from.Goals as goal
 
 chained : (g : _) (c : goal.After-clone_from g) → IsChained g.P.Inx.PtrInxCore.number c.clone_from.new.self
 chained g c =
-    chained_after g.P.Inx.PtrInxCore.number c.source.inside.arena c.self.inside.arena c.clone_from.new.self
-    (λ d. cleared g.P.Gen.PtrGenCore.last (reallocated d (last_listed (live_entries c.source.inside.arena)))) _ _ _ _ c.clone_from.result c.source.invariant
+    chained_after g.P.Inx.PtrInxCore.number (ends_in g.P.Inx.PtrInxCore.number c.source.inside.arena) c.self.inside.arena c.clone_from.new.self
+    (λ d. cleared g.P.Gen.PtrGenCore.last (reallocated d (last_listed (live_entries c.source.inside.arena)))) _ _ _ _ c.clone_from.result c.source.invariant.agreed
     c.self.invariant c.clone_from.ensures.formed
     (on_ok c.clone_from.result (ends-cloned g.P.Inx.PtrInxCore.number c.source.inside.arena c.self.inside.arena c.clone_from.new.self (Some c.source.inside.arena.counter))
     c.clone_from.ensures.exact)

@@ -1,4 +1,6 @@
-use Rattle.std.proofs.Common.{Some, sym, ◌∙◌}
+use Rattle.std.proofs.Common.{Some, sym, ap, ◌∙◌}
+use Rattle.std.specs.Option.{option_map}
+use Rattle.triple_arena_chain.specs.CanonicalLayout.{swapped_index}
 use Rattle.triple_arena_chain.proofs.PassLemmas.{live_ends}
 use Rattle.triple_arena_chain.proofs.SwappedLinkLemmas.{both_keep, second_there, prev_there, next_there, links_swapped, alike_after}
 use Rattle.triple_arena_chain.proofs.GatheredLemmas.{moved_itself}
@@ -34,7 +36,7 @@ relink-requires-3-clause-before g c =
     (prev_there g.P.Inx.PtrInxCore.number c.args.arena.now c.swap_inx.new.self c.args.i c.args.j c.requires.chained
     (sym (live_ends g.P.Inx.PtrInxCore.number c.args.arena.now (g.P.Inx.PtrInxCore.number c.args.i)) ∙ c.requires.i_is_live)
     (sym (live_ends g.P.Inx.PtrInxCore.number c.args.arena.now (g.P.Inx.PtrInxCore.number c.args.j)) ∙ c.requires.j_is_live) c.swap_inx.ensures.exchanged.entries
-    (g.P.Inx.PtrInxCore.number c.args.j) _ c.swapped-second_prev.result c.get_inx_unwrap-second.ensures c.swapped-second_prev.ensures))
+    (g.P.Inx.PtrInxCore.number c.args.j) _ c.swapped-second_prev.result c.get_inx_unwrap-second.ensures (c.swapped-second_prev.ensures ∙ ap (λ o. option_map (swapped_index (g.P.Inx.PtrInxCore.number c.args.i) (g.P.Inx.PtrInxCore.number c.args.j)) (option_map g.P.Inx.PtrInxCore.number o)) c.prev-2.ensures)))
 
 pub relink-requires-3-clause-after : goal.relink-requires-3-clause-after
 relink-requires-3-clause-after g c =
@@ -45,7 +47,7 @@ relink-requires-3-clause-after g c =
     (next_there g.P.Inx.PtrInxCore.number c.args.arena.now c.swap_inx.new.self c.args.i c.args.j c.requires.chained
     (sym (live_ends g.P.Inx.PtrInxCore.number c.args.arena.now (g.P.Inx.PtrInxCore.number c.args.i)) ∙ c.requires.i_is_live)
     (sym (live_ends g.P.Inx.PtrInxCore.number c.args.arena.now (g.P.Inx.PtrInxCore.number c.args.j)) ∙ c.requires.j_is_live) c.swap_inx.ensures.exchanged.entries
-    (g.P.Inx.PtrInxCore.number c.args.j) _ c.swapped-second_next.result c.get_inx_unwrap-second.ensures c.swapped-second_next.ensures))
+    (g.P.Inx.PtrInxCore.number c.args.j) _ c.swapped-second_next.result c.get_inx_unwrap-second.ensures (c.swapped-second_next.ensures ∙ ap (λ o. option_map (swapped_index (g.P.Inx.PtrInxCore.number c.args.i) (g.P.Inx.PtrInxCore.number c.args.j)) (option_map g.P.Inx.PtrInxCore.number o)) c.next-2.ensures)))
 
 pub relink-requires-4-clause-before : goal.relink-requires-4-clause-before
 relink-requires-4-clause-before g c =
@@ -58,7 +60,7 @@ relink-requires-4-clause-before g c =
     (prev_there g.P.Inx.PtrInxCore.number c.args.arena.now c.swap_inx.new.self c.args.i c.args.j c.requires.chained
     (sym (live_ends g.P.Inx.PtrInxCore.number c.args.arena.now (g.P.Inx.PtrInxCore.number c.args.i)) ∙ c.requires.i_is_live)
     (sym (live_ends g.P.Inx.PtrInxCore.number c.args.arena.now (g.P.Inx.PtrInxCore.number c.args.j)) ∙ c.requires.j_is_live) c.swap_inx.ensures.exchanged.entries
-    (g.P.Inx.PtrInxCore.number c.args.i) _ c.swapped-first_prev.result c.get_inx_unwrap-first.ensures c.swapped-first_prev.ensures)))
+    (g.P.Inx.PtrInxCore.number c.args.i) _ c.swapped-first_prev.result c.get_inx_unwrap-first.ensures (c.swapped-first_prev.ensures ∙ ap (λ o. option_map (swapped_index (g.P.Inx.PtrInxCore.number c.args.i) (g.P.Inx.PtrInxCore.number c.args.j)) (option_map g.P.Inx.PtrInxCore.number o)) c.prev.ensures))))
 
 pub relink-requires-4-clause-after : goal.relink-requires-4-clause-after
 relink-requires-4-clause-after g c =
@@ -71,7 +73,7 @@ relink-requires-4-clause-after g c =
     (next_there g.P.Inx.PtrInxCore.number c.args.arena.now c.swap_inx.new.self c.args.i c.args.j c.requires.chained
     (sym (live_ends g.P.Inx.PtrInxCore.number c.args.arena.now (g.P.Inx.PtrInxCore.number c.args.i)) ∙ c.requires.i_is_live)
     (sym (live_ends g.P.Inx.PtrInxCore.number c.args.arena.now (g.P.Inx.PtrInxCore.number c.args.j)) ∙ c.requires.j_is_live) c.swap_inx.ensures.exchanged.entries
-    (g.P.Inx.PtrInxCore.number c.args.i) _ c.swapped-first_next.result c.get_inx_unwrap-first.ensures c.swapped-first_next.ensures)))
+    (g.P.Inx.PtrInxCore.number c.args.i) _ c.swapped-first_next.result c.get_inx_unwrap-first.ensures (c.swapped-first_next.ensures ∙ ap (λ o. option_map (swapped_index (g.P.Inx.PtrInxCore.number c.args.i) (g.P.Inx.PtrInxCore.number c.args.j)) (option_map g.P.Inx.PtrInxCore.number o)) c.next.ensures))))
 
 pub returns-clause-moved : goal.returns-clause-moved
 returns-clause-moved g c =
@@ -81,7 +83,7 @@ returns-clause-moved g c =
     (sym (live_ends g.P.Inx.PtrInxCore.number c.args.arena.now (g.P.Inx.PtrInxCore.number c.args.i)) ∙ c.requires.i_is_live)
     (sym (live_ends g.P.Inx.PtrInxCore.number c.args.arena.now (g.P.Inx.PtrInxCore.number c.args.j)) ∙ c.requires.j_is_live)
     c.get_inx_unwrap-first.ensures c.get_inx_unwrap-second.ensures
-    c.swapped-first_prev.ensures c.swapped-first_next.ensures c.swapped-second_prev.ensures c.swapped-second_next.ensures
+    (c.swapped-first_prev.ensures ∙ ap (λ o. option_map (swapped_index (g.P.Inx.PtrInxCore.number c.args.i) (g.P.Inx.PtrInxCore.number c.args.j)) (option_map g.P.Inx.PtrInxCore.number o)) c.prev.ensures) (c.swapped-first_next.ensures ∙ ap (λ o. option_map (swapped_index (g.P.Inx.PtrInxCore.number c.args.i) (g.P.Inx.PtrInxCore.number c.args.j)) (option_map g.P.Inx.PtrInxCore.number o)) c.next.ensures) (c.swapped-second_prev.ensures ∙ ap (λ o. option_map (swapped_index (g.P.Inx.PtrInxCore.number c.args.i) (g.P.Inx.PtrInxCore.number c.args.j)) (option_map g.P.Inx.PtrInxCore.number o)) c.prev-2.ensures) (c.swapped-second_next.ensures ∙ ap (λ o. option_map (swapped_index (g.P.Inx.PtrInxCore.number c.args.i) (g.P.Inx.PtrInxCore.number c.args.j)) (option_map g.P.Inx.PtrInxCore.number o)) c.next-2.ensures)
     c.swap_inx.ensures.exchanged.entries c.swap_inx.ensures.exact c.relink.ensures c.relink-2.ensures c.relink-3.ensures c.relink-4.ensures
 
 pub returns-clause-alike : goal.returns-clause-alike
@@ -92,5 +94,5 @@ returns-clause-alike g c =
     (sym (live_ends g.P.Inx.PtrInxCore.number c.args.arena.now (g.P.Inx.PtrInxCore.number c.args.i)) ∙ c.requires.i_is_live)
     (sym (live_ends g.P.Inx.PtrInxCore.number c.args.arena.now (g.P.Inx.PtrInxCore.number c.args.j)) ∙ c.requires.j_is_live)
     c.get_inx_unwrap-first.ensures c.get_inx_unwrap-second.ensures
-    c.swapped-first_prev.ensures c.swapped-first_next.ensures c.swapped-second_prev.ensures c.swapped-second_next.ensures
+    (c.swapped-first_prev.ensures ∙ ap (λ o. option_map (swapped_index (g.P.Inx.PtrInxCore.number c.args.i) (g.P.Inx.PtrInxCore.number c.args.j)) (option_map g.P.Inx.PtrInxCore.number o)) c.prev.ensures) (c.swapped-first_next.ensures ∙ ap (λ o. option_map (swapped_index (g.P.Inx.PtrInxCore.number c.args.i) (g.P.Inx.PtrInxCore.number c.args.j)) (option_map g.P.Inx.PtrInxCore.number o)) c.next.ensures) (c.swapped-second_prev.ensures ∙ ap (λ o. option_map (swapped_index (g.P.Inx.PtrInxCore.number c.args.i) (g.P.Inx.PtrInxCore.number c.args.j)) (option_map g.P.Inx.PtrInxCore.number o)) c.prev-2.ensures) (c.swapped-second_next.ensures ∙ ap (λ o. option_map (swapped_index (g.P.Inx.PtrInxCore.number c.args.i) (g.P.Inx.PtrInxCore.number c.args.j)) (option_map g.P.Inx.PtrInxCore.number o)) c.next-2.ensures)
     c.swap_inx.ensures.exchanged.entries c.swap_inx.ensures.exact c.relink.ensures c.relink-2.ensures c.relink-3.ensures c.relink-4.ensures

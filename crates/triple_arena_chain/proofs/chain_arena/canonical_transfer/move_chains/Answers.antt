@@ -1,6 +1,6 @@
 use Rattle.std.proofs.Common.{◌≡◌, ℕ, ◌+◌, ◌≤◌, None, option_map, refl, sym, ap, subst, ◌∙◌, arith, of_calls}
 use Rattle.triple_arena_stack.specs.Room.{capacity}
-use Rattle.triple_arena.specs.Content.{entry_at}
+use Rattle.triple_arena.specs.Content.{entry_at, inserted}
 use Rattle.triple_arena.specs.Walk.{past}
 use Rattle.triple_arena_chain.proofs.PassLemmas.{passed_by}
 use Rattle.triple_arena_chain.proofs.MovingLemmas.{AreChainsMoved, IsLinkMoved, left_chained, chains_none, way_taken, none_at_all, still_live, at_live, way_fits, link_moved}
@@ -65,7 +65,9 @@ link_done g c =
     (g.P.Inx.PtrInxCore.number c.behind-place.result) c.capacity.result c.take_link-taken.ensures.removed c.take_link-taken.ensures.formed
     c.take_link-taken.ensures.entry c.take_link-taken.ensures.index c.take_link-taken.ensures.overflow c.take_link-taken.ensures.next c.len-placed.ensures.value
     c.behind-place.ensures c._from_raw-to.ensures.has_index c._from_raw-to.ensures.has_generation c.map-t.ensures
-    (omega (arith, c.requires.fits, room)) (omega (arith, c.requires.fits, c.capacity.ensures.value)) c.append_link.ensures.exact refl refl
+    (omega (arith, c.requires.fits, room)) (omega (arith, c.requires.fits, c.capacity.ensures.value)) (λ fits. c.append_link.ensures.exact fits
+    ∙ ap (inserted c.link.target) (λ i. record { prev = c.of.ensures i; next = c.of-in-link.ensures i; t = c.map-t.result }))
+    refl refl
     c.next_place-next.ensures.end c.next_place-next.ensures.round
     (λ j leads other fits. c.next_place-next.ensures.on j leads other (omega (arith, fits, c.capacity.ensures.bounded)))
 

@@ -12,7 +12,7 @@ pub returns-clause-mapped : goal.returns-clause-mapped
 returns-clause-mapped g c = on_ok c.copy_from.result (values_mapped (λ s. s.0) (λ h p u l k e. search rules)) c.copy_from.ensures.mapped
 
 pub returns-clause-linked : goal.returns-clause-linked
-returns-clause-linked g c = on_ok c.copy_from.result (links_copied (λ h p u l k e. search rules)) c.copy_from.ensures.mapped
+returns-clause-linked g c = on_ok c.copy_from.result (links_copied g.L.Neighbors.neighbors (λ h p u l k e. search rules)) c.copy_from.ensures.mapped
 
 pub returns-clause-unmade : goal.returns-clause-unmade
 returns-clause-unmade g c failed =

@@ -47,7 +47,7 @@ some_of f (Some a) h = refl
 pub get_inx_unwrap-node-requires : goal.get_inx_unwrap-node-requires
 get_inx_unwrap-node-requires g c =
     let i = g.P.Inx.PtrInxCore.number c.in-Some.i in
-    let lives = (descent_lives _ _ _ _ _ _ i (ap (option_map g.P.Inx.PtrInxCore.number) c.in-Some.is) c.down.invariant.1.1).1 in
+    let lives = (descent_lives _ _ _ _ _ _ i (ap (option_map g.P.Inx.PtrInxCore.number) (sym c.get.ensures ∙ c.in-Some.is)) c.down.invariant.1.1).1 in
     subst (λ o. IsSome (values_in o.chains i)) (sym c.self.view_is) (some_of _ (values_in c.args.self.now.chains i) lives)
 
 -- the node at the link is asked
@@ -57,7 +57,7 @@ step : (g : _) (c : After-cmp-answer g)
 step g c =
     seek_step g.P.Inx.PtrInxCore.number g.T.Key.Ord.cmp g.T.SimpleOrdItem.key_of c.args.k.now c.args.self.now _ c.self.view_is
     (g.P.Inx.PtrInxCore.number c.in-Some.i) _ _ refl c.get_inx_unwrap-node.ensures _ _ c.down.invariant.0
-    (ap (option_map g.P.Inx.PtrInxCore.number) c.in-Some.is) c.down.invariant.1.1
+    (ap (option_map g.P.Inx.PtrInxCore.number) (sym c.get.ensures ∙ c.in-Some.is)) c.down.invariant.1.1
 
 asked : (g : _) (c : After-cmp-answer g)
     → asked_at g.T.Key.Ord.cmp g.T.SimpleOrdItem.key_of c.args.k.now c.args.self.now (g.P.Inx.PtrInxCore.number c.in-Some.i) ≡ c.cmp-answer.result
@@ -84,15 +84,16 @@ down-init g c = (
   0,
   (
     (let taken = c.replace-count.ensures.value in omega (arith, taken)),
-    seek_begins g.P.Inx.PtrInxCore.number g.T.Key.Ord.cmp g.T.SimpleOrdItem.key_of c.args.k.now c.args.self.now _ c.self.view_is
-        c.self.invariant.0,
+    rw (c.of-link.ensures)
+        (seek_begins g.P.Inx.PtrInxCore.number g.T.Key.Ord.cmp g.T.SimpleOrdItem.key_of c.args.k.now c.args.self.now _ c.self.view_is
+        c.self.invariant.0),
   ),
 )
 
 pub down-smaller-then-is_lt : goal.down-smaller-then-is_lt
 down-smaller-then-is_lt g c =
     falls_down (knots_in g.P.Inx.PtrInxCore.number c.args.self.now.chains) _
-    (option_map g.P.Inx.PtrInxCore.number c.get_inx_unwrap-node.result.now.p_tree0) _ (ap (option_map g.P.Inx.PtrInxCore.number) c.in-Some.is)
+    (option_map g.P.Inx.PtrInxCore.number c.get_inx_unwrap-node.result.now.p_tree0) _ (ap (option_map g.P.Inx.PtrInxCore.number) (sym c.get.ensures ∙ c.in-Some.is))
     (step g (goal.at.down-smaller-then-is_lt g c).After-cmp-answer).here.rank_left
 
 pub down-preserved-then-is_lt : goal.down-preserved-then-is_lt
@@ -123,7 +124,7 @@ pub returns-clause-ticks : goal.returns-clause-ticks
 returns-clause-ticks g c =
     let taken = c.replace-count.ensures.value in
     let before = c.down.invariant.1.0 in
-    let all = descent_asked _ _ _ _ _ _ (ap (option_map g.P.Inx.PtrInxCore.number) c.in_default.is) c.down.invariant.1.1 in
+    let all = descent_asked _ _ _ _ _ _ (ap (option_map g.P.Inx.PtrInxCore.number) (sym c.get.ensures ∙ c.in_default.is)) c.down.invariant.1.1 in
     omega (arith, taken, before, all)
 
 pub returns-then-is_eq-clause-bound : goal.returns-then-is_eq-clause-bound
@@ -137,7 +138,7 @@ returns-then-is_eq-clause-bound g c =
 pub down-smaller : goal.down-smaller
 down-smaller g c =
     falls_down (knots_in g.P.Inx.PtrInxCore.number c.args.self.now.chains) _
-    (option_map g.P.Inx.PtrInxCore.number c.get_inx_unwrap-node.result.now.p_tree1) _ (ap (option_map g.P.Inx.PtrInxCore.number) c.in-Some.is)
+    (option_map g.P.Inx.PtrInxCore.number c.get_inx_unwrap-node.result.now.p_tree1) _ (ap (option_map g.P.Inx.PtrInxCore.number) (sym c.get.ensures ∙ c.in-Some.is))
     (step g (goal.at.down-smaller g c).After-cmp-answer).here.rank_right
 
 pub down-preserved : goal.down-preserved
@@ -149,15 +150,15 @@ down-preserved g c =
     (c.down.invariant.0 + 1, (omega arith, named_so _ _ _ _ _ _ _ _ greater ((step g at).here.right (asked g at ∙ greater))))
 
 pub returns-clause-answer : goal.returns-clause-answer
-returns-clause-answer g c = descent_ends _ _ _ _ _ _ (ap (option_map g.P.Inx.PtrInxCore.number) c.in_default.is) c.down.invariant.1.1
+returns-clause-answer g c = descent_ends _ _ _ _ _ _ (ap (option_map g.P.Inx.PtrInxCore.number) (sym c.get.ensures ∙ c.in_default.is)) c.down.invariant.1.1
 
 pub returns-clause-free : goal.returns-clause-free
 returns-clause-free g c =
     seek_ends g.P.Inx.PtrInxCore.number g.T.Key.Ord.cmp g.T.SimpleOrdItem.key_of c.args.k.now c.args.self.now _ c.self.view_is
-    c.self.invariant.0 c.before.down.place _ _ (ap (option_map g.P.Inx.PtrInxCore.number) c.in_default.is) c.down.invariant.1.1
+    c.self.invariant.0 c.before.down.place _ _ (ap (option_map g.P.Inx.PtrInxCore.number) (sym c.get.ensures ∙ c.in_default.is)) c.down.invariant.1.1
 
 pub returns-then-is_eq-clause-free : goal.returns-then-is_eq-clause-free
 returns-then-is_eq-clause-free g c =
     let equal = equal_of c.cmp-answer.result c.is_eq.result c.is_eq.ensures c.if-is_eq.true in
-    lives_so _ _ equal (descent_lives _ _ _ _ _ _ (g.P.Inx.PtrInxCore.number c.in-Some.i) (ap (option_map g.P.Inx.PtrInxCore.number) c.in-Some.is)
+    lives_so _ _ equal (descent_lives _ _ _ _ _ _ (g.P.Inx.PtrInxCore.number c.in-Some.i) (ap (option_map g.P.Inx.PtrInxCore.number) (sym c.get.ensures ∙ c.in-Some.is))
     c.down.invariant.1.1).1

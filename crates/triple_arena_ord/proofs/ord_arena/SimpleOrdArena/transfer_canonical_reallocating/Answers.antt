@@ -4,23 +4,15 @@ use Rattle.triple_arena.specs.ArenaRoom.{room_with}
 use Rattle.triple_arena.specs.Content.{live_count}
 use Rattle.triple_arena_chain.specs.Chains.{first_or, last_or}
 use Rattle.triple_arena_ord.specs.Ordered.{Ordered, size_in}
-use Rattle.triple_arena_ord.proofs.CanonicalTransferLemmas.{Transferred, transferred_by, transferred_along, nodes_are, run_linear, run_long}
+use Rattle.triple_arena_ord.proofs.CanonicalTransferLemmas.{Transferred, transferred_by, transferred_along, nodes_are, run_linear}
 use Rattle.triple_arena_ord.proofs.ord_arena.SimpleOrdArena.transfer_canonical_reallocating.Goals as goal
 
-pub rebuild-self-inside-requires : goal.rebuild-self-inside-requires
-rebuild-self-inside-requires g c =
-    let number = g.P.Inx.PtrInxCore.number in
+pub rebuild_run-self-inside-requires-clause-linear : goal.rebuild_run-self-inside-requires-clause-linear
+rebuild_run-self-inside-requires-clause-linear g c =
     let before = g.Q.Inx.PtrInxCore.number in
     let o : Ordered g.row.Q-Inx.Denot g.row.U.Denot = record { chains = c.source.inside.chains; root = option_map before c.source.inside.root } in
-    let mid = c.move_items.new.target in
     let m = c.in_ok-move_items.ensures.moved in
-    let live = c.in_ok-move_items.ensures.filled.live in
-    let size : c.len.result ≡ size_in o = c.len.ensures.value ∙ live in (
-      range_with_len 1 (size_in o),
-      run_linear before number o c.source.invariant.0 mid m.0 m.1.0 live,
-      run_long before number o c.source.invariant.0 mid m.0 m.1.0 live,
-      c.ends_of_run.ensures.first ∙ ap (λ n. first_or (range_with_len 1 n) None) size,
-    )
+    run_linear before g.P.Inx.PtrInxCore.number o c.source.invariant.0 c.move_items.new.target m.0 m.1.0 c.in_ok-move_items.ensures.filled.live
 
 done : (g : _) (c : goal.After-self-3-1 g)
     → Transferred g.Q.Inx.PtrInxCore.number g.P.Inx.PtrInxCore.number
@@ -28,19 +20,14 @@ done : (g : _) (c : goal.After-self-3-1 g)
     c.in_ok-move_items.ensures.moved.0 c.in_ok-move_items.ensures.moved.1.0 c.in_ok-move_items.ensures.filled.live
     (g.P.Gen.PtrGenCore.number c.args.new_generation) (room_with (live_count c.source.inside.chains) c.self.inside.chains.room) c.self.inside.chains
     (record { chains = c.self.inside.chains; root = option_map g.P.Inx.PtrInxCore.number c.self.inside.root }) c.in_ok-move_items.ensures.filled
-    (record { chains = c.rebuild-self-inside.new.chains; root = option_map g.P.Inx.PtrInxCore.number c.rebuild-self-inside.result })
+    (record { chains = c.rebuild_run-self-inside.new.chains; root = option_map g.P.Inx.PtrInxCore.number c.rebuild_run-self-inside.result })
 done g c =
     let number = g.P.Inx.PtrInxCore.number in
     let before = g.Q.Inx.PtrInxCore.number in
     let o : Ordered g.row.Q-Inx.Denot g.row.U.Denot = record { chains = c.source.inside.chains; root = option_map before c.source.inside.root } in
-    let mid = c.move_items.new.target in
     let m = c.in_ok-move_items.ensures.moved in
-    let live = c.in_ok-move_items.ensures.filled.live in
-    let size : c.len.result ≡ size_in o = c.len.ensures.value ∙ live in
-    transferred_by before number o c.source.invariant.0 mid m.0 m.1.0 live _ _ _ _ c.in_ok-move_items.ensures.filled _ c.rebuild-self-inside.ensures.keeps
-    (c.rebuild-self-inside.ensures.rebuilt (range_with_len 1 (size_in o)) (run_linear before number o c.source.invariant.0 mid m.0 m.1.0 live)
-    (run_long before number o c.source.invariant.0 mid m.0 m.1.0 live)
-    (c.ends_of_run.ensures.first ∙ ap (λ n. first_or (range_with_len 1 n) None) size))
+    transferred_by before number o c.source.invariant.0 c.move_items.new.target m.0 m.1.0 c.in_ok-move_items.ensures.filled.live _ _ _ _
+    c.in_ok-move_items.ensures.filled _ c.rebuild_run-self-inside.ensures.keeps c.rebuild_run-self-inside.ensures.rebuilt
 
 pub invariant_of-self-2 : goal.invariant_of-self-2
 invariant_of-self-2 g c =
@@ -48,8 +35,8 @@ invariant_of-self-2 g c =
     let d = done g c in
     let size : c.len.result ≡ size_in o = c.len.ensures.value ∙ c.in_ok-move_items.ensures.filled.live in (
       d.ordered,
-      c.ends_of_run.ensures.first ∙ ap (λ n. first_or (range_with_len 1 n) None) size ∙ ap (λ l. first_or l None) (sym d.order),
-      c.ends_of_run.ensures.last ∙ ap (λ n. last_or None (range_with_len 1 n)) size ∙ ap (last_or None) (sym d.order),
+      c.ends_of_run-first.ensures.first ∙ ap (λ n. first_or (range_with_len 1 n) None) size ∙ ap (λ l. first_or l None) (sym d.order),
+      c.ends_of_run-first.ensures.last ∙ ap (λ n. last_or None (range_with_len 1 n)) size ∙ ap (last_or None) (sym d.order),
     )
 
 pub returns-clause-moved : goal.returns-clause-moved
