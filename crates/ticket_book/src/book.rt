@@ -153,8 +153,7 @@ impl<P: PtrCore, S: OrdSlots<P, Entry<P>>> TicketBook<P, S> {
         ensures none { IfNone result (lookup self.now.entries ticket ≡ None) }
         ensures ticks { probes.new ≡ probes.old
             + asked_among self.now.asked_below self.now.entries self.now.asked_along ticket }
-        ensures bound {
-            asked_among self.now.asked_below self.now.entries self.now.asked_along ticket
+        ensures bound { asked_among self.now.asked_below self.now.entries self.now.asked_along ticket
             ≤ most_comparisons (length self.now.entries) }
     {
         entries_stand_in_the_list::<P, Entry<P>>();

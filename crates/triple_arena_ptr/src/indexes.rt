@@ -271,8 +271,10 @@ impl PtrInxCore for NonZeroU64 {
     ghost held = { λ w. held_in (λ n ok. record { value = n; ok = ok }) non_zero_u64_get
         w.word };
 
-    ghost word = { λ o. record { word = word_for (λ n ok. record { value = n; ok = ok })
-        non_zero_u64_get o } };
+    ghost word = { λ o. record {
+      word = word_for (λ n ok. record { value = n; ok = ok })
+          non_zero_u64_get o;
+    } };
 
     ghost word_held = { λ w. ap (λ n. record { word = n })
         (word-held (λ n ok. record { value = n; ok = ok }) non_zero_u64_get (λ n ok. refl)
@@ -413,8 +415,10 @@ impl PtrInxCore for NonZeroUsize {
     ghost held = { λ w. held_in (λ n ok. record { value = n; ok = ok }) non_zero_usize_get
         w.word };
 
-    ghost word = { λ o. record { word = word_for (λ n ok. record { value = n; ok = ok })
-        non_zero_usize_get o } };
+    ghost word = { λ o. record {
+      word = word_for (λ n ok. record { value = n; ok = ok })
+          non_zero_usize_get o;
+    } };
 
     ghost word_held = { λ w. ap (λ n. record { word = n })
         (word-held (λ n ok. record { value = n; ok = ok }) non_zero_usize_get (λ n ok. refl)
