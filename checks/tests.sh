@@ -3,14 +3,14 @@
 # with no proof. It takes about two minutes. They end in .txt, since the gate lets no .rt file stand outside a crate.
 tar -C "$top" --exclude=out -cf - crates crates.txt HANDLES | tar -C "$work" -xf -
 case $check in
-    layer-tests) crate=layer_tests ;;
-    store-tests) crate=route_book_sequences ;;
+    layer-tests) crate=test_values ;;
+    store-tests) crate=test_route_book ;;
     user-tests)
         crate=user_tests
         mkdir -p "$work/crates/$crate/src/tests"
         printf '#![tactic(auto)]\n\n#[cfg(test)]\nmod tests;\n' >"$work/crates/$crate/src/lib.rt"
         : >"$work/crates/$crate/src/tests.rt"
-        echo "$crate: examples ord_examples arena_callers triple_arena_chain triple_arena triple_arena_ptr" >>"$work/crates.txt"
+        echo "$crate: examples ord_examples caller_arena triple_arena_chain triple_arena triple_arena_ptr" >>"$work/crates.txt"
         ;;
 esac
 tests=$work/crates/$crate/src/tests

@@ -1,10 +1,10 @@
 #!/usr/bin/env python3
-"""Plays the sections of the program `arena_script` by the rules of `arena_rules.py`, and writes random ones.
+"""Plays the sections of the program `script_arena` by the rules of `arena_rules.py`, and writes random ones.
 
 usage: arena.py SEED LINES >stdin 2>stdout     random sections with so many calls each, and what must be answered
        arena.py answer <stdin >stdout          what must be answered to these sections
 
-`crates/arena_script/src/main.rt` says how a section is written.
+`crates/script_arena/src/main.rt` says how a section is written.
 """
 import random
 import sys

@@ -1,4 +1,4 @@
-"""Random lines for chain_script, which fit what the arenas of a section hold."""
+"""Random lines for script_chain, which fit what the arenas of a section hold."""
 PLAIN = ['show', 'len', 'is_empty', 'capacity', 'max_capacity', 'slots', 'generation', 'singular_generation', 'next_ptr',
          'ptrs', 'vals', 'iter', 'iter_link_no_gen', 'walk', 'find_first_inx_ptr', 'find_last_inx_ptr', 'inc_generation', 'make_room']
 AT_POINTER = ['get', 'contains', 'at', 'get_link', 'get_link_no_gen', 'break_next', 'break_prev'] + ['iter_chain', 'walk_chain'] * 4

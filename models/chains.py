@@ -1,5 +1,5 @@
 #!/usr/bin/env python3
-"""The rules of chains again, in plain Python: random sections for chain_script, and what it must answer.
+"""The rules of chains again, in plain Python: random sections for script_chain, and what it must answer.
 
 usage: chains.py SEED LINES >stdin 2>stdout          random sections, some LINES lines in all
        chains.py answer <stdin >stdout               what must be answered to these sections

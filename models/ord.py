@@ -1,10 +1,10 @@
 #!/usr/bin/env python3
-"""What ord_script, ord_copies_script and ord_search_script must answer, by a model that knows nothing of the library: one
+"""What script_ord, script_ord_copies and script_ord_search must answer, by a model that knows nothing of the library: one
 list of entries, a counter and the free slots.
 
-usage: ord.py SEED LINES >stdin 2>stdout             writes random sections of ord_script, and what must be answered
-       ord.py copies SEED LINES >stdin 2>stdout      the same of ord_copies_script, whose headers have four words
-       ord.py searches SEED LINES >stdin 2>stdout    the same of ord_search_script, whose headers have five words
+usage: ord.py SEED LINES >stdin 2>stdout             writes random sections of script_ord, and what must be answered
+       ord.py copies SEED LINES >stdin 2>stdout      the same of script_ord_copies, whose headers have four words
+       ord.py searches SEED LINES >stdin 2>stdout    the same of script_ord_search, whose headers have five words
        ord.py answer <stdin >stdout                  writes what must be answered to these sections, of any of them
 
 What the rules leave open (which of two neighbors a search answers, which of several equal keys, the tree's shape) the scripts

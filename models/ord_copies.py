@@ -1,4 +1,4 @@
-"""What ord_copies_script must answer to its sections, as ord.py says of the calls at one arena."""
+"""What script_ord_copies must answer to its sections, as ord.py says of the calls at one arena."""
 
 
 def pieces(entries):

@@ -1,5 +1,5 @@
 #!/usr/bin/env python3
-"""Plays the sections of the program `store_script` by the rules of `store_rules.py`, and writes random ones.
+"""Plays the sections of the program `script_route_book` by the rules of `store_rules.py`, and writes random ones.
 
 usage: store.py SEED LINES >stdin 2>stdout     random sections with so many lines each, and what must be written
        store.py answer <stdin >stdout          what must be written for these sections
@@ -7,7 +7,7 @@ usage: store.py SEED LINES >stdin 2>stdout     random sections with so many line
        store.py rooms SEED                     the arguments of the program `route_book` for random lines
        store.py lines SEED LINES >stdin 2>stdout     these lines, and what must be answered to them
 
-`crates/store_script/src/main.rt` says how a section is written. How many comparisons a search makes hangs on the tree, so
+`crates/script_route_book/src/main.rt` says how a section is written. How many comparisons a search makes hangs on the tree, so
 what a section of `inputs` or `answer` wants stands in the section.
 """
 import random

@@ -1,0 +1,32 @@
+//! The calls that change the counter or an item.
+use test_kit::{Call, Transcript};
+
+/// What makes the changes that are the ordered arena's own.
+pub trait Writes {
+    fn write_generation(&mut self, transcript: &mut Transcript, call: &Call<'_>);
+
+    fn step_generation(&mut self, transcript: &mut Transcript, line: &str);
+
+    /// Puts the pair of the first two numbers in.
+    fn put(&mut self, transcript: &mut Transcript, call: &Call<'_>);
+
+    /// Writes by `arena[p]`, where the pointer is valid, and says whether it is.
+    fn write_item(&mut self, transcript: &mut Transcript, call: &Call<'_>);
+
+    /// Writes the value of a pair alone, and answers the one that it had.
+    fn write_value(&mut self, transcript: &mut Transcript, call: &Call<'_>);
+}
+
+/// Makes such a call, and says whether there is one of that name.
+pub fn changes<A: Writes>(arena: &mut A, transcript: &mut Transcript, call: &Call<'_>) -> bool {
+    let line = call.line;
+    match call.verb {
+        "set_generation" => arena.write_generation(transcript, call),
+        "inc_generation" => arena.step_generation(transcript, line),
+        "insert" => arena.put(transcript, call),
+        "index_set" => arena.write_item(transcript, call),
+        "set_value" => arena.write_value(transcript, call),
+        _ => return false,
+    }
+    true
+}
