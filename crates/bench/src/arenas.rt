@@ -1,5 +1,5 @@
-//! The operations on an arena, as `bench/plain/main.rs` has them. They are generic in traits without clauses, which are proved
-//! in far less time, and which a known arena meets once.
+//! The operations on an arena, as `bench/plain/main.rs` has them. They are generic in traits
+//! without clauses, which are proved in far less time, and which a known arena meets once.
 use crate::sequence::{Sequence, with};
 use crate::timed::{self, Entries, Laps, note, table};
 use std::alloc::Global;
@@ -13,10 +13,12 @@ type Slots = NonZeroInxVec<ArenaSlot<Pointer, u64>, Global>;
 
 /// Runs so many steps of an operation, and answers a checksum.
 ///
-/// `insert` is the insertion into an arena that grows; `remove` and `remove_inx` are as many insertions, and then the removal of
-/// all in another order. `get` reads by pointers of which a quarter are no longer valid, `write` writes in place of those reads,
-/// and `loop` is their loop alone. `advance` and `iterate` walk over that arena again and again. `clone` copies an arena with so
-/// many entries, `drain` empties it. A step of `churn` reads one entry, and removes another or inserts one where it is gone.
+/// `insert` is the insertion into an arena that grows; `remove` and `remove_inx` are as many
+/// insertions, and then the removal of all in another order. `get` reads by pointers of which a
+/// quarter are no longer valid, `write` writes in place of those reads, and `loop` is their loop
+/// alone. `advance` and `iterate` walk over that arena again and again. `clone` copies an arena
+/// with so many entries, `drain` empties it. A step of `churn` reads one entry, and removes another
+/// or inserts one if it is gone.
 pub fn run(operation: &str, alloc: Global, steps: usize) -> Option<Result<u64, ReallocationError>> {
     run_over::<Slots>(operation, alloc, steps)
 }
@@ -41,8 +43,8 @@ pub fn time(
     timed::run::<Numbered<Arena<Pointer, u64, Slots>>>(rt, operation, len, steps, passes)
 }
 
-// What the operations do with an arena of any kind. What a step calls is inlined, and so it takes no more instructions than at
-// the arena.
+// What the operations do with an arena of any kind. What a step calls is inlined, and so it takes
+// no more instructions than at the arena.
 trait Measured<P>: Drop {
     // What goes along the pointers.
     type Steps: Drop;
@@ -221,7 +223,8 @@ impl<A: Measured<Pointer> + Copied> Entries for Numbered<A> {
     fn renumber(&mut self) {}
 }
 
-// In this kind of arena. Each operation is compiled for itself, so that another one does not change what it takes.
+// In this kind of arena. Each operation is compiled for itself, so that another one does not change
+// what it takes.
 fn run_in<A: Measured<Pointer> + Copied>(
     operation: &str,
     alloc: Global,
@@ -267,7 +270,7 @@ const LOOP: usize = 9;
 // How many pointers a table has.
 const TABLE: usize = 4096;
 
-// How many of them find an entry where each fourth one is removed.
+// How many of them find an entry if each fourth one is removed.
 const THINNED: usize = 3072;
 
 // In an arena with this many entries.
@@ -354,7 +357,8 @@ fn clone<A: Measured<Pointer> + Copied>(
     }
 }
 
-// In an arena with an entry for each place of a table, of which all operations but the empty loop leave each fourth one out.
+// In an arena with an entry for each place of a table, of which all operations but the empty loop
+// leave each fourth one out.
 #[inline(never)]
 fn over_table<A: Measured<Pointer> + Copied, const OPERATION: usize>(
     alloc: Global,
@@ -439,8 +443,8 @@ fn iterate<A: Copied>(arena: &A, steps: usize) -> u64 {
     sum
 }
 
-// An arena with an entry for each place of a table, and the table of their pointers. `churn` owns its arena, which takes no
-// more instructions; for the others that is dearer to prove.
+// An arena with an entry for each place of a table, and the table of their pointers. `churn` owns
+// its arena, which takes no more instructions; for the others that is dearer to prove.
 #[inline(never)]
 fn filled_table<A: Measured<Pointer>>(
     alloc: Global,

@@ -1,5 +1,5 @@
-//! The operations on links in chains, as `bench/plain/chains.rs` has them. They are generic in a trait without clauses, as those
-//! on an arena are.
+//! The operations on links in chains, as `bench/plain/chains.rs` has them. They are generic in a
+//! trait without clauses, as those on an arena are.
 use crate::sequence::{Sequence, with};
 use crate::timed::{self, Entries, Laps, note, table};
 use std::alloc::Global;
@@ -12,8 +12,9 @@ type Slots = NonZeroInxVec<ArenaSlot<P0, LinkNoGen<P0, u64>>, Global>;
 
 /// Runs so many steps of an operation, and answers a checksum.
 ///
-/// `fill` puts a link a step in, each behind one that is there, and then goes along the list. `renumber` compresses these
-/// links canonically before that, `transfer` moves them canonically into a new arena, and `clone` goes along a clone of them.
+/// `fill` puts a link a step in, each behind one that is there, and then goes along the list.
+/// `renumber` compresses these links canonically before that, `transfer` moves them canonically
+/// into a new arena, and `clone` goes along a clone of them.
 pub fn run(
     operation: &str,
     alloc: Global,

@@ -1,5 +1,6 @@
-//! `bench LAYER OPERATION ..` runs an operation of a layer over a pseudo-random sequence, and prints a checksum, which the plain
-//! programs of `bench/plain` give too. `bench/run` counts the instructions of both.
+//! `bench LAYER OPERATION ..` runs an operation of a layer over a pseudo-random sequence, and
+//! prints a checksum, which the plain programs of `bench/plain` give too. `bench/run` counts the
+//! instructions of both.
 #![tactic(auto)]
 
 mod arenas;

@@ -1,5 +1,5 @@
-//! The operations on an ordered arena, as `bench/plain/ordered.rs` has them. They are generic in a trait without clauses, as
-//! those on an arena are.
+//! The operations on an ordered arena, as `bench/plain/ordered.rs` has them. They are generic in a
+//! trait without clauses, as those on an arena are.
 use crate::sequence::with;
 use crate::timed::{self, Entries, Laps, note, table};
 use std::alloc::Global;
@@ -15,12 +15,15 @@ type Ordered<P, S> = SimpleOrdArena<P, Item, S>;
 
 type Slots = NonZeroInxVec<ArenaSlot<P0, LinkNoGen<P0, SimpleOrdArenaNode<P0, Item>>>, Global>;
 
-/// Fills an arena with so many entries under shuffled keys, runs so many steps of an operation, and answers a checksum.
+/// Fills an arena with so many entries under shuffled keys, runs so many steps of an operation, and
+/// answers a checksum.
 ///
-/// `insert` is the filling alone. `find` looks up keys that are there, `remove` removes them, `cancel` removes by pointers, and
-/// `walk` goes over the entries in their order again and again. `renumber` compresses the arena canonically, `transfer` moves it
-/// canonically into a new one, and `clone` clones it, if there are steps; then they go over the entries once. `most` and `all`
-/// take no steps: the most comparisons that the search for a key takes, and those of the searches for all keys together.
+/// `insert` is the filling alone. `find` looks up keys that are there, `remove` removes them,
+/// `cancel` removes by pointers, and `walk` goes over the entries in their order again and again.
+/// `renumber` compresses the arena canonically, `transfer` moves it canonically into a new one, and
+/// `clone` clones it, if there are steps; then they go over the entries once. `most` and `all` take
+/// no steps: the most comparisons that the search for a key takes, and those of the searches for
+/// all keys together.
 pub fn run(
     operation: &str,
     alloc: Global,
@@ -408,7 +411,8 @@ fn transfer<P, A: Measured<P>>(arena: &mut A, alloc: Global) -> Result<u64, OrdI
     Ok(other.values())
 }
 
-// The most comparisons that the search for a key takes, and those of the searches for all keys together.
+// The most comparisons that the search for a key takes, and those of the searches for all keys
+// together.
 #[inline(always)]
 fn comparisons<P, A: Measured<P>>(arena: &A, len: usize) -> (u64, u64) {
     let mut most = 0u64;

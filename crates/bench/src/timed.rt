@@ -75,8 +75,8 @@ impl Laps<'_> {
 ///
 /// Each pass puts in so many entries. `insert` is that alone. `find` reads entries, and `remove`
 /// removes them, in a far order. A step of `churn` reads one entry, and removes another or puts it
-/// back. `walk` goes over all, if there are steps. With `canonical_` before it, an operation runs on
-/// entries that are renumbered.
+/// back. `walk` goes over all, if there are steps. With `canonical_` before it, an operation runs
+/// on entries that are renumbered.
 pub fn run<T: Entries>(
     rt: &HostRuntime,
     operation: &str,

@@ -110,7 +110,8 @@ pub fn remove_inx<P: PtrCore, T: Drop, A: ArenaTrait<P, T>>(
     ensures overflow { IfSome (answer_of result)
         (λ a. overflowed a ≡ counter_wraps P.Gen.last (A.counter arena.old)) }
     ensures entries { IfSome (answer_of result)
-        (λ a. (j : ℕ) → A.entry_at arena.new j ≡ without (A.entry_at arena.old) (P.Inx.number i) j) }
+        (λ a. (j : ℕ) → A.entry_at arena.new j
+        ≡ without (A.entry_at arena.old) (P.Inx.number i) j) }
     ensures live { IfSome (answer_of result)
         (λ a. A.live_count arena.new + 1 ≡ A.live_count arena.old) }
     ensures counter { IfSome (answer_of result)
@@ -177,7 +178,7 @@ pub fn with_min_capacity<P: PtrCore, T: Drop, A: ArenaTrait<P, T>>(
     ensures room { IfOk result (λ a. A.room a ≡ A.room_at min) }
     ensures fits { IfOk result (λ a. min ≤ capacity_of (A.room a)) }
 
-    // No memory is asked for where a new arena has the room already.
+    // No memory is asked for if a new arena has the room already.
     ensures succeeds { min ≤ capacity_of (A.room_at 0) → IsOk result }
     ensures beyond { IsErrOf result ReallocationError.BeyondMaxCapacity
         ↔ IsBeyond (A.room_at min).limit min }

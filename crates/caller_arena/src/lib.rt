@@ -1,10 +1,11 @@
-//! What a caller learns of the arenas by their contracts alone. The crate says no more than these contracts do: it is here
-//! so that a change that takes a fact away from callers is refused.
+//! What a caller learns of the arenas by their contracts alone. The crate says no more than these
+//! contracts do: it is here so that a change that takes a fact away from callers is refused.
 //!
-//! Most functions have a call as body and the facts, one a clause, that the call's record carries, in code that is generic
-//! in the arena; some at `Arena` and `DirectArena` have what its exact state carries. The others do what a crate above
-//! would: a stack of nodes that are linked by pointers, values that change by a compression or one by one, sums and
-//! searches by iterators, a mirror of an arena, an arena that is used again.
+//! Most functions have a call as body and the facts, one a clause, that the call's record carries,
+//! in code that is generic in the arena; some at `Arena` and `DirectArena` have what its exact
+//! state carries. The others do what a crate above would: a stack of nodes that are linked by
+//! pointers, values that change by a compression or one by one, sums and searches by iterators, a
+//! mirror of an arena, an arena that is used again.
 #![tactic(auto)]
 
 mod copies;

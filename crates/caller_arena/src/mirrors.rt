@@ -10,8 +10,8 @@ ghost use Rattle.triple_arena.specs.Recaster.{IsRecaster};
 
 use triple_arena::{Arena, ArenaCloneFromWith, ArenaSlots, DirectArena, DirectSlots, PtrCore};
 
-/// Makes `mirror`, which has room for the last live index of `arena`, hold exactly its pointers, each under itself. What
-/// it held is dropped, and its capacity stays. It cannot fail.
+/// Makes `mirror`, which has room for the last live index of `arena`, hold exactly its pointers,
+/// each under itself. What it held is dropped, and its capacity stays. It cannot fail.
 pub fn reflect<P: PtrCore, T: Drop, S, R>(arena: &Arena<P, T, S>, mirror: &mut DirectArena<P, P, R>)
 where
     S: ArenaSlots<P, T>,

@@ -1,4 +1,5 @@
-//! What callers know of an arena whose entries are taken out, by a drain or by a transfer, and of one with a limit.
+//! What callers know of an arena whose entries are taken out, by a drain or by a transfer, and of
+//! one with a limit.
 ghost use Rattle.std.specs.Prelude.{◌≡◌, ℕ, ◌≤◌, ◌↔◌, [], None, Some, IsOk, OnOk, OnErr, IsErrOf, map as list_map, replicate, slice_get};
 ghost use Rattle.std.specs.Fn.{iterate};
 ghost use Rattle.std.specs.Option.{option_map};
@@ -51,7 +52,8 @@ pub fn take_first_of_any<P: PtrCore, T: Drop, A: ArenaTrait<P, T>>(
     ensures first { option_map (removal_of P.index P.generation) result
         ≡ slice_get (removals P.Gen.last (A.counter arena.old) (A.live_entries arena.old)) 0 }
     ensures exact { arena.new ≡ A.drained arena.old }
-    ensures left { IsGivenUp A.entry_at A.live_count A.counter A.room P.Gen.last arena.old arena.new }
+    ensures left { IsGivenUp A.entry_at A.live_count A.counter A.room P.Gen.last
+        arena.old arena.new }
 {
     let mut items = arena.drain();
     items.next()

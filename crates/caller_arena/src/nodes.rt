@@ -75,7 +75,8 @@ impl<P: PtrCore, T: Drop, S: ArenaSlots<P, Node<P, T>>> Nodes<P, T, S> {
 
     /// Stores `value` in a node on top of the others.
     pub fn push(&mut self, value: T) -> Result<P, NotWithinCapacityError>
-        ensures variant { IsOk result ↔ (live_count self.old.arena < arena_capacity self.old.arena) }
+        ensures variant { IsOk result
+            ↔ (live_count self.old.arena < arena_capacity self.old.arena) }
         ensures stored { IfOk result (λ p. value_at self.new (P.index p) (P.generation p)
             ≡ Some value) }
         ensures nodes { IfOk result (λ p. (j : ℕ) → entry_at self.new.arena j

@@ -1,4 +1,5 @@
-//! Code over `P: Ptr`: it calls what the arenas ask of `P: PtrCore`, and orders and compares pointers.
+//! Code over `P: Ptr`: it calls what the arenas ask of `P: PtrCore`, and orders and compares
+//! pointers.
 ghost use Rattle.std.specs.Prelude.{◌≡◌, IfOk, OnErr, ◌==◌};
 ghost use Rattle.std.specs.Ordering.{nat_cmp, on, then_cmp};
 ghost use Rattle.triple_arena.specs.Content.{live_count, get as get_of};

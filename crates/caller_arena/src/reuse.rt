@@ -7,12 +7,12 @@ ghost use Rattle.caller_arena.specs.Histories.{IsReached};
 use triple_arena::laws::{ended_pointers_find_nothing, pointers_are_given_once};
 use triple_arena::{ArenaInsertTrait, InvalidationResult, PtrCore};
 
-/// Removes what `p` points to, and stores `t` where there is room now. It answers the pointer of `t`, or `None`, and
-/// changes nothing, where `p` points to no entry.
+/// Removes what `p` points to, and stores `t` if there is room now. It answers the pointer of `t`,
+/// or `None`, and changes nothing, if `p` points to no entry.
 ///
-/// Where generations are counted, whatever was done with the arena since it was new, and as long as no step started the
-/// generations again: that pointer is none of those that the arena gave before, and `p`, if the arena gave it, finds
-/// nothing ever after.
+/// If generations are counted, whatever was done with the arena since it was new, and as long as
+/// no step started the generations again: that pointer is none of those that the arena gave before,
+/// and `p`, if the arena gave it, finds nothing ever after.
 pub fn replace<P: PtrCore, T: Drop, A: ArenaInsertTrait<P, T>>(
     arena: &mut A,
     p: P,
@@ -23,16 +23,19 @@ pub fn replace<P: PtrCore, T: Drop, A: ArenaInsertTrait<P, T>>(
     ensures found { IfSome result (λ q. value_if (P.generation q) (A.entry_at arena.new (P.index q))
         ≡ Some t) }
     ensures others { IfSome result (λ q. (k : ℕ) → A.entry_at arena.new k
-        ≡ with_entry (without (A.entry_at arena.old) (P.index p)) (P.index q) (P.generation q, t) k) }
+        ≡ with_entry (without (A.entry_at arena.old) (P.index p)) (P.index q)
+        (P.generation q, t) k) }
     ensures live { A.live_count arena.new ≡ A.live_count arena.old }
     ensures missed { IfNone result (arena.new ≡ arena.old) }
     ensures never_given { (history : List (Step T × A))
-        → IsReached A.entry_at A.live_count A.counter A.room A.live_entries P.Gen.last history arena.old
+        → IsReached A.entry_at A.live_count A.counter A.room A.live_entries P.Gen.last
+        history arena.old
         → counter_wraps P.Gen.last (A.counter arena.old) ≡ false
         → IfSome result (λ q. IsOneOf (all_given A.live_entries history) (P.index q, P.generation q)
         → ⊥) }
     ensures ended { (history later : List (Step T × A))
-        → IsReached A.entry_at A.live_count A.counter A.room A.live_entries P.Gen.last history arena.old
+        → IsReached A.entry_at A.live_count A.counter A.room A.live_entries P.Gen.last
+        history arena.old
         → counter_wraps P.Gen.last (A.counter arena.old) ≡ false
         → IsOneOf (all_given A.live_entries history) (P.index p, P.generation p)
         → Happens A.entry_at A.live_count A.counter A.room A.live_entries P.Gen.last arena.new later

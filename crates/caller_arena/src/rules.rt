@@ -70,7 +70,8 @@ pub fn remove<P: PtrCore, T: Drop, S: ArenaSlots<P, T>>(
     ensures slots { OnSome (answer_of result) (length arena.new.slots
         ≡ (if P.index p == length arena.old.slots then P.index p - 1 else length arena.old.slots)) }
     ensures free { OnSome (answer_of result) (arena.new.free
-        ≡ (if P.index p == length arena.old.slots then arena.old.free else (P.index p ∷ arena.old.free))) }
+        ≡ (if P.index p == length arena.old.slots then arena.old.free
+        else (P.index p ∷ arena.old.free))) }
 {
     arena.remove(p)
 }

@@ -8,7 +8,8 @@ ghost use Rattle.triple_arena.specs.Iterators.{SearchFinds};
 
 use triple_arena::{Arena, ArenaSlots, DirectArena, DirectSlots, PtrCore};
 
-/// The pointer to the first value, in the order of the indexes, that passes the test, or `None` where each fails it.
+/// The pointer to the first value, in the order of the indexes, that passes the test, or `None` if
+/// each fails it.
 pub fn find_first<P: PtrCore, T: Drop, S: ArenaSlots<P, T>, F: Fn(&T) -> bool>(
     arena: &Arena<P, T, S>,
     test: F,
@@ -25,8 +26,8 @@ pub fn find_first<P: PtrCore, T: Drop, S: ArenaSlots<P, T>, F: Fn(&T) -> bool>(
     None
 }
 
-/// The pointer to the first value of a direct arena that is equal to this one, in the order of the indexes, or `None`
-/// where there is none.
+/// The pointer to the first value of a direct arena that is equal to this one, in the order of the
+/// indexes, or `None` if there is none.
 pub fn find_equal<P: PtrCore, T: PartialEq + Drop, S: DirectSlots<P, T>>(
     arena: &DirectArena<P, T, S>,
     wanted: &T,

@@ -7,7 +7,8 @@ ghost use Rattle.triple_arena.specs.Compression.{value_of, generation_of, compre
 
 use triple_arena::{ArenaTrait, InvalidationOption, PtrCore};
 
-/// Adds `by` to each value, and moves the entries to the first indexes. A sum past the greatest number goes on from 0.
+/// Adds `by` to each value, and moves the entries to the first indexes. A sum past the greatest
+/// number goes on from 0.
 pub fn raise<P: PtrCore, A: ArenaTrait<P, u64>>(arena: &mut A, by: u64) -> InvalidationOption<()>
     ensures values { list_map value_of (A.live_entries arena.new)
         ≡ list_map (λ v. (v + by) % 2 ^ 64) (list_map value_of (A.live_entries arena.old)) }

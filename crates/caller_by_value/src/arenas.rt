@@ -97,7 +97,8 @@ pub fn first_on_heap(arena: HeapArena<P0, u64, Global>) -> Option<(P0, u64)>
     first
 }
 
-/// The entries in the order of the indexes, or an error where memory is refused, which drops them half-way.
+/// The entries in the order of the indexes, or an error if memory is refused, which drops them
+/// half-way.
 pub fn listed<P: PtrCore, T: Drop, S: ArenaSlots<P, T>, A: Allocator>(
     arena: Arena<P, T, S>,
     alloc: A,

@@ -45,7 +45,8 @@ pub fn sum_on_heap(chains: HeapChainArena<P0, u64, Global>) -> u64
     total
 }
 
-/// The first value, in the order of the indexes, that is at least this one. The other links are dropped half-way.
+/// The first value, in the order of the indexes, that is at least this one. The other links are
+/// dropped half-way.
 pub fn find<P: PtrCore, S: ChainSlots<P, u64>>(
     chains: ChainArena<P, u64, S>,
     least: u64,

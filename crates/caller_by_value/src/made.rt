@@ -68,7 +68,8 @@ fn sum_links<P: PtrCore, S: ChainSlots<P, u64>>(links: Arena<P, LinkNoGen<P, u64
     total
 }
 
-/// The sum of the values of the links, whether they agree or not. Past the greatest number it goes on from 0.
+/// The sum of the values of the links, whether they agree or not. Past the greatest number it goes
+/// on from 0.
 pub fn sum_either<P: PtrCore, S: ChainSlots<P, u64>>(arena: Arena<P, LinkNoGen<P, u64>, S>) -> u64
     ensures { result ≡ sum_of (list_map value_of (listed_values arena)) % 2 ^ 64 }
 {

@@ -20,7 +20,8 @@ pub struct Dispatched {
 
 /// A place with this key and word, and a new route of two stops there.
 ///
-/// `Full` if the store has no room for one of the three, and for no other reason. What was put in before it stays.
+/// `Full` if the store has no room for one of the three, and for no other reason. What was put in
+/// before it stays.
 pub fn dispatch<P: PtrCore, B: BookBacking<P>>(
     book: &mut RouteBook<P, B>,
     key: u64,

@@ -1,4 +1,5 @@
-//! A service that packs whenever it likes. What it answers and the state after it are those without a pack.
+//! A service that packs whenever it likes. What it answers and the state after it are those without
+//! a pack.
 ghost use Rattle.std.specs.Prelude.{◌≡◌, ◌+◌, ◌-◌, ◌^◌, ℕ, List, IfErr, OnErr, OnOk, filter, not};
 ghost use Rattle.std.specs.Io.KnownBytes.{Appends, Consumes, IsAtEnd};
 ghost use Rattle.route_lines.specs.Calls.{shown};
@@ -60,8 +61,8 @@ pub fn show<P: PtrCore, B: BookBacking<P>>(
     book.show(ticket)
 }
 
-/// Answers an input, after a pack. Its own lines that pack change no other reply, and the state at its end is the one without
-/// them.
+/// Answers an input, after a pack. Its own lines that pack change no other reply, and the state at
+/// its end is the one without them.
 pub fn serve<P: PtrCore, B: BookBacking<P>, R: Read, W: Write>(
     book: &mut RouteBook<P, B>,
     reader: &mut Watched<R>,
@@ -75,9 +76,12 @@ pub fn serve<P: PtrCore, B: BookBacking<P>, R: Read, W: Write>(
         (replies book.old.state (lines input))
         × (filter (λ a. not (is_pack a.0)) (answered book.old.state (lines input))
         ≡ answered book.old.state (filter (λ line. not (is_pack line)) (lines input)))
-        × (book.new.state ≡ after_lines book.old.state (filter (λ line. not (is_pack line)) (lines input)))) }
-    ensures read_failed { IfErr result (λ fault. OnRead fault (failed_of reader.new ≡ failed_of reader.old + 1)) }
-    ensures write_failed { IfErr result (λ fault. OnWrite fault (failed_of writer.new ≡ failed_of writer.old + 1)) }
+        × (book.new.state ≡ after_lines book.old.state
+        (filter (λ line. not (is_pack line)) (lines input)))) }
+    ensures read_failed { IfErr result
+        (λ fault. OnRead fault (failed_of reader.new ≡ failed_of reader.old + 1)) }
+    ensures write_failed { IfErr result
+        (λ fault. OnWrite fault (failed_of writer.new ≡ failed_of writer.old + 1)) }
     ensures many_reads { IfErr result
         (λ fault. OnTooLong fault (calls_of reader.new ≡ calls_of reader.old + (2 ^ 64 - 1))) }
 {

@@ -12,8 +12,8 @@ ghost use Rattle.caller_route_book.specs.References.{AreDead, AreGone};
 use route_book::laws::{removed_places_leave_no_reference, removed_tickets_are_gone};
 use route_book::{BookBacking, Counts, PtrCore, Refusal, RouteBook};
 
-/// Removes a place. Its ticket is gone, and no reference to it finds anything. If the counter of the places goes on, each
-/// stays where it is, and none is looked at.
+/// Removes a place. Its ticket is gone, and no reference to it finds anything. If the counter of
+/// the places goes on, each stays where it is, and none is looked at.
 pub fn close<P: PtrCore, B: BookBacking<P>>(
     book: &mut RouteBook<P, B>,
     ticket: u64,

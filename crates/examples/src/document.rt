@@ -11,11 +11,12 @@ use triple_arena::{
     Arena, ArenaSlots, DirectSlots, PtrCore, ReallocationError, Recast, compress_recaster,
 };
 
-/// Moves the nodes to the first indexes, in their order, and has each name follow the node that it names.
+/// Moves the nodes to the first indexes, in their order, and has each name follow the node that it
+/// names.
 ///
-/// The memory for the new names is taken from `alloc` before, for as many slots as the last live index says: it answers
-/// `BeyondMaxCapacity` where there can't be so many, and `AllocError` where the memory was refused. An error leaves the
-/// document as it was.
+/// The memory for the new names is taken from `alloc` before, for as many slots as the last live
+/// index says: it returns `BeyondMaxCapacity` if there can't be so many, and `AllocError` if the
+/// memory was refused. An error leaves the document as it was.
 pub fn tidy<P, T, S, R>(
     nodes: &mut Arena<P, T, S>,
     alloc: R::Alloc,
@@ -32,7 +33,7 @@ where
         (T.recasted (λ p. new_name (P.index p) (P.generation p))) nodes.old nodes.new) }
     ensures formed { OnOk result (IsWellFormed nodes.new) }
 
-    // No memory is asked for where new names have the room already.
+    // No memory is asked for if new names have the room already.
     ensures succeeds { last_index nodes.old ≤ capacity (room_of P.Inx.greatest (R.room_at 0))
         → IsOk result }
     ensures beyond { IsErrOf result ReallocationError.BeyondMaxCapacity

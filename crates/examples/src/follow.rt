@@ -49,8 +49,8 @@ fn find_moved<P: Ptr, T: Drop, A: ArenaTrait<P, Moved<P, T>>>(arena: &A, p: P) -
     None
 }
 
-/// Moves the entries to the first indexes, and follows `p`: answers the pointer that its entry has then, or `None`
-/// where `p` pointed to none.
+/// Moves the entries to the first indexes, and follows `p`: answers the pointer that its entry has
+/// then, or `None` if `p` pointed to none.
 pub fn compress_and_follow<P: Ptr, T: Drop, A: ArenaTrait<P, Moved<P, T>>>(
     arena: &mut A,
     p: P,
@@ -88,8 +88,8 @@ fn find_all_moved<P: Ptr, T: Drop, A: ArenaTrait<P, Moved<P, T>>>(
     }
 }
 
-/// Moves the entries to the first indexes, and has the pointers of `table` follow them: a pointer that found no entry
-/// becomes `None`.
+/// Moves the entries to the first indexes, and has the pointers of `table` follow them: a pointer
+/// that found no entry becomes `None`.
 pub fn compress_with_table<P: Ptr, T: Drop, A: ArenaTrait<P, Moved<P, T>>>(
     arena: &mut A,
     table: &mut [Option<P>],

@@ -1,12 +1,16 @@
-//! Examples of what arenas and chain arenas are for, each a page to copy from. Those of ordered arenas are in `ord_examples`.
+//! Examples of what arenas and chain arenas are for, each a page to copy from. Those of ordered
+//! arenas are in `ord_examples`.
 //!
 //! - [`Scheduler`]: tasks named by pointers, where a task that was cancelled is never found again.
 //! - [`Scene`]: nodes that name their parents by numbers, which a compression does not change.
-//! - [`compress_with_table`], [`compress_and_follow`]: pointers that follow their entries through a compression, which the
-//!   scene stands on.
-//! - [`tidy`]: a document whose nodes name one another by pointers, which is compressed and keeps its names.
-//! - [`number_paragraphs`]: a document whose sections are lists of paragraphs, which get successive numbers.
-//! - [`add_after`], [`move_after`], [`reverse_pair`], [`play_from`]: playlists, which are lists in a chain arena.
+//! - [`compress_with_table`], [`compress_and_follow`]: pointers that follow their entries through a
+//!   compression, which the scene stands on.
+//! - [`tidy`]: a document whose nodes name one another by pointers, which is compressed and keeps
+//!   its names.
+//! - [`number_paragraphs`]: a document whose sections are lists of paragraphs, which get successive
+//!   numbers.
+//! - [`add_after`], [`move_after`], [`reverse_pair`], [`play_from`]: playlists, which are lists in
+//!   a chain arena.
 #![tactic(auto)]
 
 mod document;

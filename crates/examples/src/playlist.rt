@@ -16,8 +16,9 @@ use triple_arena_chain::{
     ChainArena, ChainArenaTrait, ChainInsertionError, ChainSlots, LinkInsertKind,
 };
 
-/// Adds a song directly after the one at `p`, if there is room. It answers `FailedLinkRequirement` where `p` is invalid,
-/// and else `NotWithinCapacity` where there is no room; all songs stay as they are then, and this one is dropped.
+/// Adds a song directly after the one at `p`, if there is room. It returns `FailedLinkRequirement`
+/// if `p` is invalid, and else `NotWithinCapacity` if there is no room; all songs stay as they are
+/// then, and this one is dropped.
 pub fn add_after<P: PtrCore, T: Drop, S: ChainSlots<P, T>>(
     songs: &mut ChainArena<P, T, S>,
     p: P,
@@ -49,8 +50,9 @@ pub fn add_after<P: PtrCore, T: Drop, S: ChainSlots<P, T>>(
     songs.insert_within_capacity(LinkInsertKind::NextTo(p), song)
 }
 
-/// Moves the song at `p` to directly after the one at `q`, in whatever lists or rings they stand, and answers its new
-/// pointer. It answers `None`, and changes nothing, where one of them is invalid or they are the same song.
+/// Moves the song at `p` to directly after the one at `q`, in whatever lists or rings they stand,
+/// and returns its new pointer. It returns `None`, and changes nothing, if one of them is invalid
+/// or they are the same song.
 pub fn move_after<P: Ptr, T: Drop, S: ChainSlots<P, T>>(
     songs: &mut ChainArena<P, T, S>,
     p: P,
@@ -62,9 +64,11 @@ pub fn move_after<P: Ptr, T: Drop, S: ChainSlots<P, T>>(
         (ends_in P.Inx.number songs.old) (ends_in P.Inx.number songs.new)) }
     ensures songs { IfSome result (λ n. (link : IndexLink P.Inx T)
         → get songs.old (P.index p) (P.generation p) ≡ Some link → (j : ℕ) → values_in songs.new j
-        ≡ with_entry (without (values_in songs.old) (P.index p)) (P.index n) (P.generation n, link.t) j) }
+        ≡ with_entry (without (values_in songs.old) (P.index p)) (P.index n)
+        (P.generation n, link.t) j) }
     ensures live { live_count songs.new ≡ live_count songs.old }
-    ensures counter { OnSome result (songs.new.counter ≡ next_generation P.Gen.last songs.old.counter) }
+    ensures counter { OnSome result
+        (songs.new.counter ≡ next_generation P.Gen.last songs.old.counter) }
     ensures room { songs.new.room ≡ songs.old.room }
     ensures none { IfNone result (songs.new ≡ songs.old) }
 {
@@ -79,24 +83,29 @@ pub fn move_after<P: Ptr, T: Drop, S: ChainSlots<P, T>>(
         .ok()
 }
 
-/// Turns the song at `p`, which is the next of `before`, and its own next round: `before, p, q` is `before, q, p` then,
-/// also where `q` is the end of the list. A ring of one or of two stays as it is. It answers `None`, and changes nothing,
-/// where `p` is not the next of `before`, one of them is invalid, or `p` has no next.
+/// Turns the song at `p`, which is the next of `before`, and its own next round: `before, p, q` is
+/// `before, q, p` then, also if `q` is the end of the list. A ring of one or of two stays as it is.
+/// It returns `None`, and changes nothing, if `p` is not the next of `before`, one of them is
+/// invalid, or `p` has no next.
 pub fn reverse_pair<P: PtrCore, T: Drop, S: ChainSlots<P, T>>(
     songs: &mut ChainArena<P, T, S>,
     before: P,
     p: P,
 ) -> Option<()>
     ensures variant { IsSome result
-        ↔ ((next_in (ends_found P.Inx.number songs.old (P.index before) (P.generation before)) ≡ Some (P.index p))
+        ↔ ((next_in (ends_found P.Inx.number songs.old (P.index before) (P.generation before))
+        ≡ Some (P.index p))
         × IsSome (next_in (ends_found P.Inx.number songs.old (P.index p) (P.generation p)))) }
     ensures linear { OnSome result ((front rest : List ℕ) (q : ℕ)
-        → IsLinear (ends_in P.Inx.number songs.old) (front ++ (P.index before ∷ P.index p ∷ q ∷ rest))
-        → IsLinear (ends_in P.Inx.number songs.new) (front ++ (P.index before ∷ q ∷ P.index p ∷ rest))) }
+        → IsLinear (ends_in P.Inx.number songs.old)
+        (front ++ (P.index before ∷ P.index p ∷ q ∷ rest))
+        → IsLinear (ends_in P.Inx.number songs.new)
+        (front ++ (P.index before ∷ q ∷ P.index p ∷ rest))) }
     ensures ring { OnSome result ((rest : List ℕ) (q : ℕ)
         → IsRing (ends_in P.Inx.number songs.old) (P.index before ∷ P.index p ∷ q ∷ rest)
         → IsRing (ends_in P.Inx.number songs.new) (P.index before ∷ q ∷ P.index p ∷ rest)) }
-    ensures ring_of_two { OnSome result (IsRing (ends_in P.Inx.number songs.old) (P.index before ∷ P.index p ∷ [])
+    ensures ring_of_two { OnSome result
+        (IsRing (ends_in P.Inx.number songs.old) (P.index before ∷ P.index p ∷ [])
         → IsRing (ends_in P.Inx.number songs.new) (P.index before ∷ P.index p ∷ [])) }
     ensures alone { OnSome result (IsRing (ends_in P.Inx.number songs.old) (P.index p ∷ [])
         → IsRing (ends_in P.Inx.number songs.new) (P.index p ∷ [])) }
@@ -120,10 +129,12 @@ pub fn reverse_pair<P: PtrCore, T: Drop, S: ChainSlots<P, T>>(
     songs.connect(q, p)
 }
 
-/// How long it plays from the song at `p` on, in any arena of chains: to the end of its chain and then backwards from the
-/// song before it, or once round a ring. Past the greatest number it goes on from 0.
+/// How long it plays from the song at `p` on, in any arena of chains: to the end of its chain and
+/// then backwards from the song before it, or once round a ring. Past the greatest number it goes
+/// on from 0.
 pub fn play_from<P: PtrCore, A: ChainArenaTrait<P, u64>>(songs: &A, p: P) -> Option<u64>
-    ensures variant { IsSome result ↔ IsSome (get (A.links songs.now) (P.index p) (P.generation p)) }
+    ensures variant { IsSome result
+        ↔ IsSome (get (A.links songs.now) (P.index p) (P.generation p)) }
     ensures total { IfSome result (λ total. (walk : List ℕ)
         × IsWalkFrom (ends_in P.Inx.number (A.links songs.now)) (P.index p) walk
         × (total ≡ sum (list_map (length_at (A.links songs.now)) walk) % 2 ^ 64)) }

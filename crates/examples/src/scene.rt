@@ -20,12 +20,12 @@ pub struct Node {
 
 /// Nodes, each named by the number that `add` gave.
 ///
-/// Nodes name their parents by these numbers, so that a compression, which moves nodes and renews their pointers, has
-/// one table to follow.
+/// Nodes name their parents by these numbers, so that a compression, which moves nodes and renews
+/// their pointers, has one table to follow.
 #[derive(Drop)]
 pub struct Scene<P: Ptr> {
     nodes: HeapArena<P, Moved<P, Node>, Global>,
-    // The pointer of each node that was added, in that order, or none where it was removed.
+    // The pointer of each node that was added, in that order, or none if it was removed.
     pointers: Vec<Option<P>>,
 }
 
@@ -38,13 +38,15 @@ impl<P: Ptr> Model for Scene<P> {
 
     ghost view = { λ s. record { nodes = s.nodes; pointers = s.pointers.items } };
 
-    ghost invariant = { λ s. IsScene P.index P.generation (record { nodes = s.nodes; pointers = s.pointers.items }) };
+    ghost invariant = { λ s. IsScene P.index P.generation
+        (record { nodes = s.nodes; pointers = s.pointers.items }) };
 }
 
 impl<P: Ptr> Scene<P> {
     /// A scene without a node. It takes no memory.
     pub fn new(alloc: Global) -> Self
-        ensures empty { (number : ℕ) → node_of P.index P.generation (λ m. m.value) result number ≡ None }
+        ensures empty { (number : ℕ)
+            → node_of P.index P.generation (λ m. m.value) result number ≡ None }
         ensures given { given result ≡ 0 }
         ensures live { live_count result.nodes ≡ 0 }
         ensures room { result.nodes.room.reserved ≡ 0 }
@@ -55,11 +57,11 @@ impl<P: Ptr> Scene<P> {
         }
     }
 
-    /// Takes in a node, and gives the number that names it from now on: as many as were given before, so that none is
-    /// given twice.
+    /// Takes in a node, and gives the number that names it from now on: as many as were given
+    /// before, so that none is given twice.
     ///
-    /// It answers `AllocError` where the memory was refused, and `BeyondMaxCapacity` only where there are as many nodes as
-    /// pointers have indexes. Then nothing changes.
+    /// It returns `AllocError` if the memory was refused, and `BeyondMaxCapacity` only if there are
+    /// as many nodes as pointers have indexes. Then nothing changes.
     pub fn add(&mut self, node: Node) -> Result<usize, ReallocationError>
         ensures number { IfOk result (λ number. number ≡ given self.old) }
         ensures vacant { IfOk result (λ number.
@@ -90,9 +92,10 @@ impl<P: Ptr> Scene<P> {
         Ok(number)
     }
 
-    /// The node with this number; none where it was removed.
+    /// The node with this number; none if it was removed.
     pub fn get(&self, number: usize) -> Option<&Node>
-        ensures { option_copied result ≡ node_of P.index P.generation (λ m. m.value) self.now number }
+        ensures { option_copied result
+            ≡ node_of P.index P.generation (λ m. m.value) self.now number }
     {
         let p = (*self.pointers.get(number)?)?;
         Some(&self.nodes.get(p)?.value)
@@ -114,8 +117,8 @@ impl<P: Ptr> Scene<P> {
         Some(moved.value)
     }
 
-    /// Moves the nodes together, so that those that are left stand at the first indexes. Each number names the same node
-    /// as before.
+    /// Moves the nodes together, so that those that are left stand at the first indexes. Each
+    /// number names the same node as before.
     pub fn compress(&mut self)
         ensures same { (number : ℕ)
             → node_of P.index P.generation (λ m. m.value) self.new number

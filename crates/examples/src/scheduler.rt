@@ -15,8 +15,8 @@ pub struct Task {
 
 /// Tasks, each named by the pointer that `spawn` gave.
 ///
-/// A pointer finds its own task until that is cancelled, and then nothing: no later task gets it, though one may get
-/// its slot.
+/// A pointer finds its own task until that is cancelled, and then nothing: no later task gets it,
+/// though one may get its slot.
 #[derive(Drop)]
 pub struct Scheduler {
     tasks: HeapArena<P0, Task, Global>,
@@ -49,8 +49,8 @@ impl Scheduler {
 
     /// Takes in a task, and gives the pointer that finds it from now on, which found none before.
     ///
-    /// It answers `AllocError` where the memory was refused, and `BeyondMaxCapacity` where no pointer is left to give.
-    /// Then nothing changes.
+    /// It returns `AllocError` if the memory was refused, and `BeyondMaxCapacity` if no pointer is
+    /// left to give. Then nothing changes.
     pub fn spawn(&mut self, task: Task) -> Result<P0, ReallocationError>
         ensures vacant { IfOk result (λ p. task_at self.old (⟦<P0 as PtrCore>⟧.index p)
             (⟦<P0 as PtrCore>⟧.generation p) ≡ None) }
@@ -78,7 +78,8 @@ impl Scheduler {
     pub fn get(&self, p: P0) -> Option<&Task>
         ensures found { option_copied result ≡ task_at self.now (⟦<P0 as PtrCore>⟧.index p)
             (⟦<P0 as PtrCore>⟧.generation p) }
-        ensures ended { HasEnded self.now (⟦<P0 as PtrCore>⟧.index p) (⟦<P0 as PtrCore>⟧.generation p)
+        ensures ended { HasEnded self.now (⟦<P0 as PtrCore>⟧.index p)
+            (⟦<P0 as PtrCore>⟧.generation p)
             → result ≡ None }
     {
         self.tasks.get(p)

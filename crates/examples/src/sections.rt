@@ -10,8 +10,9 @@ use triple_arena::PtrCore;
 use triple_arena_chain::laws::compress_canonical_makes_runs;
 use triple_arena_chain::{ChainArena, ChainSlots};
 
-/// Numbers the paragraphs of a document from 1 on, so that those of each section have successive numbers, in their order.
-/// No paragraph is lost, and no memory is taken. Where generations are counted, all pointers to paragraphs end.
+/// Numbers the paragraphs of a document from 1 on, so that those of each section have successive
+/// numbers, in their order. No paragraph is lost, and no memory is taken. If generations are
+/// counted, all pointers to paragraphs end.
 pub fn number_paragraphs<P: PtrCore, T: Drop, S: ChainSlots<P, T>>(
     document: &mut ChainArena<P, T, S>,
 )

@@ -40,7 +40,8 @@ pub fn sum<P: PtrCore, S: OrdSlots<P, u64>>(arena: SimpleOrdArena<P, u64, S>) ->
 
 /// The same, on the heap, by a `for` of its own.
 pub fn sum_on_heap(arena: HeapOrdArena<P0, u64, Global>) -> u64
-    ensures { result ≡ sum_of (list_map value_of (ordered_entries non_zero_usize_get arena)) % 2 ^ 64 }
+    ensures { result ≡ sum_of
+        (list_map value_of (ordered_entries non_zero_usize_get arena)) % 2 ^ 64 }
 {
     let mut total = 0u64;
     for (_, value) in arena {
@@ -54,7 +55,8 @@ pub fn find<P: PtrCore, S: OrdSlots<P, u64>>(
     arena: SimpleOrdArena<P, u64, S>,
     least: u64,
 ) -> Option<(P, u64)>
-    ensures none { IfNone result (All (λ e. value_of e < least) (ordered_entries P.Inx.number arena)) }
+    ensures none { IfNone result
+        (All (λ e. value_of e < least) (ordered_entries P.Inx.number arena)) }
     ensures some { IfSome result (λ e. (least ≤ e.1)
         × Contains (ordered_entries P.Inx.number arena) (P.index e.0, (P.generation e.0, e.1))) }
 {
@@ -111,7 +113,8 @@ pub fn sorted<P: PtrCore, T: SimpleOrdItem + Drop, S: OrdSlots<P, T>, A: Allocat
     alloc: A,
 ) -> Result<Vec<(P, T), A>, AllocError>
     requires { IsAscending P.Inx.number T.Key.cmp T.key_of arena }
-    ensures { IfOk result (λ v. IsSorted {X = ℕ × (ℕ × T)} (λ x y. T.Key.cmp (T.key_of x.1.1) (T.key_of y.1.1))
+    ensures { IfOk result
+        (λ v. IsSorted {X = ℕ × (ℕ × T)} (λ x y. T.Key.cmp (T.key_of x.1.1) (T.key_of y.1.1))
         (list_map (λ e. (P.index e.0, (P.generation e.0, e.1))) v.items)) }
 {
     let entries = listed(arena, alloc)?;

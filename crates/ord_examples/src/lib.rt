@@ -1,6 +1,8 @@
-//! Examples of what ordered arenas are for, each a page to copy from. Those of the other arenas are in `examples`.
+//! Examples of what ordered arenas are for, each a page to copy from. Those of the other arenas are
+//! in `examples`.
 //!
-//! - [`open_book`], [`add_order`], [`cancel_order`], [`best_order`], [`next_order`]: an order book, in an ordered arena.
+//! - [`open_book`], [`add_order`], [`cancel_order`], [`best_order`], [`next_order`]: an order book,
+//!   in an ordered arena.
 //! - [`move_orders`]: the orders of one book moved into another, as one over narrower pointers.
 //! - [`by_value`]: callers that take an ordered arena by value, and what they learn of its items.
 #![tactic(auto)]

@@ -1,4 +1,5 @@
-//! Order books: orders by their prices in an ordered arena, one at a price at most, of which all is said by pointers and prices.
+//! Order books: orders by their prices in an ordered arena, one at a price at most, of which all is
+//! said by pointers and prices.
 ghost use Rattle.std.specs.Prelude.{◌≡◌, ◌≤◌, ◌↔◌, ℕ, None, Some, Ok, IsTrue, IsOk, IsSome, IfOk, IfSome, IfNone, IfErr, OnErr, OnSome, IsErrOf};
 ghost use Rattle.triple_arena_stack.specs.Room.{capacity as capacity_of, IsBeyond};
 ghost use Rattle.triple_arena.specs.ArenaRoom.{room_of};
@@ -35,8 +36,8 @@ fn as_order<P: PtrCore, V: Drop>(
     }
 }
 
-/// A book without an order, with room for so many. It answers `BeyondMaxCapacity` where no book of this type has so much room,
-/// and `AllocError` where the memory was refused.
+/// A book without an order, with room for so many. It returns `BeyondMaxCapacity` if no book of
+/// this type has so much room, and `AllocError` if the memory was refused.
 pub fn open_book<P: PtrCore, V: Drop, S: NonZeroInxGenericStack<Item = OrderSlot<P, V>> + Drop>(
     alloc: S::Alloc,
     orders: usize,
@@ -52,8 +53,9 @@ pub fn open_book<P: PtrCore, V: Drop, S: NonZeroInxGenericStack<Item = OrderSlot
     SimpleOrdArena::with_min_capacity(alloc, orders)
 }
 
-/// Puts an order in at a price, and answers its pointer, with the order that it replaces, if one stands at the price. It
-/// answers `NotWithinCapacity` where none does and there is no room; the book stays as it is then.
+/// Puts an order in at a price, and returns its pointer, with the order that it replaces, if one
+/// stands at the price. It returns `NotWithinCapacity` if none does and there is no room; the book
+/// stays as it is then.
 pub fn add_order<P: PtrCore, V: Drop, S: NonZeroInxGenericStack<Item = OrderSlot<P, V>> + Drop>(
     book: &mut OrderBook<P, V, S>,
     price: u64,
@@ -68,7 +70,8 @@ pub fn add_order<P: PtrCore, V: Drop, S: NonZeroInxGenericStack<Item = OrderSlot
         → IsNewOrder book.old price (P.index p) (P.generation p) }
     ensures error { IfErr result (λ e. e ≡ OrdInsertionError.NotWithinCapacity) }
     ensures full { IsErrOf result OrdInsertionError.NotWithinCapacity
-        ↔ (IsFreePrice book.old price × (arena_capacity book.old.chains ≤ live_count book.old.chains)) }
+        ↔ (IsFreePrice book.old price
+        × (arena_capacity book.old.chains ≤ live_count book.old.chains)) }
     ensures counter { book.new.chains.counter ≡ book.old.chains.counter }
     ensures room { book.new.chains.room ≡ book.old.chains.room }
     ensures book { IsBook P.Inx.number book.new }
@@ -80,16 +83,18 @@ pub fn add_order<P: PtrCore, V: Drop, S: NonZeroInxGenericStack<Item = OrderSlot
     as_order(book.insert_within_capacity(OrdPair::new(price, order)))
 }
 
-/// Takes the order that `p` points to out, with its price. All other pointers find their orders. It answers `None`, and changes
-/// nothing, where `p` points to none.
+/// Takes the order that `p` points to out, with its price. All other pointers find their orders. It
+/// returns `None`, and changes nothing, if `p` points to none.
 pub fn cancel_order<P: PtrCore, V: Drop, S: NonZeroInxGenericStack<Item = OrderSlot<P, V>> + Drop>(
     book: &mut OrderBook<P, V, S>,
     p: P,
 ) -> Option<(u64, V)>
     requires { IsBook P.Inx.number book.old }
     ensures order { result ≡ value_if (P.generation p) (orders_in book.old (P.index p)) }
-    ensures gone { OnSome result ((i : ℕ) → orders_in book.new i ≡ without (orders_in book.old) (P.index p) i) }
-    ensures counter { OnSome result (book.new.chains.counter ≡ next_generation P.Gen.last book.old.chains.counter) }
+    ensures gone { OnSome result
+        ((i : ℕ) → orders_in book.new i ≡ without (orders_in book.old) (P.index p) i) }
+    ensures counter { OnSome result
+        (book.new.chains.counter ≡ next_generation P.Gen.last book.old.chains.counter) }
     ensures room { book.new.chains.room ≡ book.old.chains.room }
     ensures book { IsBook P.Inx.number book.new }
     ensures none { IfNone result (book.new ≡ book.old) }
@@ -99,12 +104,13 @@ pub fn cancel_order<P: PtrCore, V: Drop, S: NonZeroInxGenericStack<Item = OrderS
     Some(pair.into_k_v())
 }
 
-/// The pointer to the order with the least price, or `None` where there is no order.
+/// The pointer to the order with the least price, or `None` if there is no order.
 pub fn best_order<P: PtrCore, V: Drop, S: NonZeroInxGenericStack<Item = OrderSlot<P, V>> + Drop>(
     book: &OrderBook<P, V, S>,
 ) -> Option<P>
     requires { IsBook P.Inx.number book.now }
-    ensures live { IfSome result (λ p. generation_at (orders_in book.now) (P.index p) ≡ Some (P.generation p)) }
+    ensures live { IfSome result
+        (λ p. generation_at (orders_in book.now) (P.index p) ≡ Some (P.generation p)) }
     ensures best { IfSome result (λ p. (j own price : ℕ) → price_in book.now (P.index p) ≡ Some own
         → price_in book.now j ≡ Some price → own ≤ price) }
     ensures none { IfNone result ((j : ℕ) → orders_in book.now j ≡ None) }
@@ -116,17 +122,20 @@ pub fn best_order<P: PtrCore, V: Drop, S: NonZeroInxGenericStack<Item = OrderSlo
     book.first()
 }
 
-/// The pointer to the order with the next greater price after that of the order that `p` points to. It answers `None` where
-/// `p` points to none, or no order has a greater price.
+/// The pointer to the order with the next greater price after that of the order that `p` points to.
+/// It returns `None` if `p` points to none, or no order has a greater price.
 pub fn next_order<P: PtrCore, V: Drop, S: NonZeroInxGenericStack<Item = OrderSlot<P, V>> + Drop>(
     book: &OrderBook<P, V, S>,
     p: P,
 ) -> Option<P>
     requires { IsBook P.Inx.number book.now }
-    ensures from { IsSome result → IsSome (value_if (P.generation p) (orders_in book.now (P.index p))) }
-    ensures live { IfSome result (λ q. generation_at (orders_in book.now) (P.index q) ≡ Some (P.generation q)) }
+    ensures from { IsSome result
+        → IsSome (value_if (P.generation p) (orders_in book.now (P.index p))) }
+    ensures live { IfSome result
+        (λ q. generation_at (orders_in book.now) (P.index q) ≡ Some (P.generation q)) }
     ensures next { IfSome result (λ q. IsNextPrice book.now (P.index p) (P.index q)) }
-    ensures none { IfNone result (IsSome (value_if (P.generation p) (orders_in book.now (P.index p)))
+    ensures none { IfNone result
+        (IsSome (value_if (P.generation p) (orders_in book.now (P.index p)))
         → IsLastPrice book.now (P.index p)) }
 {
     entries_stand_in_the_list::<P, OrdPair<u64, V>>();

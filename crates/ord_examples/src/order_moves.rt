@@ -14,13 +14,15 @@ use triple_arena::{NonZeroInxGenericStack, PtrCore, ReallocationError};
 use triple_arena_ord::OrdPair;
 use triple_arena_ord::laws::canonical_transfers_list_by_index;
 
-/// Drops the orders of `book`, and moves those of `source` there, to the indexes from 1 on along its list, which is that of
-/// its prices. Each new pointer has `generation`, and the counter is `generation` too, so a pointer that `book` gave under it
-/// may find an order that came in. `source` is left with no order and no slot, in its room, and its counter has stepped once
-/// for each order.
+/// Drops the orders of `book`, and moves those of `source` there, to the indexes from 1 on along
+/// its list, which is that of its prices. Each new pointer has `generation`, and the counter is
+/// `generation` too, so a pointer that `book` gave under it may find an order that came in.
+/// `source` is left with no order and no slot, in its room, and its counter has stepped once for
+/// each order.
 ///
-/// Memory is taken only if there are more orders than fit, and then for so many exactly. It answers `BeyondMaxCapacity` if they
-/// are more than the greatest capacity, and `AllocError` if the memory was refused. An error leaves both books as they were.
+/// Memory is taken only if there are more orders than fit, and then for so many exactly. It returns
+/// `BeyondMaxCapacity` if they are more than the greatest capacity, and `AllocError` if the memory
+/// was refused. An error leaves both books as they were.
 pub fn move_orders<P, Q, V, S, R>(
     book: &mut OrderBook<P, V, S>,
     generation: P::Gen,
@@ -34,9 +36,12 @@ where
     R: NonZeroInxGenericStack<Item = OrderSlot<Q, V>> + Drop,
     ensures orders { OnOk result (list_map listed_order (ordered_entries P.Inx.number book.new)
         ≡ list_map listed_order (ordered_entries Q.Inx.number source.old)) }
-    ensures indexes { OnOk result (order_in P.Inx.number book.new ≡ range_with_len 1 (size_in source.old)) }
-    ensures filled { OnOk result (IsFilled entry_in size_in counter_in room_in indexed (size_in source.old)
-        (P.Gen.number generation) (room_with (size_in source.old) (room_in book.old)) book.old book.new) }
+    ensures indexes { OnOk result
+        (order_in P.Inx.number book.new ≡ range_with_len 1 (size_in source.old)) }
+    ensures filled { OnOk result
+        (IsFilled entry_in size_in counter_in room_in indexed (size_in source.old)
+        (P.Gen.number generation) (room_with (size_in source.old) (room_in book.old))
+        book.old book.new) }
     ensures source_exact { OnOk result (source.new ≡ drained_in Q.Gen.last source.old) }
     ensures succeeds { size_in source.old ≤ capacity_of (room_in book.old) → IsOk result }
     ensures beyond { IsErrOf result ReallocationError.BeyondMaxCapacity

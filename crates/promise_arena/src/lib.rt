@@ -1,7 +1,7 @@
-//! What users rely on most in an arena, said once more of functions whose body is the call alone. That each is proved
-//! shows that the arena's contract says so much, and `must-fail/` has a wrong body for each promise, which its clause
-//! refuses. A wrong body here makes the calls that are public; those of the arena's own files are in its
-//! `wrong-bodies.txt`.
+//! What users rely on most in an arena, said once more of functions whose body is the call alone.
+//! That each is proved shows that the arena's contract says so much, and `must-fail/` has a wrong
+//! body for each promise, which its clause refuses. A wrong body here makes the calls that are
+//! public; those of the arena's own files are in its `wrong-bodies.txt`.
 #![tactic(auto)]
 
 ghost use Rattle.std.specs.Prelude.{◌≡◌, ℕ, length, ◌<◌, ◌↔◌, None, Some, IsOk, IfOk, IfSome, IfNone, OnOk, OnSome, OnErr, option_copied, ◌≤◌, IsErrOf, IsTrue};
@@ -27,7 +27,7 @@ use triple_arena::{
     ReallocationError,
 };
 
-/// Stores a value exactly where there is room, under a pointer that finds it.
+/// Stores a value exactly if there is room, under a pointer that finds it.
 pub fn insert_within_capacity<P: PtrCore, A: ArenaInsertTrait<P, u64>>(
     arena: &mut A,
     t: u64,
@@ -56,7 +56,8 @@ pub fn insert_at_the_next_index<P: PtrCore, S: ArenaSlots<P, u64>>(
     stored
 }
 
-/// Finds the value that a pointer was given for, and nothing by the pointer of an entry that has gone.
+/// Finds the value that a pointer was given for, and nothing by the pointer of an entry that has
+/// gone.
 pub fn get<P: PtrCore, T: Drop, A: ArenaTrait<P, T>>(arena: &A, p: P) -> Option<&T>
     ensures { option_copied result
         ≡ value_if (P.generation p) (A.entry_at arena.now (P.index p)) }
@@ -97,7 +98,8 @@ pub fn remove<P: PtrCore, T: Drop, A: ArenaTrait<P, T>>(
     removed
 }
 
-/// Takes the first entry out by a drain, which takes the rest where it is let go, each by a step of the counter.
+/// Takes the first entry out by a drain, which takes the rest if it is let go, each by a step of
+/// the counter.
 #[tactic(auto, using(triple_arena::specs::TransferLaws::drains))]
 pub fn take_first_by_drain<P: PtrCore, T: Drop, S: ArenaSlots<P, T>>(
     arena: &mut Arena<P, T, S>,
@@ -125,8 +127,9 @@ pub fn copy<P: PtrCore, S: ArenaSlots<P, u64>, R: ArenaSlots<P, u64>>(
     copied
 }
 
-/// Moves the entries of one arena to another, each under the generation that is given, with what `map` makes of its value.
-/// It is refused exactly where that must be, and then both stay as they were.
+/// Moves the entries of one arena to another, each under the generation that is given, with what
+/// `map` makes of its value. It is refused exactly if that must be, and then both stay as they
+/// were.
 pub fn transfer<P, Q, A, B, F>(
     arena: &mut A,
     generation: P::Gen,
@@ -141,7 +144,8 @@ where
     F: FnMut(Q, InvalidationOption<u64>, P) -> u64,
     requires { F.IsAlwaysCallable map }
     ensures mapped { OnOk result (IsTransferred Q.index Q.generation P.index P.generation F.step
-        map Q.Gen.last (B.counter source.old) (B.live_entries source.old) (A.live_entries arena.new)) }
+        map Q.Gen.last (B.counter source.old) (B.live_entries source.old)
+        (A.live_entries arena.new)) }
     ensures filled { OnOk result (IsFilled A.entry_at A.live_count A.counter A.room A.live_entries
         (B.live_count source.old) (P.Gen.number generation)
         (room_with (B.live_count source.old) (A.room arena.old)) arena.old arena.new) }

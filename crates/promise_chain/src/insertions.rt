@@ -26,11 +26,13 @@ pub fn insert_within_capacity<P: PtrCore, T: Drop, C: ChainArenaTrait<P, T>>(
     kind: LinkInsertKind<P>,
     t: T,
 ) -> Result<P, ChainInsertionError>
-    ensures answer { IsLinkAnswer (place_among P.index P.generation P.Inx.number (C.links chains.old) kind)
+    ensures answer { IsLinkAnswer
+        (place_among P.index P.generation P.Inx.number (C.links chains.old) kind)
         (live_count (C.links chains.old)) (arena_capacity (C.links chains.old)) result }
     ensures placed { IfOk result
         (λ p. IfSome (place_among P.index P.generation P.Inx.number (C.links chains.old) kind)
-        (λ place. IsPlaced P.Inx.number place (P.index p) (P.generation p) t (C.links chains.old) (C.links chains.new))) }
+        (λ place. IsPlaced P.Inx.number place (P.index p) (P.generation p) t (C.links chains.old)
+        (C.links chains.new))) }
     ensures formed { IsChained P.Inx.number (C.links chains.new) }
     ensures room { (C.links chains.new).room ≡ (C.links chains.old).room }
     ensures err { OnErr result (chains.new ≡ chains.old) }
@@ -39,17 +41,19 @@ pub fn insert_within_capacity<P: PtrCore, T: Drop, C: ChainArenaTrait<P, T>>(
     inserted
 }
 
-/// Stores `t` where the kind says, and grows where there is no room.
+/// Stores `t` where the kind says, and grows if there is no room.
 pub fn insert_reallocating<P: PtrCore, T: Drop, C: ChainArenaTrait<P, T>>(
     chains: &mut C,
     kind: LinkInsertKind<P>,
     t: T,
 ) -> Result<P, ChainInsertionError>
-    ensures refusal { IsLinkRefusal (place_among P.index P.generation P.Inx.number (C.links chains.old) kind)
+    ensures refusal { IsLinkRefusal
+        (place_among P.index P.generation P.Inx.number (C.links chains.old) kind)
         C.takes_memory (live_count (C.links chains.old)) (C.links chains.old).room result }
     ensures placed { IfOk result
         (λ p. IfSome (place_among P.index P.generation P.Inx.number (C.links chains.old) kind)
-        (λ place. IsPlaced P.Inx.number place (P.index p) (P.generation p) t (C.links chains.old) (C.links chains.new))) }
+        (λ place. IsPlaced P.Inx.number place (P.index p) (P.generation p) t (C.links chains.old)
+        (C.links chains.new))) }
     ensures formed { IsChained P.Inx.number (C.links chains.new) }
     ensures room { OnOk result ((C.links chains.new).room
         ≡ room_after (live_count (C.links chains.old)) (C.links chains.old).room) }
@@ -59,18 +63,20 @@ pub fn insert_reallocating<P: PtrCore, T: Drop, C: ChainArenaTrait<P, T>>(
     grown
 }
 
-/// The same, where the links are as the kind requires.
+/// The same, if the links are as the kind requires.
 pub fn insert<P: PtrCore, T: Drop, C: ChainArenaTrait<P, T>>(
     chains: &mut C,
     kind: LinkInsertKind<P>,
     t: T,
 ) -> Result<P, ChainInsertionError>
     requires { IsSome (place_among P.index P.generation P.Inx.number (C.links chains.old) kind) }
-    ensures refusal { IsLinkRefusal (place_among P.index P.generation P.Inx.number (C.links chains.old) kind)
+    ensures refusal { IsLinkRefusal
+        (place_among P.index P.generation P.Inx.number (C.links chains.old) kind)
         C.takes_memory (live_count (C.links chains.old)) (C.links chains.old).room result }
     ensures placed { IfOk result
         (λ p. IfSome (place_among P.index P.generation P.Inx.number (C.links chains.old) kind)
-        (λ place. IsPlaced P.Inx.number place (P.index p) (P.generation p) t (C.links chains.old) (C.links chains.new))) }
+        (λ place. IsPlaced P.Inx.number place (P.index p) (P.generation p) t (C.links chains.old)
+        (C.links chains.new))) }
     ensures formed { IsChained P.Inx.number (C.links chains.new) }
     ensures room { OnOk result ((C.links chains.new).room
         ≡ room_after (live_count (C.links chains.old)) (C.links chains.old).room) }

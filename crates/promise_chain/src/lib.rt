@@ -1,4 +1,5 @@
-//! What is promised of the chains' calls, said again of callers, so that wrong bodies can be tried here.
+//! What is promised of the chains' calls, said again of callers, so that wrong bodies can be tried
+//! here.
 #![tactic(auto)]
 
 mod insertions;

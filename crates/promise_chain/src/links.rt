@@ -19,7 +19,8 @@ pub fn get_link<P: PtrCore, T: Drop, C: ChainArenaTrait<P, T>>(
 ) -> Option<Link<P, &T>>
     ensures value { option_map (λ l. l.t.now) result
         ≡ value_if (P.generation p) (values_in (C.links chains.now) (P.index p)) }
-    ensures interlinks { option_map (λ l. (option_map P.index l.prev, option_map P.index l.next)) result
+    ensures interlinks { option_map
+        (λ l. (option_map P.index l.prev, option_map P.index l.next)) result
         ≡ ends_found P.Inx.number (C.links chains.now) (P.index p) (P.generation p) }
     ensures live { IfSome result (λ l. IsLivePtr P.index P.generation (C.links chains.now) l.prev
         × IsLivePtr P.index P.generation (C.links chains.now) l.next) }
@@ -31,7 +32,8 @@ pub fn get_link<P: PtrCore, T: Drop, C: ChainArenaTrait<P, T>>(
 /// Whether `q` is the next of `p`.
 pub fn are_neighbors<P: PtrCore, T: Drop, C: ChainArenaTrait<P, T>>(chains: &C, p: P, q: P) -> bool
     ensures { IsTrue result
-        ↔ ((next_in (ends_found P.Inx.number (C.links chains.now) (P.index p) (P.generation p)) ≡ Some (P.index q))
+        ↔ ((next_in (ends_found P.Inx.number (C.links chains.now) (P.index p) (P.generation p))
+        ≡ Some (P.index q))
         × IsSome (get (C.links chains.now) (P.index q) (P.generation q))) }
 {
     let are = chains.are_neighbors(p, q);
@@ -47,7 +49,8 @@ pub fn connect<P: PtrCore, T: Drop, C: ChainArenaTrait<P, T>>(
     ensures variant { IsSome result
         ↔ IsSome (place_among P.index P.generation P.Inx.number (C.links chains.old) (Bridge p q)) }
     ensures relinked { OnSome result (IsRelinked P.Inx.number
-        (linked (ends_in P.Inx.number (C.links chains.old)) (P.index p) (P.index q)) (C.links chains.old) (C.links chains.new)) }
+        (linked (ends_in P.Inx.number (C.links chains.old)) (P.index p) (P.index q))
+        (C.links chains.old) (C.links chains.new)) }
     ensures lists { OnSome result (IsAppended (P.index p) (P.index q)
         (ends_in P.Inx.number (C.links chains.old)) (ends_in P.Inx.number (C.links chains.new))) }
     ensures formed { IsChained P.Inx.number (C.links chains.new) }
@@ -60,14 +63,17 @@ pub fn connect<P: PtrCore, T: Drop, C: ChainArenaTrait<P, T>>(
 /// Parts `p` from its next.
 pub fn break_next<P: PtrCore, T: Drop, C: ChainArenaTrait<P, T>>(chains: &mut C, p: P) -> Option<()>
     ensures variant { IsSome result
-        ↔ IsSome (next_in (ends_found P.Inx.number (C.links chains.old) (P.index p) (P.generation p))) }
+        ↔ IsSome (next_in (ends_found P.Inx.number (C.links chains.old) (P.index p)
+        (P.generation p))) }
     ensures relinked { OnSome result ((q : ℕ)
         → next_at (ends_in P.Inx.number (C.links chains.old)) (P.index p) ≡ Some q
-        → IsRelinked P.Inx.number (unlinked (ends_in P.Inx.number (C.links chains.old)) (P.index p) q)
+        → IsRelinked P.Inx.number
+        (unlinked (ends_in P.Inx.number (C.links chains.old)) (P.index p) q)
         (C.links chains.old) (C.links chains.new)) }
     ensures lists { OnSome result ((q : ℕ)
         → next_at (ends_in P.Inx.number (C.links chains.old)) (P.index p) ≡ Some q
-        → IsSplit (P.index p) q (ends_in P.Inx.number (C.links chains.old)) (ends_in P.Inx.number (C.links chains.new))) }
+        → IsSplit (P.index p) q (ends_in P.Inx.number (C.links chains.old))
+        (ends_in P.Inx.number (C.links chains.new))) }
     ensures formed { IsChained P.Inx.number (C.links chains.new) }
     ensures none { IfNone result (chains.new ≡ chains.old) }
 {
@@ -78,14 +84,17 @@ pub fn break_next<P: PtrCore, T: Drop, C: ChainArenaTrait<P, T>>(chains: &mut C,
 /// Parts `p` from its previous link.
 pub fn break_prev<P: PtrCore, T: Drop, C: ChainArenaTrait<P, T>>(chains: &mut C, p: P) -> Option<()>
     ensures variant { IsSome result
-        ↔ IsSome (prev_in (ends_found P.Inx.number (C.links chains.old) (P.index p) (P.generation p))) }
+        ↔ IsSome (prev_in (ends_found P.Inx.number (C.links chains.old) (P.index p)
+        (P.generation p))) }
     ensures relinked { OnSome result ((q : ℕ)
         → prev_at (ends_in P.Inx.number (C.links chains.old)) (P.index p) ≡ Some q
-        → IsRelinked P.Inx.number (unlinked (ends_in P.Inx.number (C.links chains.old)) q (P.index p))
+        → IsRelinked P.Inx.number
+        (unlinked (ends_in P.Inx.number (C.links chains.old)) q (P.index p))
         (C.links chains.old) (C.links chains.new)) }
     ensures lists { OnSome result ((q : ℕ)
         → prev_at (ends_in P.Inx.number (C.links chains.old)) (P.index p) ≡ Some q
-        → IsSplit q (P.index p) (ends_in P.Inx.number (C.links chains.old)) (ends_in P.Inx.number (C.links chains.new))) }
+        → IsSplit q (P.index p) (ends_in P.Inx.number (C.links chains.old))
+        (ends_in P.Inx.number (C.links chains.new))) }
     ensures formed { IsChained P.Inx.number (C.links chains.new) }
     ensures none { IfNone result (chains.new ≡ chains.old) }
 {
@@ -100,8 +109,10 @@ pub fn exchange_next<P: PtrCore, T: Drop, C: ChainArenaTrait<P, T>>(
     q: P,
 ) -> Option<()>
     ensures variant { IsSome result
-        ↔ (IsSome (next_in (ends_found P.Inx.number (C.links chains.old) (P.index p) (P.generation p)))
-        × IsSome (next_in (ends_found P.Inx.number (C.links chains.old) (P.index q) (P.generation q)))) }
+        ↔ (IsSome (next_in (ends_found P.Inx.number (C.links chains.old) (P.index p)
+        (P.generation p)))
+        × IsSome (next_in (ends_found P.Inx.number (C.links chains.old) (P.index q)
+        (P.generation q)))) }
     ensures relinked { OnSome result ((s t : ℕ)
         → next_at (ends_in P.Inx.number (C.links chains.old)) (P.index p) ≡ Some s
         → next_at (ends_in P.Inx.number (C.links chains.old)) (P.index q) ≡ Some t

@@ -119,7 +119,7 @@ pub fn clone_from<P: PtrCore, T: Clone, S: ChainSlots<P, T>>(
     cloned
 }
 
-/// Exchanges the links of the two, where the interlinks of the second agree.
+/// Exchanges the links of the two, if the interlinks of the second agree.
 pub fn exchange_arena<P: PtrCore, T: Drop, S: ChainSlots<P, T>>(
     chains: &mut ChainArena<P, T, S>,
     arena: &mut Arena<P, LinkNoGen<P, T>, S>,

@@ -1,4 +1,5 @@
-//! Insertions: where each puts its item, what it refuses, and that the tree keeps its rules and has the list as its walk.
+//! Insertions: where each puts its item, what it refuses, and that the tree keeps its rules and has
+//! the list as its walk.
 ghost use Rattle.std.specs.Prelude.{◌≡◌, ◌<◌, ℕ, Some, None, IsSome, IfSome, IfOk};
 ghost use Rattle.std.specs.Option.{option_map};
 ghost use Rattle.std.specs.Borrow.{sem, RestsIfErr};
@@ -18,14 +19,16 @@ use triple_arena_ord::{
     SimpleOrdItem,
 };
 
-/// Puts an item in where its key belongs, in the place of one with an equal key, which needs no room.
+/// Puts an item in where its key belongs, in the place of one with an equal key, which needs no
+/// room.
 pub fn insert_within_capacity<P: PtrCore, T: SimpleOrdItem + Drop, S: OrdSlots<P, T>>(
     arena: &mut SimpleOrdArena<P, T, S>,
     t: T,
 ) -> Result<(P, Option<T>), OrdInsertionError>
     ensures inserted { IsKeyInserted P.Inx.number T.Key.cmp T.key_of P.index P.generation
         (within_room (size_in arena.old) arena.old.chains.room) t result arena.old arena.new }
-    ensures ascending { IsAscending P.Inx.number T.Key.cmp T.key_of arena.old → IsAscending P.Inx.number T.Key.cmp T.key_of arena.new }
+    ensures ascending { IsAscending P.Inx.number T.Key.cmp T.key_of arena.old
+        → IsAscending P.Inx.number T.Key.cmp T.key_of arena.new }
     ensures counter { arena.new.chains.counter ≡ arena.old.chains.counter }
     ensures room { arena.new.chains.room ≡ arena.old.chains.room }
     ensures ordered { IsOrdered P.Inx.number arena.new }
@@ -42,11 +45,14 @@ pub fn insert_inx_manual<P: PtrCore, T: Drop, S: OrdSlots<P, T>>(
     t: T,
 ) -> Result<Option<T>, OrdInsertionError>
     requires { IsSome (entry_in arena.old (P.Inx.number p)) }
-    ensures inserted { (q : ℕ × ℕ) × IsInsertedAt P.Inx.number (λ (q : ℕ × ℕ). q.0) (λ (q : ℕ × ℕ). q.1)
+    ensures inserted { (q : ℕ × ℕ)
+        × IsInsertedAt P.Inx.number (λ (q : ℕ × ℕ). q.0) (λ (q : ℕ × ℕ). q.1)
         (growing_room S.takes_memory (size_in arena.old) arena.old.chains.room)
         (Some (P.Inx.number p, direction)) t (under q result) arena.old arena.new }
     ensures counter { arena.new.chains.counter ≡ arena.old.chains.counter }
-    ensures room { IfOk result (λ replaced. arena.new.chains.room ≡ room_made replaced (size_in arena.old) arena.old.chains.room) }
+    ensures room { IfOk result
+        (λ replaced. arena.new.chains.room
+        ≡ room_made replaced (size_in arena.old) arena.old.chains.room) }
     ensures ordered { IsOrdered P.Inx.number arena.new }
 {
     let inserted = arena.insert_inx_manual(p, direction, t);

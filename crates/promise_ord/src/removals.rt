@@ -16,9 +16,12 @@ pub fn remove<P: PtrCore, T: Drop, S: OrdSlots<P, T>>(
     arena: &mut SimpleOrdArena<P, T, S>,
     p: P,
 ) -> InvalidationResult<T>
-    ensures value { option_map value_of (answer_of result) ≡ value_if (P.generation p) (entry_in arena.old (P.index p)) }
-    ensures overflow { IfSome (answer_of result) (λ a. overflowed a ≡ next_wraps P.Gen.last arena.old.chains.counter) }
-    ensures removed { OnSome (answer_of result) (IsEntryRemoved P.Inx.number P.Gen.last (P.index p) arena.old arena.new) }
+    ensures value { option_map value_of (answer_of result)
+        ≡ value_if (P.generation p) (entry_in arena.old (P.index p)) }
+    ensures overflow { IfSome (answer_of result)
+        (λ a. overflowed a ≡ next_wraps P.Gen.last arena.old.chains.counter) }
+    ensures removed { OnSome (answer_of result)
+        (IsEntryRemoved P.Inx.number P.Gen.last (P.index p) arena.old arena.new) }
     ensures invalid { IfNone (answer_of result) (arena.new ≡ arena.old) }
     ensures ordered { IsOrdered P.Inx.number arena.new }
 {

@@ -11,7 +11,8 @@ ghost use Rattle.triple_arena_ord.specs.Ordered.{IsAscending, tree_in, order_in,
 use triple_arena::PtrCore;
 use triple_arena_ord::{OrdSlots, Probes, SimpleOrdArena, SimpleOrdItem};
 
-/// Finds an entry with an equal key; in a list whose keys ascend, exactly where there is one. Each comparison is a tick.
+/// Finds an entry with an equal key; in a list whose keys ascend, exactly if there is one. Each
+/// comparison is a tick.
 pub fn find_key_counted<P: PtrCore, T: SimpleOrdItem + Drop, S: OrdSlots<P, T>>(
     arena: &SimpleOrdArena<P, T, S>,
     k: &T::Key,
@@ -19,7 +20,9 @@ pub fn find_key_counted<P: PtrCore, T: SimpleOrdItem + Drop, S: OrdSlots<P, T>>(
 ) -> Option<P>
     ensures found { IsFound P.index P.generation (asked_at T.Key.cmp T.key_of k.now arena.now)
         (IsAscending P.Inx.number T.Key.cmp T.key_of arena.now) result arena.now }
-    ensures ticks { probes.new ≡ probes.old + asked_down (asked_at T.Key.cmp T.key_of k.now arena.now) (tree_in P.Inx.number arena.now) }
+    ensures ticks { probes.new ≡ probes.old
+        + asked_down (asked_at T.Key.cmp T.key_of k.now arena.now)
+        (tree_in P.Inx.number arena.now) }
     ensures bound { probes.new ≤ probes.old + most_comparisons (size_in arena.now) }
 {
     let found = arena.find_key_counted(k, probes);
@@ -39,13 +42,17 @@ pub fn find_key_linear_counted<P: PtrCore, T: SimpleOrdItem + Drop, S: OrdSlots<
     ensures rises { probes.old ≤ probes.new }
     ensures bound { probes.new ≤ probes.old + (num + most_comparisons (size_in arena.now)) }
     ensures gone { value_if (P.generation p_init) (entry_in arena.now (P.index p_init)) ≡ None
-        → probes.new ≡ probes.old + asked_down (asked_at T.Key.cmp T.key_of k.now arena.now) (tree_in P.Inx.number arena.now) }
-    ensures counted { IsSome (value_if (P.generation p_init) (entry_in arena.now (P.index p_init))) → (on : On (order_in P.Inx.number arena.now) (P.index p_init))
-        → IsKeyCounted num (asked_down (asked_at T.Key.cmp T.key_of k.now arena.now) (tree_in P.Inx.number arena.now)) (asked_at T.Key.cmp T.key_of k.now arena.now)
+        → probes.new ≡ probes.old + asked_down (asked_at T.Key.cmp T.key_of k.now arena.now)
+        (tree_in P.Inx.number arena.now) }
+    ensures counted { IsSome (value_if (P.generation p_init) (entry_in arena.now (P.index p_init)))
+        → (on : On (order_in P.Inx.number arena.now) (P.index p_init))
+        → IsKeyCounted num (asked_down (asked_at T.Key.cmp T.key_of k.now arena.now)
+        (tree_in P.Inx.number arena.now)) (asked_at T.Key.cmp T.key_of k.now arena.now)
         (path_from (asked_at T.Key.cmp T.key_of k.now arena.now) on) probes.old probes.new }
     ensures near { IsAscending P.Inx.number T.Key.cmp T.key_of arena.now
         → IsSome (value_if (P.generation p_init) (entry_in arena.now (P.index p_init)))
-        → IsEndNear num (asked_at T.Key.cmp T.key_of k.now arena.now) (order_in P.Inx.number arena.now) (P.index p_init)
+        → IsEndNear num (asked_at T.Key.cmp T.key_of k.now arena.now)
+        (order_in P.Inx.number arena.now) (P.index p_init)
         → probes.new ≤ probes.old + num }
 {
     let found = arena.find_key_linear_counted(p_init, num, k, probes);

@@ -25,8 +25,8 @@ use triple_arena_ptr::PtrCore;
 impl<P: PtrCore, B: BookBacking<P>> RouteBook<P, B> {
     /// Carries out one line, given without its LF, and writes its reply.
     ///
-    /// An `Err` is that of the write that failed, or `WriteZero` where one took nothing. The line is carried out all
-    /// the same, and a beginning of its reply is written, at least a byte short.
+    /// An `Err` is that of the write that failed, or `WriteZero` if one took nothing. The line is
+    /// carried out all the same, and a beginning of its reply is written, at least a byte short.
     pub fn answer<W: Write>(
         &mut self,
         line: &[u8],
@@ -34,7 +34,8 @@ impl<P: PtrCore, B: BookBacking<P>> RouteBook<P, B> {
         counts: &mut Counts,
     ) -> io::Result<()>
         ensures state { self.new.state ≡ next self.old.state (command_of line.now) }
-        ensures steps { Steps P.Inx.number P.Gen.last (command_of line.now) counts.old.looks counts.new.looks self.old self.new }
+        ensures steps { Steps P.Inx.number P.Gen.last
+            (command_of line.now) counts.old.looks counts.new.looks self.old self.new }
         ensures ok { OnOk result (Appends (W.contents (inner_of writer.old))
             (W.contents (inner_of writer.new)) (reply self.old.state (command_of line.now))) }
         ensures ok_failed { OnOk result (failed_of writer.new ≡ failed_of writer.old) }
@@ -46,7 +47,8 @@ impl<P: PtrCore, B: BookBacking<P>> RouteBook<P, B> {
         self.carry_out(read_line(line), &mut ReplyText::new(), writer, counts)
     }
 
-    // Carries out a command, or answers a line that spells none. `text` is for the reply to be gathered in.
+    // Carries out a command, or answers a line that spells none. `text` is for the reply to be
+    // gathered in.
     pub(crate) fn carry_out<W: Write>(
         &mut self,
         command: Option<Command>,
@@ -55,7 +57,8 @@ impl<P: PtrCore, B: BookBacking<P>> RouteBook<P, B> {
         counts: &mut Counts,
     ) -> io::Result<()>
         ensures state { self.new.state ≡ next self.old.state command }
-        ensures steps { Steps P.Inx.number P.Gen.last command counts.old.looks counts.new.looks self.old self.new }
+        ensures steps { Steps P.Inx.number P.Gen.last command counts.old.looks counts.new.looks
+            self.old self.new }
         ensures ok { OnOk result (Appends (W.contents (inner_of writer.old))
             (W.contents (inner_of writer.new)) (reply self.old.state command)) }
         ensures ok_failed { OnOk result (failed_of writer.new ≡ failed_of writer.old) }
@@ -79,11 +82,13 @@ impl<P: PtrCore, B: BookBacking<P>> RouteBook<P, B> {
         }
     }
 
-    // Carries out a command whose reply is one line, and gathers it. The two others do nothing here.
+    // Carries out a command whose reply is one line, and gathers it. The two others do nothing
+    // here.
     fn push_reply(&mut self, command: Command, text: &mut ReplyText, counts: &mut Counts)
         requires { text.old ≡ [] }
         ensures state { self.new.state ≡ next self.old.state (Some command) }
-        ensures steps { Steps P.Inx.number P.Gen.last (Some command) counts.old.looks counts.new.looks self.old self.new }
+        ensures steps { Steps P.Inx.number P.Gen.last
+            (Some command) counts.old.looks counts.new.looks self.old self.new }
         ensures text { command ≢ Asked.All → ((stop : ℕ) → command ≢ Asked.Walk stop)
             → text.new ≡ reply self.old.state (Some command) }
         ensures counts { CountsFor self.old.state (Some command) counts.old counts.new }

@@ -71,10 +71,12 @@ impl<P: PtrCore, B: BookBacking<P>> Model for RouteBook<P, B> {
 
     ghost Value = { Book P.Inx };
 
-    ghost view = { λ b. record { state = b.held.state; places = b.places; stops = b.stops; marks = b.marks } };
+    ghost view = { λ b. record
+        { state = b.held.state; places = b.places; stops = b.stops; marks = b.marks } };
 
     ghost invariant = { λ b. record {
-      book : IsBook P.Inx.number (record { places = b.place_room; stops = b.stop_room; marks = b.mark_room }) b.last
+      book : IsBook P.Inx.number
+          (record { places = b.place_room; stops = b.stop_room; marks = b.mark_room }) b.last
           b.held.state b.places b.stops b.marks b.tickets.entries;
       sound : IsSound b.held.state;
       counts : counts_short P.Gen.last ≡ false;
@@ -153,13 +155,15 @@ impl<P: PtrCore, B: BookBacking<P>> RouteBook<P, B> {
         &self.places
     }
 
-    /// The arena of the stops. Its chains, read by ticket, are the routes of the state, and a reference finds the place that
-    /// the state names.
+    /// The arena of the stops. Its chains, read by ticket, are the routes of the state, and a
+    /// reference finds the place that the state names.
     pub fn stops_arena(&self) -> &ChainArena<P, Stop<P>, B::Stops>
         ensures content { result.now ≡ self.now.stops }
         ensures sound { IsSound self.now.state }
-        ensures routes { AreRoutes (stop_in (found_of self.now)) (ends_in P.Inx.number result.now) self.now.state.routes }
-        ensures next { LeadAs (λ (t : StopView). t.ticket) (values_in result.now) (ends_in P.Inx.number result.now)
+        ensures routes { AreRoutes (stop_in (found_of self.now))
+            (ends_in P.Inx.number result.now) self.now.state.routes }
+        ensures next { LeadAs (λ (t : StopView). t.ticket) (values_in result.now)
+            (ends_in P.Inx.number result.now)
             (next_stop self.now.state.routes) }
         ensures items { (i g : ℕ) (t : StopView) → values_in result.now i ≡ Some (g, t)
             → stop_of self.now.state.routes t.ticket ≡ Some (state_stop (found_of self.now) t) }
@@ -172,7 +176,8 @@ impl<P: PtrCore, B: BookBacking<P>> RouteBook<P, B> {
         &self.stops
     }
 
-    /// The arena of the marks, no two of one ticket. Its references find the place and the stop that the state names.
+    /// The arena of the marks, no two of one ticket. Its references find the place and the stop
+    /// that the state names.
     pub fn marks_arena(&self) -> &Arena<P, Mark<P>, B::Marks>
         ensures content { result.now ≡ self.now.marks }
         ensures sound { IsSound self.now.state }

@@ -14,16 +14,18 @@ use std::alloc::Global;
 use std::io::{Read, Write};
 use triple_arena_ptr::{P0, PtrCore};
 
-/// The program `route_book PLACES STOPS MARKS`: makes a store with these rooms and answers its input.
+/// The program `route_book PLACES STOPS MARKS`: makes a store with these rooms and answers its
+/// input.
 ///
 /// `args` are its arguments, without its name. It gives its exit status:
 ///
-/// - 0 where the whole input is answered;
-/// - 1 where the input could not be read or a reply could not be written;
-/// - 2 where the arguments are not three decimal numbers below 2^64 without leading zeros;
-/// - 3 where the store could not be made. The input is then not read, as at 2.
+/// - 0 if the whole input is answered;
+/// - 1 if the input could not be read or a reply could not be written;
+/// - 2 if the arguments are not three decimal numbers below 2^64 without leading zeros;
+/// - 3 if the store could not be made. The input is then not read, as at 2.
 ///
-/// At each but 0 it writes a line on `errors` that says why; a failure to write that is passed over.
+/// At each but 0 it writes a line on `errors` that says why; a failure to write that is passed
+/// over.
 pub fn program<R: Read, W: Write, E: Write>(
     alloc: Global,
     args: &[String],
@@ -51,8 +53,8 @@ pub fn program<R: Read, W: Write, E: Write>(
         × (failed_of output.new ≡ failed_of output.old) }
     ensures silent { result ≡ 0 → errors.new ≡ errors.old }
 
-    // A read failed and every whole line that was read is answered. Or a write failed: the replies are written up to a
-    // line whose reply is cut short, or all of them are, and the flush failed.
+    // A read failed and every whole line that was read is answered. Or a write failed: the replies
+    // are written up to a line whose reply is cut short, or all of them are, and the flush failed.
     ensures fault { result ≡ 1 → IfSome (rooms_of (map string_bytes args.now)) (λ rooms.
         (AnswersWholeLines rooms (R.remaining (inner_of input.old)) (R.remaining (inner_of input.new))
         (W.contents (inner_of output.old)) (W.contents (inner_of output.new))
@@ -90,8 +92,8 @@ pub fn program<R: Read, W: Write, E: Write>(
     }
 }
 
-// The status of a run over a new store, or why that is not made; a fault is told. It is generic in the
-// pointers, since the checker takes a whole store over `P0` in generic code alone.
+// The status of a run over a new store, or why that is not made; a fault is told. It is generic in
+// the pointers, since the checker takes a whole store over `P0` in generic code alone.
 fn serve<P: PtrCore, R: Read, W: Write, E: Write>(
     alloc: Global,
     places: usize,
@@ -113,7 +115,8 @@ fn serve<P: PtrCore, R: Read, W: Write, E: Write>(
         → Answers (record { places = places; stops = stops; marks = marks })
         (R.remaining (inner_of input.old)) (R.remaining (inner_of input.new))
         (W.contents (inner_of output.old)) (W.contents (inner_of output.new))) }
-    ensures unfailed { IfOk result (λ status. status ≡ 0 → (failed_of input.new ≡ failed_of input.old)
+    ensures unfailed { IfOk result (λ status. status ≡ 0
+        → (failed_of input.new ≡ failed_of input.old)
         × (failed_of output.new ≡ failed_of output.old)) }
     ensures silent { IfOk result (λ status. status ≡ 0 → errors.new ≡ errors.old) }
     ensures fault { IfOk result (λ status. status ≡ 1 →

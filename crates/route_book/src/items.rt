@@ -9,7 +9,7 @@ use std::mem;
 use triple_arena_ord::SimpleOrdItem;
 use triple_arena_ptr::PtrCore;
 
-/// A reference to an item: a pointer, or nothing where the item is gone.
+/// A reference to an item: a pointer, or nothing if the item is gone.
 ///
 /// A pointer that finds nothing in its arena is a reference to an item that has ended.
 #[derive(Clone, Copy)]
@@ -118,7 +118,8 @@ impl<P: PtrCore> Model for Stop<P> {
 impl<P: PtrCore> Stop<P> {
     pub(crate) fn new(ticket: u64, place: Ref<P>) -> Self
         ensures ticket { result.ticket ≡ ticket }
-        ensures place { result.place ≡ option_map (λ p. (P.index p, P.generation p)) (pointer_of place) }
+        ensures place { result.place ≡ option_map (λ p. (P.index p, P.generation p))
+            (pointer_of place) }
     {
         Stop { ticket, place }
     }
@@ -132,7 +133,8 @@ impl<P: PtrCore> Stop<P> {
 
     /// The place that it stands for.
     pub fn place(&self) -> Ref<P>
-        ensures { option_map (λ p. (P.index p, P.generation p)) (pointer_of result) ≡ self.now.place }
+        ensures { option_map (λ p. (P.index p, P.generation p)) (pointer_of result)
+            ≡ self.now.place }
     {
         self.place
     }
@@ -162,8 +164,10 @@ impl<P: PtrCore> Model for Mark<P> {
 impl<P: PtrCore> Mark<P> {
     pub(crate) fn new(ticket: u64, place: Ref<P>, stop: Ref<P>) -> Self
         ensures ticket { result.ticket ≡ ticket }
-        ensures place { result.place ≡ option_map (λ p. (P.index p, P.generation p)) (pointer_of place) }
-        ensures stop { result.stop ≡ option_map (λ p. (P.index p, P.generation p)) (pointer_of stop) }
+        ensures place { result.place ≡ option_map (λ p. (P.index p, P.generation p))
+            (pointer_of place) }
+        ensures stop { result.stop ≡ option_map (λ p. (P.index p, P.generation p))
+            (pointer_of stop) }
     {
         Mark {
             ticket,
@@ -181,14 +185,16 @@ impl<P: PtrCore> Mark<P> {
 
     /// The place that it names.
     pub fn place(&self) -> Ref<P>
-        ensures { option_map (λ p. (P.index p, P.generation p)) (pointer_of result) ≡ self.now.place }
+        ensures { option_map (λ p. (P.index p, P.generation p)) (pointer_of result)
+            ≡ self.now.place }
     {
         self.place
     }
 
     /// The stop that it names.
     pub fn stop(&self) -> Ref<P>
-        ensures { option_map (λ p. (P.index p, P.generation p)) (pointer_of result) ≡ self.now.stop }
+        ensures { option_map (λ p. (P.index p, P.generation p)) (pointer_of result)
+            ≡ self.now.stop }
     {
         self.stop
     }

@@ -1,5 +1,5 @@
-//! A store with a line language, and a program over it. It keeps places, routes of stops at places, and marks of a place and a
-//! stop; each has a ticket that is given once.
+//! A store with a line language, and a program over it. It keeps places, routes of stops at places,
+//! and marks of a place and a stop; each has a ticket that is given once.
 //!
 //! ```text
 //! place 50 oak        1                       start 1         4

@@ -76,10 +76,12 @@ fn note<
     S: DirectSlots<P, P>,
 >(arena: &A, book: &TicketBook<P, B>, mirror: &mut DirectArena<P, P, S>, p: P)
     requires live { generation_at (A.entry_at arena.now) (P.index p) ≡ Some (P.generation p) }
-    requires booked { IsBooked T.ticket_of book.now.entries (A.entry_at arena.now) (arena_capacity mirror.old) }
+    requires booked { IsBooked T.ticket_of book.now.entries (A.entry_at arena.now)
+        (arena_capacity mirror.old) }
     requires mirrored { IsMirrored T.ticket_of book.now.entries (A.entry_at arena.now) (P.index p)
         (numbers P.index P.generation (entry_at mirror.old)) }
-    ensures mirrored { IsMirrored T.ticket_of book.now.entries (A.entry_at arena.now) (P.index p + 1)
+    ensures mirrored { IsMirrored T.ticket_of book.now.entries (A.entry_at arena.now)
+        (P.index p + 1)
         (numbers P.index P.generation (entry_at mirror.new)) }
     ensures room { mirror.new.room ≡ mirror.old.room }
 {
@@ -92,7 +94,8 @@ fn note<
     put(mirror, entry.at(), p);
 }
 
-// Notes the pointers to all items of an arena, each under the pointer that the book has for its ticket.
+// Notes the pointers to all items of an arena, each under the pointer that the book has for its
+// ticket.
 fn mirror_by_tickets<
     P: PtrCore,
     T: Ticketed + Drop,
@@ -100,7 +103,8 @@ fn mirror_by_tickets<
     B: OrdSlots<P, Entry<P>>,
     S: DirectSlots<P, P>,
 >(arena: &A, book: &TicketBook<P, B>, mirror: &mut DirectArena<P, P, S>)
-    requires booked { IsBooked T.ticket_of book.now.entries (A.entry_at arena.now) (arena_capacity mirror.old) }
+    requires booked { IsBooked T.ticket_of book.now.entries (A.entry_at arena.now)
+        (arena_capacity mirror.old) }
     ensures mirrored { (low : ℕ) → ((k : ℕ) → IsSome (A.entry_at arena.now k) → k < low)
         → IsMirrored T.ticket_of book.now.entries (A.entry_at arena.now) low
         (numbers P.index P.generation (entry_at mirror.new)) }
@@ -120,7 +124,8 @@ pub(crate) fn mirror_places<
     B: OrdSlots<P, Entry<P>>,
     R: DirectSlots<P, P>,
 >(places: &SimpleOrdArena<P, Place, S>, book: &TicketBook<P, B>, mirror: &mut DirectArena<P, P, R>)
-    requires { IsBooked (λ (x : PlaceView). x.ticket) book.now.entries (entry_in places.now) (arena_capacity mirror.old) }
+    requires { IsBooked (λ (x : PlaceView). x.ticket) book.now.entries (entry_in places.now)
+        (arena_capacity mirror.old) }
     ensures mirrored { (low : ℕ) → ((k : ℕ) → IsSome (entry_in places.now k) → k < low)
         → IsMirrored (λ (x : PlaceView). x.ticket) book.now.entries (entry_in places.now) low
         (numbers P.index P.generation (entry_at mirror.new)) }
@@ -136,7 +141,8 @@ pub(crate) fn mirror_stops<
     B: OrdSlots<P, Entry<P>>,
     R: DirectSlots<P, P>,
 >(stops: &ChainArena<P, Stop<P>, S>, book: &TicketBook<P, B>, mirror: &mut DirectArena<P, P, R>)
-    requires { IsBooked (λ (x : StopView). x.ticket) book.now.entries (values_in stops.now) (arena_capacity mirror.old) }
+    requires { IsBooked (λ (x : StopView). x.ticket) book.now.entries (values_in stops.now)
+        (arena_capacity mirror.old) }
     ensures mirrored { (low : ℕ) → ((k : ℕ) → IsSome (values_in stops.now k) → k < low)
         → IsMirrored (λ (x : StopView). x.ticket) book.now.entries (values_in stops.now) low
         (numbers P.index P.generation (entry_at mirror.new)) }
@@ -152,7 +158,8 @@ pub(crate) fn mirror_marks<
     B: OrdSlots<P, Entry<P>>,
     R: DirectSlots<P, P>,
 >(marks: &Arena<P, Mark<P>, S>, book: &TicketBook<P, B>, mirror: &mut DirectArena<P, P, R>)
-    requires { IsBooked (λ (x : MarkView). x.ticket) book.now.entries (mark_at marks.now) (arena_capacity mirror.old) }
+    requires { IsBooked (λ (x : MarkView). x.ticket) book.now.entries (mark_at marks.now)
+        (arena_capacity mirror.old) }
     ensures mirrored { (low : ℕ) → ((k : ℕ) → IsSome (mark_at marks.now k) → k < low)
         → IsMirrored (λ (x : MarkView). x.ticket) book.now.entries (mark_at marks.now) low
         (numbers P.index P.generation (entry_at mirror.new)) }

@@ -83,7 +83,8 @@ fn make_places<P: PtrCore, S: OrdSlots<P, Place>>(
         ≡ empty (second_generation P.Gen.last) (room_of P.Inx.greatest (S.room_at room))) }
     ensures fits { IfOk result (λ a. room ≤ arena_capacity a.chains) }
     ensures ordered { IfOk result (λ a. IsOrdered P.Inx.number a) }
-    ensures refused { IfErr result (λ e. (e ≡ RoomError.Memory) × IsTrue S.takes_memory × (0 < room)) }
+    ensures refused { IfErr result (λ e. (e ≡ RoomError.Memory) × IsTrue S.takes_memory
+        × (0 < room)) }
 {
     match SimpleOrdArena::with_min_capacity(memory, room) {
         Ok(arena) => Ok(arena),
@@ -100,7 +101,8 @@ fn make_stops<P: PtrCore, S: ChainSlots<P, Stop<P>>>(
     ensures exact { IfOk result (λ a. a
         ≡ empty (second_generation P.Gen.last) (room_of P.Inx.greatest (S.room_at room))) }
     ensures fits { IfOk result (λ a. room ≤ arena_capacity a) }
-    ensures refused { IfErr result (λ e. (e ≡ RoomError.Memory) × IsTrue S.takes_memory × (0 < room)) }
+    ensures refused { IfErr result (λ e. (e ≡ RoomError.Memory) × IsTrue S.takes_memory
+        × (0 < room)) }
 {
     match ChainArena::with_min_capacity(memory, room) {
         Ok(arena) => Ok(arena),
@@ -117,7 +119,8 @@ fn make_marks<P: PtrCore, S: ArenaSlots<P, Mark<P>>>(
     ensures exact { IfOk result (λ a. a
         ≡ empty (second_generation P.Gen.last) (room_of P.Inx.greatest (S.room_at room))) }
     ensures fits { IfOk result (λ a. room ≤ arena_capacity a) }
-    ensures refused { IfErr result (λ e. (e ≡ RoomError.Memory) × IsTrue S.takes_memory × (0 < room)) }
+    ensures refused { IfErr result (λ e. (e ≡ RoomError.Memory) × IsTrue S.takes_memory
+        × (0 < room)) }
 {
     match Arena::with_min_capacity(memory, room) {
         Ok(arena) => Ok(arena),
@@ -133,7 +136,8 @@ pub(crate) fn make_book<P: PtrCore, S: OrdSlots<P, Entry<P>>>(
     requires { IsBeyond (room_of P.Inx.greatest (S.room_at room)).limit room → ⊥ }
     ensures empty { IfOk result (λ b. b.entries ≡ []) }
     ensures fits { IfOk result (λ b. room ≤ b.capacity) }
-    ensures refused { IfErr result (λ e. (e ≡ RoomError.Memory) × IsTrue S.takes_memory × (0 < room)) }
+    ensures refused { IfErr result (λ e. (e ≡ RoomError.Memory) × IsTrue S.takes_memory
+        × (0 < room)) }
 {
     match TicketBook::with_room(memory, room) {
         Ok(book) => Ok(book),
@@ -148,7 +152,8 @@ fn make_mirror<P: PtrCore, S: DirectSlots<P, P>>(
 ) -> Result<DirectArena<P, P, S>, RoomError>
     requires { IsBeyond (room_of P.Inx.greatest (S.room_at room)).limit room → ⊥ }
     ensures exact { IfOk result (λ d. d ≡ no_pointers (room_of P.Inx.greatest (S.room_at room))) }
-    ensures refused { IfErr result (λ e. (e ≡ RoomError.Memory) × IsTrue S.takes_memory × (0 < room)) }
+    ensures refused { IfErr result (λ e. (e ≡ RoomError.Memory) × IsTrue S.takes_memory
+        × (0 < room)) }
 {
     match DirectArena::with_min_capacity(memory, room) {
         Ok(mirror) => Ok(mirror),
@@ -184,7 +189,8 @@ pub(crate) fn make_arenas<P: PtrCore, B: BookBacking<P>>(
     ensures places_fit { IfOk result (λ a. places ≤ arena_capacity a.places.chains) }
     ensures stops_fit { IfOk result (λ a. stops ≤ arena_capacity a.stops) }
     ensures marks_fit { IfOk result (λ a. marks ≤ arena_capacity a.marks) }
-    ensures refused { IfErr result (λ e. (e ≡ RoomError.Memory) × IsTrue B.takes_memory × (0 < places + stops + marks)) }
+    ensures refused { IfErr result (λ e. (e ≡ RoomError.Memory) × IsTrue B.takes_memory
+        × (0 < places + stops + marks)) }
 {
     Ok(Arenas {
         places: make_places(backing.places_memory(), places)?,
@@ -211,10 +217,14 @@ pub(crate) fn make_mirrors<P: PtrCore, B: BookBacking<P>>(
     requires places { IsBeyond (room_of P.Inx.greatest (B.Mirror.room_at places)).limit places → ⊥ }
     requires stops { IsBeyond (room_of P.Inx.greatest (B.Mirror.room_at stops)).limit stops → ⊥ }
     requires marks { IsBeyond (room_of P.Inx.greatest (B.Mirror.room_at marks)).limit marks → ⊥ }
-    ensures places { IfOk result (λ m. m.places ≡ no_pointers (room_of P.Inx.greatest (B.Mirror.room_at places))) }
-    ensures stops { IfOk result (λ m. m.stops ≡ no_pointers (room_of P.Inx.greatest (B.Mirror.room_at stops))) }
-    ensures marks { IfOk result (λ m. m.marks ≡ no_pointers (room_of P.Inx.greatest (B.Mirror.room_at marks))) }
-    ensures refused { IfErr result (λ e. (e ≡ RoomError.Memory) × IsTrue B.takes_memory × (0 < places + stops + marks)) }
+    ensures places { IfOk result
+        (λ m. m.places ≡ no_pointers (room_of P.Inx.greatest (B.Mirror.room_at places))) }
+    ensures stops { IfOk result
+        (λ m. m.stops ≡ no_pointers (room_of P.Inx.greatest (B.Mirror.room_at stops))) }
+    ensures marks { IfOk result
+        (λ m. m.marks ≡ no_pointers (room_of P.Inx.greatest (B.Mirror.room_at marks))) }
+    ensures refused { IfErr result (λ e. (e ≡ RoomError.Memory) × IsTrue B.takes_memory
+        × (0 < places + stops + marks)) }
 {
     Ok(Mirrors {
         places: make_mirror(backing.mirror_memory(), places)?,

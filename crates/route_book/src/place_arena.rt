@@ -1,4 +1,5 @@
-//! The places in their arena: one more where its key belongs, another word for one, and the places beside one.
+//! The places in their arena: one more where its key belongs, another word for one, and the places
+//! beside one.
 ghost use Rattle.std.specs.Prelude.{◌≡◌, ◌+◌, ◌<◌, ◌≤◌, ◌++◌, ◌∷◌, ℕ, List, Some, None, IsSome, find, nat_le, reverse};
 ghost use Rattle.std.specs.Option.{option_map};
 ghost use Rattle.counted_search.specs.Searches.{most_comparisons};
@@ -37,8 +38,10 @@ pub(crate) fn put_place<P: PtrCore, S: OrdSlots<P, Place>>(
         (asked_at key_cmp key_of (key_of place) arena.old)
         (IsAscending P.Inx.number key_cmp key_of arena.old) found arena.old }
     requires room { size_in arena.old < arena_capacity arena.old.chains }
-    ensures order { in_order P.Inx.number arena.new ≡ put_in place (in_order P.Inx.number arena.old) }
-    ensures added { IsAdded P.Inx.number (P.index result) (P.generation result) place arena.old arena.new }
+    ensures order { in_order P.Inx.number arena.new
+        ≡ put_in place (in_order P.Inx.number arena.old) }
+    ensures added { IsAdded P.Inx.number (P.index result)
+        (P.generation result) place arena.old arena.new }
     ensures counter { arena.new.chains.counter ≡ arena.old.chains.counter }
     ensures same_room { arena.new.chains.room ≡ arena.old.chains.room }
 {
@@ -59,8 +62,10 @@ pub(crate) fn reword<P: PtrCore, S: OrdSlots<P, Place>>(
     requires live { IsSome (value_if (P.generation at) (entry_in arena.old (P.index at))) }
     ensures was { (p : View) → value_if (P.generation at) (entry_in arena.old (P.index at)) ≡ Some p
         → result ≡ p.word }
-    ensures replaced { (p : View) → value_if (P.generation at) (entry_in arena.old (P.index at)) ≡ Some p
-        → IsReplaced P.Inx.number (P.index at) (P.generation at) (record p { word = word }) p arena.old arena.new }
+    ensures replaced { (p : View)
+        → value_if (P.generation at) (entry_in arena.old (P.index at)) ≡ Some p
+        → IsReplaced P.Inx.number (P.index at) (P.generation at)
+        (record p { word = word }) p arena.old arena.new }
 {
     writes_keep_the_list::<P, Place>();
     // The list is as it must be.
@@ -78,7 +83,8 @@ pub(crate) fn ticket_before<P: PtrCore, S: OrdSlots<P, Place>>(
 ) -> Option<u64>
     requires live { IsSome (value_if (P.generation at) (entry_in places.now (P.index at))) }
     requires rise { PlacesRise (in_order P.Inx.number places.now) }
-    ensures { (front back : List View) (p : View) → value_if (P.generation at) (entry_in places.now (P.index at)) ≡ Some p
+    ensures { (front back : List View) (p : View)
+        → value_if (P.generation at) (entry_in places.now (P.index at)) ≡ Some p
         → in_order P.Inx.number places.now ≡ front ++ p ∷ back
         → result ≡ option_map (λ (q : View). q.ticket) (last_item front) }
 {
@@ -99,7 +105,8 @@ pub(crate) fn ticket_after<P: PtrCore, S: OrdSlots<P, Place>>(
 ) -> Option<u64>
     requires live { IsSome (value_if (P.generation at) (entry_in places.now (P.index at))) }
     requires rise { PlacesRise (in_order P.Inx.number places.now) }
-    ensures { (front back : List View) (p : View) → value_if (P.generation at) (entry_in places.now (P.index at)) ≡ Some p
+    ensures { (front back : List View) (p : View)
+        → value_if (P.generation at) (entry_in places.now (P.index at)) ≡ Some p
         → in_order P.Inx.number places.now ≡ front ++ p ∷ back
         → result ≡ option_map (λ (q : View). q.ticket) (first_item back) }
 {

@@ -31,7 +31,8 @@ fn recast<P: PtrCore, M: ArenaTrait<P, P>>(mirror: &M, to: Ref<P>) -> Ref<P>
 
 impl<P: PtrCore> Stop<P> {
     fn recast<M: ArenaTrait<P, P>>(&mut self, places: &M)
-        ensures { self.new ≡ recast_stop (numbers P.index P.generation (M.entry_at places.now)) self.old }
+        ensures { self.new ≡ recast_stop
+            (numbers P.index P.generation (M.entry_at places.now)) self.old }
     {
         self.place = recast(places, self.place);
     }
@@ -47,19 +48,24 @@ impl<P: PtrCore> Mark<P> {
     }
 }
 
-// Recasts the references of the stops by a mirror of the places: one look for each stop. What no write of a value changes
-// stays.
+// Recasts the references of the stops by a mirror of the places: one look for each stop. What no
+// write of a value changes stays.
 fn recast_stops<P: PtrCore, A: ArenaTrait<P, Stop<P>>, M: ArenaTrait<P, P>>(
     stops: &mut A,
     places: &M,
     looks: &mut Probes,
 )
     ensures entries { (j : ℕ) → A.entry_at stops.new j
-        ≡ option_map (λ e. (e.0, recast_stop (numbers P.index P.generation (M.entry_at places.now)) e.1)) (A.entry_at stops.old j) }
+        ≡ option_map (λ e. (
+          e.0,
+          recast_stop (numbers P.index P.generation (M.entry_at places.now))
+              e.1,
+        )) (A.entry_at stops.old j) }
     ensures live { A.live_count stops.new ≡ A.live_count stops.old }
     ensures counter { A.counter stops.new ≡ A.counter stops.old }
     ensures room { A.room stops.new ≡ A.room stops.old }
-    ensures kept { (f : A → Option (Option ℕ × Option ℕ)) → ((s : A) (i : ℕ) (t : StopView) → f (A.with_value s i t) ≡ f s)
+    ensures kept { (f : A → Option (Option ℕ × Option ℕ))
+        → ((s : A) (i : ℕ) (t : StopView) → f (A.with_value s i t) ≡ f s)
         → f stops.new ≡ f stops.old }
     ensures looks { looks.new ≡ looks.old + A.live_count stops.old }
 {
@@ -72,7 +78,8 @@ fn recast_stops<P: PtrCore, A: ArenaTrait<P, Stop<P>>, M: ArenaTrait<P, P>>(
     }
 }
 
-// Recasts the references of the marks by a mirror of the places and one of the stops: two looks for each mark.
+// Recasts the references of the marks by a mirror of the places and one of the stops: two looks for
+// each mark.
 fn recast_marks<P: PtrCore, A: ArenaTrait<P, Mark<P>>, M: ArenaTrait<P, P>, N: ArenaTrait<P, P>>(
     marks: &mut A,
     places: &M,
@@ -107,7 +114,11 @@ pub(crate) fn recast_all_stops<P: PtrCore, S: ChainSlots<P, Stop<P>>, R: DirectS
     looks: &mut Probes,
 )
     ensures entries { (j : ℕ) → values_in stops.new j
-        ≡ option_map (λ e. (e.0, recast_stop (numbers P.index P.generation (entry_at places.now)) e.1)) (values_in stops.old j) }
+        ≡ option_map (λ e. (
+          e.0,
+          recast_stop (numbers P.index P.generation (entry_at places.now))
+              e.1,
+        )) (values_in stops.old j) }
     ensures ends { (j : ℕ) → ends_in P.Inx.number stops.new j ≡ ends_in P.Inx.number stops.old j }
     ensures live { live_count stops.new ≡ live_count stops.old }
     ensures counter { stops.new.counter ≡ stops.old.counter }

@@ -13,12 +13,13 @@ use std::io;
 use std::io::{Read, Write};
 use triple_arena_ptr::PtrCore;
 
-/// Answers an input: carries out one line after another and writes each reply before the next line is carried out.
-/// The writer is flushed once, at the end of the input.
+/// Answers an input: carries out one line after another and writes each reply before the next line
+/// is carried out. The writer is flushed once, at the end of the input.
 ///
-/// The input may come in pieces of any length. A line over 69 bytes, or what follows the last LF, is answered as a
-/// line that spells no command. No memory is taken, and the store stays usable after each fault.
-/// What was counted before stays counted, and no more is added than the lines may take.
+/// The input may come in pieces of any length. A line over 69 bytes, or what follows the last LF,
+/// is answered as a line that spells no command. No memory is taken, and the store stays usable
+/// after each fault. What was counted before stays counted, and no more is added than the lines may
+/// take.
 pub fn run<P: PtrCore, B: BookBacking<P>, R: Read, W: Write>(
     book: &mut RouteBook<P, B>,
     reader: &mut Watched<R>,
@@ -139,13 +140,15 @@ fn end<P: PtrCore, B: BookBacking<P>, W: Write>(
     counts: &mut Counts,
 ) -> io::Result<()>
     ensures ok { OnOk result ((line : List ℕ) → StandsFor unfinished.now line
-        → Carries book.old.state (unended_line line) book.new.state (W.contents (inner_of writer.old))
+        → Carries book.old.state (unended_line line) book.new.state
+        (W.contents (inner_of writer.old))
         (W.contents (inner_of writer.new)) counts.old counts.new) }
     ensures ok_failed { OnOk result (failed_of writer.new ≡ failed_of writer.old) }
     ensures err { OnErr result ((line : List ℕ) → StandsFor unfinished.now line
         → StopsAtEnd line book.old.state book.new.state (W.contents (inner_of writer.old))
         (W.contents (inner_of writer.new)) counts.old counts.new
-        ⊎ Carries book.old.state (unended_line line) book.new.state (W.contents (inner_of writer.old))
+        ⊎ Carries book.old.state (unended_line line) book.new.state
+        (W.contents (inner_of writer.old))
         (W.contents (inner_of writer.new)) counts.old counts.new) }
     ensures err_failed { OnErr result (failed_of writer.new ≡ failed_of writer.old + 1) }
 {

@@ -1,4 +1,5 @@
-//! The program `route_book PLACES STOPS MARKS`: a store with these rooms answers the lines of the standard input.
+//! The program `route_book PLACES STOPS MARKS`: a store with these rooms answers the lines of the
+//! standard input.
 #![tactic(auto)]
 
 ghost use Rattle.std.specs.Prelude.{◌≡◌, ◌≢◌, ◌≤◌, ◌^◌, ◌↔◌, IfErr, IfOk, IfSome, IsNone, map, string_bytes, vec_items};
@@ -27,14 +28,17 @@ fn arguments(rt: &HostRuntime) -> io::Result<Vec<String>> {
     Ok(rooms)
 }
 
-// The program's status over these arguments, where they could be read.
+// The program's status over these arguments, if they could be read.
 fn exit_code(rt: &HostRuntime, args: io::Result<Vec<String>>) -> ExitCode
     ensures status { exit_status result ≤ 3 }
-    ensures usage { IfOk args (λ args. (exit_status result ≡ 2) ↔ IsNone (rooms_of (map string_bytes (vec_items args)))) }
+    ensures usage { IfOk args (λ args. (exit_status result ≡ 2)
+        ↔ IsNone (rooms_of (map string_bytes (vec_items args)))) }
     ensures index { IfOk args (λ args. IfSome (rooms_of (map string_bytes (vec_items args)))
         (λ rooms. 2 ^ 64 ≤ room_sum rooms → exit_status result ≡ 3)) }
-    ensures memory { IfErr args (λ error. error_kind error ≡ ErrorKind.OutOfMemory → exit_status result ≡ 3) }
-    ensures unread { IfErr args (λ error. error_kind error ≢ ErrorKind.OutOfMemory → exit_status result ≡ 2) }
+    ensures memory { IfErr args (λ error. error_kind error ≡ ErrorKind.OutOfMemory
+        → exit_status result ≡ 3) }
+    ensures unread { IfErr args (λ error. error_kind error ≢ ErrorKind.OutOfMemory
+        → exit_status result ≡ 2) }
 {
     ExitCode::from(match args {
         Ok(args) => answer_input(rt, &args),
@@ -42,7 +46,8 @@ fn exit_code(rt: &HostRuntime, args: io::Result<Vec<String>>) -> ExitCode
             let _ = writeln!(rt.stderr(), "room refused: {}", RoomError::Memory);
             3
         }
-        // An argument that is no text is no number either; without arguments `program` tells the usage.
+        // An argument that is no text is no number either; without arguments `program` tells the
+        // usage.
         Err(_) => answer_input(rt, &[]),
     })
 }
@@ -51,7 +56,8 @@ fn exit_code(rt: &HostRuntime, args: io::Result<Vec<String>>) -> ExitCode
 fn answer_input(rt: &HostRuntime, args: &[String]) -> u8
     ensures status { result ≤ 3 }
     ensures usage { (result ≡ 2) ↔ IsNone (rooms_of (map string_bytes args.now)) }
-    ensures index { IfSome (rooms_of (map string_bytes args.now)) (λ rooms. 2 ^ 64 ≤ room_sum rooms → result ≡ 3) }
+    ensures index { IfSome (rooms_of (map string_bytes args.now)) (λ rooms. 2 ^ 64 ≤ room_sum rooms
+        → result ≡ 3) }
 {
     program(
         rt.alloc(),

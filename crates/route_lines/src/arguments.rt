@@ -8,7 +8,8 @@ ghost use Rattle.route_lines.specs.Reply.{ended};
 use crate::number::read_number;
 use crate::refusal::RoomError;
 
-/// The rooms of places, stops and marks that a program's arguments name; `None` where they are not three numbers.
+/// The rooms of places, stops and marks that a program's arguments name; `None` if they are not
+/// three numbers.
 pub fn read_rooms(args: &[String]) -> Option<(usize, usize, usize)>
     ensures { option_map (λ rooms. record { places = rooms.0; stops = rooms.1; marks = rooms.2 })
         result ≡ rooms_of (map string_bytes args.now) }

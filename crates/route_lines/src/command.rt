@@ -74,6 +74,7 @@ pub enum Command {
         place: u64,
         stop: u64,
     },
-    /// `pack`: references to what has ended are swept, and what lives moves to the front of its arena.
+    /// `pack`: references to what has ended are swept, and what lives moves to the front of its
+    /// arena.
     Pack,
 }

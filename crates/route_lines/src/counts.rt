@@ -3,7 +3,8 @@ ghost use Rattle.std.specs.Prelude.{◌≡◌, ℕ};
 
 use triple_arena_ptr::Probes;
 
-/// What calls on a store took: the comparisons of their searches, and the references that their sweeps looked at.
+/// What calls on a store took: the comparisons of their searches, and the references that their
+/// sweeps looked at.
 #[derive(Drop)]
 pub struct Counts {
     /// Comparisons with a key, in searches by key.

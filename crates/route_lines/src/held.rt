@@ -7,8 +7,8 @@ ghost use Rattle.route_lines.specs.Changes.{changed};
 use crate::change::Change;
 use std::marker::Model;
 
-/// The state that a store holds, which proofs alone read. It takes no bytes: the invariant of the store ties it to what
-/// the store keeps.
+/// The state that a store holds, which proofs alone read. It takes no bytes: the invariant of the
+/// store ties it to what the store keeps.
 #[derive(Drop)]
 pub struct Held {
     ghost state: { State },

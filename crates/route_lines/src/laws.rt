@@ -1,4 +1,5 @@
-//! What holds of the definitions that the contracts cite. The functions do nothing: their contracts are the laws.
+//! What holds of the definitions that the contracts cite. The functions do nothing: their contracts
+//! are the laws.
 mod calls;
 mod grammar;
 mod looks;

@@ -1,9 +1,10 @@
-//! The lines of a route book: which line spells which command, what a store of places, routes and marks answers to
-//! it, and the state after it. There is no store here, and no arena: a state is plain lists under tickets.
+//! The lines of a route book: which line spells which command, what a store of places, routes and
+//! marks answers to it, and the state after it. There is no store here, and no arena: a state is
+//! plain lists under tickets.
 //!
-//! [`read_line`] reads a command, a [`ReplyText`] gathers a reply, and [`Unfinished`] keeps a line whose end has not
-//! come. [`Held`] is a state that a store carries for its proofs alone. `specs/` has the grammar, the states, the
-//! replies and what a run over an input does.
+//! [`read_line`] reads a command, a [`ReplyText`] gathers a reply, and [`Unfinished`] keeps a line
+//! whose end has not come. [`Held`] is a state that a store carries for its proofs alone. `specs/`
+//! has the grammar, the states, the replies and what a run over an input does.
 #![tactic(auto)]
 
 mod arguments;

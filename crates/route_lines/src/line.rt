@@ -10,7 +10,7 @@ use crate::number::read_number;
 use crate::word::Word;
 use fields::Fields;
 
-/// The command that a line, given without its LF, spells; `None` exactly where it spells none.
+/// The command that a line, given without its LF, spells; `None` exactly if it spells none.
 pub fn read_line(line: &[u8]) -> Option<Command>
     ensures found { IfSome result (Spells line.now) }
     ensures none { IfNone result ((command : Command) → ¬ Spells line.now command) }

@@ -3,8 +3,8 @@ ghost use Rattle.route_lines.specs.Number.{IsNumber, number_of};
 ghost use Rattle.std.specs.Char.{digit_value};
 ghost use Rattle.std.specs.Prelude.{◌≡◌, ◌+◌, ◌*◌, ◌^◌, ◌<◌, ◌↔◌, ℕ, IfNone, IfSome, IsTrue, SomeIff, decimal, length, slice_index};
 
-/// The number that the bytes write in decimal digits without leading zeros; `None` exactly where they write none
-/// below 2^64.
+/// The number that the bytes write in decimal digits without leading zeros; `None` exactly if they
+/// write none below 2^64.
 pub fn read_number(bytes: &[u8]) -> Option<u64>
     ensures found { IfSome result (λ n. bytes.now ≡ decimal n) }
     ensures none { IfNone result ((n : ℕ) → IsNumber n → ¬ (bytes.now ≡ decimal n)) }

@@ -10,8 +10,8 @@ use arrayvec::ArrayVec;
 use itoa::Buffer;
 use std::marker::Model;
 
-/// The bytes of a reply that are still to be written, seen as their list. A line of a reply has at most 59, its LF
-/// included.
+/// The bytes of a reply that are still to be written, seen as their list. A line of a reply has at
+/// most 59, its LF included.
 #[derive(Drop)]
 pub struct ReplyText {
     bytes: ArrayVec<u8, 4096>,

@@ -12,7 +12,7 @@ use std::io::{ErrorKind, Write};
 
 /// Writes all the bytes, by as many writes as that takes.
 ///
-/// An `Err` is that of the write that failed, or `WriteZero` where one took nothing.
+/// An `Err` is that of the write that failed, or `WriteZero` if one took nothing.
 pub fn send<W: Write>(writer: &mut Watched<W>, bytes: &[u8]) -> io::Result<()>
     ensures ok { OnOk result (Appends (W.contents (inner_of writer.old))
         (W.contents (inner_of writer.new)) bytes.now) }
@@ -32,7 +32,7 @@ pub fn send<W: Write>(writer: &mut Watched<W>, bytes: &[u8]) -> io::Result<()>
     Ok(())
 }
 
-/// Room for one line more: where there is none, what was gathered is written.
+/// Room for one line more: if there is none, what was gathered is written.
 pub fn make_room<W: Write>(text: &mut ReplyText, writer: &mut Watched<W>) -> io::Result<()>
     ensures room { OnOk result (HasRoom text.new 59) }
     ensures ok { OnOk result ((sent : List ℕ) × (text.old ≡ sent ++ text.new)

@@ -1,7 +1,8 @@
 //! What `show` answers.
 use crate::word::Word;
 
-/// What stands under a ticket. A reference is the ticket of a living item, or `None` where that item is gone.
+/// What stands under a ticket. A reference is the ticket of a living item, or `None` if that item
+/// is gone.
 #[derive(Debug, PartialEq, Eq, Drop)]
 pub enum Shown {
     /// A place, with its key and its word.

@@ -6,8 +6,8 @@ use crate::command::Command;
 use crate::line::read_line;
 use arrayvec::ArrayVec;
 
-/// The beginning of a line whose LF has not come: its bytes, or that they are more than the 69 of the longest
-/// command. No more than those are kept of any line.
+/// The beginning of a line whose LF has not come: its bytes, or that they are more than the 69 of
+/// the longest command. No more than those are kept of any line.
 #[derive(Drop)]
 pub struct Unfinished {
     bytes: ArrayVec<u8, 69>,

@@ -7,7 +7,8 @@ use std::io;
 use std::io::{Read, Write};
 use triple_arena_ptr::Probes;
 
-/// A reader or writer whose bytes are those of its inner one, with a count of the calls and of those that failed.
+/// A reader or writer whose bytes are those of its inner one, with a count of the calls and of
+/// those that failed.
 #[derive(Drop)]
 pub struct Watched<T> {
     inner: T,
@@ -31,7 +32,8 @@ impl<T> Watched<T> {
         }
     }
 
-    /// The calls that failed, a write that took none of some bytes included. Nothing but such a call counts here.
+    /// The calls that failed, a write that took none of some bytes included. Nothing but such a
+    /// call counts here.
     pub fn failed(&self) -> &Probes
         ensures { result.now ≡ failed_of self.now }
     {

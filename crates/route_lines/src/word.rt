@@ -28,7 +28,7 @@ impl Model for Word {
 }
 
 impl Word {
-    /// The word that the bytes are; `None` exactly where they are none.
+    /// The word that the bytes are; `None` exactly if they are none.
     pub fn new(bytes: &[u8]) -> Option<Word>
         ensures accepts { IsSome result ↔ IsWord bytes.now }
         ensures value { IfSome result (λ w. w ≡ bytes.now) }

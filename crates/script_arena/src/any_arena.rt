@@ -3,8 +3,8 @@ use std::fmt::Debug;
 use test_kit::{Call, ShownPtr, Transcript, index};
 use triple_arena::{Advancer, ArenaInsertTrait, DisjointableArenaTrait, PtrCore};
 
-/// Makes a call that every arena has, and says whether there is one of that name. That an arena keeps the traits' clauses
-/// is proved once for all of them, which costs the proof most.
+/// Makes a call that every arena has, and says whether there is one of that name. That an arena
+/// keeps the traits' clauses is proved once for all of them, which costs the proof most.
 pub fn call<P: ShownPtr, A: DisjointableArenaTrait<P, u64>>(
     arena: &mut A,
     transcript: &mut Transcript,
@@ -42,7 +42,8 @@ fn inserts<P: PtrCore + Debug, A: ArenaInsertTrait<P, u64>>(
     true
 }
 
-// Stores so many values, 0 and on, up to the first that is refused, and answers how many entries there are.
+// Stores so many values, 0 and on, up to the first that is refused, and answers how many entries
+// there are.
 fn fill<P: PtrCore, A: ArenaInsertTrait<P, u64>>(arena: &mut A, count: u64) -> usize {
     for value in 0..count {
         if arena.insert(value).is_err() {
@@ -52,8 +53,9 @@ fn fill<P: PtrCore, A: ArenaInsertTrait<P, u64>>(arena: &mut A, count: u64) -> u
     arena.len()
 }
 
-// Goes over an arena that changes after the first step: the first number is stored, and the entry at the index of the
-// second goes. The number is stored once more where the walk has ended, which then gives no more.
+// Goes over an arena that changes after the first step: the first number is stored, and the entry
+// at the index of the second goes. The number is stored once more if the walk has ended, which then
+// gives no more.
 fn walk_and_insert<P: PtrCore + Debug, A: ArenaInsertTrait<P, u64>>(
     arena: &mut A,
     transcript: &mut Transcript,

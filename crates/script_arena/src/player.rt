@@ -1,7 +1,8 @@
 //! What a section asks of its arenas.
 //!
-//! These traits promise nothing, so a section that is generic in them is proved without a clause of the arenas' calls. That an
-//! arena keeps those is proved in the `impl`s, once for each kind of arena, and not once more wherever a section names it.
+//! These traits promise nothing, so a section that is generic in them is proved without a clause of
+//! the arenas' calls. That an arena keeps those is proved in the `impl`s, once for each kind of
+//! arena, and not once more wherever a section names it.
 use test_kit::{Call, Transcript};
 use triple_arena::ReallocationError;
 
@@ -26,7 +27,8 @@ pub trait Player: Drop {
     fn go_over(self, transcript: &mut Transcript);
 }
 
-/// An arena that makes the calls among the arenas of a section: it is `a`, and its type is that of `b`.
+/// An arena that makes the calls among the arenas of a section: it is `a`, and its type is that of
+/// `b`.
 pub trait Partner<D> {
     /// Makes a copy or moves entries, as a line says.
     fn call_among(

@@ -1,10 +1,11 @@
 //! Sections whose arenas hold pointers.
 //!
-//! `h` and `k` hold numbers, each with a pointer or none: `h hold V`, `h point V I G`; and `k`, to which the script gives
-//! the pointers, `k hold I G V`, `k point I G V J H`. `n` and `m` rename pointers: `n name I G J H` gives (I, G) the name
-//! (J, H), and `m name J H` gives that name to the pointer that it answers. `h=n recast` renames what `h` holds by `n`.
-//! `h compress_recaster RESET` compresses `h`, and renames by the map of that what `h` and `k` hold. `h| set_generation G`
-//! sets the counter of `h`.
+//! `h` and `k` hold numbers, each with a pointer or none: `h hold V`, `h point V I G`; and `k`, to
+//! which the script gives the pointers, `k hold I G V`, `k point I G V J H`. `n` and `m` rename
+//! pointers: `n name I G J H` gives (I, G) the name (J, H), and `m name J H` gives that name to the
+//! pointer that it answers. `h=n recast` renames what `h` holds by `n`. `h compress_recaster RESET`
+//! compresses `h`, and renames by the map of that what `h` and `k` hold. `h| set_generation G` sets
+//! the counter of `h`.
 use std::alloc::Allocator;
 use std::fmt::Debug;
 use test_kit::{Call, Transcript, generation, pointer};
@@ -85,8 +86,8 @@ fn over<
     >(alloc, transcript, header, calls)
 }
 
-// An arena of such a section. As in `player.rt`, it promises nothing, so that what plays the section is proved without the
-// clauses of the arenas' calls.
+// An arena of such a section. As in `player.rt`, it promises nothing, so that what plays the
+// section is proved without the clauses of the arenas' calls.
 trait Part: Drop {
     type Alloc;
 

@@ -14,7 +14,8 @@ pub trait Movable<P: PtrCore>: ArenaCloneFromWith<P, u64>
     + ArenaTransferTrait<P, u64>
     + ArenaTransferSource<P, u64> {}
 
-// An `impl` for all that keep these bounds would be proved twice as long wherever an arena meets it.
+// An `impl` for all that keep these bounds would be proved twice as long wherever an arena meets
+// it.
 impl<P: PtrCore, S: ArenaSlots<P, u64>> Movable<P> for Arena<P, u64, S> {}
 
 impl<P: PtrCore, D: DirectSlots<P, u64>> Movable<P> for DirectArena<P, u64, D> {}
@@ -54,7 +55,8 @@ fn among<P: PtrCore + Debug, A: Movable<P>, D: Movable<P>>(
     }
 }
 
-// Makes the target a copy of the source, by a map that tells what it gets, adds 1, and refuses at this call.
+// Makes the target a copy of the source, by a map that tells what it gets, adds 1, and refuses at
+// this call.
 fn copy<P: PtrCore + Debug, A: ArenaCloneFromWith<P, u64>, S: ArenaCloneSource<P, u64>>(
     target: &mut A,
     source: &S,

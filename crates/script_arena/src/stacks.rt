@@ -63,7 +63,8 @@ pub fn over_array(
     }
 }
 
-// The bounds are those of which `ArenaSlots` and `DirectSlots` are short forms. A stack meets them in half the time.
+// The bounds are those of which `ArenaSlots` and `DirectSlots` are short forms. A stack meets them
+// in half the time.
 fn over<
     P: Ptr,
     H: Copy + Drop,

@@ -3,8 +3,8 @@ use std::fmt::Debug;
 use test_kit::{Call, ShownPtr, Transcript};
 use triple_arena::{Advancer, ArenaTrait, PtrCore};
 
-/// Makes a call that can change the arena, and says whether there is one of that name. The values are those that the
-/// line stores at a pointer, and at an index.
+/// Makes a call that can change the arena, and says whether there is one of that name. The values
+/// are those that the line stores at a pointer, and at an index.
 pub fn change<P: ShownPtr, T: Copy + Debug, A: ArenaTrait<P, T>>(
     arena: &mut A,
     transcript: &mut Transcript,
@@ -17,8 +17,8 @@ pub fn change<P: ShownPtr, T: Copy + Debug, A: ArenaTrait<P, T>>(
         || writes(arena, transcript, call, at_pointer, at_index)
 }
 
-/// Makes such a call at an arena of numbers, where a value follows the pointer or the index, and says whether there is one of
-/// that name.
+/// Makes such a call at an arena of numbers, where a value follows the pointer or the index, and
+/// says whether there is one of that name.
 pub fn change_numbers<P: ShownPtr, A: ArenaTrait<P, u64>>(
     arena: &mut A,
     transcript: &mut Transcript,

@@ -1,5 +1,5 @@
-//! The calls of every arena, as the lines of a script name them. The programs `script_arena` and `script_chain` make them at
-//! arenas of their own, and so do those of the ordered arenas.
+//! The calls of every arena, as the lines of a script name them. The programs `script_arena` and
+//! `script_chain` make them at arenas of their own, and so do those of the ordered arenas.
 #![tactic(auto)]
 
 mod changes;

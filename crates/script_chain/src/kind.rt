@@ -3,7 +3,8 @@ use test_kit::{Call, index, pointer};
 use triple_arena::PtrCore;
 use triple_arena_chain::LinkInsertKind;
 
-/// The kind with this name. Its pointers, or their indexes, are in the line's numbers behind the value.
+/// The kind with this name. Its pointers, or their indexes, are in the line's numbers behind the
+/// value.
 pub fn kind<P: PtrCore>(name: &str, call: &Call<'_>) -> Option<LinkInsertKind<P>> {
     match name {
         "Disconnected" => Some(LinkInsertKind::Disconnected),

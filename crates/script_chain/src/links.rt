@@ -4,8 +4,9 @@ use test_kit::{Call, ShownPtr, Transcript, index, pointer};
 use triple_arena::Advancer;
 use triple_arena_chain::{ChainArenaTrait, LinkInsertKind};
 
-/// Makes a call that every arena of chains has, and says whether there is one of that name. That an arena of chains keeps
-/// the trait's clauses is proved once for all of them, which costs the proof most.
+/// Makes a call that every arena of chains has, and says whether there is one of that name. That an
+/// arena of chains keeps the trait's clauses is proved once for all of them, which costs the proof
+/// most.
 pub fn call<P: ShownPtr, A: ChainArenaTrait<P, u64>>(
     chains: &mut A,
     transcript: &mut Transcript,

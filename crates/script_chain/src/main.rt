@@ -1,21 +1,26 @@
-//! `script_chain` reads sections of calls from the standard input, makes each call at an arena of chains, and writes each
-//! line again with the call's answer behind it. An empty line ends a section.
+//! `script_chain` reads sections of calls from the standard input, makes each call at an arena of
+//! chains, and writes each line again with the call's answer behind it. An empty line ends a
+//! section.
 //!
 //! A section begins with its header, `POINTERS STACKS ROOM FIRST LAST`:
 //!
-//! - POINTERS are pointer types, with `,` between them: `P0`, `P1`, `P3`, `P5`, or `N3`, whose generations end at 3;
+//! - POINTERS are pointer types, with `,` between them: `P0`, `P1`, `P3`, `P5`, or `N3`, whose
+//!   generations end at 3;
 //! - STACKS are kinds of stack: `heap`, `limited`, `boxed`, or `array`, which has eight slots;
 //! - ROOM is the capacity that the arenas are made with;
-//! - each time the calls are made once for each request for memory from FIRST to LAST, which is refused. Request 0 is none.
+//! - each time the calls are made once for each request for memory from FIRST to LAST, which is
+//!   refused. Request 0 is none.
 //!
-//! There are the chain arenas `a` and `b`, the arena `l` of links, which can become a chain arena, and the arena `v` of
-//! values. A line names whose call it is, the call, and its numbers. A call with a kind is written as
-//! `a insert:Bridge 7 1 2 3 2`: the value, and the pointers or, by `BridgeInx`, the indexes. By an entry the value 0 is not
-//! stored. `a=b clone_from` makes `a` a clone of `b`, `a<b transfer_canonical 4` moves the chains of `b` to `a`, with
-//! generation 4, `v=a clone_to_arena` copies the values of `a` to `v`, `a=l exchange_arena` takes the links of `l`;
-//! `a| set_max_capacity 3` limits a limited arena. Over the stack `renaming` the links hold
-//! pointers, and `renaming.rt` says what they are. A line of no arena is written as it is, so that `#` begins a comment. A
-//! number that a line lacks is 0. A pointer is two numbers, index and generation.
+//! There are the chain arenas `a` and `b`, the arena `l` of links, which can become a chain arena,
+//! and the arena `v` of values. A line names whose call it is, the call, and its numbers. A call
+//! with a kind is written as `a insert:Bridge 7 1 2 3 2`: the value, and the pointers or, by
+//! `BridgeInx`, the indexes. By an entry the value 0 is not stored. `a=b clone_from` makes `a` a
+//! clone of `b`, `a<b transfer_canonical 4` moves the chains of `b` to `a`, with generation 4,
+//! `v=a clone_to_arena` copies the values of `a` to `v`, `a=l exchange_arena` takes the links of
+//! `l`; `a| set_max_capacity 3` limits a limited arena. Over the stack `renaming` the links hold
+//! pointers, and `renaming.rt` says what they are. A line of no arena is written as it is, so that
+//! `#` begins a comment. A number that a line lacks is 0. A pointer is two numbers, index and
+//! generation.
 #![tactic(auto)]
 
 ghost use Rattle.std.specs.Prelude.{◌<◌};
@@ -45,8 +50,8 @@ fn main(rt: HostRuntime) -> io::Result<()> {
     Ok(())
 }
 
-// Makes the calls of a section over each of its pointer types and stacks, once, or once for each request for memory that
-// is refused.
+// Makes the calls of a section over each of its pointer types and stacks, once, or once for each
+// request for memory that is refused.
 fn play(alloc: Global, transcript: &mut Transcript, section: &str) {
     let (header, calls) = section.split_once('\n').unwrap_or((section, ""));
     transcript.line(header);
@@ -60,7 +65,8 @@ fn play(alloc: Global, transcript: &mut Transcript, section: &str) {
     }
 }
 
-// Over which pointer type and stack a section is played, and the request for memory that is refused.
+// Over which pointer type and stack a section is played, and the request for memory that is
+// refused.
 #[derive(Clone, Copy)]
 struct Run<'a> {
     kind: &'a str,

@@ -1,7 +1,8 @@
 //! What a section asks of its arenas.
 //!
-//! These traits promise nothing, so a section that is generic in them is proved without a clause of the arenas' calls. That an
-//! arena keeps those is proved in the `impl`s, once for each kind of arena, and not once more wherever a section names it.
+//! These traits promise nothing, so a section that is generic in them is proved without a clause of
+//! the arenas' calls. That an arena keeps those is proved in the `impl`s, once for each kind of
+//! arena, and not once more wherever a section names it.
 use test_kit::{Call, Transcript};
 use triple_arena::ReallocationError;
 
@@ -17,8 +18,8 @@ pub trait Player: Drop {
     fn call(&mut self, transcript: &mut Transcript, call: &Call<'_>);
 }
 
-/// A chain arena that makes the calls among the arenas of a section: with one of its own type, with the arena `L` of links,
-/// and with the arena `V` of values.
+/// A chain arena that makes the calls among the arenas of a section: with one of its own type, with
+/// the arena `L` of links, and with the arena `V` of values.
 pub trait Partner<L, V>: Player {
     /// Becomes a copy of another one.
     fn become_copy(

@@ -31,8 +31,8 @@ pub fn over_heap<P: Ptr + Recast<P>, H: Allocator + Copy + Drop>(
     >(heap, transcript, calls)
 }
 
-// Makes the calls of a section, and then compresses the arena of targets and recasts the chains by the map of that,
-// twice.
+// Makes the calls of a section, and then compresses the arena of targets and recasts the chains by
+// the map of that, twice.
 fn over<
     P: Ptr + Recast<P>,
     H: Copy + Drop,
@@ -66,8 +66,8 @@ fn recast_twice<P: PtrCore + Debug, A: Recast<P> + Debug, R: Recaster<Item = P>>
     transcript.answer("show", chains);
 }
 
-// An arena of such a section. As in `player.rt`, it promises nothing, so that what plays the section is proved without the
-// clauses of the arenas' calls.
+// An arena of such a section. As in `player.rt`, it promises nothing, so that what plays the
+// section is proved without the clauses of the arenas' calls.
 trait Part {
     fn call(&mut self, transcript: &mut Transcript, call: &Call<'_>);
 }
@@ -111,8 +111,8 @@ impl<P: Ptr, V: ArenaSlots<P, u64>> Part for Arena<P, u64, V> {
     }
 }
 
-// The chains: a call with a kind stores a link that holds the pointer of the first two numbers, between the neighbors that
-// the other numbers name by their indexes.
+// The chains: a call with a kind stores a link that holds the pointer of the first two numbers,
+// between the neighbors that the other numbers name by their indexes.
 impl<P: Ptr, S: ChainSlots<P, P>> Part for ChainArena<P, P, S> {
     fn call(&mut self, transcript: &mut Transcript, call: &Call<'_>) {
         match kind(call.verb, &indexes(call)) {
@@ -148,7 +148,8 @@ fn ask<P: Ptr, S: ChainSlots<P, P>>(
     }
 }
 
-// The names: a call gives the pointer of the first two numbers a name, with the index of the third and the same generation.
+// The names: a call gives the pointer of the first two numbers a name, with the index of the third
+// and the same generation.
 impl<P: Ptr, R: DirectSlots<P, P>> Part for DirectArena<P, P, R> {
     fn call(&mut self, transcript: &mut Transcript, call: &Call<'_>) {
         name(self, transcript, call);

@@ -1,5 +1,5 @@
-//! Calls among several arenas over stacks of one kind: the chain arenas `a` and `b`, the arena `l` of links, which can
-//! become a chain arena, and the arena `v` of values.
+//! Calls among several arenas over stacks of one kind: the chain arenas `a` and `b`, the arena `l`
+//! of links, which can become a chain arena, and the arena `v` of values.
 use crate::player::{Partner, Player};
 use std::alloc::AllocError;
 use std::mem;
@@ -197,7 +197,7 @@ fn becomes<P: ShownPtr, H: Copy, S: ChainSlots<P, u64, Alloc = H>>(
     }
 }
 
-// The arena is new where its links are taken, and is handed back where they are not.
+// The arena is new if its links are taken, and is handed back if they are not.
 fn from_arena<P: ShownPtr, H: Copy, S: ChainSlots<P, u64, Alloc = H>>(
     chains: &mut ChainArena<P, u64, S>,
     links: &mut Arena<P, LinkNoGen<P, u64>, S>,
@@ -218,7 +218,8 @@ fn from_arena<P: ShownPtr, H: Copy, S: ChainSlots<P, u64, Alloc = H>>(
     }
 }
 
-// Inserts a link with the value of the first number between the indexes of the next two, or removes one.
+// Inserts a link with the value of the first number between the indexes of the next two, or removes
+// one.
 fn link_by_link<P: ShownPtr, A: ArenaInsertTrait<P, LinkNoGen<P, u64>>>(
     links: &mut A,
     transcript: &mut Transcript,

@@ -65,7 +65,8 @@ pub fn over_stack<P: Ptr + Recast<P>, H: Allocator + Copy + Drop>(
     }
 }
 
-// The bounds are those of which `ChainSlots` and `ArenaSlots` are short forms. A stack meets them in half the time.
+// The bounds are those of which `ChainSlots` and `ArenaSlots` are short forms. A stack meets them
+// in half the time.
 fn over<
     P: Ptr,
     H: Copy + Drop,

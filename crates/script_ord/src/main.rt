@@ -1,10 +1,10 @@
-//! `script_ord` reads sections of calls from the standard input, makes each call at an ordered arena, and writes each line
-//! again with the call's answer behind it.
+//! `script_ord` reads sections of calls from the standard input, makes each call at an ordered
+//! arena, and writes each line again with the call's answer behind it.
 //!
-//! Sections are split by an empty line. The first line of one is `POINTER STACK`, and the others are calls, one a line:
-//! `WHOM CALL NUMBERS`. The arena `a` is over that pointer and stack, the arena `b` over `P1` and a vector. The items are
-//! pairs of a key and a value. Insertions of each kind, searches and the tree are in `script_ord_search`, copies of arenas in
-//! `script_ord_copies`.
+//! Sections are split by an empty line. The first line of one is `POINTER STACK`, and the others
+//! are calls, one a line: `WHOM CALL NUMBERS`. The arena `a` is over that pointer and stack, the
+//! arena `b` over `P1` and a vector. The items are pairs of a key and a value. Insertions of each
+//! kind, searches and the tree are in `script_ord_search`, copies of arenas in `script_ord_copies`.
 #![tactic(auto)]
 
 mod changes;
@@ -64,7 +64,7 @@ fn beside<P: Ptr, S: OrdSlots<P, Item>>(
     beside_vector::<P, P1, S>(alloc, heap, transcript, lines);
 }
 
-// What the vector owes costs more where its pointers are known.
+// What the vector owes costs more if its pointers are known.
 fn beside_vector<P: Ptr, Q: Ptr, S: OrdSlots<P, Item>>(
     alloc: S::Alloc,
     heap: Global,

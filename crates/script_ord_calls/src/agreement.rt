@@ -1,4 +1,5 @@
-//! Whether the tree of an arena agrees with its list, seen from outside: by the nodes that the arena lends.
+//! Whether the tree of an arena agrees with its list, seen from outside: by the nodes that the
+//! arena lends.
 use crate::knots::{Knot, ShowsKnots};
 use crate::work::most;
 use triple_arena::{PtrCore, PtrInxCore};
@@ -9,7 +10,8 @@ const LONGEST: u64 = 2048;
 // More than the longest path in its tree.
 const HIGHEST: u64 = 64;
 
-// What a walk along the list has seen: where it is, the entry before, how many entries and roots, and what is wrong.
+// What a walk along the list has seen: where it is, the entry before, how many entries and roots,
+// and what is wrong.
 #[derive(Clone, Copy)]
 struct Seen<I: PtrInxCore> {
     at: Option<I>,
@@ -19,8 +21,9 @@ struct Seen<I: PtrInxCore> {
     fault: &'static str,
 }
 
-/// Says that tree and list agree, or what is wrong: an index that is not live, neighbors that disagree, a child that does
-/// not know its parent, a rank against the rules, or an entry whose next one is not its successor in the tree.
+/// Says that tree and list agree, or what is wrong: an index that is not live, neighbors that
+/// disagree, a child that does not know its parent, a rank against the rules, or an entry whose
+/// next one is not its successor in the tree.
 pub fn check<P: PtrCore, A: ShowsKnots<P>>(arena: &A) -> &'static str {
     let mut seen = Seen {
         at: arena.start(),
@@ -148,7 +151,7 @@ fn is_child<P: PtrCore, A: ShowsKnots<P>>(
     }
 }
 
-// The rank at an index, which is 0 where there is none.
+// The rank at an index, which is 0 if there is none.
 fn rank<P: PtrCore, A: ShowsKnots<P>>(arena: &A, i: Option<P::Inx>) -> u8 {
     match i {
         Some(i) => match arena.knot(i) {
@@ -159,8 +162,8 @@ fn rank<P: PtrCore, A: ShowsKnots<P>>(arena: &A, i: Option<P::Inx>) -> u8 {
     }
 }
 
-// Whether the rank is above that of each child by 1 or 2, is 1 without children, and, at the root, is no more than a search
-// may compare.
+// Whether the rank is above that of each child by 1 or 2, is 1 without children, and, at the root,
+// is no more than a search may compare.
 fn is_ranked<P: PtrCore, A: ShowsKnots<P>>(arena: &A, knot: &Knot<P::Inx>) -> bool {
     let left = knot.rank.wrapping_sub(rank(arena, knot.left));
     let right = knot.rank.wrapping_sub(rank(arena, knot.right));

@@ -15,8 +15,8 @@ use std::fmt::Debug;
 use test_kit::{Call, ShownPtr, Transcript};
 use triple_arena::ArenaTrait;
 
-/// Makes a call that every arena has, and says whether there is one of that name. The items are those that the line stores at a
-/// pointer, and at an index.
+/// Makes a call that every arena has, and says whether there is one of that name. The items are
+/// those that the line stores at a pointer, and at an index.
 pub fn call_any<P: ShownPtr, T: Copy + Debug, A: ArenaTrait<P, T>>(
     arena: &mut A,
     transcript: &mut Transcript,

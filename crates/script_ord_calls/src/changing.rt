@@ -10,7 +10,7 @@ pub trait Writes {
     /// Puts the pair of the first two numbers in.
     fn put(&mut self, transcript: &mut Transcript, call: &Call<'_>);
 
-    /// Writes by `arena[p]`, where the pointer is valid, and says whether it is.
+    /// Writes by `arena[p]`, if the pointer is valid, and says whether it is.
     fn write_item(&mut self, transcript: &mut Transcript, call: &Call<'_>);
 
     /// Writes the value of a pair alone, and answers the one that it had.

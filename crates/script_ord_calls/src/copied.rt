@@ -1,7 +1,8 @@
 //! The calls at an ordered arena that is copied.
 use test_kit::{Call, Transcript};
 
-/// What makes those that are not of every arena. It is one trait, so that what is generic in it names one bound.
+/// What makes those that are not of every arena. It is one trait, so that what is generic in it
+/// names one bound.
 pub trait Copied {
     fn tell_generation(&self, transcript: &mut Transcript, line: &str);
 
@@ -18,7 +19,8 @@ pub trait Copied {
 
     fn walk_along(&self, transcript: &mut Transcript, line: &str);
 
-    /// Takes so many items of a drain along the list, and tells how many are left when it is let go.
+    /// Takes so many items of a drain along the list, and tells how many are left when it is let
+    /// go.
     fn drain_along(&mut self, transcript: &mut Transcript, call: &Call<'_>);
 }
 

@@ -1,11 +1,11 @@
-//! Copies among arenas: the ordered arenas `a` and `c`, the chain arena `h` and the arena `v` of values.
-//! `a<c transfer_canonical G` moves the entries of `c` to `a`, under that generation; `a* compress_with 1` compresses `a` with
-//! a reset.
+//! Copies among arenas: the ordered arenas `a` and `c`, the chain arena `h` and the arena `v` of
+//! values. `a<c transfer_canonical G` moves the entries of `c` to `a`, under that generation;
+//! `a* compress_with 1` compresses `a` with a reset.
 use crate::players::Player;
 use test_kit::{Call, Transcript};
 
-/// An ordered arena that takes clones of others of its type, and moves its entries. Each map tells what it gets, and adds 1 to
-/// the value.
+/// An ordered arena that takes clones of others of its type, and moves its entries. Each map tells
+/// what it gets, and adds 1 to the value.
 pub trait Copies<H> {
     /// Becomes a clone of the source, or a new clone, if that is made.
     fn clones(&mut self, source: &Self, alloc: H, transcript: &mut Transcript, call: &Call<'_>);
@@ -17,8 +17,8 @@ pub trait Copies<H> {
     fn compresses(&mut self, transcript: &mut Transcript, call: &Call<'_>);
 }
 
-/// One that gives a clone to an arena of another type. The map tells what it gets, adds 1 to the value, and refuses at the
-/// call of the first number.
+/// One that gives a clone to an arena of another type. The map tells what it gets, adds 1 to the
+/// value, and refuses at the call of the first number.
 pub trait Gives<B> {
     fn gives(&self, target: &mut B, transcript: &mut Transcript, call: &Call<'_>);
 }

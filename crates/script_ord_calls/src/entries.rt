@@ -7,8 +7,9 @@ use triple_arena::PtrCore;
 
 /// What makes such a call, and tells of it.
 pub trait PutsByEntry<K> {
-    /// Takes an entry of the form and the kind that the line names, with so many comparisons. It puts the item of the first
-    /// two numbers in by it, or lets it go if the fifth is 1. It says whether there is a kind of that name.
+    /// Takes an entry of the form and the kind that the line names, with so many comparisons. It
+    /// puts the item of the first two numbers in by it, or lets it go if the fifth is 1. It says
+    /// whether there is a kind of that name.
     fn enters_by(
         &mut self,
         transcript: &mut Transcript,

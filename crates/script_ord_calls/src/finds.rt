@@ -1,10 +1,12 @@
-//! What a search finds, and what makes the searches: the six and their counted forms, from the root and along the list.
+//! What a search finds, and what makes the searches: the six and their counted forms, from the root
+//! and along the list.
 use crate::work::{Counting, Since};
 use std::cmp::Ordering;
 use triple_arena::PtrCore;
 use triple_arena_ptr::Probes;
 
-/// What a search found, and its comparisons: as it ticked them, and as the keys, or the closure, counted them.
+/// What a search found, and its comparisons: as it ticked them, and as the keys, or the closure,
+/// counted them.
 #[derive(Clone, Copy)]
 pub struct Found<P> {
     pub place: Option<(P, Ordering)>,

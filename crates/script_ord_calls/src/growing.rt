@@ -7,15 +7,15 @@ use crate::work::{Counting, Since, Work};
 use test_kit::{Call, ShownPtr, Transcript, index, pointer};
 use triple_arena::PtrCore;
 
-// The keys of a script go up to this prime. The products of all lesser numbers with one of them, modulo the prime, are all of
-// them again in another order.
+// The keys of a script go up to this prime. The products of all lesser numbers with one of them,
+// modulo the prime, are all of them again in another order.
 const PRIME: u64 = 1009;
 
 /// What takes items in and out by their keys.
 pub trait Takes<P: PtrCore, K> {
-    /// Puts an item of a key and a value in: by an entry of the kind of this name, whose search begins at an index and goes
-    /// so far along the list, or by `insert` if there is no such kind. It answers the item's index, or the one that it
-    /// began with if there was no room.
+    /// Puts an item of a key and a value in: by an entry of the kind of this name, whose search
+    /// begins at an index and goes so far along the list, or by `insert` if there is no such kind.
+    /// It answers the item's index, or the one that it began with if there was no room.
     fn take(&mut self, name: &str, item: &(K, u64), start: P::Inx, num: u64) -> P::Inx;
 
     /// Removes an entry with this key, if there is one.
@@ -48,15 +48,16 @@ pub fn grows<P: ShownPtr, K: Counting, A: Finds<P, K> + ShowsKnots<P> + Takes<P,
     true
 }
 
-// Puts the keys up to the second number in, in the order of their products with the first one. It does so by `insert`, or by
-// an entry of a kind. That one's search begins at an index, or, if that is 0, at the entry that was put in before.
+// Puts the keys up to the second number in, in the order of their products with the first one. It
+// does so by `insert`, or by an entry of a kind. That one's search begins at an index, or, if that
+// is 0, at the entry that was put in before.
 fn grow<P: PtrCore, K: Counting, A: ShowsKnots<P> + Takes<P, K>>(
     arena: &mut A,
     name: &str,
     call: &Call<'_>,
     zero: K,
 ) -> Work {
-    // Where the keys ascend, they still do after each insertion by key.
+    // If the keys ascend, they still do after each insertion by key.
     let ascends = arena.ascends();
     let mut worst = Work::Nothing;
     let mut start = index(call.fourth);
@@ -96,7 +97,8 @@ fn put<P: PtrCore, K: Counting, A: ShowsKnots<P> + Takes<P, K>>(
     (i, limit.held(comparisons, comparisons))
 }
 
-// The one of two that tells more: the first that is past its limit, or the greater number along the list.
+// The one of two that tells more: the first that is past its limit, or the greater number along the
+// list.
 fn worse(first: Work, second: Work) -> Work {
     match (first, second) {
         (Work::Past { .. }, _) => first,
@@ -170,7 +172,8 @@ impl Tally {
     }
 }
 
-// Whether a key is greater than the one before it, and less than the one after it, as far as there are such.
+// Whether a key is greater than the one before it, and less than the one after it, as far as there
+// are such.
 fn parts(before: Option<u64>, n: u64, after: Option<u64>) -> bool {
     let follows = match before {
         Some(before) => before < n,

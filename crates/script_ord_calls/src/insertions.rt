@@ -13,8 +13,8 @@ pub enum KnownPlace {
     After,
 }
 
-/// What puts an item of a key and a value in and tells of it: where the key belongs, with so many comparisons, or at an
-/// entry.
+/// What puts an item of a key and a value in and tells of it: where the key belongs, with so many
+/// comparisons, or at an entry.
 pub trait PutsIn<K> {
     fn puts(&mut self, transcript: &mut Transcript, line: &str, item: &(K, u64), limit: Limit);
 

@@ -1,7 +1,8 @@
 //! Entries with their neighbors in the list and in the tree, as the checks of a script see them.
 use triple_arena::{PtrCore, PtrInxCore};
 
-/// An entry: its key and its value, its neighbors in the list, its parent, its left and its right child, and its rank.
+/// An entry: its key and its value, its neighbors in the list, its parent, its left and its right
+/// child, and its rank.
 #[derive(Clone, Copy)]
 pub struct Knot<I: PtrInxCore> {
     pub key: u64,

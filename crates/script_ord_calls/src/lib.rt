@@ -1,8 +1,9 @@
-//! The calls of the scripts of the ordered arenas: what a line asks, and what is told of it. It knows no ordered arena.
+//! The calls of the scripts of the ordered arenas: what a line asks, and what is told of it. It
+//! knows no ordered arena.
 //!
-//! The programs make the calls at arenas of their own, each inside a struct that has these traits. The traits have no clauses,
-//! and so what is generic in them costs little to prove. A function that names an ordered arena carries all that its stack,
-//! its pointers and its keys promise.
+//! The programs make the calls at arenas of their own, each inside a struct that has these traits.
+//! The traits have no clauses, and so what is generic in them costs little to prove. A function
+//! that names an ordered arena carries all that its stack, its pointers and its keys promise.
 #![tactic(auto)]
 
 mod agreement;

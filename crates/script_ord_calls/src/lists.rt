@@ -11,7 +11,7 @@ pub trait TellsOfList {
 
     fn tell_place(&self, transcript: &mut Transcript, call: &Call<'_>);
 
-    /// Reads by `arena[p]`, where the pointer is valid.
+    /// Reads by `arena[p]`, if the pointer is valid.
     fn tell_item(&self, transcript: &mut Transcript, call: &Call<'_>);
 
     /// The generation, the neighbors and the item at an index.

@@ -17,7 +17,7 @@ pub enum Place<P> {
     OneOf(u64),
     /// An entry on one side of the gap between these two.
     Between(Option<P>, Option<P>),
-    /// No entry, or one that lives, where the keys do not ascend.
+    /// No entry, or one that lives, if the keys do not ascend.
     Anywhere,
     /// An entry that does not live.
     Dead(P),
@@ -60,8 +60,8 @@ impl<P: PtrCore + PartialEq> Found<P> {
     }
 }
 
-// How many comparisons a search may make. One for a key that is not there goes on from the root, and else their number hangs
-// on the list alone where one along it came to its end there.
+// How many comparisons a search may make. One for a key that is not there goes on from the root,
+// and else their number hangs on the list alone if one along it came to its end there.
 fn limit_of_search<P: PtrCore + PartialEq, A: ShowsKnots<P>>(
     arena: &A,
     verb: &str,
@@ -133,7 +133,7 @@ fn anywhere<P: PtrCore + PartialEq, A: ShowsKnots<P>>(
     }
 }
 
-// The entry of a pointer, or its key, where a neighbor has the same.
+// The entry of a pointer, or its key, if a neighbor has the same.
 fn at<P: PtrCore, A: ShowsKnots<P>>(arena: &A, p: P) -> Place<P> {
     match arena.knot(p.inx()) {
         Some(knot) => {

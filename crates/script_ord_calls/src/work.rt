@@ -12,7 +12,8 @@ pub trait Counting: Copy {
     fn count(&self) -> u64;
 }
 
-/// What is told of the comparisons of a call. A number is told where the rules fix it, and where it is too great.
+/// What is told of the comparisons of a call. A number is told if the rules fix it, and if it is
+/// too great.
 #[derive(Clone, Copy, Debug, PartialEq, Eq)]
 pub enum Work {
     /// There was none.
@@ -29,7 +30,8 @@ pub enum Work {
     },
 }
 
-/// The greatest number c with `2^(c+1) <= (n+1)^2`: a search among n entries makes no more comparisons.
+/// The greatest number c with `2^(c+1) <= (n+1)^2`: a search among n entries makes no more
+/// comparisons.
 pub fn most(n: u64) -> u64 {
     let side = n.saturating_add(1);
     let square = side.saturating_mul(side);

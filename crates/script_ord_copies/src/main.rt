@@ -1,14 +1,16 @@
-//! `script_ord_copies` reads sections of calls from the standard input, makes each call at arenas that are copied into others,
-//! and writes each line again with the call's answer behind it.
+//! `script_ord_copies` reads sections of calls from the standard input, makes each call at arenas
+//! that are copied into others, and writes each line again with the call's answer behind it.
 //!
-//! Sections are split by an empty line. The first line of one is `POINTER STACK FIRST LAST`, where the stack is
-//! `copying-heap`, `copying-limited`, `copying-array` or `renaming`. A section is played once for each request for memory from
-//! the first to the last, which is refused; 0 refuses none. The other lines are calls: `WHOM CALL NUMBERS`.
+//! Sections are split by an empty line. The first line of one is `POINTER STACK FIRST LAST`, where
+//! the stack is `copying-heap`, `copying-limited`, `copying-array` or `renaming`. A section is
+//! played once for each request for memory from the first to the last, which is refused; 0 refuses
+//! none. The other lines are calls: `WHOM CALL NUMBERS`.
 //!
-//! The copies are among arenas over stacks of one kind: the ordered arenas `a` and `c`, the chain arena `h`, and the arena `v`
-//! of values. Over stacks that take a limit they are `a` and `c` alone. `a<c transfer_canonical G` moves the entries of `c`
-//! to `a`, under that generation; `a* compress_with 1` compresses `a` with a reset. `renaming.rt` has the arenas of the
-//! other sections.
+//! The copies are among arenas over stacks of one kind: the ordered arenas `a` and `c`, the chain
+//! arena `h`, and the arena `v` of values. Over stacks that take a limit they are `a` and `c`
+//! alone. `a<c transfer_canonical G` moves the entries of `c` to `a`, under that generation;
+//! `a* compress_with 1` compresses `a` with a reset. `renaming.rt` has the arenas of the other
+//! sections.
 #![tactic(auto)]
 
 ghost use Rattle.std.specs.Prelude.{◌<◌};
@@ -87,8 +89,8 @@ fn over_array(transcript: &mut Transcript, lines: &str) -> Result<(), Reallocati
     Ok(())
 }
 
-// Over stacks in a heap. It is generic in the heap, since what vectors owe an arena costs more to prove where the heap is
-// known.
+// Over stacks in a heap. It is generic in the heap, since what vectors owe an arena costs more to
+// prove if the heap is known.
 fn play_over<P: Ptr + Recast<P>, H: Allocator + Copy>(
     heap: H,
     transcript: &mut Transcript,
@@ -106,7 +108,8 @@ fn play_over<P: Ptr + Recast<P>, H: Allocator + Copy>(
     )
 }
 
-// Over one of two stacks for `a` and `c`, and vectors for `h` and `v`, which are vectors to the caller alone.
+// Over one of two stacks for `a` and `c`, and vectors for `h` and `v`, which are vectors to the
+// caller alone.
 fn beside_vectors<
     P: Ptr,
     H: Allocator + Copy,

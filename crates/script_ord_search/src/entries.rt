@@ -12,7 +12,7 @@ use triple_arena_ord::{
 /// What an entry told, and the item that it replaced.
 pub type Entered<P, K> = Result<(OrdEntryKind<P>, Option<Item<K>>), OrdInsertionError>;
 
-/// What puts an item in by an entry of each form, or lets the entry go where there is none.
+/// What puts an item in by an entry of each form, or lets the entry go if there is none.
 pub trait ByEntry<P: PtrCore, K> {
     /// Puts an item in where its key belongs, and answers its index, if there was room.
     fn put(&mut self, item: Item<K>) -> Option<P::Inx>;
@@ -145,7 +145,8 @@ fn take<P: PtrCore, K: Counting, A: ByEntry<P, K>>(
     }
 }
 
-// The kind of this name, if there is one: by a key, from an index with a number of comparisons, or at an index.
+// The kind of this name, if there is one: by a key, from an index with a number of comparisons, or
+// at an index.
 fn kind<'k, P: PtrCore, K>(
     name: &str,
     k: &'k K,

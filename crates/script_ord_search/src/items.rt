@@ -13,8 +13,8 @@ use triple_arena::{ArenaSlot, PtrCore};
 use triple_arena_chain::LinkNoGen;
 use triple_arena_ord::{OrdPair, OrdSlots, SimpleOrdArena, SimpleOrdArenaNode};
 
-/// Such numbers as the keys of an arena's items. What compares no keys asks for `Counting` alone, since each function carries
-/// all that it asks for.
+/// Such numbers as the keys of an arena's items. What compares no keys asks for `Counting` alone,
+/// since each function carries all that it asks for.
 pub trait CountingKey: Counting + Ord + fmt::Debug {}
 
 impl<K: Counting + Ord + fmt::Debug> CountingKey for K {}
@@ -51,7 +51,8 @@ impl Ord for Key<'_> {
 impl PartialOrd for Key<'_> {
     ghost partial_cmp = { as_partial_cmp (on (λ k. k.n) nat_cmp) };
 
-    ghost laws = { partial_order_from_own_ties (Prim.search (comparing, rules)) (Prim.search (comparing, rules)) };
+    ghost laws = { partial_order_from_own_ties (Prim.search (comparing, rules))
+        (Prim.search (comparing, rules)) };
 
     fn partial_cmp(&self, other: &Self) -> Option<Ordering> {
         Some(self.cmp(other))

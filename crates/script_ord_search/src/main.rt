@@ -1,10 +1,12 @@
-//! `script_ord_search` reads sections of calls that search an ordered arena, or put items in, from the standard input. It
-//! makes each call, and writes each line again with the call's answer behind it.
+//! `script_ord_search` reads sections of calls that search an ordered arena, or put items in, from
+//! the standard input. It makes each call, and writes each line again with the call's answer behind
+//! it.
 //!
-//! Sections are split by an empty line. The first line of one is `POINTER STACK ROOM FIRST LAST`, and the others are calls,
-//! one a line: `a CALL NUMBERS`. The arena is over that pointer and stack, with that room. The items are pairs of a key
-//! and a value; the keys count their comparisons. A section is played once for each request for memory from the first to
-//! the last, which is refused; 0 refuses none.
+//! Sections are split by an empty line. The first line of one is `POINTER STACK ROOM FIRST LAST`,
+//! and the others are calls, one a line: `a CALL NUMBERS`. The arena is over that pointer and
+//! stack, with that room. The items are pairs of a key and a value; the keys count their
+//! comparisons. A section is played once for each request for memory from the first to the last,
+//! which is refused; 0 refuses none.
 #![tactic(auto)]
 
 ghost use Rattle.std.specs.Prelude.{◌<◌};
@@ -105,8 +107,8 @@ fn over_array<'a>(
     }
 }
 
-// Over stacks in a heap. It is generic in the keys and the heap, since what a stack owes its arena costs more to prove where
-// these are known.
+// Over stacks in a heap. It is generic in the keys and the heap, since what a stack owes its arena
+// costs more to prove if these are known.
 fn over_stack<P: Ptr, K: CountingKey, H: Allocator + Copy>(
     heap: H,
     zero: K,
@@ -125,7 +127,7 @@ fn over_stack<P: Ptr, K: CountingKey, H: Allocator + Copy>(
     }
 }
 
-// The arena has so much room, which is asked for where it is not 0.
+// The arena has so much room, which is asked for if it is not 0.
 fn over<P: Ptr, K: CountingKey, S: OrdSlots<P, Item<K>>>(
     alloc: S::Alloc,
     zero: K,

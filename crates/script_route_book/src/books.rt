@@ -21,7 +21,8 @@ pub struct Book<'a> {
     pub header: Call<'a>,
 }
 
-/// Makes a store and plays the lines of a section over it: what it writes, or why there is no store.
+/// Makes a store and plays the lines of a section over it: what it writes, or why there is no
+/// store.
 pub fn play(alloc: Global, book: &Book<'_>, lines: &str, cut: Cut) -> Result<String, AllocError> {
     let heap = RefusingAllocator::new(alloc, refused(book.header.fifth));
     let text = String::new(alloc);
@@ -90,8 +91,8 @@ fn play_in_array(
     }
 }
 
-// A store that moves on the way. The first becomes one of any kind, each other one of the next kind,
-// since a program that has every pair is too large.
+// A store that moves on the way. The first becomes one of any kind, each other one of the next
+// kind, since a program that has every pair is too large.
 fn play_one_that_moves(
     heap: Heap<'_>,
     book: &Book<'_>,

@@ -1,4 +1,5 @@
-//! `script_route_book` reads sections from the standard input, plays each over new stores, and writes what they answer.
+//! `script_route_book` reads sections from the standard input, plays each over new stores, and
+//! writes what they answer.
 //!
 //! ```text
 //! #what the section shows
@@ -6,31 +7,39 @@
 //! the lines of an input
 //! ```
 //!
-//! - POINTERS are pointer types, with `,` between them: `P0`, `P1`, `P5`, or `N3`, whose generations end at 3;
-//! - BACKINGS are what the stores stand in: `heap`, `limited`, `fixed`, or `array`, which has room for ten, and which `P5`
-//!   lacks;
+//! - POINTERS are pointer types, with `,` between them: `P0`, `P1`, `P5`, or `N3`, whose
+//!   generations end at 3;
+//! - BACKINGS are what the stores stand in: `heap`, `limited`, `fixed`, or `array`, which has room
+//!   for ten, and which `P5` lacks;
 //! - PLACES, STOPS and MARKS are the rooms, and LAST is the last ticket that counts as given;
 //! - REFUSED is the request for memory that is refused, and 0 is none.
 //!
-//! The input is answered by `run`, over each pointer type and backing, and each time in several ways of cutting. What the
-//! first play wrote is written, then what any other wrote that differs, and how many plays there were.
+//! The input is answered by `run`, over each pointer type and backing, and each time in several
+//! ways of cutting. What the first play wrote is written, then what any other wrote that differs,
+//! and how many plays there were.
 //!
-//! In place of an input a section may have runs over one store, each behind a line `>WHAT HOW READ TAKEN ROOM`:
+//! In place of an input a section may have runs over one store, each behind a line
+//! `>WHAT HOW READ TAKEN ROOM`:
 //!
 //! - `run` answers the lines as one input, and tells the calls on its streams;
-//! - `inputs` answers each line as an input of its own, and `answer` answers it alone. Behind each reply they tell how many
-//!   comparisons it took: with keys, with first tickets and with second ones. An input line that begins with `=` is skipped;
-//! - `sweeps` does as `answer`, and tells the looks at references, and the counters of places and of stops;
-//! - HOW is `plain`; or `broken` if the reader fails at its end; or `stalling` if the writer takes none once it is full,
-//!   and does not fail; or `full` or `idle` if it takes none at all, and fails or does not; or `unflushed` if a flush fails;
-//! - READ and TAKEN are how many bytes a call reads and writes, and ROOM how many the writer takes. There 0 is all.
+//! - `inputs` answers each line as an input of its own, and `answer` answers it alone. Behind each
+//!   reply they tell how many comparisons it took: with keys, with first tickets and with second
+//!   ones. An input line that begins with `=` is skipped;
+//! - `sweeps` does as `answer`, and tells the looks at references, and the counters of places and
+//!   of stops;
+//! - HOW is `plain`; or `broken` if the reader fails at its end; or `stalling` if the writer takes
+//!   none once it is full, and does not fail; or `full` or `idle` if it takes none at all, and
+//!   fails or does not; or `unflushed` if a flush fails;
+//! - READ and TAKEN are how many bytes a call reads and writes, and ROOM how many the writer takes.
+//!   There 0 is all.
 //!
-//! Between two runs a line `>move POINTERS,BACKING PLACES STOPS MARKS` moves the store, once, and tells
-//! whether it moved; the runs behind it go over what it became, or over the same store. One that began
-//! as `P0 heap` may become any other. One of `P1 limited` becomes one of `N3,fixed`, that one of
-//! `P1,array`, and that one of `P0,heap`.
+//! Between two runs a line `>move POINTERS,BACKING PLACES STOPS MARKS` moves the store, once, and
+//! tells whether it moved; the runs behind it go over what it became, or over the same store. One
+//! that began as `P0 heap` may become any other. One of `P1 limited` becomes one of `N3,fixed`,
+//! that one of `P1,array`, and that one of `P0,heap`.
 //!
-//! A number that a line lacks is 0. A `#` begins a section and a `>` a run also within a line, which then has no LF.
+//! A number that a line lacks is 0. A `#` begins a section and a `>` a run also within a line,
+//! which then has no LF.
 #![tactic(auto)]
 
 mod books;

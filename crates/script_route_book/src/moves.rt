@@ -7,8 +7,8 @@ use std::fmt::Write;
 use test_kit::{Call, N3};
 use triple_arena_ptr::{P0, P1, P5};
 
-/// A section whose store moves: the runs before the line of the move, that line, and the runs behind
-/// it.
+/// A section whose store moves: the runs before the line of the move, that line, and the runs
+/// behind it.
 #[derive(Clone, Copy)]
 pub struct Moving<'a> {
     before: &'a str,
@@ -18,7 +18,8 @@ pub struct Moving<'a> {
 }
 
 impl<'a> Moving<'a> {
-    /// The parts of a section with a line `>move POINTERS,BACKING PLACES STOPS MARKS`, if it has one.
+    /// The parts of a section with a line `>move POINTERS,BACKING PLACES STOPS MARKS`, if it has
+    /// one.
     pub fn new(lines: &'a str) -> Option<Self> {
         let (before, rest) = lines.split_once(">move")?;
         let (line, behind) = rest.split_once('\n').unwrap_or((rest, ""));

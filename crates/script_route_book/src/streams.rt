@@ -1,4 +1,5 @@
-//! A reader and a writer in memory, which give and take pieces of a set length, and fail if they are told to.
+//! A reader and a writer in memory, which give and take pieces of a set length, and fail if they
+//! are told to.
 use std::io;
 use std::io::{ErrorKind, Read, Write};
 use test_kit::Call;
@@ -57,7 +58,7 @@ pub struct Page {
     pub text: String,
     step: usize,
     room: usize,
-    // Whether it takes none where it has no room, and else fails.
+    // Whether it takes none if it has no room, and else fails.
     stalls: bool,
     flush_fails: bool,
     /// How often it was flushed.

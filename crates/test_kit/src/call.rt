@@ -3,12 +3,13 @@ use std::fmt::Debug;
 use std::num::NonZeroUsize;
 use triple_arena_ptr::{Ptr, PtrCore, PtrGenCore, PtrInxCore};
 
-/// A pointer that calls take and answers show. It asks for less than [`Ptr`], whose bounds each function would carry.
+/// A pointer that calls take and answers show. It asks for less than [`Ptr`], whose bounds each
+/// function would carry.
 pub trait ShownPtr: PtrCore<Inx: Debug, Gen: Debug> + Debug + PartialEq {}
 
 impl<P: Ptr> ShownPtr for P {}
 
-/// The first two words of a line and up to five numbers, which are 0 where the line has none.
+/// The first two words of a line and up to five numbers, which are 0 if the line has none.
 #[derive(Clone, Copy)]
 pub struct Call<'a> {
     /// The line as it stands.
@@ -65,7 +66,8 @@ impl<'a> Call<'a> {
     }
 }
 
-/// The pointer with an index of the first number, or the greatest one, and a generation of the second.
+/// The pointer with an index of the first number, or the greatest one, and a generation of the
+/// second.
 pub fn pointer<P: PtrCore>(first: u64, second: u64) -> P {
     P::_from_raw(index(first), generation(second))
 }

@@ -5,7 +5,8 @@ ghost use Rattle.std.specs.Prelude.{◌<◌};
 use std::alloc::{AllocError, Allocator};
 use std::cell::Cell;
 
-/// Passes requests on to `inner`, and refuses one of them. A `&` to it is an allocator too, and `Copy`.
+/// Passes requests on to `inner`, and refuses one of them. A `&` to it is an allocator too, and
+/// `Copy`.
 pub struct RefusingAllocator<B: Allocator> {
     inner: B,
     // Counts down at each request. The one that finds 1 is refused.

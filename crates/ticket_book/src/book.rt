@@ -153,7 +153,8 @@ impl<P: PtrCore, S: OrdSlots<P, Entry<P>>> TicketBook<P, S> {
         ensures none { IfNone result (lookup self.now.entries ticket ≡ None) }
         ensures ticks { probes.new ≡ probes.old
             + asked_among self.now.asked_below self.now.entries self.now.asked_along ticket }
-        ensures bound { asked_among self.now.asked_below self.now.entries self.now.asked_along ticket
+        ensures bound { asked_among self.now.asked_below self.now.entries
+            self.now.asked_along ticket
             ≤ most_comparisons (length self.now.entries) }
     {
         entries_stand_in_the_list::<P, Entry<P>>();
@@ -197,8 +198,13 @@ impl<P: PtrCore, S: OrdSlots<P, Entry<P>>> TicketBook<P, S> {
     pub fn add(&mut self, ticket: u64, kind: Kind, at: P)
         requires above { AreBelow self.old.entries ticket }
         requires room { length self.old.entries < self.old.capacity }
-        ensures entries { self.new.entries ≡ self.old.entries ++ record
-            { ticket = ticket; kind = kind; index = P.index at; generation = P.generation at } ∷ [] }
+        ensures entries { self.new.entries ≡ self.old.entries ++ record {
+          ticket = ticket;
+          kind = kind;
+          index = P.index at;
+          generation
+              = P.generation at;
+        } ∷ [] }
         ensures capacity { self.new.capacity ≡ self.old.capacity }
     {
         the_list_has_as_many_entries_as_are_live::<P, Entry<P>>();
@@ -242,7 +248,8 @@ impl<P: PtrCore, S: OrdSlots<P, Entry<P>>> TicketBook<P, S> {
         stops: &N,
         marks: &O,
     )
-        ensures entries { self.new.entries ≡ map (renewed_entry (numbers P.index P.generation (M.entry_at places.now))
+        ensures entries { self.new.entries
+            ≡ map (renewed_entry (numbers P.index P.generation (M.entry_at places.now))
             (numbers P.index P.generation (N.entry_at stops.now))
             (numbers P.index P.generation (O.entry_at marks.now))) self.old.entries }
         ensures stands { (i : ℕ) → entry_at self.new i ≡ option_map (renewed_entry

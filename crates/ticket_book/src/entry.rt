@@ -40,7 +40,8 @@ impl<P: PtrCore> Model for Entry<P> {
 impl<P: PtrCore> Entry<P> {
     /// An entry of this ticket.
     pub fn new(ticket: u64, kind: Kind, at: P) -> Self
-        ensures { result ≡ record { ticket = ticket; kind = kind; index = P.index at; generation = P.generation at } }
+        ensures { result ≡ record
+            { ticket = ticket; kind = kind; index = P.index at; generation = P.generation at } }
     {
         Entry { ticket, kind, at }
     }

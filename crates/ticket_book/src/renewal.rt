@@ -13,7 +13,8 @@ use triple_arena_ptr::PtrCore;
 // The pointer as a mirror has it, or the same one.
 fn renewed<P: PtrCore, M: ArenaTrait<P, P>>(mirror: &M, p: P) -> P
     ensures { (P.index result, P.generation result)
-        ≡ renewed_pointer (numbers P.index P.generation (M.entry_at mirror.now)) (P.index p) (P.generation p) }
+        ≡ renewed_pointer (numbers P.index P.generation (M.entry_at mirror.now)) (P.index p)
+        (P.generation p) }
 {
     match mirror.get(p) {
         Some(q) => *q,
@@ -52,7 +53,8 @@ pub(crate) fn renew_entries<
     ensures entries { (j : ℕ) → entry_in arena.new j ≡ option_map (λ e. (
       e.0,
       renewed_entry
-          (numbers P.index P.generation (M.entry_at places.now)) (numbers P.index P.generation (N.entry_at stops.now))
+          (numbers P.index P.generation (M.entry_at places.now))
+          (numbers P.index P.generation (N.entry_at stops.now))
           (numbers P.index P.generation (O.entry_at marks.now)) e.1,
     )) (entry_in arena.old j) }
     ensures order { order_in P.Inx.number arena.new ≡ order_in P.Inx.number arena.old }

@@ -1,4 +1,4 @@
-//! The generations: std's integers that are not 0, and `()` where generations are not counted.
+//! The generations: std's integers that are not 0, and `()` if generations are not counted.
 ghost use Rattle.std.specs.Prelude.{Some, None, ◌-◌, ◌^◌, refl};
 ghost use Rattle.std.specs.Cmp.Rules.{comparing};
 ghost use Rattle.std.specs.Int.NonZero.{non_zero_u8_get, non_zero_u16_get, non_zero_u32_get, non_zero_u64_get, non_zero_u128_get, non_zero_usize_get};

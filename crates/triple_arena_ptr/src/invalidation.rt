@@ -2,7 +2,8 @@
 ghost use Rattle.std.specs.Prelude.{◌≡◌, MatchOption, IsSome, IfSome, IsSomeAnd, IsNone, is_none, not, false, option_and_then};
 ghost use Rattle.std.specs.Option.{option_map, option_map_or};
 
-/// The answer of a call that may step generations: its value, and whether a generation started again.
+/// The answer of a call that may step generations: its value, and whether a generation started
+/// again.
 #[derive(Debug, PartialEq, Eq, Drop)]
 pub enum InvalidationOption<T> {
     /// No generation started again.
@@ -31,7 +32,7 @@ impl<T> InvalidationOption<T> {
         !self.is_success()
     }
 
-    /// The value, also where a generation started again.
+    /// The value, also if a generation started again.
     pub fn allow(self) -> T
         ensures { result ≡ value_of self }
     {
@@ -41,7 +42,7 @@ impl<T> InvalidationOption<T> {
         }
     }
 
-    /// The value where no generation started again. Else it is dropped.
+    /// The value if no generation started again. Else it is dropped.
     pub fn strict(self) -> Option<T>
     where
         T: Drop,
@@ -78,12 +79,14 @@ impl<T> InvalidationOption<T> {
     }
 }
 
-/// The answer of a call that ends a pointer: as `InvalidationOption`, or that the pointer was not valid.
+/// The answer of a call that ends a pointer: as `InvalidationOption`, or that the pointer was not
+/// valid.
 #[derive(Debug, PartialEq, Eq, Drop)]
 pub enum InvalidationResult<T> {
     /// The pointer was valid, and no generation started again.
     Success(T),
-    /// The pointer was valid, and a generation started again at 2: a pointer that ended long ago may be given again.
+    /// The pointer was valid, and a generation started again at 2: a pointer that ended long ago
+    /// may be given again.
     GenerationOverflow(T),
     /// The pointer was not valid, and nothing was changed.
     InvalidPtr,
@@ -123,7 +126,7 @@ impl<T> InvalidationResult<T> {
         }
     }
 
-    /// The value where the pointer was valid, also where a generation started again.
+    /// The value if the pointer was valid, also if a generation started again.
     pub fn allow(self) -> Option<T>
         ensures { result ≡ option_map value_of (answer_of self) }
     {
@@ -134,7 +137,7 @@ impl<T> InvalidationResult<T> {
         }
     }
 
-    /// The value where the pointer was valid and no generation started again. Else it is dropped.
+    /// The value if the pointer was valid and no generation started again. Else it is dropped.
     pub fn strict(self) -> Option<T>
     where
         T: Drop,
@@ -146,12 +149,13 @@ impl<T> InvalidationResult<T> {
         }
     }
 
-    /// The same answer with the value that `f` makes of this one, where there is one.
+    /// The same answer with the value that `f` makes of this one, if there is one.
     pub fn map<U, F: FnOnce(T) -> U>(self, f: F) -> InvalidationResult<U>
     where
         F: Drop,
         requires { IfSome (answer_of self) (λ a. F.pre f (value_of a)) }
-        ensures { MatchOption (answer_of self) (IsNone (answer_of result)) (λ a. IsSomeAnd (answer_of result) (IsMappedBy F.post f a)) }
+        ensures { MatchOption (answer_of self) (IsNone (answer_of result))
+            (λ a. IsSomeAnd (answer_of result) (IsMappedBy F.post f a)) }
     {
         match self {
             InvalidationResult::Success(value) => InvalidationResult::Success(f(value)),
@@ -162,7 +166,7 @@ impl<T> InvalidationResult<T> {
         }
     }
 
-    /// The value, and whether a generation started again at 2, where the pointer was valid.
+    /// The value, and whether a generation started again at 2, if the pointer was valid.
     pub fn overflowing(self) -> Option<(T, bool)>
         ensures { result ≡ option_map (λ a. (value_of a, overflowed a)) (answer_of self) }
     {

@@ -12,7 +12,7 @@ use std::num::NonZeroUsize;
 #[derive(Drop)]
 pub struct NonZeroUsizeIterator {
     first: NonZeroUsize,
-    // Below `first` where nothing is left.
+    // Below `first` if nothing is left.
     last: usize,
 }
 
@@ -86,7 +86,8 @@ impl IntoIterator for IntoNonZeroUsizeIterator {
     }
 }
 
-/// The indexes from `start` to `end_inclusive`, rising. There are none where the end is `None` or below the start.
+/// The indexes from `start` to `end_inclusive`, rising. There are none if the end is `None` or
+/// below the start.
 pub fn nzusize_iter(
     start: NonZeroUsize,
     end_inclusive: Option<NonZeroUsize>,

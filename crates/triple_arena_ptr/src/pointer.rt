@@ -14,8 +14,8 @@ use std::fmt;
 use std::hash::Hash;
 use std::marker::PhantomData;
 
-/// What tells pointer types apart that have the same index and the same generation: an empty type, with the name that
-/// stands before the index in a pointer's text. Its values are never made.
+/// What tells pointer types apart that have the same index and the same generation: an empty type,
+/// with the name that stands before the index in a pointer's text. Its values are never made.
 pub trait PtrKind: Copy + Drop {
     ghost name: { List ℕ };
 
@@ -24,7 +24,8 @@ pub trait PtrKind: Copy + Drop {
         ensures { result.now ≡ name };
 }
 
-/// A pointer with an index `I` and a generation `G`. What asks for a pointer of one kind takes none of another.
+/// A pointer with an index `I` and a generation `G`. What asks for a pointer of one kind takes none
+/// of another.
 #[derive(Clone, Copy, PartialEq, Eq, PartialOrd, Ord, Hash)]
 pub struct Pointer<I: PtrInxCore, G: PtrGenCore, K: PtrKind> {
     inx: I,
@@ -95,7 +96,8 @@ impl<I: PtrInx, G: PtrGen, K: PtrKind + Hash + Ord> Ptr for Pointer<I, G, K> {
 }
 
 impl<I: PtrInxCore, G: PtrGenCore, K: PtrKind> Default for Pointer<I, G, K> {
-    ghost is_default = { λ p. (I.number p.inx ≡ max_index_of I.greatest) × (G.number p.generation ≡ 1) };
+    ghost is_default = { λ p. (I.number p.inx ≡ max_index_of I.greatest)
+        × (G.number p.generation ≡ 1) };
 
     fn default() -> Self {
         Self::invalid()
@@ -103,7 +105,8 @@ impl<I: PtrInxCore, G: PtrGenCore, K: PtrKind> Default for Pointer<I, G, K> {
 }
 
 impl<I: PtrInxCore, G: PtrGenCore, K: PtrKind> fmt::Debug for Pointer<I, G, K> {
-    ghost debug_output = { λ p. Some (pointer_text K.name G.last (I.number p.inx) (G.number p.generation)) };
+    ghost debug_output = { λ p. Some
+        (pointer_text K.name G.last (I.number p.inx) (G.number p.generation)) };
 
     fn fmt<W: fmt::Write>(&self, f: &mut fmt::Formatter<W>) -> fmt::Result {
         fmt_pointer(K::name(), self.inx, self.generation, f)

@@ -31,7 +31,7 @@ impl<G: PtrGenCore> fmt::Display for GenDigits<G> {
     }
 }
 
-/// Writes the text of a pointer, as `P0[1](2)`, or `P5[1]` where generations are not counted.
+/// Writes the text of a pointer, as `P0[1](2)`, or `P5[1]` if generations are not counted.
 /// `Debug` and `Display` of a pointer type are this call.
 pub fn fmt_pointer<I: PtrInxCore, G: PtrGenCore, W: fmt::Write>(
     name: &str,

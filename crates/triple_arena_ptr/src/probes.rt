@@ -3,7 +3,8 @@ ghost use Rattle.std.specs.Prelude.{◌≡◌, ◌+◌, ◌-◌, ◌^◌, ℕ, m
 
 use std::marker::Model;
 
-/// Counts probes, as comparisons or look-ups. Contracts see the number of ticks so far, which has no bound.
+/// Counts probes, as comparisons or look-ups. Contracts see the number of ticks so far, which has
+/// no bound.
 #[derive(Drop)]
 pub struct Probes {
     count: u64,
@@ -38,7 +39,7 @@ impl Probes {
         *ticks = ticks.next();
     }
 
-    /// The number of ticks, or `u64::MAX` where it is greater.
+    /// The number of ticks, or `u64::MAX` if it is greater.
     pub fn count(&self) -> u64
         ensures { result ≡ min self.now (2 ^ 64 - 1) }
     {
@@ -46,7 +47,8 @@ impl Probes {
     }
 }
 
-// The exact number, which proofs alone read. It takes no bytes; the invariant of `Probes` ties it to the count.
+// The exact number, which proofs alone read. It takes no bytes; the invariant of `Probes` ties it
+// to the count.
 #[derive(Drop)]
 struct Ticks {
     ghost number: { ℕ },

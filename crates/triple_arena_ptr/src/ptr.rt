@@ -13,15 +13,15 @@ use std::fmt::Debug;
 use std::hash::Hash;
 use std::num::NonZeroUsize;
 
-/// A generation: one of the numbers from 1 to a greatest one, or the one value of `()`, whose number is 1.
-/// [`PtrGen`] stands above it, and asks that it is ordered, hashed and shown too.
+/// A generation: one of the numbers from 1 to a greatest one, or the one value of `()`, whose
+/// number is 1. [`PtrGen`] stands above it, and asks that it is ordered, hashed and shown too.
 pub trait PtrGenCore: Copy + PartialEq + Drop {
     ghost number: { Self → ℕ };
 
-    // The greatest generation, or `None` where generations are not counted.
+    // The greatest generation, or `None` if generations are not counted.
     ghost last: { Option ℕ };
 
-    /// The first generation, 1, to which no step leads where generations are counted.
+    /// The first generation, 1, to which no step leads if generations are counted.
     fn one() -> Self
         ensures { number result ≡ 1 };
 
@@ -35,11 +35,13 @@ pub trait PtrGenCore: Copy + PartialEq + Drop {
         ensures wraps { result.1 ≡ next_wraps last (number self) }
         ensures counted { IsGeneration last (number self) };
 
-    /// Writes the generation in lower-case hexadecimal digits without a prefix, or nothing where generations are not counted.
+    /// Writes the generation in lower-case hexadecimal digits without a prefix, or nothing if
+    /// generations are not counted.
     fn fmt_hex<W: fmt::Write>(&self, f: &mut fmt::Formatter<W>) -> fmt::Result
-        ensures { WritesOnOk W.write_str_gives f.old result (generation_digits last (number self.now)) f.new };
+        ensures { WritesOnOk W.write_str_gives f.old result
+            (generation_digits last (number self.now)) f.new };
 
-    // Where generations are counted, they count to 2 at least.
+    // If generations are counted, they count to 2 at least.
     ghost counts_to_two: { (g : ℕ) → last ≡ Some g → 2 ≤ g };
 
     ghost positive: { (a : Self) → 0 < number a };
@@ -55,7 +57,8 @@ pub trait PtrGenCore: Copy + PartialEq + Drop {
     ghost always_clones: { (a : Self) → Self.is_infallible a };
 }
 
-/// An index, from 1 to a greatest one. [`PtrInx`] stands above it, and asks that it is ordered, hashed and shown too.
+/// An index, from 1 to a greatest one. [`PtrInx`] stands above it, and asks that it is ordered,
+/// hashed and shown too.
 pub trait PtrInxCore: Copy + PartialEq + Drop {
     /// A word as wide as the index, which holds an index or none: [`crate::OptionalInx`].
     type Word: Copy + Drop;
@@ -65,12 +68,12 @@ pub trait PtrInxCore: Copy + PartialEq + Drop {
     // The greatest index of the type.
     ghost greatest: { ℕ };
 
-    /// The index with this number, or `None` where it is past `max_index`.
+    /// The index with this number, or `None` if it is past `max_index`.
     fn try_from_usize(inx: NonZeroUsize) -> Option<Self>
         ensures past { IsNone result ↔ (greatest < non_zero_usize_get inx) }
         ensures same { IfSome result (λ x. number x ≡ non_zero_usize_get inx) };
 
-    /// The number of the index, or `None` where it is past `max_index`.
+    /// The number of the index, or `None` if it is past `max_index`.
     fn try_into_usize(self) -> Option<NonZeroUsize>
         ensures past { IsNone result ↔ (2 ^ 64 ≤ number self) }
         ensures same { IfSome result (λ n. non_zero_usize_get n ≡ number self) }
@@ -124,8 +127,9 @@ pub trait PtrInxCore: Copy + PartialEq + Drop {
     ghost always_clones: { (a : Self) → Self.is_infallible a };
 }
 
-/// What an arena asks of a pointer: an index and a generation. [`Ptr`] stands above it, and asks that it is ordered, hashed and
-/// shown too. The arenas ask no more than this, since each bound is a cost to the proof of each generic function.
+/// What an arena asks of a pointer: an index and a generation. [`Ptr`] stands above it, and asks
+/// that it is ordered, hashed and shown too. The arenas ask no more than this, since each bound is
+/// a cost to the proof of each generic function.
 pub trait PtrCore: Copy + Drop {
     /// The type of the index.
     type Inx: PtrInxCore;
@@ -143,8 +147,8 @@ pub trait PtrCore: Copy + Drop {
     fn name() -> &'static str
         ensures { result.now ≡ name };
 
-    /// The index `best_effort_invalid` and the generation `one`, to which no step of an arena's counter leads where generations
-    /// are counted.
+    /// The index `best_effort_invalid` and the generation `one`, to which no step of an arena's
+    /// counter leads if generations are counted.
     fn invalid() -> Self
         ensures has_index { index result ≡ max_index_of Self.Inx.greatest }
         ensures has_generation { generation result ≡ 1 };
@@ -188,10 +192,15 @@ pub trait PtrInx: PtrInxCore + Debug + Hash + Ord {
 /// A pointer into an arena: an index and a generation. It is ordered, hashed and shown by these.
 pub trait Ptr: PtrCore<Inx: PtrInx, Gen: PtrGen> + Debug + Hash + Ord {
     // By index, and then by generation.
-    ghost ordered: { (p q : Self) → Self.cmp p q ≡ then_cmp (on Self.index nat_cmp) (on Self.generation nat_cmp) p q };
+    ghost ordered: { (p q : Self)
+        → Self.cmp p q ≡ then_cmp (on Self.index nat_cmp) (on Self.generation nat_cmp) p q };
 
-    ghost equal: { (p q : Self) → Self.eq p q ≡ ((Self.index p == Self.index q) && (Self.generation p == Self.generation q)) };
+    ghost equal: { (p q : Self)
+        → Self.eq p q ≡ ((Self.index p == Self.index q) &&
+        (Self.generation p == Self.generation q)) };
 
     // What `{:?}` writes.
-    ghost shown: { (p : Self) → Self.debug_output p ≡ Some (pointer_text Self.name Self.Gen.last (Self.index p) (Self.generation p)) };
+    ghost shown: { (p : Self)
+        → Self.debug_output p
+        ≡ Some (pointer_text Self.name Self.Gen.last (Self.index p) (Self.generation p)) };
 }

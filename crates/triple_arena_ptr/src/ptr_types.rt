@@ -1,4 +1,5 @@
-//! The pointer types. Each has a kind of its own, so that what asks for a pointer of one takes none of another.
+//! The pointer types. Each has a kind of its own, so that what asks for a pointer of one takes none
+//! of another.
 ghost use Rattle.std.specs.Prelude.{codes};
 
 use crate::pointer::{Pointer, PtrKind};
@@ -36,7 +37,8 @@ impl PtrKind for Q2Kind {
 
 /// A pointer with a `u8` index and a `u8` generation.
 ///
-/// Its generations start again after 254 removals. From then on an old pointer may find a newer element.
+/// Its generations start again after 254 removals. From then on an old pointer may find a newer
+/// element.
 pub type P1 = Pointer<NonZeroU8, NonZeroU8, P1Kind>;
 
 /// The kind of `P1`.

@@ -9,7 +9,7 @@ pub trait Recaster {
 
     ghost image: { Self → Self.Item → Option Self.Item };
 
-    /// Renames the item. One that has no image is answered as `Err(item)`, and stays.
+    /// Renames the item. One that has no image is returned as `Err(item)`, and stays.
     fn recast_item(&self, item: &mut Self::Item) -> Result<(), Self::Item>
         ensures value { item.new ≡ renamed_item (image self.now item.old) item.old }
         ensures answer { result ≡ recast_answer (image self.now) (item.old ∷ []) };
@@ -23,14 +23,15 @@ pub trait Recast<I> {
     // The value after a recast by this renaming.
     ghost recasted: { (I → Option I) → Self → Self };
 
-    /// Renames each item in turn, up to the first that the recaster has no image for.
-    /// That item is answered as `Err(item)`; those before it are renamed, and it and those after it stay.
+    /// Renames each item in turn, up to the first that the recaster has no image for. That item is
+    /// returned as `Err(item)`; those before it are renamed, and it and those after it stay.
     fn recast<R: Recaster<Item = I>>(&mut self, recaster: &R) -> Result<(), I>
         ensures value { self.new ≡ recasted (R.image recaster.now) self.old }
         ensures answer { result ≡ recast_answer (R.image recaster.now) (items self.old) };
 
     // The items of the value after a recast are the renamed items.
-    ghost items_recasted: { (f : I → Option I) (x : Self) → items (recasted f x) ≡ renamed f (items x) };
+    ghost items_recasted: { (f : I → Option I) (x : Self)
+        → items (recasted f x) ≡ renamed f (items x) };
 }
 
 impl<I> Recast<I> for u64 {
@@ -53,7 +54,8 @@ impl<I, T: Recast<I>> Recast<I> for Option<T> {
 
     ghost recasted = { λ f o. option_recasted (T.recasted f) o };
 
-    ghost items_recasted = { λ f o. option_items_recasted T.items (T.recasted f) f (T.items_recasted f) o };
+    ghost items_recasted = { λ f o. option_items_recasted T.items (T.recasted f) f
+        (T.items_recasted f) o };
 
     fn recast<R: Recaster<Item = I>>(&mut self, recaster: &R) -> Result<(), I> {
         match self {
@@ -68,9 +70,11 @@ impl<I, A: Recast<I>, B: Recast<I>> Recast<I> for (A, B) {
 
     ghost items = { λ x. A.items x.0 ++ B.items x.1 };
 
-    ghost recasted = { λ f x. (A.recasted f x.0, where_ok (recast_answer f (A.items x.0)) (B.recasted f x.1) x.1) };
+    ghost recasted = { λ f x.
+        (A.recasted f x.0, where_ok (recast_answer f (A.items x.0)) (B.recasted f x.1) x.1) };
 
-    ghost items_recasted = { λ f x. pair_items_recasted A.items B.items (A.recasted f) (B.recasted f) f (A.items_recasted f) (B.items_recasted f) x.0 x.1 };
+    ghost items_recasted = { λ f x. pair_items_recasted A.items B.items (A.recasted f)
+        (B.recasted f) f (A.items_recasted f) (B.items_recasted f) x.0 x.1 };
 
     fn recast<R: Recaster<Item = I>>(&mut self, recaster: &R) -> Result<(), I> {
         self.0.recast(recaster)?;

@@ -14,7 +14,8 @@ pub fn at_index_of<P: PtrCore, Q: PtrCore>(p: P) -> Q
     Q::_from_raw(index_of(p.inx()), Q::Gen::two())
 }
 
-// The index of another type with the same number, or the greatest one if that type has no such index.
+// The index of another type with the same number, or the greatest one if that type has no such
+// index.
 fn index_of<I: PtrInxCore, J: PtrInxCore>(inx: I) -> J
     ensures { J.number result ≡ min (max_index_of J.greatest) (I.number inx) }
 {

@@ -14,7 +14,7 @@ use triple_arena_ptr::{NotWithinCapacityError, ReallocationError};
 
 /// The calls of a stack that answer an entry. Each stack has them.
 pub trait NonZeroInxGenericStackEntries: NonZeroInxGenericStack {
-    /// A place for one item more. Where all slots are taken the stack stays as it is.
+    /// A place for one item more. If all slots are taken, the stack stays as it is.
     fn entry_push_within_capacity(
         &mut self,
     ) -> Result<NonZeroInxGenericStackPushEntry<'_, Self::Item, Self>, NotWithinCapacityError>
@@ -25,13 +25,14 @@ pub trait NonZeroInxGenericStackEntries: NonZeroInxGenericStack {
         ensures* err { sem 𝓛 (RestsIfErr Self.row self.entry entry_lender result
             (λ s. s ≡ self.old)) };
 
-    /// A place for one item more. Where all slots are taken the stack grows, and answers the errors,
-    /// as `push_reallocating` does. An error leaves the stack as it was.
+    /// A place for one item more. If all slots are taken, the stack grows, and returns the
+    /// errors, as `push_reallocating` does. An error leaves the stack as it was.
     fn entry_push_reallocating(
         &mut self,
     ) -> Result<NonZeroInxGenericStackPushEntry<'_, Self::Item, Self>, ReallocationError>
         ensures same_reference { IfOk result (λ e. entry_lender e ≡ self.entry.ghost_name) }
-        ensures free { IfOk result (λ e. HasFreeSlot Self.items Self.room self.old (entry_stack e)) }
+        ensures free { IfOk result
+            (λ e. HasFreeSlot Self.items Self.room self.old (entry_stack e)) }
         ensures refusal { IsRefusal Self.takes_memory (length (Self.items self.old))
             (Self.room self.old) result }
         ensures* err { sem 𝓛 (RestsIfErr Self.row self.entry entry_lender result
@@ -42,7 +43,8 @@ pub trait NonZeroInxGenericStackEntries: NonZeroInxGenericStack {
         &mut self,
     ) -> Result<NonZeroInxGenericStackPushEntry<'_, Self::Item, Self>, ReallocationError>
         ensures same_reference { IfOk result (λ e. entry_lender e ≡ self.entry.ghost_name) }
-        ensures free { IfOk result (λ e. HasFreeSlot Self.items Self.room self.old (entry_stack e)) }
+        ensures free { IfOk result
+            (λ e. HasFreeSlot Self.items Self.room self.old (entry_stack e)) }
         ensures refusal { IsRefusal Self.takes_memory (length (Self.items self.old))
             (Self.room self.old) result }
         ensures* err { sem 𝓛 (RestsIfErr Self.row self.entry entry_lender result
@@ -62,7 +64,7 @@ pub trait NonZeroInxGenericStackPushEntryTrait<T> {
         requires { has_room self.now }
         ensures { non_zero_usize_get result ≡ index self.now };
 
-    /// Appends `value`, and answers its index. It takes no memory and cannot fail.
+    /// Appends `value`, and returns its index. It takes no memory and cannot fail.
     fn push(self, value: T) -> NonZeroUsize
         requires { has_room self }
         ensures { non_zero_usize_get result ≡ index self };
@@ -92,7 +94,8 @@ impl<'a, T: Drop, S: NonZeroInxGenericStack<Item = T>> NonZeroInxGenericStackPus
     for NonZeroInxGenericStackPushEntry<'a, T, S> {
     ghost index = { λ e. length (S.items (entry_stack e)) + 1 };
 
-    ghost has_room = { λ e. length (S.items (entry_stack e)) < capacity_of (S.room (entry_stack e)) };
+    ghost has_room = { λ e. length (S.items (entry_stack e))
+        < capacity_of (S.room (entry_stack e)) };
 
     fn inx(&self) -> NonZeroUsize {
         // The length is below the capacity, which is a number.

@@ -73,7 +73,7 @@ impl<T: Drop, A: Allocator> Heap<T, A> {
         self.vec.len()
     }
 
-    /// Makes the slots so many where there are fewer, or answers the refusal of the memory.
+    /// Makes the slots so many if there are fewer, or returns the refusal of the memory.
     pub fn reserve(&mut self, wanted: usize) -> Result<(), ReallocationError>
         ensures items { self.new.items ≡ self.old.items }
         ensures reserved { OnOk result (self.new.reserved ≡ max self.old.reserved wanted) }
@@ -89,7 +89,7 @@ impl<T: Drop, A: Allocator> Heap<T, A> {
         Ok(())
     }
 
-    /// Appends `value` to a free slot, and answers its index.
+    /// Appends `value` to a free slot, and returns its index.
     pub fn push(&mut self, value: T) -> NonZeroUsize
         requires { length self.old.items < self.old.reserved }
         ensures index { non_zero_usize_get result ≡ length self.old.items + 1 }
@@ -106,7 +106,8 @@ impl<T: Drop, A: Allocator> Heap<T, A> {
     /// The item at `i`, for writing. There must be one.
     pub fn item_mut(&mut self, i: NonZeroUsize) -> &mut T
         requires { non_zero_usize_get i ≤ length self.old.items }
-        ensures* writes_back { sem 𝓛 (Lends (the_row T.row A.row A.Allocator) T.row self.entry result
+        ensures* writes_back { sem 𝓛
+            (Lends (the_row T.row A.row A.Allocator) T.row self.entry result
             (λ x. with_items self.old (with_item self.old.items (non_zero_usize_get i) x))) }
         ensures value { Some result.now ≡ item_at self.old.items (non_zero_usize_get i) }
     {
@@ -138,7 +139,8 @@ impl<T: Drop, A: Allocator> Heap<T, A> {
 
     /// The items, for writing.
     pub fn as_mut_slice(&mut self) -> &mut [T]
-        ensures* writes_back { sem 𝓛 (Lends (the_row T.row A.row A.Allocator) (Array T.row 0) self.entry result
+        ensures* writes_back { sem 𝓛
+            (Lends (the_row T.row A.row A.Allocator) (Array T.row 0) self.entry result
             (λ xs. with_items self.old (refill (length self.old.items) self.old.items xs))) }
         ensures value { result.now ≡ self.old.items }
     {

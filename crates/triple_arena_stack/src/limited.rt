@@ -28,7 +28,8 @@ impl<T, A: Allocator> Model for NonZeroInxLimitedVec<T, A> {
 
     ghost coded = { limited_code T.code };
 
-    ghost view = { λ s. record { items = s.heap.items; reserved = s.heap.reserved; limit = s.limit } };
+    ghost view = { λ s. record
+        { items = s.heap.items; reserved = s.heap.reserved; limit = s.limit } };
 
     ghost invariant = { λ s. IfSome s.limit (λ l. length s.heap.items ≤ l) };
 }

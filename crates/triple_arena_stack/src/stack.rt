@@ -28,7 +28,7 @@ pub trait NonZeroInxGenericStack {
     // The room of a stack that is made for so many items.
     ghost room_at: { ℕ → Room };
 
-    // Whether stacks of this type take memory. Where none does, no call answers `AllocError`.
+    // Whether stacks of this type take memory. If none does, no call returns `AllocError`.
     ghost takes_memory: { Bool };
 
     // The stack with other items in the same room.
@@ -39,14 +39,14 @@ pub trait NonZeroInxGenericStack {
         ensures items { items result ≡ [] }
         ensures room { room result ≡ room_at 0 };
 
-    /// An empty stack with room for `min` items. It answers `BeyondMaxCapacity` where no stack of
-    /// this type has so much, and `AllocError` where the memory was refused.
+    /// An empty stack with room for `min` items. It returns `BeyondMaxCapacity` if no stack of
+    /// this type has so much, and `AllocError` if the memory was refused.
     fn with_min_capacity(alloc: Self::Alloc, min: usize) -> Result<Self, ReallocationError>
         ensures items { IfOk result (λ s. items s ≡ []) }
         ensures room { IfOk result (λ s. room s ≡ room_at min) }
         ensures fits { IfOk result (λ s. min ≤ capacity_of (room s)) }
 
-        // No memory is asked for where a new stack has the room already.
+        // No memory is asked for if a new stack has the room already.
         ensures succeeds { min ≤ capacity_of (room_at 0) → IsOk result }
         ensures beyond { IsErrOf result ReallocationError.BeyondMaxCapacity
             ↔ IsBeyond (room_at min).limit min }
@@ -69,8 +69,8 @@ pub trait NonZeroInxGenericStack {
         ensures value { result ≡ length (items self.now) }
         ensures fits { result ≤ capacity_of (room self.now) };
 
-    /// Makes room for `min` items, by a growth to exactly that where there is less. It answers
-    /// `BeyondMaxCapacity` where `min` is past the greatest capacity, and `AllocError` where the
+    /// Makes room for `min` items, by a growth to exactly that if there is less. It returns
+    /// `BeyondMaxCapacity` if `min` is past the greatest capacity, and `AllocError` if the
     /// memory was refused. An error leaves the stack as it was, its capacity too.
     fn reallocate_min_capacity(&mut self, min: usize) -> Result<(), ReallocationError>
         ensures items { items self.new ≡ items self.old }
@@ -83,7 +83,7 @@ pub trait NonZeroInxGenericStack {
         ensures memory { IsErrOf result ReallocationError.AllocError → IsTrue takes_memory }
         ensures err { OnErr result (self.new ≡ self.old) };
 
-    /// Appends `value`, and answers its index. Where all slots are taken the stack stays as it is,
+    /// Appends `value`, and returns its index. If all slots are taken, the stack stays as it is,
     /// and `value` is dropped.
     fn push_within_capacity(
         &mut self,
@@ -135,11 +135,11 @@ pub trait NonZeroInxGenericStack {
         self.len() == 0
     }
 
-    /// Appends `value`, and answers its index. Where all slots are taken the stack grows: to 4 at
+    /// Appends `value`, and returns its index. If all slots are taken, the stack grows: to 4 at
     /// first, then to the double, and never past its greatest capacity.
     ///
-    /// It answers `BeyondMaxCapacity` where the length is the greatest capacity, and `AllocError`
-    /// where the memory was refused. The stack is then as it was, and `value` is dropped.
+    /// It returns `BeyondMaxCapacity` if the length is the greatest capacity, and `AllocError`
+    /// if the memory was refused. The stack is then as it was, and `value` is dropped.
     final fn push_reallocating(
         &mut self,
         value: Self::Item,
@@ -185,7 +185,8 @@ pub trait NonZeroInxGenericStack {
         }
     }
 
-    /// Exchanges the items at `i` and `j`, which are both there. Where they are one, nothing changes.
+    /// Exchanges the items at `i` and `j`, which are both there. If they are one, nothing
+    /// changes.
     final fn swap(&mut self, i: NonZeroUsize, j: NonZeroUsize)
         requires i_in_bounds { non_zero_usize_get i ≤ length (items self.old) }
         requires j_in_bounds { non_zero_usize_get j ≤ length (items self.old) }
@@ -196,8 +197,8 @@ pub trait NonZeroInxGenericStack {
         self.as_mut_slice().swap(i.get() - 1, j.get() - 1);
     }
 
-    /// Whether `get_disjoint_mut` can lend the items at `i` and `j`. It answers `IndexOutOfBounds`
-    /// where one of them is not there, and else `OverlappingIndices` where they are one.
+    /// Whether `get_disjoint_mut` can lend the items at `i` and `j`. It returns `IndexOutOfBounds`
+    /// if one of them is not there, and else `OverlappingIndices` if they are one.
     final fn check_disjoint(
         &self,
         i: NonZeroUsize,

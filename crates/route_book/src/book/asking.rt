@@ -27,7 +27,7 @@ use unreached::unreached;
 impl<P: PtrCore, B: BookBacking<P>> RouteBook<P, B> {
     /// What stands under a ticket.
     ///
-    /// `Unknown` where the ticket was never given, `Gone` where its item has ended.
+    /// `Unknown` if the ticket was never given, `Gone` if its item has ended.
     pub fn show(&self, ticket: u64) -> Result<Shown, Refusal>
         ensures { result ≡ shown self.now.state ticket }
     {
@@ -99,7 +99,8 @@ impl<P: PtrCore, B: BookBacking<P>> RouteBook<P, B> {
 
     /// The ticket of the place after this one in the order of the keys, if there is one.
     ///
-    /// `Unknown` where the ticket was never given, `Gone` where its item has ended, `Kind` where it is no place.
+    /// `Unknown` if the ticket was never given, `Gone` if its item has ended, `Kind` if it is no
+    /// place.
     pub fn after(&self, ticket: u64) -> Result<Option<u64>, Refusal>
         ensures { result ≡ place_after self.now.state ticket }
     {
@@ -119,7 +120,8 @@ impl<P: PtrCore, B: BookBacking<P>> RouteBook<P, B> {
         Ok(ticket_after(&self.places, at))
     }
 
-    /// The ticket of the place before this one in the order of the keys, if there is one; refused as `after` is.
+    /// The ticket of the place before this one in the order of the keys, if there is one; refused
+    /// as `after` is.
     pub fn before(&self, ticket: u64) -> Result<Option<u64>, Refusal>
         ensures { result ≡ place_before self.now.state ticket }
     {

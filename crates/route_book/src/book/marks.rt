@@ -26,8 +26,9 @@ impl<P: PtrCore, B: BookBacking<P>> RouteBook<P, B> {
 
     /// A new mark of a place and of a stop.
     ///
-    /// Each ticket is refused in turn: `Unknown` where it was never given, `Gone` where its item has ended, `Kind` where it is of
-    /// the wrong kind. Then `Full` where as many marks live as the room holds, or every ticket was given; then nothing changes.
+    /// Each ticket is refused in turn: `Unknown` if it was never given, `Gone` if its item has
+    /// ended, `Kind` if it is of the wrong kind. Then `Full` if as many marks live as the room
+    /// holds, or every ticket was given; then nothing changes.
     pub fn mark(&mut self, place: u64, stop: u64) -> Result<u64, Refusal>
         ensures result { result ≡ marked self.old.state place stop }
         ensures state { self.new.state ≡ after_mark self.old.state place stop }
@@ -51,7 +52,8 @@ impl<P: PtrCore, B: BookBacking<P>> RouteBook<P, B> {
         ensures refused { IfErr result (λ _. self.new ≡ self.old) }
         ensures others { (self.new.places ≡ self.old.places) × (self.new.stops ≡ self.old.stops) }
         ensures counts { CountsWithin counts.old counts.new
-            0 (most_comparisons (living_count self.old.state)) (most_comparisons (living_count self.old.state)) }
+            0 (most_comparisons (living_count self.old.state))
+            (most_comparisons (living_count self.old.state)) }
     {
         changes_keep_states_sound();
         let at = self.find_place(place, &mut counts.first)?;

@@ -23,8 +23,8 @@ use triple_arena_ord::laws::entries_stand_in_the_list;
 use triple_arena_ord::{OrdSlots, SimpleOrdArena};
 use triple_arena_ptr::{Probes, PtrCore};
 
-// Moves the items of the three arenas to the first indexes, places and stops in the order of their lists. All counters
-// start again.
+// Moves the items of the three arenas to the first indexes, places and stops in the order of their
+// lists. All counters start again.
 fn compress_all<
     P: PtrCore,
     S: OrdSlots<P, Place>,
@@ -35,7 +35,8 @@ fn compress_all<
     stops: &mut ChainArena<P, Stop<P>, R>,
     marks: &mut Arena<P, Mark<P>, Q>,
 )
-    ensures { IsAllCompressed P.Inx.number P.Gen.last places.old places.new stops.old stops.new marks.old marks.new }
+    ensures { IsAllCompressed P.Inx.number P.Gen.last places.old places.new stops.old stops.new
+        marks.old marks.new }
 {
     // The lists are as they must be, and each live index is within the room.
     let _ = places.len();
@@ -96,7 +97,8 @@ pub(crate) fn pack_if<P: PtrCore, B: BookBacking<P>>(
 }
 
 impl<P: PtrCore, B: BookBacking<P>> RouteBook<P, B> {
-    /// Moves all items to the first indexes: places in the order of their keys, the stops of a route one after another.
+    /// Moves all items to the first indexes: places in the order of their keys, the stops of a
+    /// route one after another.
     ///
     /// Each stored reference is looked at once; one to an item that has ended is `Gone` from then
     /// on. All items have the second generation then, and pointers into the arenas find other
@@ -111,7 +113,8 @@ impl<P: PtrCore, B: BookBacking<P>> RouteBook<P, B> {
     /// The same, with the looks at stored references counted. Its searches by ticket are not.
     pub fn pack_counted(&mut self, counts: &mut Counts)
         ensures state { self.new.state ≡ self.old.state }
-        ensures packed { IsPacked P.Inx.number P.Gen.last counts.old.looks counts.new.looks self.old self.new }
+        ensures packed { IsPacked P.Inx.number P.Gen.last counts.old.looks counts.new.looks
+            self.old self.new }
         ensures counts { ComparesWithin counts.old counts.new 0 0 0 }
     {
         pack_if::<P, B>(

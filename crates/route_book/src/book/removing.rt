@@ -96,7 +96,9 @@ impl<P: PtrCore, B: BookBacking<P>> RouteBook<P, B> {
     pub fn remove(&mut self, ticket: u64) -> Result<(), Refusal>
         ensures result { result ≡ removed self.old.state ticket }
         ensures state { self.new.state ≡ after_removed self.old.state ticket }
-        ensures removes { (looks : ℕ) × Removes P.Inx.number P.Gen.last ticket 0 looks self.old self.new (holder self.old.state ticket) }
+        ensures removes { (looks : ℕ)
+            × Removes P.Inx.number P.Gen.last ticket 0 looks self.old self.new
+            (holder self.old.state ticket) }
     {
         self.remove_counted(ticket, &mut Counts::new())
     }
@@ -110,7 +112,8 @@ impl<P: PtrCore, B: BookBacking<P>> RouteBook<P, B> {
     pub fn remove_counted(&mut self, ticket: u64, counts: &mut Counts) -> Result<(), Refusal>
         ensures result { result ≡ removed self.old.state ticket }
         ensures state { self.new.state ≡ after_removed self.old.state ticket }
-        ensures removes { Removes P.Inx.number P.Gen.last ticket counts.old.looks counts.new.looks self.old self.new
+        ensures removes { Removes P.Inx.number P.Gen.last ticket counts.old.looks counts.new.looks
+            self.old self.new
             (holder self.old.state ticket) }
         ensures counts { ComparesWithin counts.old counts.new
             0 (most_comparisons (living_count self.old.state)) 0 }

@@ -23,9 +23,9 @@ use unreached::unreached;
 impl<P: PtrCore, B: BookBacking<P>> RouteBook<P, B> {
     /// A new stop at a place, directly behind another stop on its route.
     ///
-    /// The stop's ticket is refused before the place's: `Unknown` where it was never given, `Gone` where its item has ended,
-    /// `Kind` where it is of another kind. Then `Full` where as many stops live as the room holds, or every ticket was given.
-    /// A refused call changes nothing.
+    /// The stop's ticket is refused before the place's: `Unknown` if it was never given, `Gone` if
+    /// its item has ended, `Kind` if it is of another kind. Then `Full` if as many stops live as
+    /// the room holds, or every ticket was given. A refused call changes nothing.
     pub fn extend(&mut self, stop: u64, place: u64) -> Result<u64, Refusal>
         ensures result { result ≡ extended self.old.state stop place }
         ensures state { self.new.state ≡ after_extend self.old.state stop place }
@@ -47,7 +47,8 @@ impl<P: PtrCore, B: BookBacking<P>> RouteBook<P, B> {
         ensures kept { KeepsItems self.old self.new }
         ensures refused { IfErr result (λ _. self.new ≡ self.old) }
         ensures counts { CountsWithin counts.old counts.new
-            0 (most_comparisons (living_count self.old.state)) (most_comparisons (living_count self.old.state)) }
+            0 (most_comparisons (living_count self.old.state))
+            (most_comparisons (living_count self.old.state)) }
     {
         changes_keep_states_sound();
         extensions_lead_through();
@@ -73,11 +74,12 @@ impl<P: PtrCore, B: BookBacking<P>> RouteBook<P, B> {
         }
     }
 
-    /// Lets the second stop follow the first: the route that ends with the first goes on with the one that begins with the
-    /// second. Where they are one route it becomes a ring.
+    /// Lets the second stop follow the first: the route that ends with the first goes on with the
+    /// one that begins with the second. If they are one route, it becomes a ring.
     ///
-    /// Each ticket is refused in turn: `Unknown` where it was never given, `Gone` where its item has ended, `Kind` where it is
-    /// no stop. Then `No` where a stop follows the first, or the second follows one. A refused call changes nothing.
+    /// Each ticket is refused in turn: `Unknown` if it was never given, `Gone` if its item has
+    /// ended, `Kind` if it is no stop. Then `No` if a stop follows the first, or the second follows
+    /// one. A refused call changes nothing.
     pub fn join(&mut self, stop: u64, next: u64) -> Result<(), Refusal>
         ensures result { result ≡ joined self.old.state stop next }
         ensures state { self.new.state ≡ after_join self.old.state stop next }
@@ -94,7 +96,8 @@ impl<P: PtrCore, B: BookBacking<P>> RouteBook<P, B> {
         ensures kept { KeepsItems self.old self.new }
         ensures refused { IfErr result (λ _. self.new ≡ self.old) }
         ensures counts { CountsWithin counts.old counts.new
-            0 (most_comparisons (living_count self.old.state)) (most_comparisons (living_count self.old.state)) }
+            0 (most_comparisons (living_count self.old.state))
+            (most_comparisons (living_count self.old.state)) }
     {
         changes_keep_states_sound();
         stops_follow_their_previous_ones();
@@ -113,10 +116,11 @@ impl<P: PtrCore, B: BookBacking<P>> RouteBook<P, B> {
         }
     }
 
-    /// Parts a stop from the one that follows it: a route is split behind it, and a ring becomes a route that ends with it.
+    /// Parts a stop from the one that follows it: a route is split behind it, and a ring becomes a
+    /// route that ends with it.
     ///
-    /// `Unknown` where the ticket was never given, `Gone` where its item has ended, `Kind` where it is no stop, and then `No`
-    /// where no stop follows it. A refused call changes nothing.
+    /// `Unknown` if the ticket was never given, `Gone` if its item has ended, `Kind` if it is no
+    /// stop, and then `No` if no stop follows it. A refused call changes nothing.
     pub fn cut(&mut self, stop: u64) -> Result<(), Refusal>
         ensures result { result ≡ parted self.old.state stop }
         ensures state { self.new.state ≡ after_cut self.old.state stop }
@@ -150,11 +154,12 @@ impl<P: PtrCore, B: BookBacking<P>> RouteBook<P, B> {
         }
     }
 
-    /// Exchanges the stops that follow two stops. Two stops of one ring make two rings of it, and two of two rings one. For a
-    /// stop and itself nothing changes.
+    /// Exchanges the stops that follow two stops. Two stops of one ring make two rings of it, and
+    /// two of two rings one. For a stop and itself nothing changes.
     ///
-    /// Each ticket is refused in turn: `Unknown` where it was never given, `Gone` where its item has ended, `Kind` where it is
-    /// no stop. Then `No` where no stop follows one of them. A refused call changes nothing.
+    /// Each ticket is refused in turn: `Unknown` if it was never given, `Gone` if its item has
+    /// ended, `Kind` if it is no stop. Then `No` if no stop follows one of them. A refused call
+    /// changes nothing.
     pub fn swap(&mut self, stop: u64, other: u64) -> Result<(), Refusal>
         ensures result { result ≡ swapped self.old.state stop other }
         ensures state { self.new.state ≡ after_swap self.old.state stop other }
@@ -176,7 +181,8 @@ impl<P: PtrCore, B: BookBacking<P>> RouteBook<P, B> {
         ensures kept { KeepsItems self.old self.new }
         ensures refused { IfErr result (λ _. self.new ≡ self.old) }
         ensures counts { CountsWithin counts.old counts.new
-            0 (most_comparisons (living_count self.old.state)) (most_comparisons (living_count self.old.state)) }
+            0 (most_comparisons (living_count self.old.state))
+            (most_comparisons (living_count self.old.state)) }
     {
         changes_keep_states_sound();
         swaps_exchange_next_stops();

@@ -29,8 +29,9 @@ impl<P: PtrCore, B: BookBacking<P>> RouteBook<P, B> {
 
     /// A new stop at a place, alone on a linear route.
     ///
-    /// `Unknown` where the ticket was never given, `Gone` where its item has ended, `Kind` where it is no place, and then `Full`
-    /// where as many stops live as the room holds, or every ticket was given; then nothing changes.
+    /// `Unknown` if the ticket was never given, `Gone` if its item has ended, `Kind` if it is no
+    /// place, and then `Full` if as many stops live as the room holds, or every ticket was given;
+    /// then nothing changes.
     pub fn start(&mut self, place: u64) -> Result<u64, Refusal>
         ensures result { result ≡ started self.old.state place }
         ensures state { self.new.state ≡ after_start self.old.state place }

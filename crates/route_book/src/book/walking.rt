@@ -21,8 +21,8 @@ use triple_arena_ord::{OrdSlots, SimpleOrdArena};
 use triple_arena_ptr::{PtrCore, PtrInxCore};
 use unreached::unreached;
 
-/// The stops of a route from one of them on, seen as the list of those that are left: to the end and then backwards from the
-/// stop before the first, or once round a ring.
+/// The stops of a route from one of them on, seen as the list of those that are left: to the end
+/// and then backwards from the stop before the first, or once round a ring.
 #[derive(Drop)]
 pub struct Walk<'a, P: PtrCore, S: OrdSlots<P, Place>, C: ChainSlots<P, Stop<P>>>
 where
@@ -62,7 +62,7 @@ where
 {
     ghost use Rattle.route_lines.specs.Calls.{listed_stop};
 
-    /// A stop's ticket, and its place's, or nothing where that place is gone.
+    /// A stop's ticket, and its place's, or nothing if that place is gone.
     type Item = (u64, Option<u64>);
 
     ghost next_gives = { YieldsFirstBy listed_stop (λ left. left) };
@@ -76,10 +76,11 @@ where
 }
 
 impl<P: PtrCore, B: BookBacking<P>> RouteBook<P, B> {
-    /// The stops of a stop's route, from it on: to the end of the route and then backwards from the stop before it, or once
-    /// round a ring.
+    /// The stops of a stop's route, from it on: to the end of the route and then backwards from the
+    /// stop before it, or once round a ring.
     ///
-    /// `Unknown` where the ticket was never given, `Gone` where its item has ended, `Kind` where it is no stop.
+    /// `Unknown` if the ticket was never given, `Gone` if its item has ended, `Kind` if it is no
+    /// stop.
     pub fn walk(&self, stop: u64) -> Result<Walk<'_, P, B::Places, B::Stops>, Refusal>
         ensures { result ≡ walked self.now.state stop }
     {

@@ -6,8 +6,8 @@ ghost use Rattle.route_lines.specs.Sound.{IsSound};
 ghost use Rattle.route_lines.specs.State.{Place, State};
 ghost use Rattle.route_lines.specs.declared.refusal.Refusal.{Refusal};
 
-/// Where the hint names a place, `place` with it answers and does what `place` without it does; else it is refused by
-/// the hint and changes nothing.
+/// If the hint names a place, `place` with it answers and does what `place` without it does;
+/// else it is refused by the hint and changes nothing.
 pub fn hints_change_no_reply()
     ensures reply { (s : State) (near : ℕ) (p : Place)
         → place_holder s near ≡ Ok p → placed_near s near ≡ placed s }

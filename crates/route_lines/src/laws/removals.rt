@@ -8,7 +8,8 @@ ghost use Rattle.route_lines.specs.State.{Mark, Place, State, Stop, holder, mark
 ghost use Rattle.route_lines.specs.Text.{Line, after_lines};
 ghost use Rattle.route_lines.specs.declared.refusal.Refusal.TheVariants.{Gone};
 
-/// A removed place is gone, and so is each reference to it. All else stays, and which stop follows which.
+/// A removed place is gone, and so is each reference to it. All else stays, and which stop follows
+/// which.
 pub fn removed_places_leave_no_reference()
     ensures places { (s : State) (t x : ℕ) (p : Place) → IsSound s → holder s t ≡ Ok (place p)
         → place_of (after_removed s t).places x ≡ if x == t then None else place_of s.places x }
@@ -26,13 +27,14 @@ pub fn removed_places_leave_no_reference()
         → length (after_removed s t).marks ≡ length s.marks }
 {}
 
-/// A removed stop is gone, and so is each reference to it. The stop before it is followed by the one that followed it, and
-/// all else stays.
+/// A removed stop is gone, and so is each reference to it. The stop before it is followed by the
+/// one that followed it, and all else stays.
 pub fn removed_stops_join_their_neighbors()
     ensures stops { (s : State) (t x : ℕ) (u : Stop) → IsSound s → holder s t ≡ Ok (stop u)
         → stop_of (after_removed s t).routes x ≡ if x == t then None else stop_of s.routes x }
     ensures next { (s : State) (t x : ℕ) (u : Stop) → IsSound s → holder s t ≡ Ok (stop u) → x ≢ t
-        → next_stop (after_removed s t).routes x ≡ past t (next_stop s.routes t) (next_stop s.routes x) }
+        → next_stop (after_removed s t).routes x
+        ≡ past t (next_stop s.routes t) (next_stop s.routes x) }
     ensures places { (s : State) (t : ℕ) (u : Stop) → IsSound s → holder s t ≡ Ok (stop u)
         → (after_removed s t).places ≡ s.places }
     ensures marks { (s : State) (t x : ℕ) (u : Stop) → IsSound s → holder s t ≡ Ok (stop u)
@@ -55,8 +57,8 @@ pub fn removed_marks_leave_all_else()
         → length (after_removed s t).marks + 1 ≡ length s.marks }
 {}
 
-/// A removal gives no ticket and changes no room, and the removed ticket is gone. A ticket that is gone stays so, whatever lines
-/// follow.
+/// A removal gives no ticket and changes no room, and the removed ticket is gone. A ticket that is
+/// gone stays so, whatever lines follow.
 pub fn removed_tickets_are_gone()
     ensures last { (s : State) (t : ℕ) → (after_removed s t).last ≡ s.last }
     ensures rooms { (s : State) (t : ℕ) → (after_removed s t).rooms ≡ s.rooms }

@@ -7,7 +7,8 @@ ghost use Rattle.route_lines.specs.Sound.{IsNumbered, IsSound};
 ghost use Rattle.route_lines.specs.State.{State};
 ghost use Rattle.route_lines.specs.Text.{Line, after_lines, answered, is_pack, replies, rest_of, whole_lines};
 
-/// Every line of a reply ends with an LF and has at most 58 bytes before it. The longest is a ticket, a key and a word.
+/// Every line of a reply ends with an LF and has at most 58 bytes before it. The longest is a
+/// ticket, a key and a word.
 pub fn replies_have_short_lines()
     ensures short { (s : State) (command : Option Command) → IsSound s → IsNumbered s
         → AllByRecursion (λ line. length line ≤ 58) (whole_lines (reply s command)) }
@@ -15,8 +16,8 @@ pub fn replies_have_short_lines()
         → rest_of (reply s command) ≡ [] }
 {}
 
-/// The text that answers lines is their replies, one after another. A `pack` line is answered `ok`. Without those lines each
-/// other line has the same reply, and the state at the end is the same.
+/// The text that answers lines is their replies, one after another. A `pack` line is answered `ok`.
+/// Without those lines each other line has the same reply, and the state at the end is the same.
 pub fn packs_change_no_reply()
     ensures text { (s : State) (lines : List Line)
         → replies s lines ≡ flat_map (λ a. a.1) (answered s lines) }

@@ -26,7 +26,8 @@ pub fn swaps_undo_swaps()
         → after_swap (after_swap s t u) t u ≡ s }
 {}
 
-/// After a `join` that answers `ok` the second stop follows the first, and every other stop is followed as before.
+/// After a `join` that answers `ok` the second stop follows the first, and every other stop is
+/// followed as before.
 pub fn joins_lead_on()
     ensures next { (s : State) (t u : ℕ) → IsSound s → joined s t u ≡ Ok tt
         → next_stop (after_join s t u).routes t ≡ Some u }
@@ -34,7 +35,8 @@ pub fn joins_lead_on()
         → next_stop (after_join s t u).routes v ≡ next_stop s.routes v }
 {}
 
-/// After a `cut` that answers `ok` no stop follows this one, and every other stop is followed as before.
+/// After a `cut` that answers `ok` no stop follows this one, and every other stop is followed as
+/// before.
 pub fn cuts_part_one_stop()
     ensures next { (s : State) (t : ℕ) → IsSound s → parted s t ≡ Ok tt
         → next_stop (after_cut s t).routes t ≡ None }
@@ -42,7 +44,8 @@ pub fn cuts_part_one_stop()
         → next_stop (after_cut s t).routes v ≡ next_stop s.routes v }
 {}
 
-/// A `swap` that answers `ok` exchanges the stops that follow the two, and every other stop is followed as before.
+/// A `swap` that answers `ok` exchanges the stops that follow the two, and every other stop is
+/// followed as before.
 pub fn swaps_exchange_next_stops()
     ensures first { (s : State) (t u : ℕ) → IsSound s → swapped s t u ≡ Ok tt
         → next_stop (after_swap s t u).routes t ≡ next_stop s.routes u }
@@ -52,7 +55,8 @@ pub fn swaps_exchange_next_stops()
         → next_stop (after_swap s t u).routes v ≡ next_stop s.routes v }
 {}
 
-/// After a `start` that answers a ticket no stop follows the new one, and every other stop is followed as before.
+/// After a `start` that answers a ticket no stop follows the new one, and every other stop is
+/// followed as before.
 pub fn starts_lead_nowhere()
     ensures next { (s : State) (at n : ℕ) → IsSound s → started s at ≡ Ok n
         → next_stop (after_start s at).routes n ≡ None }
@@ -60,8 +64,8 @@ pub fn starts_lead_nowhere()
         → next_stop (after_start s at).routes v ≡ next_stop s.routes v }
 {}
 
-/// After an `extend` that answers a ticket the new stop follows the first and is followed as that was, and every other stop
-/// is followed as before.
+/// After an `extend` that answers a ticket the new stop follows the first and is followed as that
+/// was, and every other stop is followed as before.
 pub fn extensions_lead_through()
     ensures next { (s : State) (t at n : ℕ) → IsSound s → extended s t at ≡ Ok n
         → next_stop (after_extend s t at).routes t ≡ Some n }
@@ -87,8 +91,8 @@ pub fn stops_stay_as_routes_change()
         → length (stop_list (after_swap s t u).routes) ≡ length (stop_list s.routes) }
 {}
 
-/// After an `extend` that answers a ticket the new stop stands under it, each other stop under its own, and there is one
-/// stop more.
+/// After an `extend` that answers a ticket the new stop stands under it, each other stop under its
+/// own, and there is one stop more.
 pub fn extensions_add_one_stop()
     ensures new { (s : State) (t at n : ℕ) → IsSound s → extended s t at ≡ Ok n
         → stop_of (after_extend s t at).routes n ≡ Some (record { ticket = n; place = Some at }) }
@@ -98,9 +102,9 @@ pub fn extensions_add_one_stop()
         → length (stop_list (after_extend s t at).routes) ≡ length (stop_list s.routes) + 1 }
 {}
 
-/// Along each route every stop is followed by the one behind it, the last stop of a ring by its first one, and the last stop
-/// of another route by none. No stop comes before the first one of a route that is no ring, and each stop stands under its
-/// ticket.
+/// Along each route every stop is followed by the one behind it, the last stop of a ring by its
+/// first one, and the last stop of another route by none. No stop comes before the first one of a
+/// route that is no ring, and each stop stands under its ticket.
 pub fn routes_lead_along()
     ensures next { (s : State) → IsSound s
         → AllByRecursion (λ r. Leads (next_stop s.routes) (closes_at r) r.stops) s.routes }
@@ -110,13 +114,14 @@ pub fn routes_lead_along()
         → AllByRecursion (λ t. stop_of s.routes t.ticket ≡ Some t) (stop_list s.routes) }
 {}
 
-/// A list of stops that follow one another, before which none comes and behind which none does, is walked from one of them
-/// to its end, and then backwards from the stop before it.
+/// A list of stops that follow one another, before which none comes and behind which none does, is
+/// walked from one of them to its end, and then backwards from the stop before it.
 pub fn lists_are_walked_both_ways()
     ensures { (s : State) (front behind : List Stop) (t : Stop) → IsSound s
         → AllByRecursion (λ x. stop_of s.routes x.ticket ≡ Some x) (front ++ t ∷ behind)
         → Leads (next_stop s.routes) None (front ++ t ∷ behind)
-        → ((u : ℕ) (x : Stop) (rest : List Stop) → front ++ t ∷ behind ≡ x ∷ rest → next_stop s.routes u ≢ Some x.ticket)
+        → ((u : ℕ) (x : Stop) (rest : List Stop) → front ++ t ∷ behind ≡ x ∷ rest
+        → next_stop s.routes u ≢ Some x.ticket)
         → walk_from t.ticket s.routes ≡ (t ∷ behind) ++ reverse front }
 {}
 
@@ -124,6 +129,7 @@ pub fn lists_are_walked_both_ways()
 pub fn rings_are_walked_once()
     ensures { (s : State) (t : Stop) (behind : List Stop) → IsSound s
         → AllByRecursion (λ x. stop_of s.routes x.ticket ≡ Some x) (t ∷ behind)
-        → Leads (next_stop s.routes) (Some t.ticket) (t ∷ behind) → count_of (has_ticket t.ticket) behind ≡ 0
+        → Leads (next_stop s.routes) (Some t.ticket) (t ∷ behind)
+        → count_of (has_ticket t.ticket) behind ≡ 0
         → walk_from t.ticket s.routes ≡ t ∷ behind }
 {}

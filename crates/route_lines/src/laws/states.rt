@@ -17,7 +17,8 @@ pub fn states_are_sound()
         → IsSound (after_lines (empty rooms last) lines) }
 {}
 
-/// Whatever lines are carried out, the last ticket and every key are below 2^64, as the last ticket was at first.
+/// Whatever lines are carried out, the last ticket and every key are below 2^64, as the last ticket
+/// was at first.
 pub fn states_are_numbered()
     ensures { (rooms : Rooms) (last : ℕ) (lines : List Line) → IsNumber last
         → IsNumbered (after_lines (empty rooms last) lines) }
@@ -31,8 +32,8 @@ pub fn changes_keep_states_sound()
         → IsNumbered (changed s change) }
 {}
 
-/// Two stores of equal state, whatever they are made of, write equal bytes for equal lines while no read or write
-/// fails, and then have equal states again.
+/// Two stores of equal state, whatever they are made of, write equal bytes for equal lines while no
+/// read or write fails, and then have equal states again.
 pub fn equal_states_answer_equally()
     ensures state { (s t later other : State) (lines : List Line)
         (held written kept copied : Option (List ℕ)) (before after began ended : Counts) → s ≡ t

@@ -53,7 +53,8 @@ pub(super) fn answers<P: PtrCore, B: BookBacking<P>>(
     Ok(())
 }
 
-/// The requests for memory that make a store of these rooms: two for each arena that has room, and one for the book.
+/// The requests for memory that make a store of these rooms: two for each arena that has room, and
+/// one for the book.
 pub(super) fn requests([places, stops, marks]: [usize; 3]) -> u64 {
     let arenas = u64::from(places > 0) + u64::from(stops > 0) + u64::from(marks > 0);
     arenas * 2 + u64::from(arenas > 0)
@@ -75,7 +76,8 @@ pub(super) fn fits([places, stops, marks]: [usize; 3], most: usize) -> bool {
     places <= most && stops <= most - places && marks <= most - places - stops
 }
 
-// The row over wide and narrow pointers, where they have the room. No memory is taken once the store is made.
+// The row over wide and narrow pointers, if they have the room. No memory is taken once the store
+// is made.
 fn answers_row(rt: &(impl AllocGlobal + Abort), row: Row<'_>, steps: Steps) -> Result<(), Fail> {
     let heap = RefusingAllocator::new(rt.alloc(), requests(row.0).saturating_add(1));
     answers_on_heap::<P0, _>(rt, &heap, row, steps)?;
@@ -102,7 +104,8 @@ fn each_row_has_its_text(rt: HostRuntime) -> Result<(), Fail> {
     answers_rows(&rt, &ROWS)
 }
 
-// What the table cannot hold: an input without lines, and a rest without LF, though it spells a command with one.
+// What the table cannot hold: an input without lines, and a rest without LF, though it spells a
+// command with one.
 #[test]
 fn rests_are_bad(rt: HostRuntime) -> Result<(), Fail> {
     let rooms = [4, 4, 2];

@@ -1,4 +1,5 @@
-//! Readers and writers in memory that give and take pieces of a set length, and fail where they are told to.
+//! Readers and writers in memory that give and take pieces of a set length, and fail where they are
+//! told to.
 
 use arrayvec::ArrayVec;
 use std::io;

@@ -1,6 +1,7 @@
 //! Inputs of whole lines, and the text with which a new store answers each.
 
-/// The rooms of places, stops and marks, the last ticket that counts as given, the input, and its text.
+/// The rooms of places, stops and marks, the last ticket that counts as given, the input, and its
+/// text.
 pub(super) type Row<'a> = ([usize; 3], u64, &'a str, &'a str);
 
 /// What each rule of the line language shows at its lines. None of them removes anything.
@@ -12,14 +13,16 @@ pub(super) const ROWS: [Row<'static>; 25] = [
         "place 50 oak\nplace 30 elm\nplace 70 ash\nall\nplace 50 fir\nshow 1\n",
         "1\n2\n3\n2 30 elm\n1 50 oak\n3 70 ash\nend\n4\n50 oak\n",
     ),
-    // A stop goes directly behind another. A walk goes to the end and then back, or once round a ring.
+    // A stop goes directly behind another. A walk goes to the end and then back, or once round a
+    // ring.
     (
         [4, 4, 2],
         0,
         "place 1 a\nstart 1\nextend 2 1\nextend 3 1\nwalk 3\njoin 4 2\nwalk 3\n",
         "1\n2\n3\n4\n3 1\n4 1\n2 1\nend\nok\n3 1\n4 1\n2 1\nend\n",
     ),
-    // A swap with the next stop leaves that one in a ring of its own; with itself it changes nothing.
+    // A swap with the next stop leaves that one in a ring of its own; with itself it changes
+    // nothing.
     (
         [4, 4, 2],
         0,
@@ -70,14 +73,14 @@ pub(super) const ROWS: [Row<'static>; 25] = [
         "place 1 a\nstart 1\nmark 1 2\nshow 3\nshow 2\nshow 9\ncut 1\nextend 7 1\nextend 1 7\nextend 2 7\nmark 2 2\nmark 1 1\nwalk 3\nafter 2\nfoo\n",
         "1\n2\n3\n1 2\nat 1\nunknown\nkind\nunknown\nkind\nunknown\nkind\nkind\nkind\nkind\nbad\n",
     ),
-    // Stops are joined only at an end and a start, and parted or swapped only where another follows.
+    // Stops are joined only at an end and a start, and parted or swapped only if another follows.
     (
         [4, 4, 2],
         0,
         "place 1 a\nstart 1\nextend 2 1\nstart 1\njoin 2 4\njoin 3 3\njoin 3 4\ncut 4\nswap 3 4\nswap 2 3\nwalk 2\ncut 3\ncut 3\nwalk 2\njoin 4 4\nwalk 4\ncut 4\njoin 4 4\n",
         "1\n2\n3\n4\nno\nno\nok\nno\nno\nok\n2 1\n4 1\nend\nok\nno\n2 1\n4 1\nend\nno\n4 1\n2 1\nend\nno\nno\n",
     ),
-    // A ring is cut where it is asked, and two rings are swapped into one.
+    // A ring is cut if it is asked, and two rings are swapped into one.
     (
         [4, 4, 2],
         0,

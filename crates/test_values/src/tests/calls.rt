@@ -1,4 +1,5 @@
-//! Calls that many tests make. They say nothing of what they do, so that a test pays little for each.
+//! Calls that many tests make. They say nothing of what they do, so that a test pays little for
+//! each.
 use std::process::Abort;
 use triple_arena::{Arena, ArenaInsertTrait, ArenaSlots, ArenaTrait, PtrCore};
 use triple_arena_chain::{ChainArena, ChainArenaTrait, ChainSlots, LinkInsertKind};

@@ -1,6 +1,7 @@
 //! What becomes of the values of an arena, which no clause says: each is dropped once.
 //!
-//! A test names a pointer type and a stack. What it calls is generic in both, which is proved in far less time.
+//! A test names a pointer type and a stack. What it calls is generic in both, which is proved in
+//! far less time.
 mod arenas;
 mod chains;
 mod ordered;

@@ -50,7 +50,8 @@ fn links_as_values(rt: HostRuntime) {
     assert!(rt; link.no_gen() == low);
 }
 
-// Kinds are equal where their variants and what they name are, and go by the order of their variants first.
+// Kinds are equal if their variants and what they name are, and go by the order of their variants
+// first.
 #[test]
 fn kinds_as_values(rt: HostRuntime) {
     let p = P0::invalid();

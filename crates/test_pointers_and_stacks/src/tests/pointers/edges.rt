@@ -5,7 +5,8 @@ use std::process::Abort;
 use std::test::Fail;
 use triple_arena_ptr::{PtrInx, PtrInxCore};
 
-// 1 and the greatest index have an index of this type and come back from it; what follows the greatest has none.
+// 1 and the greatest index have an index of this type and come back from it; what follows the
+// greatest has none.
 fn ends_at<I: PtrInx>(rt: &impl Abort, greatest: NonZeroUsize) {
     for number in [NonZeroUsize::MIN, greatest] {
         let back = match I::try_from_usize(number) {

@@ -11,7 +11,7 @@ use triple_arena_ptr::{
     P0, P1, P4, P5, Ptr, PtrCore, PtrGen, PtrGenCore, PtrInx, PtrInxCore, PtrNoGen,
 };
 
-// The pointers are equal where they are one, and only there.
+// The pointers are equal if they are one, and only then.
 fn is_same<P: Ptr>(p: P, q: P) -> bool
     ensures { IsTrue result ↔ (p ≡ q) }
 {
@@ -107,7 +107,8 @@ fn greatest<I: PtrInx>() -> Option<NonZeroUsize>
 }
 
 fn text<P: Ptr>(alloc: Global, p: P) -> Result<String, AllocError>
-    ensures { IfOk result (λ s. string_bytes s ≡ pointer_text P.name P.Gen.last (P.index p) (P.generation p)) }
+    ensures { IfOk result
+        (λ s. string_bytes s ≡ pointer_text P.name P.Gen.last (P.index p) (P.generation p)) }
 {
     format!(in alloc; "{p:?}")
 }

@@ -60,8 +60,8 @@ fn texts_of_uncounted_pointers(rt: HostRuntime) {
     shows::<P5>(&rt, NonZeroUsize::MIN, (), "P5[1]");
 }
 
-// The same without the generation, whose type is named at a pointer that is a parameter: at `P0` itself the check takes a
-// minute longer.
+// The same without the generation, whose type is named at a pointer that is a parameter: at `P0`
+// itself the check takes a minute longer.
 fn shows_without<P: Ptr>(rt: &(impl Abort + Alloc), inx: P::Inx, want: &str) {
     shows::<PtrNoGen<P>>(rt, inx, (), want);
 }

@@ -113,7 +113,7 @@ fn a_limit_that_is_set(rt: HostRuntime) -> Result<(), Fail> {
     assert!(rt; stack.set_max_capacity(8) == Err(MaxCapacityReductionError));
     assert!(rt; stack.max_capacity() == Some(9));
 
-    // The reserved slots stay where the limit falls, and come back where it rises.
+    // The reserved slots stay if the limit falls, and come back if it rises.
     stack.pop();
     stack.pop();
     stack.set_max_capacity(7)?;

@@ -50,7 +50,7 @@ fn push_by_entry<S: NonZeroInxGenericStackEntries<Item = u64>>(stack: &mut S, x:
     }
 }
 
-// The same at one type, where a refusal is known to leave the stack as it was.
+// The same at one type, if a refusal is known to leave the stack as it was.
 fn push_to_array_by_entry(stack: &mut NonZeroInxArray<u64, 4>, x: u64) -> bool
     ensures pushed { IsTrue result → stack.new.array.items ≡ stack.old.array.items ++ x ∷ [] }
     ensures refused { result ≡ false → stack.new ≡ stack.old }
@@ -73,7 +73,9 @@ fn exchange<T: Drop, S: NonZeroInxGenericStack<Item = T>>(
     ensures exchanged { (x y : T)
         → Some x ≡ item_at (S.items stack.old) (non_zero_usize_get i)
         → Some y ≡ item_at (S.items stack.old) (non_zero_usize_get j)
-        → OnOk result (S.items stack.new ≡ with_item (with_item (S.items stack.old) (non_zero_usize_get i) y) (non_zero_usize_get j) x) }
+        → OnOk result (S.items stack.new
+        ≡ with_item (with_item (S.items stack.old) (non_zero_usize_get i) y)
+        (non_zero_usize_get j) x) }
     ensures refused { OnErr result (S.items stack.new ≡ S.items stack.old) }
     ensures room { S.room stack.new ≡ S.room stack.old }
 {

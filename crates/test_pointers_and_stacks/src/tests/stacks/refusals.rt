@@ -42,7 +42,7 @@ fn seen<S: NonZeroInxGenericStack<Item = u64>>(heap: &Heap, stack: &S) -> Before
     }
 }
 
-// The call was refused exactly where the heap refused it the memory, and left the stack as it was.
+// The call was refused exactly if the heap refused it the memory, and left the stack as it was.
 fn is_refused_with_the_heap<T, S: NonZeroInxGenericStack<Item = u64>>(
     rt: &impl Abort,
     heap: &Heap,

@@ -45,7 +45,8 @@ fn lets_go<'a, P: PtrCore, S: ArenaSlots<P, Counted<'a>>>(
     assert!(rt; dropped.get() == 321);
 }
 
-// An iterator over an arena by value that is let go after its first entry drops the others, each once.
+// An iterator over an arena by value that is let go after its first entry drops the others, each
+// once.
 #[test]
 fn an_arena_by_value_let_go_half_way(rt: HostRuntime) {
     let dropped = Cell::new(0);

@@ -44,7 +44,8 @@ fn lets_go<'a, P: PtrCore, S: OrdSlots<P, Counting<'a>>>(
     assert!(rt; dropped.get() == 321);
 }
 
-// An arena by value gives its entries in their order. Let go after the first one, it drops the others, each once.
+// An arena by value gives its entries in their order. Let go after the first one, it drops the
+// others, each once.
 #[test]
 fn an_arena_by_value_let_go_half_way(rt: HostRuntime) {
     let dropped = Cell::new(0);
