@@ -17,8 +17,10 @@ module _ {I : Type 0} where
   -- the references of the stops that named a place find nothing
   abbrev pub AreDead : ℕ → Book I → Book I → Type 0
   AreDead place old new =
-      (i g : ℕ) (v : StopView) → values_in new.stops i ≡ Some (g, v) → Names old.state v.ticket place → found_by (entry_in new.places) v.place ≡ None
+      (i g : ℕ) (v : StopView) → values_in new.stops i ≡ Some (g, v)
+      → Names old.state v.ticket place → found_by (entry_in new.places) v.place ≡ None
 
   -- and none is kept
   abbrev pub AreGone : ℕ → Book I → Book I → Type 0
-  AreGone place old new = (i g : ℕ) (v : StopView) → values_in new.stops i ≡ Some (g, v) → Names old.state v.ticket place → v.place ≡ None
+  AreGone place old new = (i g : ℕ) (v : StopView) → values_in new.stops i ≡ Some (g, v)
+      → Names old.state v.ticket place → v.place ≡ None

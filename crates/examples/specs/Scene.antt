@@ -31,5 +31,7 @@ module _ {P M : Type 0} (index generation : P → ℕ) where
   -- each pointer finds a node, and no two of them the same
   pub record IsScene (s : State P M) : Type 0 where
     pub formed : IsWellFormed s.nodes
-    pub live : (k : ℕ) (p : P) → slice_index_or s.pointers k None ≡ Some p → IsSome (value_if (generation p) (entry_at s.nodes (index p)))
-    pub apart : (k l : ℕ) (p q : P) → slice_index_or s.pointers k None ≡ Some p → slice_index_or s.pointers l None ≡ Some q → k ≢ l → index p ≢ index q
+    pub live : (k : ℕ) (p : P) → slice_index_or s.pointers k None ≡ Some p
+        → IsSome (value_if (generation p) (entry_at s.nodes (index p)))
+    pub apart : (k l : ℕ) (p q : P) → slice_index_or s.pointers k None ≡ Some p
+        → slice_index_or s.pointers l None ≡ Some q → k ≢ l → index p ≢ index q

@@ -25,5 +25,6 @@ pub record HasEnded (s : State) (index generation : ℕ) : Type 0 where
 -- while pointers are left, no task has a generation past that of the next one
 pub record IsSound (s : State) : Type 0 where
   pub formed : IsWellFormed s.tasks
-  pub given : s.is_spent ≡ false → (i : ℕ) → IfSome (entry_at s.tasks i) (λ e. e.0 ≤ s.tasks.counter)
+  pub given : s.is_spent ≡ false → (i : ℕ)
+      → IfSome (entry_at s.tasks i) (λ e. e.0 ≤ s.tasks.counter)
   pub limitless : s.tasks.room.limit ≡ None

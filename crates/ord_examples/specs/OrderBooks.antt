@@ -12,7 +12,8 @@ listed_order listed = (listed.1.1.k, listed.1.1.v)
 module _ {I V : Type 0} where
   -- the generation, and the price with the order, at each index
   abbrev pub orders_in : Ordered I (OrdPair ℕ V) → ℕ → Option (ℕ × (ℕ × V))
-  orders_in o i = option_map (λ e. (let order : ℕ × (ℕ × V) = (e.0, (e.1.k, e.1.v)) in order)) (entry_in o i)
+  orders_in o i = option_map (λ e. (let order : ℕ × (ℕ × V) = (e.0, (e.1.k, e.1.v)) in order))
+      (entry_in o i)
 
   -- the price at an index
   abbrev pub price_in : Ordered I (OrdPair ℕ V) → ℕ → Option ℕ
@@ -35,7 +36,8 @@ module _ {I V : Type 0} where
 
   -- no price is greater than that at an index
   abbrev pub IsLastPrice : Ordered I (OrdPair ℕ V) → ℕ → Type 0
-  IsLastPrice o i = (own k price : ℕ) → price_in o i ≡ Some own → price_in o k ≡ Some price → price ≤ own
+  IsLastPrice o i = (own k price : ℕ) → price_in o i ≡ Some own → price_in o k ≡ Some price
+      → price ≤ own
 
   -- the prices ascend, and no two are the same
   pub record IsBook (number : I → ℕ) (o : Ordered I (OrdPair ℕ V)) : Type 0 where
@@ -43,6 +45,7 @@ module _ {I V : Type 0} where
     pub apart : (i j price : ℕ) → price_in o i ≡ Some price → price_in o j ≡ Some price → i ≡ j
 
 -- what an insertion answers, with the order that it replaces alone
-abbrev pub as_order : {P V E : Type 0} → Result (P × Option (OrdPair ℕ V)) E → Result (P × Option V) E
+abbrev pub as_order : {P V E : Type 0} → Result (P × Option (OrdPair ℕ V)) E
+    → Result (P × Option V) E
 as_order (Ok r) = Ok (r.0, option_map (λ pair. pair.v) r.1)
 as_order (Err e) = Err e

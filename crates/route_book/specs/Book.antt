@@ -27,7 +27,8 @@ abbrev pub NewHave : {T : Type 0} → ℕ → (ℕ → Option (ℕ × T)) → (�
 NewHave {T} n old new = (i g : ℕ) (x : T) → old i ≡ None → new i ≡ Some (g, x) → g ≡ n
 
 module _ {I : Type 0} where
-  abbrev pub as_book : State → Ordered I Place → Content (IndexLink I StopView) → Content MarkView → Book I
+  abbrev pub as_book : State → Ordered I Place → Content (IndexLink I StopView)
+      → Content MarkView → Book I
   as_book s places stops marks = record { state = s; places = places; stops = stops; marks = marks }
 
   abbrev pub found_in : Ordered I Place → Content (IndexLink I StopView) → Content MarkView → Found
@@ -48,7 +49,8 @@ module _ {I : Type 0} where
   in_order number o = map (λ x. x.1.1) (ordered_entries number o)
 
   -- no more items than the rooms, and place for as many
-  pub record IsWithin (rooms : Rooms) (s : State) (places : Ordered I Place) (stops : Content (IndexLink I StopView)) (marks : Content MarkView) : Type 0 where
+  pub record IsWithin (rooms : Rooms) (s : State) (places : Ordered I Place)
+      (stops : Content (IndexLink I StopView)) (marks : Content MarkView) : Type 0 where
     pub rooms_are : s.rooms ≡ rooms
     pub place_count : length s.places ≡ size_in places
     pub stop_count : length (stop_list s.routes) ≡ live_count stops
@@ -60,9 +62,12 @@ module _ {I : Type 0} where
     pub stop_room : rooms.stops ≤ arena_capacity stops
     pub mark_room : rooms.marks ≤ arena_capacity marks
 
-  pub record IsBook (number : I → ℕ) (rooms : Rooms) (last : ℕ) (s : State) (places : Ordered I Place) (stops : Content (IndexLink I StopView)) (marks : Content MarkView) (book : List Entry)
+  pub record IsBook (number : I → ℕ) (rooms : Rooms) (last : ℕ) (s : State)
+      (places : Ordered I Place) (stops : Content (IndexLink I StopView)) (marks : Content MarkView)
+      (book : List Entry)
       : Type 0 where
-    pub held : IsHeld s (found_in places stops marks) (in_order number places) (ends_in number stops) book
+    pub held : IsHeld s (found_in places stops marks) (in_order number places)
+        (ends_in number stops) book
     pub places_rise : PlacesRise s.places
     pub within : IsWithin rooms s places stops marks
     pub last_is : s.last ≡ last
@@ -76,13 +81,16 @@ module _ {I : Type 0} where
     pub marks : new.marks.room ≡ old.marks.room
 
   -- each item keeps its pointer, a place its ticket and its key, and a stop and a mark all that
-  -- they hold. One that is new has the generation of its arena's counter. The counters and the rooms
-  -- stay
+  -- they hold. One that is new has the generation of its arena's counter. The counters and the
+  -- rooms stay
   pub record KeepsItems (old new : Book I) : Type 0 where
     pub places : (i g : ℕ) (p : Place) → entry_in old.places i ≡ Some (g, p)
-        → (q : Place) × ((entry_in new.places i ≡ Some (g, q)) × ((q.ticket ≡ p.ticket) × (q.key ≡ p.key)))
-    pub stops : (i g : ℕ) (t : StopView) → values_in old.stops i ≡ Some (g, t) → values_in new.stops i ≡ Some (g, t)
-    pub marks : (i g : ℕ) (m : MarkView) → entry_at old.marks i ≡ Some (g, m) → entry_at new.marks i ≡ Some (g, m)
+        → (q : Place) × ((entry_in new.places i ≡ Some (g, q))
+        × ((q.ticket ≡ p.ticket) × (q.key ≡ p.key)))
+    pub stops : (i g : ℕ) (t : StopView) → values_in old.stops i ≡ Some (g, t)
+        → values_in new.stops i ≡ Some (g, t)
+    pub marks : (i g : ℕ) (m : MarkView) → entry_at old.marks i ≡ Some (g, m)
+        → entry_at new.marks i ≡ Some (g, m)
     pub new_places : NewHave old.places.chains.counter (entry_in old.places) (entry_in new.places)
     pub new_stops : NewHave old.stops.counter (values_in old.stops) (values_in new.stops)
     pub new_marks : NewHave old.marks.counter (entry_at old.marks) (entry_at new.marks)

@@ -12,9 +12,10 @@ use Rattle.triple_arena_ord.specs.Ordered.{Ordered, IsOrdered, entry_in}
 use Rattle.route_lines.specs.State.{Place}
 use Rattle.route_book.specs.Item.{StopView, MarkView}
 
--- places and stops are laid out in the order of their lists, marks in the order of their indexes, and each index that was live or
--- is live is within the room
-pub record IsAllCompressed {I : Type 0} (number : I → ℕ) (last : Option ℕ) (places places' : Ordered I Place) (stops stops' : Content (IndexLink I StopView))
+-- places and stops are laid out in the order of their lists, marks in the order of their indexes,
+-- and each index that was live or is live is within the room
+pub record IsAllCompressed {I : Type 0} (number : I → ℕ) (last : Option ℕ)
+    (places places' : Ordered I Place) (stops stops' : Content (IndexLink I StopView))
     (marks marks' : Content MarkView) : Type 0 where
   pub was_ordered : IsOrdered number places
   pub was_chained : IsChained number stops
@@ -22,7 +23,8 @@ pub record IsAllCompressed {I : Type 0} (number : I → ℕ) (last : Option ℕ)
   pub laid : IsLaidInOrder number last true places places'
   pub canonical : IsCanonical number last true stops stops'
   pub values : map value_of (live_entries marks') ≡ map value_of (live_entries marks)
-  pub compressed : IsCompressed entry_at live_count some_counter (λ (c : Content MarkView). c.room) last live_entries true marks marks'
+  pub compressed : IsCompressed entry_at live_count some_counter
+      (λ (c : Content MarkView). c.room) last live_entries true marks marks'
   pub place_indexes : (i : ℕ) → IsSome (entry_in places i) → i ≤ arena_capacity places.chains
   pub stop_indexes : (i : ℕ) → IsSome (values_in stops i) → i ≤ arena_capacity stops
   pub mark_indexes : (i : ℕ) → IsSome (entry_at marks i) → i ≤ arena_capacity marks

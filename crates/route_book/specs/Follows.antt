@@ -28,8 +28,10 @@ module _ {T : Type 0} (ticket : T → ℕ) (stops : ℕ → Option (ℕ × T)) w
 
   -- each stop leads to the one at the next of its index
   abbrev pub LeadAs : (ℕ → Option Ends) → (ℕ → Option ℕ) → Type 0
-  LeadAs ends next = (i g : ℕ) (v : T) → stops i ≡ Some (g, v) → next (ticket v) ≡ ticket_at (next_at ends i)
+  LeadAs ends next = (i g : ℕ) (v : T) → stops i ≡ Some (g, v)
+      → next (ticket v) ≡ ticket_at (next_at ends i)
 
   -- no two stops have one ticket
   abbrev pub AreDistinct : Type 0
-  AreDistinct = (i j g h : ℕ) (v w : T) → stops i ≡ Some (g, v) → stops j ≡ Some (h, w) → ticket v ≡ ticket w → i ≡ j
+  AreDistinct = (i j g h : ℕ) (v w : T) → stops i ≡ Some (g, v) → stops j ≡ Some (h, w)
+      → ticket v ≡ ticket w → i ≡ j

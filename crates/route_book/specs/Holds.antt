@@ -1,4 +1,5 @@
--- How the arenas and the ticket book stand for a state. What pointers find are plain functions here: no arena, slot or tree.
+-- How the arenas and the ticket book stand for a state. What pointers find are plain functions
+-- here: no arena, slot or tree.
 use Rattle.std.specs.Prelude.{◌≡◌, ◌⊎◌, ℕ, ◌<◌, ◌≤◌, List, [], ◌∷◌, Option, Some, None, Ok, IsSome, IfSome}
 use Rattle.std.specs.Option.{option_map}
 use Rattle.triple_arena.specs.Entries.{value_if}
@@ -13,7 +14,8 @@ use Rattle.route_book.specs.Item.{StopView, MarkView}
 
 -- ---- what pointers find
 
--- the generation and the item at each index of the three arenas, and the generations of the next place and of the next stop
+-- the generation and the item at each index of the three arenas, and the generations of the next
+-- place and of the next stop
 pub record Found : Type 0 where
   pub places : ℕ → Option (ℕ × Place)
   pub stops : ℕ → Option (ℕ × StopView)
@@ -28,7 +30,8 @@ found_by at (Some p) = value_if p.1 (at p.0)
 
 -- a stop and a mark as the state has them: a reference is the ticket of the item that it finds
 abbrev pub state_stop : Found → StopView → Stop
-state_stop f v = record { ticket = v.ticket; place = option_map (λ (p : Place). p.ticket) (found_by f.places v.place) }
+state_stop f v = record { ticket = v.ticket;
+    place = option_map (λ (p : Place). p.ticket) (found_by f.places v.place) }
 
 abbrev pub state_mark : Found → MarkView → Mark
 state_mark f v =
@@ -98,7 +101,8 @@ Rise low (e ∷ book) last = (low < e.ticket) × Rise e.ticket book last
 abbrev pub IsLive : {T : Type 0} → (ℕ → Option (ℕ × T)) → Option (ℕ × ℕ) → Type 0
 IsLive at r = IfSome r (λ p. IsSome (value_if p.1 (at p.0)))
 
--- a reference is none, or it finds an item, or its generation is past: no entry gets it before the counter starts again
+-- a reference is none, or it finds an item, or its generation is past: no entry gets it before the
+-- counter starts again
 abbrev pub IsSettled : {T : Type 0} → (ℕ → Option (ℕ × T)) → ℕ → Option (ℕ × ℕ) → Type 0
 IsSettled at counter r = IfSome r (λ p. IsSome (value_if p.1 (at p.0)) ⊎ (p.1 < counter))
 
@@ -106,19 +110,27 @@ IsSettled at counter r = IfSome r (λ p. IsSome (value_if p.1 (at p.0)) ⊎ (p.1
 abbrev pub AreUpTo : {T : Type 0} → (ℕ → Option (ℕ × T)) → ℕ → Type 0
 AreUpTo {T} at counter = (i g : ℕ) (t : T) → at i ≡ Some (g, t) → g ≤ counter
 
--- the state is what the arenas and the book hold: `order` the places along their list, `ends` the interlinks of the stops
-pub record IsHeld (s : State) (f : Found) (order : List Place) (ends : ℕ → Option Ends) (book : List Entry) : Type 0 where
+-- the state is what the arenas and the book hold: `order` the places along their list, `ends` the
+-- interlinks of the stops
+pub record IsHeld (s : State) (f : Found) (order : List Place) (ends : ℕ → Option Ends)
+    (book : List Entry) : Type 0 where
   pub rise : Rise 0 book s.last
   -- each ticket of the book finds its item
   pub filled : (t : ℕ) (e : Entry) → lookup book t ≡ Some e → IsFilled f e.kind e.index e.generation
   -- each item is in the book under its ticket
-  pub places_in : (i g : ℕ) (p : Place) → f.places i ≡ Some (g, p) → lookup book p.ticket ≡ Some (entry p.ticket OfPlace i g)
-  pub stops_in : (i g : ℕ) (v : StopView) → f.stops i ≡ Some (g, v) → lookup book v.ticket ≡ Some (entry v.ticket OfStop i g)
-  pub marks_in : (i g : ℕ) (v : MarkView) → f.marks i ≡ Some (g, v) → lookup book v.ticket ≡ Some (entry v.ticket OfMark i g)
+  pub places_in : (i g : ℕ) (p : Place) → f.places i ≡ Some (g, p)
+      → lookup book p.ticket ≡ Some (entry p.ticket OfPlace i g)
+  pub stops_in : (i g : ℕ) (v : StopView) → f.stops i ≡ Some (g, v)
+      → lookup book v.ticket ≡ Some (entry v.ticket OfStop i g)
+  pub marks_in : (i g : ℕ) (v : MarkView) → f.marks i ≡ Some (g, v)
+      → lookup book v.ticket ≡ Some (entry v.ticket OfMark i g)
   -- each reference finds an item, or none for ever
-  pub stop_place : (i g : ℕ) (v : StopView) → f.stops i ≡ Some (g, v) → IsSettled f.places f.place_counter v.place
-  pub mark_place : (i g : ℕ) (v : MarkView) → f.marks i ≡ Some (g, v) → IsSettled f.places f.place_counter v.place
-  pub mark_stop : (i g : ℕ) (v : MarkView) → f.marks i ≡ Some (g, v) → IsSettled f.stops f.stop_counter v.stop
+  pub stop_place : (i g : ℕ) (v : StopView) → f.stops i ≡ Some (g, v)
+      → IsSettled f.places f.place_counter v.place
+  pub mark_place : (i g : ℕ) (v : MarkView) → f.marks i ≡ Some (g, v)
+      → IsSettled f.places f.place_counter v.place
+  pub mark_stop : (i g : ℕ) (v : MarkView) → f.marks i ≡ Some (g, v)
+      → IsSettled f.stops f.stop_counter v.stop
   pub places_up_to : AreUpTo f.places f.place_counter
   pub stops_up_to : AreUpTo f.stops f.stop_counter
   -- the state has the items under the same tickets

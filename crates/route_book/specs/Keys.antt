@@ -14,11 +14,13 @@ key_cmp x y = ordering_then (nat_cmp x.key y.key) (nat_cmp x.ticket y.ticket)
 abbrev pub key_of : Place → PlaceKey
 key_of p = record { key = p.key; ticket = p.ticket }
 
--- the way past a place whose key is not above a number, and else before it. It leads behind all places of that key
+-- the way past a place whose key is not above a number, and else before it. It leads behind all
+-- places of that key
 abbrev pub way_past : ℕ → Place → Ordering
 way_past key p = if nat_le p.key key then Greater else Less
 
--- the way past a place whose key is below a number, and else before it. It leads before all places of that key
+-- the way past a place whose key is below a number, and else before it. It leads before all places
+-- of that key
 abbrev pub way_to : ℕ → Place → Ordering
 way_to key p = if nat_lt p.key key then Greater else Less
 

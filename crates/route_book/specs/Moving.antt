@@ -46,9 +46,9 @@ move_refusal_of last greatest limit rooms s =
     (if is_too_small rooms s then Some TooSmall else None)
 
 module _ {I : Type 0} where
-  -- a store that was moved: its state is the old one in its rooms, its counters have started, at the
-  -- generation that all items have, its arenas have the rooms of a new store's, and no reference is
-  -- dead
+  -- a store that was moved: its state is the old one in its rooms, its counters have started, at
+  -- the generation that all items have, its arenas have the rooms of a new store's, and no
+  -- reference is dead
   pub record IsMovedIn (last : Option ℕ) (greatest : ℕ) (room : ℕ → Room) (wanted : Rooms)
       (old : State) (new : Book I) : Type 0 where
     pub state : new.state ≡ in_rooms wanted old

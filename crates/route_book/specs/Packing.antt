@@ -21,7 +21,8 @@ module _ {T : Type 0} where
   -- each item stands at another index, all under one generation
   pub record IsMoved (to : ℕ → ℕ) (g : ℕ) (old new : ℕ → Option (ℕ × T)) : Type 0 where
     pub into : (i h : ℕ) (t : T) → old i ≡ Some (h, t) → new (to i) ≡ Some (g, t)
-    pub onto : (k h : ℕ) (t : T) → new k ≡ Some (h, t) → (i : ℕ) × ((n : ℕ) × ((old i ≡ Some (n, t)) × ((to i ≡ k) × (h ≡ g))))
+    pub onto : (k h : ℕ) (t : T) → new k ≡ Some (h, t) → (i : ℕ)
+        × ((n : ℕ) × ((old i ≡ Some (n, t)) × ((to i ≡ k) × (h ≡ g))))
 
   -- a mirror leads from each old pointer to the new one, and from no other
   pub record IsMirror (to : ℕ → ℕ) (g : ℕ) (old : ℕ → Option (ℕ × T)) (m : Mirror) : Type 0 where
@@ -30,7 +31,8 @@ module _ {T : Type 0} where
 
 module _ {T : Type 0} (ticket : T → ℕ) where
   -- an item at an index below a bound, and the entry of its ticket in the book
-  pub record IsNoted (book : List Entry) (at : ℕ → Option (ℕ × T)) (low i h : ℕ) (q : ℕ × ℕ) : Type 0 where
+  pub record IsNoted (book : List Entry) (at : ℕ → Option (ℕ × T)) (low i h : ℕ) (q : ℕ × ℕ)
+      : Type 0 where
     pub below : q.0 < low
     pub item : T
     pub stands : at q.0 ≡ Some (q.1, item)
@@ -39,14 +41,19 @@ module _ {T : Type 0} (ticket : T → ℕ) where
     pub index : entry.index ≡ i
     pub generation : entry.generation ≡ h
 
-  -- under the pointer that the book has for an item's ticket stands the pointer that the item has now, for the items at the
-  -- indexes below a bound, and nothing else
-  pub record IsMirrored (book : List Entry) (at : ℕ → Option (ℕ × T)) (low : ℕ) (m : Mirror) : Type 0 where
-    pub filled : (j h : ℕ) (t : T) (e : Entry) → j < low → at j ≡ Some (h, t) → lookup book (ticket t) ≡ Some e → m e.index ≡ Some (e.generation, (j, h))
+  -- under the pointer that the book has for an item's ticket stands the pointer that the item has
+  -- now, for the items at the indexes below a bound, and nothing else
+  pub record IsMirrored (book : List Entry) (at : ℕ → Option (ℕ × T)) (low : ℕ) (m : Mirror)
+      : Type 0 where
+    pub filled : (j h : ℕ) (t : T) (e : Entry) → j < low → at j ≡ Some (h, t)
+        → lookup book (ticket t) ≡ Some e → m e.index ≡ Some (e.generation, (j, h))
     pub only : (i h : ℕ) (q : ℕ × ℕ) → m i ≡ Some (h, q) → IsNoted book at low i h q
 
-  -- each item's ticket is in the book, under a pointer that a mirror has room for, and each under an index of its own
+  -- each item's ticket is in the book, under a pointer that a mirror has room for, and each under
+  -- an index of its own
   pub record IsBooked (book : List Entry) (at : ℕ → Option (ℕ × T)) (room : ℕ) : Type 0 where
-    pub known : (j h : ℕ) (t : T) → at j ≡ Some (h, t) → (e : Entry) × ((lookup book (ticket t) ≡ Some e) × ((0 < e.index) × (e.index ≤ room)))
+    pub known : (j h : ℕ) (t : T) → at j ≡ Some (h, t) → (e : Entry)
+        × ((lookup book (ticket t) ≡ Some e) × ((0 < e.index) × (e.index ≤ room)))
     pub apart : (j k h n : ℕ) (t u : T) (d e : Entry) → at j ≡ Some (h, t) → at k ≡ Some (n, u)
-        → lookup book (ticket t) ≡ Some d → lookup book (ticket u) ≡ Some e → d.index ≡ e.index → j ≡ k
+        → lookup book (ticket t) ≡ Some d → lookup book (ticket u) ≡ Some e
+        → d.index ≡ e.index → j ≡ k

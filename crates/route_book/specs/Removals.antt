@@ -20,8 +20,10 @@ use Rattle.route_book.specs.Holds.{IsLive}
 use Rattle.route_book.specs.Item.{StopView, MarkView}
 
 -- the items but that of a ticket keep their pointers, and all that they hold
-abbrev pub OthersStay : {T : Type 0} → (T → ℕ) → ℕ → (ℕ → Option (ℕ × T)) → (ℕ → Option (ℕ × T)) → Type 0
-OthersStay {T} ticket t old new = (i g : ℕ) (x : T) → old i ≡ Some (g, x) → ticket x ≢ t → new i ≡ Some (g, x)
+abbrev pub OthersStay : {T : Type 0} → (T → ℕ) → ℕ → (ℕ → Option (ℕ × T))
+    → (ℕ → Option (ℕ × T)) → Type 0
+OthersStay {T} ticket t old new = (i g : ℕ) (x : T) → old i ≡ Some (g, x) → ticket x ≢ t
+    → new i ≡ Some (g, x)
 
 -- each item has this generation
 abbrev pub HaveGeneration : {T : Type 0} → ℕ → (ℕ → Option (ℕ × T)) → Type 0
@@ -34,7 +36,8 @@ kind_of (stop v) = OfStop
 kind_of (mark m) = OfMark
 
 module _ {I : Type 0} where
-  -- a place has ended: its arena's counter is one up, and stops and marks are as they were, with their references
+  -- a place has ended: its arena's counter is one up, and stops and marks are as they were, with
+  -- their references
   pub record IsPlaceEnded (t : ℕ) (old new : Book I) : Type 0 where
     pub counter : new.places.chains.counter ≡ old.places.chains.counter + 1
     pub room : new.places.chains.room ≡ old.places.chains.room
@@ -46,7 +49,8 @@ module _ {I : Type 0} where
   pub record IsStopEnded (t : ℕ) (old new : Book I) : Type 0 where
     pub counter : new.stops.counter ≡ old.stops.counter + 1
     pub room : new.stops.room ≡ old.stops.room
-    pub others : OthersStay (λ (v : StopView). v.ticket) t (values_in old.stops) (values_in new.stops)
+    pub others : OthersStay (λ (v : StopView). v.ticket) t (values_in old.stops)
+        (values_in new.stops)
     pub places : new.places ≡ old.places
     pub marks : new.marks ≡ old.marks
 
@@ -65,7 +69,8 @@ module _ {I : Type 0} where
   IsEnded last OfStop t old new = IsStopEnded t old new
   IsEnded last OfMark t old new = IsMarkEnded last t old new
 
-  -- whether the removal of an item of a kind would start its arena's counter again, which references may be to
+  -- whether the removal of an item of a kind would start its arena's counter again, which
+  -- references may be to
   abbrev pub removal_wraps : Option ℕ → Book I → Kind → Bool
   removal_wraps last b OfPlace = next_wraps last b.places.chains.counter
   removal_wraps last b OfStop = next_wraps last b.stops.counter
@@ -87,10 +92,13 @@ module _ {I : Type 0} where
     pub order : order_in number new.places ≡ range_with_len 1 (length new.state.places)
     pub stop_runs : IsLaidOut (ends_in number new.stops) (live_count new.stops)
     pub mark_run : (i : ℕ) → IsSome (entry_at new.marks i) ↔ ((1 ≤ i) × (i ≤ live_count new.marks))
-    pub stops : (i g : ℕ) (v : StopView) → values_in new.stops i ≡ Some (g, v) → IsLive (entry_in new.places) v.place
-    pub marks : (i g : ℕ) (m : MarkView) → entry_at new.marks i ≡ Some (g, m) → IsLive (entry_in new.places) m.place × IsLive (values_in new.stops) m.stop
+    pub stops : (i g : ℕ) (v : StopView) → values_in new.stops i ≡ Some (g, v)
+        → IsLive (entry_in new.places) v.place
+    pub marks : (i g : ℕ) (m : MarkView) → entry_at new.marks i ≡ Some (g, m)
+        → IsLive (entry_in new.places) m.place × IsLive (values_in new.stops) m.stop
 
-  -- an item of a kind has ended: with no look, or after a pack if its counter would have started again
+  -- an item of a kind has ended: with no look, or after a pack if its counter would have started
+  -- again
   abbrev pub IsRemoved : (I → ℕ) → Option ℕ → Kind → ℕ → ℕ → ℕ → Book I → Book I → Type 0
   IsRemoved number last kind t before after old new = by (removal_wraps last old kind)
     where
@@ -100,9 +108,12 @@ module _ {I : Type 0} where
           (packed : Book I) × ((packed.state ≡ old.state)
           × (IsPacked number last before after old packed × IsEnded last kind t packed new))
 
-  -- what a removal makes of a store, by what has the ticket: a refused one changes nothing and looks at nothing
-  abbrev pub Removes : (I → ℕ) → Option ℕ → ℕ → ℕ → ℕ → Book I → Book I → Result Item Refusal → Type 0
-  Removes number last t before after old new (Ok item) = IsRemoved number last (kind_of item) t before after old new
+  -- what a removal makes of a store, by what has the ticket: a refused one changes nothing and
+  -- looks at nothing
+  abbrev pub Removes : (I → ℕ) → Option ℕ → ℕ → ℕ → ℕ → Book I → Book I
+      → Result Item Refusal → Type 0
+  Removes number last t before after old new (Ok item)
+      = IsRemoved number last (kind_of item) t before after old new
   Removes number last t before after old new (Err refusal) = (new ≡ old) × (after ≡ before)
 
   -- before a removal: a pack if it is needed, and else nothing
@@ -118,6 +129,7 @@ module _ {I : Type 0} where
 
   -- what a line does to items, counters and looks, by its command
   abbrev pub Steps : (I → ℕ) → Option ℕ → Option Command → ℕ → ℕ → Book I → Book I → Type 0
-  Steps number last (Some (Remove t)) before after old new = Removes number last t before after old new (holder old.state t)
+  Steps number last (Some (Remove t)) before after old new
+      = Removes number last t before after old new (holder old.state t)
   Steps number last (Some Pack) before after old new = IsPacked number last before after old new
   Steps number last command before after old new = KeepsItems old new × (after ≡ before)

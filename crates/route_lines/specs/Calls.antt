@@ -77,7 +77,8 @@ abbrev pub placed_near : State → ℕ → Result ℕ Refusal
 placed_near s near = and_then (place_holder s near) (λ p. placed s)
 
 abbrev pub after_place_near : State → ℕ → List ℕ → ℕ → State
-after_place_near s key word near = unless_refused s (place_holder s near) (λ p. after_place s key word)
+after_place_near s key word near = unless_refused s (place_holder s near)
+    (λ p. after_place s key word)
 
 -- `word`: the word that the place had
 abbrev pub worded : State → ℕ → Result (List ℕ) Refusal
@@ -85,7 +86,8 @@ worded s ticket = and_then (place_holder s ticket) (λ p. Ok p.word)
 
 abbrev pub after_word : State → ℕ → List ℕ → State
 after_word s ticket word =
-    unless_refused s (place_holder s ticket) (λ p. record s { places = reworded ticket word s.places })
+    unless_refused s (place_holder s ticket)
+        (λ p. record s { places = reworded ticket word s.places })
 
 -- `show`
 abbrev pub shown : State → ℕ → Result Shown Refusal
@@ -108,11 +110,15 @@ floor_of s key = option_map (λ p. p.ticket) (find (λ p. nat_le p.key key) (rev
 -- `after` and `before`: the places next to a place
 abbrev pub place_after : State → ℕ → Result (Option ℕ) Refusal
 place_after s ticket =
-    and_then (place_holder s ticket) (λ p. Ok (option_map (λ q. q.ticket) (first_item (behind (λ q. q.ticket == ticket) s.places))))
+    and_then (place_holder s ticket)
+        (λ p. Ok (option_map (λ q. q.ticket)
+        (first_item (behind (λ q. q.ticket == ticket) s.places))))
 
 abbrev pub place_before : State → ℕ → Result (Option ℕ) Refusal
 place_before s ticket =
-    and_then (place_holder s ticket) (λ p. Ok (option_map (λ q. q.ticket) (last_item (before (λ q. q.ticket == ticket) s.places))))
+    and_then (place_holder s ticket)
+        (λ p. Ok (option_map (λ q. q.ticket)
+        (last_item (before (λ q. q.ticket == ticket) s.places))))
 
 -- `places`: what the iterator gives of a place
 abbrev pub listed : ℕ × ℕ × Bor (List ℕ) → Place
@@ -120,7 +126,8 @@ listed item = record { ticket = item.0; key = item.1; word = item.2.now }
 
 -- ---- routes
 
--- `start`: a stop alone on a linear route. Its ticket is above all others, so the route is the last one.
+-- `start`: a stop alone on a linear route. Its ticket is above all others, so the route is the last
+-- one.
 abbrev pub started : State → ℕ → Result ℕ Refusal
 started s at = and_then (place_holder s at) (λ p. next_ticket s (is_full_of_stops s))
 
@@ -133,7 +140,8 @@ after_start s at =
 
 -- `extend`: a stop directly behind another
 abbrev pub extended : State → ℕ → ℕ → Result ℕ Refusal
-extended s t at = and_then (stop_holder s t) (λ u. and_then (place_holder s at) (λ p. next_ticket s (is_full_of_stops s)))
+extended s t at = and_then (stop_holder s t)
+    (λ u. and_then (place_holder s at) (λ p. next_ticket s (is_full_of_stops s)))
 
 abbrev pub after_extend : State → ℕ → ℕ → State
 after_extend s t at =
@@ -145,7 +153,9 @@ after_extend s t at =
 -- `join`: `t` needs no stop behind it, and `u` none before it
 abbrev pub joined : State → ℕ → ℕ → Result Unit Refusal
 joined s t u =
-    and_then (stop_holder s t) (λ x. and_then (stop_holder s u) (λ y. allowed (is_none (next_stop s.routes t) && is_none (previous_stop s.routes u))))
+    and_then (stop_holder s t)
+        (λ x. and_then (stop_holder s u)
+        (λ y. allowed (is_none (next_stop s.routes t) && is_none (previous_stop s.routes u))))
 
 abbrev pub after_join : State → ℕ → ℕ → State
 after_join s t u = unless_refused s (joined s t u) (λ ok. record s { routes = linked t u s.routes })
@@ -160,10 +170,13 @@ after_cut s t = unless_refused s (parted s t) (λ ok. record s { routes = unlink
 -- `swap`: both need a stop behind them
 abbrev pub swapped : State → ℕ → ℕ → Result Unit Refusal
 swapped s t u =
-    and_then (stop_holder s t) (λ x. and_then (stop_holder s u) (λ y. allowed (is_some (next_stop s.routes t) && is_some (next_stop s.routes u))))
+    and_then (stop_holder s t)
+        (λ x. and_then (stop_holder s u)
+        (λ y. allowed (is_some (next_stop s.routes t) && is_some (next_stop s.routes u))))
 
 abbrev pub after_swap : State → ℕ → ℕ → State
-after_swap s t u = unless_refused s (swapped s t u) (λ ok. record s { routes = exchanged t u s.routes })
+after_swap s t u = unless_refused s (swapped s t u)
+    (λ ok. record s { routes = exchanged t u s.routes })
 
 -- `walk`
 abbrev pub walked : State → ℕ → Result (List Stop) Refusal
@@ -177,7 +190,8 @@ listed_stop item = record { ticket = item.0; place = item.1 }
 
 -- `mark`: its ticket is above all others, so it is the last one
 abbrev pub marked : State → ℕ → ℕ → Result ℕ Refusal
-marked s at t = and_then (place_holder s at) (λ p. and_then (stop_holder s t) (λ x. next_ticket s (is_full_of_marks s)))
+marked s at t = and_then (place_holder s at)
+    (λ p. and_then (stop_holder s t) (λ x. next_ticket s (is_full_of_marks s)))
 
 abbrev pub after_mark : State → ℕ → ℕ → State
 after_mark s at t =
@@ -217,7 +231,8 @@ without_place s t =
     }
 
 abbrev pub without_stop : State → ℕ → State
-without_stop s t = record s { routes = taken_out t s.routes; marks = map (clear_mark_stop t) s.marks }
+without_stop s t = record s { routes = taken_out t s.routes;
+    marks = map (clear_mark_stop t) s.marks }
 
 abbrev pub without_mark : State → ℕ → State
 without_mark s t = record s { marks = filter (λ m. not (m.ticket == t)) s.marks }

@@ -5,7 +5,8 @@ use Rattle.route_lines.specs.declared.change.Change.{Change}
 use Rattle.route_lines.specs.declared.change.Change.TheVariants.{Open, Place, Word, Start, Extend, Join, Cut, Swap, Mark, Remove, Move}
 
 abbrev pub changed : State → Change → State
-changed s (Open places stops marks last) = empty (record { places = places; stops = stops; marks = marks }) last
+changed s (Open places stops marks last)
+    = empty (record { places = places; stops = stops; marks = marks }) last
 changed s (Place key word) = after_place s key word
 changed s (Word ticket word) = after_word s ticket word
 changed s (Start at) = after_start s at

@@ -14,7 +14,9 @@ use Rattle.route_lines.specs.declared.refusal.RoomError.TheVariants.{Generation,
 -- three numbers: the rooms of places, stops and marks
 abbrev pub rooms_of : List (List ℕ) → Option Rooms
 rooms_of (places ∷ stops ∷ marks ∷ []) =
-    option_and_then (λ p. option_and_then (λ t. option_map (λ m. record { places = p; stops = t; marks = m }) (number_of marks)) (number_of stops)) (number_of places)
+    option_and_then (λ p. option_and_then
+        (λ t. option_map (λ m. record { places = p; stops = t; marks = m }) (number_of marks))
+        (number_of stops)) (number_of places)
 rooms_of _ = None
 
 abbrev pub room_sum : Rooms → ℕ
@@ -44,14 +46,16 @@ pub record Answers (rooms : Rooms) (before left held written : Option (List ℕ)
   pub answered : Appends held written (text (empty rooms 0) input)
 
 -- some input was read, and each line of it that an LF ends was answered, nothing else
-pub record AnswersWholeLines (rooms : Rooms) (before left held written : Option (List ℕ)) : Type 0 where
+pub record AnswersWholeLines (rooms : Rooms) (before left held written : Option (List ℕ))
+    : Type 0 where
   pub input : List ℕ
   pub read : Consumes before left input
   pub answered : Appends held written (replies (empty rooms 0) (map whole (whole_lines input)))
 
--- some input was read, and the replies written up to a line whose reply lacks a byte or more; or the text that answers
--- the whole input was written, and the flush failed
-pub record BeginsToAnswer (rooms : Rooms) (before left held written : Option (List ℕ)) : Type 0 where
+-- some input was read, and the replies written up to a line whose reply lacks a byte or more; or
+-- the text that answers the whole input was written, and the flush failed
+pub record BeginsToAnswer (rooms : Rooms) (before left held written : Option (List ℕ))
+    : Type 0 where
   pub input : List ℕ
   pub read : Consumes before left input
   pub later : State

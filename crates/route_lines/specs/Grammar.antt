@@ -7,18 +7,22 @@ use Rattle.route_lines.specs.Word.{IsWord, word_of}
 use Rattle.route_lines.specs.declared.command.Command.{Command}
 use Rattle.route_lines.specs.declared.command.Command.TheVariants.{Place, Word, Show, Find, Floor, After, Before, All, Remove, Start, Extend, Join, Cut, Swap, Walk, Mark, Pack}
 
--- the line is these bytes and then a number, or a number, a space and a number: in decimal digits without leading zeros
+-- the line is these bytes and then a number, or a number, a space and a number: in decimal digits
+-- without leading zeros
 abbrev pub SpellsNumber : List ℕ → List ℕ → ℕ → Type 0
 SpellsNumber line front n = IsNumber n × (line ≡ front ++ decimal n)
 
 abbrev pub SpellsNumbers : List ℕ → List ℕ → ℕ → ℕ → Type 0
-SpellsNumbers line front m n = IsNumber m × IsNumber n × (line ≡ front ++ decimal m ++ 32 ∷ decimal n)
+SpellsNumbers line front m n = IsNumber m × IsNumber n
+    × (line ≡ front ++ decimal m ++ 32 ∷ decimal n)
 
 -- the line has just these bytes: fields apart by one space
 abbrev pub Spells : List ℕ → Command → Type 0
-Spells line (Place key word None) = IsNumber key × IsWord word × (line ≡ codes "place " ++ decimal key ++ 32 ∷ word)
+Spells line (Place key word None) = IsNumber key × IsWord word
+    × (line ≡ codes "place " ++ decimal key ++ 32 ∷ word)
 Spells line (Place key word (Some near)) =
-    IsNumber key × IsWord word × IsNumber near × (line ≡ codes "place " ++ decimal key ++ 32 ∷ (word ++ (codes " near " ++ decimal near)))
+    IsNumber key × IsWord word × IsNumber near
+        × (line ≡ codes "place " ++ decimal key ++ 32 ∷ (word ++ (codes " near " ++ decimal near)))
 Spells line (Word ticket word) =
     IsNumber ticket × IsWord word × (line ≡ codes "word " ++ decimal ticket ++ 32 ∷ word)
 Spells line (Show ticket) = SpellsNumber line (codes "show ") ticket
@@ -49,8 +53,10 @@ command_by (row ∷ rows) verb = if bytes_eq verb row.0 then Some row.1 else com
 -- the verbs that go with a number
 abbrev pub number_verbs : ℕ → List (List ℕ × Command)
 number_verbs n =
-    (codes "show", Show n) ∷ (codes "find", Find n) ∷ (codes "floor", Floor n) ∷ (codes "after", After n)
-    ∷ (codes "before", Before n) ∷ (codes "remove", Remove n) ∷ (codes "start", Start n) ∷ (codes "cut", Cut n) ∷ (codes "walk", Walk n) ∷ []
+    (codes "show", Show n) ∷ (codes "find", Find n) ∷ (codes "floor", Floor n)
+    ∷ (codes "after", After n)
+    ∷ (codes "before", Before n) ∷ (codes "remove", Remove n) ∷ (codes "start", Start n)
+    ∷ (codes "cut", Cut n) ∷ (codes "walk", Walk n) ∷ []
 
 abbrev pub command_of_number : List ℕ → ℕ → Option Command
 command_of_number verb n = command_by (number_verbs n) verb
@@ -58,7 +64,8 @@ command_of_number verb n = command_by (number_verbs n) verb
 -- those that go with two
 abbrev pub numbers_verbs : ℕ → ℕ → List (List ℕ × Command)
 numbers_verbs m n =
-    (codes "extend", Extend m n) ∷ (codes "join", Join m n) ∷ (codes "swap", Swap m n) ∷ (codes "mark", Mark m n) ∷ []
+    (codes "extend", Extend m n) ∷ (codes "join", Join m n) ∷ (codes "swap", Swap m n)
+    ∷ (codes "mark", Mark m n) ∷ []
 
 abbrev pub command_of_numbers : List ℕ → ℕ → ℕ → Option Command
 command_of_numbers verb m n = command_by (numbers_verbs m n) verb
@@ -77,22 +84,28 @@ command_of_two_fields verb field = option_and_then (command_of_number verb) (num
 abbrev pub command_of_three_fields : List ℕ → List ℕ → List ℕ → Option Command
 command_of_three_fields verb first second =
     if bytes_eq verb (codes "place")
-    then option_and_then (λ key. option_map (λ word. Place key word None) (word_of second)) (number_of first)
+    then option_and_then (λ key. option_map (λ word. Place key word None) (word_of second))
+        (number_of first)
     else if bytes_eq verb (codes "word")
-    then option_and_then (λ ticket. option_map (λ word. Word ticket word) (word_of second)) (number_of first)
-    else option_and_then (λ m. option_and_then (command_of_numbers verb m) (number_of second)) (number_of first)
+    then option_and_then (λ ticket. option_map (λ word. Word ticket word) (word_of second))
+        (number_of first)
+    else option_and_then (λ m. option_and_then (command_of_numbers verb m) (number_of second))
+        (number_of first)
 
 abbrev pub command_of_five_fields : List ℕ → List ℕ → List ℕ → List ℕ → List ℕ → Option Command
 command_of_five_fields verb first second third fourth =
     if bytes_eq verb (codes "place") && bytes_eq third (codes "near")
-    then option_and_then (λ key. option_and_then (λ word. option_map (λ near. Place key word (Some near)) (number_of fourth)) (word_of second)) (number_of first)
+    then option_and_then (λ key. option_and_then
+        (λ word. option_map (λ near. Place key word (Some near)) (number_of fourth))
+        (word_of second)) (number_of first)
     else None
 
 abbrev pub command_of_fields : List (List ℕ) → Option Command
 command_of_fields (verb ∷ []) = command_of_one_field verb
 command_of_fields (verb ∷ field ∷ []) = command_of_two_fields verb field
 command_of_fields (verb ∷ first ∷ second ∷ []) = command_of_three_fields verb first second
-command_of_fields (verb ∷ first ∷ second ∷ third ∷ fourth ∷ []) = command_of_five_fields verb first second third fourth
+command_of_fields (verb ∷ first ∷ second ∷ third ∷ fourth ∷ [])
+    = command_of_five_fields verb first second third fourth
 command_of_fields _ = None
 
 -- the command that the line spells

@@ -10,4 +10,5 @@ IsNumber n = n < 2 ^ 64
 -- the number whose decimal text is these bytes: digits alone, with no leading zero
 unfoldable pub number_of : List ℕ → Option ℕ
 number_of bytes =
-    let n = digits_value 10 bytes in if nat_lt n (2 ^ 64) && bytes_eq (decimal n) bytes then Some n else None
+    let n = digits_value 10 bytes in if nat_lt n (2 ^ 64) && bytes_eq
+        (decimal n) bytes then Some n else None

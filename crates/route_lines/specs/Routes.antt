@@ -1,4 +1,5 @@
--- The routes of a state: which stop follows which, and what is made of routes as stops are put in, joined and cut apart.
+-- The routes of a state: which stop follows which, and what is made of routes as stops are put in,
+-- joined and cut apart.
 use Rattle.std.specs.Prelude.{ℕ, ◌==◌, ◌∷◌, ◌++◌, Bool, true, false, List, [], Option, Some, None, if◌then◌else◌, nat_lt, min, length, map, find, filter, not, reverse, option_and_then}
 use Rattle.std.specs.List.{list_any}
 use Rattle.std.specs.Option.{option_map, option_or, option_map_or}
@@ -36,16 +37,23 @@ has_stop s r = list_any (has_ticket s) r.stops
 abbrev pub ticket_of : Option Stop → Option ℕ
 ticket_of stop = option_map (λ t. t.ticket) stop
 
--- the stop that follows a stop, and the one before it: in a ring the first stop follows the last one
+-- the stop that follows a stop, and the one before it: in a ring the first stop follows the last
+-- one
 abbrev pub next_in : ℕ → Route → Option ℕ
-next_in s r = ticket_of (option_or (first_item (behind (has_ticket s) r.stops)) (if r.is_ring then first_item r.stops else None))
+next_in s r = ticket_of
+    (option_or (first_item (behind (has_ticket s) r.stops))
+    (if r.is_ring then first_item r.stops else None))
 
 abbrev pub previous_in : ℕ → Route → Option ℕ
-previous_in s r = ticket_of (option_or (last_item (before (has_ticket s) r.stops)) (if r.is_ring then last_item r.stops else None))
+previous_in s r = ticket_of
+    (option_or (last_item (before (has_ticket s) r.stops))
+    (if r.is_ring then last_item r.stops else None))
 
--- the stops as they are walked from a stop: once round a ring, or to the end and then backwards from the stop before it
+-- the stops as they are walked from a stop: once round a ring, or to the end and then backwards
+-- from the stop before it
 abbrev pub walk_in : ℕ → Route → List Stop
-walk_in s r = if r.is_ring then round s r.stops else onward (has_ticket s) r.stops ++ reverse (before (has_ticket s) r.stops)
+walk_in s r = if r.is_ring then round s r.stops else onward (has_ticket s) r.stops
+    ++ reverse (before (has_ticket s) r.stops)
 
 -- ---- all routes
 
@@ -66,7 +74,8 @@ first_ticket r = option_map_or (λ t. t.ticket) (first_item r.stops) 0
 -- the routes with one more, in the order of their first tickets
 abbrev pub insert_route : Route → List Route → List Route
 insert_route new [] = new ∷ []
-insert_route new (r ∷ routes) = if nat_lt (first_ticket new) (first_ticket r) then new ∷ r ∷ routes else r ∷ insert_route new routes
+insert_route new (r ∷ routes) = if nat_lt (first_ticket new) (first_ticket r) then new ∷ r
+    ∷ routes else r ∷ insert_route new routes
 
 -- a list of no stops is no route
 abbrev pub put_route : Route → List Route → List Route
@@ -81,9 +90,12 @@ previous_stop routes s = option_and_then (previous_in s) (route_of routes s)
 -- a stop more, directly behind `s`
 abbrev pub put_behind : ℕ → Stop → List Route → List Route
 put_behind s new routes =
-    map (λ r. if has_stop s r then record r { stops = up_to (has_ticket s) r.stops ++ new ∷ behind (has_ticket s) r.stops } else r) routes
+    map (λ r. if has_stop s r then record r
+        { stops = up_to (has_ticket s) r.stops ++ new ∷ behind (has_ticket s) r.stops }
+        else r) routes
 
--- the route that ends with `s` goes on with the one that starts with `u`; where they are one route it becomes a ring
+-- the route that ends with `s` goes on with the one that starts with `u`; where they are one route
+-- it becomes a ring
 abbrev pub linked : ℕ → ℕ → List Route → List Route
 linked s u routes =
     let front = stops_with s routes in
@@ -92,7 +104,8 @@ linked s u routes =
     then put_route (ring front) others
     else put_route (linear (front ++ stops_with u others)) (without u others)
 
--- `s` is parted from the stop that follows it: a linear route is split behind `s`, a ring becomes a linear route that ends with `s`
+-- `s` is parted from the stop that follows it: a linear route is split behind `s`, a ring becomes a
+-- linear route that ends with `s`
 abbrev pub unlinked : ℕ → List Route → List Route
 unlinked s routes = from (route_of routes s)
   where
@@ -125,7 +138,8 @@ abbrev pub exchanged : ℕ → ℕ → List Route → List Route
 exchanged s u routes = from (next_stop routes s) (next_stop routes u)
   where
     from : Option ℕ → Option ℕ → List Route
-    from (Some s') (Some u') = if s == u then routes else linked u s' (linked s u' (unlinked u (unlinked s routes)))
+    from (Some s') (Some u') = if s == u then routes else linked u s'
+        (linked s u' (unlinked u (unlinked s routes)))
     from (Some s') None = routes
     from None o = routes
 

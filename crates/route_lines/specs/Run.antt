@@ -30,7 +30,8 @@ pub record Carries (old : State) (lines : List Line) (new : State)
   pub replied : Appends held written (replies old lines)
   pub counts : CountsOver old lines before later
 
--- the lines are carried out, and one more; of its reply a beginning is written, at least a byte short
+-- the lines are carried out, and one more; of its reply a beginning is written, at least a byte
+-- short
 pub record BreaksOff (old : State) (lines : List Line) (line : Line) (new : State)
     (held written : Option (List ℕ)) (before later : Counts) : Type 0 where
   pub part : List ℕ
@@ -46,8 +47,10 @@ abbrev pub ComesIn : Line → Option (List ℕ) → Type 0
 ComesIn (whole bytes) left = Unit {0}
 ComesIn (unended bytes) left = IsAtEnd left
 
--- a write fault breaks off at one of the lines that were read; where the flush at the end failed, all are answered
-pub record StopsWithin (input : List ℕ) (left : Option (List ℕ)) (old new : State) (held written : Option (List ℕ)) (counts later : Counts) : Type 0 where
+-- a write fault breaks off at one of the lines that were read; where the flush at the end failed,
+-- all are answered
+pub record StopsWithin (input : List ℕ) (left : Option (List ℕ)) (old new : State)
+    (held written : Option (List ℕ)) (counts later : Counts) : Type 0 where
   pub before : List Line
   pub line : Line
   pub behind : List Line

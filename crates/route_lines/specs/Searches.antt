@@ -68,7 +68,8 @@ pub record CountsWithin (old new : Counts) (keys firsts seconds : ℕ) : Type 0 
   pub second : new.second ≤ old.second + seconds
   pub looks : new.looks ≡ old.looks
 
--- the greatest number of comparisons with keys that a command may take: what names no key makes none
+-- the greatest number of comparisons with keys that a command may take: what names no key makes
+-- none
 abbrev pub most_keys : State → Option Command → ℕ
 most_keys s (Some (Place key word None)) = most_comparisons (place_count s)
 most_keys s (Some (Place key word (Some near))) = most_near s key near

@@ -21,7 +21,8 @@ PlacesRise (p ∷ places) = AllByRecursion (IsBefore p) places × PlacesRise pla
 -- the first ticket of each route, and the ticket of each mark, is below those behind it
 abbrev pub RoutesRise : List Route → Type 0
 RoutesRise [] = Unit {0}
-RoutesRise (r ∷ routes) = AllByRecursion (λ q. first_ticket r < first_ticket q) routes × RoutesRise routes
+RoutesRise (r ∷ routes) = AllByRecursion (λ q. first_ticket r < first_ticket q) routes
+    × RoutesRise routes
 
 abbrev pub MarksRise : List Mark → Type 0
 MarksRise [] = Unit {0}
@@ -48,7 +49,8 @@ pub record IsWritten (r : Route) : Type 0 where
   pub some : 0 < length r.stops
   pub from_smallest : r.is_ring ≡ true → AllByRecursion (λ t. first_ticket r ≤ t.ticket) r.stops
 
--- no stop's ticket stands twice on these routes, each is written as it should be, and so is their list
+-- no stop's ticket stands twice on these routes, each is written as it should be, and so is their
+-- list
 pub record AreWritten (routes : List Route) : Type 0 where
   pub once : (ticket : ℕ) → count_of (has_ticket ticket) (stop_list routes) ≤ 1
   pub each : AllByRecursion IsWritten routes

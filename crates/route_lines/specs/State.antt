@@ -69,9 +69,11 @@ mark_of marks ticket = find (λ m. m.ticket == ticket) marks
 abbrev pub living : State → ℕ → Option Item
 living s ticket =
     option_or (option_map place (place_of s.places ticket))
-    (option_or (option_map stop (stop_of s.routes ticket)) (option_map mark (mark_of s.marks ticket)))
+    (option_or (option_map stop (stop_of s.routes ticket))
+    (option_map mark (mark_of s.marks ticket)))
 
--- the item that has the ticket: a ticket is unknown where it was never given, and gone where its item has ended
+-- the item that has the ticket: a ticket is unknown where it was never given, and gone where its
+-- item has ended
 abbrev pub holder : State → ℕ → Result Item Refusal
 holder s ticket =
     if (ticket == 0) || nat_lt s.last ticket then Err Unknown else ok_or (living s ticket) Gone

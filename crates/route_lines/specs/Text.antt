@@ -52,7 +52,8 @@ replies s (line ∷ lines) = reply s (command_in line) ++ replies (next s (comma
 -- each line with its reply
 abbrev pub answered : State → List Line → List (Line × List ℕ)
 answered s [] = []
-answered s (line ∷ lines) = (line, reply s (command_in line)) ∷ answered (next s (command_in line)) lines
+answered s (line ∷ lines) = (line, reply s (command_in line))
+    ∷ answered (next s (command_in line)) lines
 
 -- no line is answered `full`
 abbrev pub NoneFull : State → List Line → Type 0

@@ -22,8 +22,10 @@ pub record Cuts (bytes : List ℕ) (lines : List (List ℕ)) (rest : List ℕ) :
   pub each : AllByRecursion HasNoLineEnd lines
   pub last : HasNoLineEnd rest
 
--- of the bytes, whose last are left, the lines with an LF are carried out, and what follows them is kept
-pub record Takes (bytes left : List ℕ) (kept : Unfinished) (old new : State) (held written : Option (List ℕ)) (before later : Counts) : Type 0 where
+-- of the bytes, whose last are left, the lines with an LF are carried out, and what follows them is
+-- kept
+pub record Takes (bytes left : List ℕ) (kept : Unfinished) (old new : State)
+    (held written : Option (List ℕ)) (before later : Counts) : Type 0 where
   pub lines : List (List ℕ)
   pub rest : List ℕ
   pub is : bytes ≡ flat_map ended lines ++ (rest ++ left)
@@ -33,7 +35,8 @@ pub record Takes (bytes left : List ℕ) (kept : Unfinished) (old new : State) (
   pub carries : Carries old (map whole lines) new held written before later
 
 -- or a write fails at one of them
-pub record Stops (bytes : List ℕ) (old new : State) (held written : Option (List ℕ)) (counts later : Counts) : Type 0 where
+pub record Stops (bytes : List ℕ) (old new : State) (held written : Option (List ℕ))
+    (counts later : Counts) : Type 0 where
   pub lines : List (List ℕ)
   pub line : List ℕ
   pub behind : List ℕ
@@ -43,6 +46,7 @@ pub record Stops (bytes : List ℕ) (old new : State) (held written : Option (Li
   pub breaks : BreaksOff old (map whole lines) (whole line) new held written counts later
 
 -- at the end of the input a rest is answered, and the writer is flushed
-pub record StopsAtEnd (rest : List ℕ) (old new : State) (held written : Option (List ℕ)) (counts later : Counts) : Type 0 where
+pub record StopsAtEnd (rest : List ℕ) (old new : State) (held written : Option (List ℕ))
+    (counts later : Counts) : Type 0 where
   pub some : 0 < length rest
   pub breaks : BreaksOff old [] (unended rest) new held written counts later

@@ -22,8 +22,10 @@ module _ {I : Type 0} (number : I → ℕ) where
 
   -- how many entries the search for a ticket compares with
   abbrev pub asked_in : Ordered I Entry → ℕ → ℕ
-  asked_in o ticket = asked_down (asked_at nat_cmp (λ (e : Entry). e.ticket) ticket o) (tree_in number o)
+  asked_in o ticket = asked_down (asked_at nat_cmp (λ (e : Entry). e.ticket) ticket o)
+      (tree_in number o)
 
   -- the same beside each entry: for its ticket, and for one behind it
   abbrev pub asked_beside : Ordered I Entry → List (ℕ × ℕ)
-  asked_beside o = map (λ (e : Entry). (asked_in o e.ticket, asked_in o (e.ticket + 1))) (entries_of o)
+  asked_beside o = map (λ (e : Entry). (asked_in o e.ticket, asked_in o (e.ticket + 1)))
+      (entries_of o)

@@ -23,7 +23,8 @@ pub record Tickets : Type 0 where
   pub asked_below : ℕ
   pub asked_along : List (ℕ × ℕ)
 
--- how many comparisons the search for a ticket makes, among entries that have these numbers beside them
+-- how many comparisons the search for a ticket makes, among entries that have these numbers beside
+-- them
 abbrev pub asked_among : ℕ → List Entry → List (ℕ × ℕ) → ℕ → ℕ
 asked_among below [] counts ticket = below
 asked_among below (e ∷ entries) [] ticket = below
@@ -53,7 +54,8 @@ asked_from (Some e) ticket search = if e.ticket == ticket then 1 else search + 1
 -- how many comparisons find the entry of a ticket
 abbrev pub asked : Tickets → ℕ → ℕ
 asked b ticket =
-    asked_from (looked_at b ticket) ticket (asked_among b.asked_below b.entries b.asked_along ticket)
+    asked_from (looked_at b ticket) ticket
+        (asked_among b.asked_below b.entries b.asked_along ticket)
 
 -- the entry of a ticket
 abbrev pub lookup : List Entry → ℕ → Option Entry
@@ -70,4 +72,5 @@ AreBelow entries ticket = AllByRecursion (λ (e : Entry). e.ticket < ticket) ent
 -- each ticket is below those behind it
 abbrev pub TicketsRise : List Entry → Type 0
 TicketsRise [] = Unit {0}
-TicketsRise (e ∷ entries) = AllByRecursion (λ (f : Entry). e.ticket < f.ticket) entries × TicketsRise entries
+TicketsRise (e ∷ entries) = AllByRecursion (λ (f : Entry). e.ticket < f.ticket) entries
+    × TicketsRise entries

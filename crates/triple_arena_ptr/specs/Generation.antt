@@ -1,4 +1,5 @@
--- The numbers of generations, under the greatest one. It is absent where generations are not counted, and all have the number 1.
+-- The numbers of generations, under the greatest one. It is absent where generations are not
+-- counted, and all have the number 1.
 use Rattle.std.specs.Prelude.{◌≡◌, ℕ, ◌+◌, ◌==◌, ◌<◌, ◌≤◌, Bool, false, Option, Some, None, if◌then◌else◌}
 
 -- a number that a generation may have

@@ -19,6 +19,7 @@ strict_value (Success x) = Some x
 strict_value (GenerationOverflow x) = None
 
 -- a possible result of the call of `f` on the value, with the same answer of the step
-pub record IsMappedBy {T U F : Type 0} (post : F → T → U → Type 0) (f : F) (a : InvalidationOption T) (b : InvalidationOption U) : Type 0 where
+pub record IsMappedBy {T U F : Type 0} (post : F → T → U → Type 0) (f : F)
+    (a : InvalidationOption T) (b : InvalidationOption U) : Type 0 where
   pub value : post f (value_of a) (value_of b)
   pub answer : overflowed b ≡ overflowed a

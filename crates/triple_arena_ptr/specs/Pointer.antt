@@ -14,4 +14,5 @@ generation_text (Some last) g = codes "(" ++ (hexadecimal g ++ codes ")")
 
 -- the text of a pointer of a type of this name
 abbrev pub pointer_text : List ℕ → Option ℕ → ℕ → ℕ → List ℕ
-pointer_text name last index generation = name ++ (codes "[" ++ (hexadecimal index ++ (codes "]" ++ generation_text last generation)))
+pointer_text name last index generation = name
+    ++ (codes "[" ++ (hexadecimal index ++ (codes "]" ++ generation_text last generation)))

@@ -21,7 +21,8 @@ abbrev pub items_after : {I : Type 0} → Option I → List I → List I → Lis
 items_after None stay go_on = stay
 items_after (Some y) stay go_on = go_on
 
--- the items up to the first that has no image, each renamed, and that one and those after it as they were
+-- the items up to the first that has no image, each renamed, and that one and those after it as
+-- they were
 abbrev pub renamed : {I : Type 0} → (I → Option I) → List I → List I
 renamed f [] = []
 renamed f (x ∷ xs) = renamed_item (f x) x ∷ items_after (f x) xs (renamed f xs)

@@ -13,22 +13,30 @@ module _ {N : Type 0} (made : (n : ℕ) → 0 < n → N) (value : N → ℕ) whe
   word_for None = zero
   word_for (Some i) = value i
 
-  pub word-held : ((n : ℕ) (ok : 0 < n) → value (made n ok) ≡ n) → (n : ℕ) → word_for (held_in n) ≡ n
+  pub word-held : ((n : ℕ) (ok : 0 < n) → value (made n ok) ≡ n) → (n : ℕ)
+      → word_for (held_in n) ≡ n
   word-held values zero = refl
   word-held values (suc n) = values (suc n) (zero-lt-suc n)
 
-  pub held-of_positive : ((n : ℕ) (ok : 0 < n) → value (made n ok) ≡ n) → ((a b : N) → value a ≡ value b → a ≡ b) → (n : ℕ) → 0 < n → (i : N)
+  pub held-of_positive : ((n : ℕ) (ok : 0 < n) → value (made n ok) ≡ n)
+      → ((a b : N) → value a ≡ value b → a ≡ b) → (n : ℕ) → 0 < n → (i : N)
       → n ≡ value i → held_in n ≡ Some i
   held-of_positive values determined zero positive i same = absurd (lt_irrefl zero positive)
-  held-of_positive values determined (suc n) positive i same = ap Some (determined _ i (values (suc n) (zero-lt-suc n) ∙ same))
+  held-of_positive values determined (suc n) positive i same
+      = ap Some (determined _ i (values (suc n) (zero-lt-suc n) ∙ same))
 
-  pub held-word : ((n : ℕ) (ok : 0 < n) → value (made n ok) ≡ n) → ((a b : N) → value a ≡ value b → a ≡ b) → ((i : N) → 0 < value i) → (o : Option N)
+  pub held-word : ((n : ℕ) (ok : 0 < n) → value (made n ok) ≡ n)
+      → ((a b : N) → value a ≡ value b → a ≡ b) → ((i : N) → 0 < value i) → (o : Option N)
       → held_in (word_for o) ≡ o
   held-word values determined positive None = refl
-  held-word values determined positive (Some i) = held-of_positive values determined (value i) (positive i) i refl
+  held-word values determined positive (Some i) = held-of_positive values determined (value i)
+      (positive i) i refl
 
   -- what the checked conversion makes of a word
-  pub made_held : ((n : ℕ) (ok : 0 < n) → value (made n ok) ≡ n) → ((a b : N) → value a ≡ value b → a ≡ b) → ((i : N) → 0 < value i) → (n : ℕ)
+  pub made_held : ((n : ℕ) (ok : 0 < n) → value (made n ok) ≡ n)
+      → ((a b : N) → value a ≡ value b → a ≡ b) → ((i : N) → 0 < value i) → (n : ℕ)
       → (o : Option N) → MatchOption o (n ≡ 0) (λ i. value i ≡ n) → o ≡ held_in n
   made_held values determined positive n None none = sym (ap held_in none)
-  made_held values determined positive n (Some i) same = sym (held-of_positive values determined n (subst (λ k. 0 < k) same (positive i)) i (sym same))
+  made_held values determined positive n (Some i) same
+      = sym (held-of_positive values determined n
+      (subst (λ k. 0 < k) same (positive i)) i (sym same))
