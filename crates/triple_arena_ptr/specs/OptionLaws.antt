@@ -22,36 +22,42 @@ module _ {K : Type 0} {E : K → K → Bool} where
       flip (Some x) None = refl
       flip (Some x) (Some y) = e.symm x y
 
-      on : (p q s : Option K) → option_eq E p q ≡ true → option_eq E q s ≡ true → option_eq E p s ≡ true
+      on : (p q s : Option K) → option_eq E p q ≡ true → option_eq E q s ≡ true
+          → option_eq E p s ≡ true
       on None None s h k = k
       on None (Some y) s h k = absurd (cc)
       on (Some x) None s h k = absurd (cc)
       on (Some x) (Some y) None h k = k
       on (Some x) (Some y) (Some z) h k = e.trans x y z h k
 
-  pub options_fed : (F : K → List (List ℕ)) → ((x y : K) → IsTrue (E x y) → F x ≡ F y) → (p q : Option K) → IsTrue (option_eq E p q)
+  pub options_fed : (F : K → List (List ℕ)) → ((x y : K) → IsTrue (E x y) → F x ≡ F y)
+      → (p q : Option K) → IsTrue (option_eq E p q)
       → option_fed F p ≡ option_fed F q
   options_fed F same None None h = refl
   options_fed F same None (Some y) h = absurd (cc)
   options_fed F same (Some x) None h = absurd (cc)
   options_fed F same (Some x) (Some y) h = ap (λ l. tagged ∷ l) (same x y h)
 
-  pub options_tied : (R : K → K → Ordering) → ((x y : K) → E x y ≡ is_eq (R x y)) → (p q : Option K) → option_eq E p q ≡ is_eq (option_cmp R p q)
+  pub options_tied : (R : K → K → Ordering) → ((x y : K) → E x y ≡ is_eq (R x y)) → (p q : Option K)
+      → option_eq E p q ≡ is_eq (option_cmp R p q)
   options_tied R tied None None = refl
   options_tied R tied None (Some y) = refl
   options_tied R tied (Some x) None = refl
   options_tied R tied (Some x) (Some y) = tied x y
 
-  pub options_po : (C : K → K → Option Ordering) → IsPartialOrder E C → IsPartialOrder (option_eq E) (option_partial_cmp C)
+  pub options_po : (C : K → K → Option Ordering) → IsPartialOrder E C
+      → IsPartialOrder (option_eq E) (option_partial_cmp C)
   options_po C o = record { antisymm = flip; trans = on; matches_eq = tied; congr = alike }
     where
-      flip : (p q : Option K) → option_partial_cmp C p q ≡ option_map ordering_reverse (option_partial_cmp C q p)
+      flip : (p q : Option K)
+          → option_partial_cmp C p q ≡ option_map ordering_reverse (option_partial_cmp C q p)
       flip None None = refl
       flip None (Some y) = refl
       flip (Some x) None = refl
       flip (Some x) (Some y) = o.antisymm x y
 
-      on : (p q s : Option K) → option_partial_cmp C p q ≡ Some Less → option_partial_cmp C q s ≡ Some Less → option_partial_cmp C p s ≡ Some Less
+      on : (p q s : Option K) → option_partial_cmp C p q ≡ Some Less
+          → option_partial_cmp C q s ≡ Some Less → option_partial_cmp C p s ≡ Some Less
       on None None s h k = absurd (cc)
       on None (Some y) None h k = absurd (cc)
       on None (Some y) (Some z) h k = refl
@@ -59,13 +65,15 @@ module _ {K : Type 0} {E : K → K → Bool} where
       on (Some x) (Some y) None h k = absurd (cc)
       on (Some x) (Some y) (Some z) h k = o.trans x y z h k
 
-      tied : (p q : Option K) → (option_eq E p q ≡ true → option_partial_cmp C p q ≡ Some Equal) × (option_partial_cmp C p q ≡ Some Equal → option_eq E p q ≡ true)
+      tied : (p q : Option K) → (option_eq E p q ≡ true → option_partial_cmp C p q ≡ Some Equal)
+          × (option_partial_cmp C p q ≡ Some Equal → option_eq E p q ≡ true)
       tied None None = (λ h. refl, λ h. refl)
       tied None (Some y) = (λ h. absurd (cc), λ h. absurd (cc))
       tied (Some x) None = (λ h. absurd (cc), λ h. absurd (cc))
       tied (Some x) (Some y) = o.matches_eq x y
 
-      alike : (p q s : Option K) → option_eq E p q ≡ true → option_partial_cmp C p s ≡ option_partial_cmp C q s
+      alike : (p q s : Option K) → option_eq E p q ≡ true
+          → option_partial_cmp C p s ≡ option_partial_cmp C q s
       alike None None s h = refl
       alike None (Some y) s h = absurd (cc)
       alike (Some x) None s h = absurd (cc)
@@ -73,7 +81,8 @@ module _ {K : Type 0} {E : K → K → Bool} where
       alike (Some x) (Some y) (Some z) h = o.congr x y z h
 
 module _ {K : Type 0} where
-  pub options_agree : (C : K → K → Option Ordering) (R : K → K → Ordering) → ((x y : K) → C x y ≡ Some (R x y)) → (p q : Option K)
+  pub options_agree : (C : K → K → Option Ordering) (R : K → K → Ordering)
+      → ((x y : K) → C x y ≡ Some (R x y)) → (p q : Option K)
       → option_partial_cmp C p q ≡ Some (option_cmp R p q)
   options_agree C R same None None = refl
   options_agree C R same None (Some y) = refl

@@ -4,7 +4,8 @@ use Rattle.std.proofs.Common.{ap, ◌∙◌, sym}
 use Rattle.triple_arena_ptr.specs.Recast.{renamed_item, answer_before, recast_answer, items_after, renamed, where_ok, option_items, option_recasted}
 
 -- a value that is an item
-pub renamed-one : {I : Type 0} (f : I → Option I) (x : I) → renamed_item (f x) x ∷ [] ≡ renamed f (x ∷ [])
+pub renamed-one : {I : Type 0} (f : I → Option I) (x : I)
+    → renamed_item (f x) x ∷ [] ≡ renamed f (x ∷ [])
 renamed-one f x = after (f x)
   where
     after : (o : Option _) → renamed_item o x ∷ [] ≡ renamed_item o x ∷ items_after o [] []
@@ -17,27 +18,35 @@ pub renamed-append : {I : Type 0} (f : I → Option I) (xs ys : List I)
 renamed-append f [] ys = refl
 renamed-append f (x ∷ xs) ys = after (f x) (renamed-append f xs ys)
   where
-    after : (o : Option _) → renamed f (xs ++ ys) ≡ renamed f xs ++ where_ok (recast_answer f xs) (renamed f ys) ys
+    after : (o : Option _)
+        → renamed f (xs ++ ys) ≡ renamed f xs ++ where_ok (recast_answer f xs) (renamed f ys) ys
         → renamed_item o x ∷ items_after o (xs ++ ys) (renamed f (xs ++ ys))
-        ≡ (renamed_item o x ∷ items_after o xs (renamed f xs)) ++ where_ok (answer_before o x (recast_answer f xs)) (renamed f ys) ys
+        ≡ (renamed_item o x ∷ items_after o xs (renamed f xs))
+        ++ where_ok (answer_before o x (recast_answer f xs)) (renamed f ys) ys
     after None rest = refl
     after (Some y) rest = ap (λ l. y ∷ l) rest
 
 -- the answer of two parts
 pub recast_answer-append : {I : Type 0} (f : I → Option I) (xs ys : List I)
-    → recast_answer f (xs ++ ys) ≡ where_ok (recast_answer f xs) (recast_answer f ys) (recast_answer f xs)
+    → recast_answer f (xs ++ ys) ≡ where_ok (recast_answer f xs) (recast_answer f ys)
+    (recast_answer f xs)
 recast_answer-append f [] ys = refl
 recast_answer-append f (x ∷ xs) ys = after (f x) (recast_answer-append f xs ys)
   where
-    after : (o : Option _) → recast_answer f (xs ++ ys) ≡ where_ok (recast_answer f xs) (recast_answer f ys) (recast_answer f xs)
+    after : (o : Option _)
+        → recast_answer f (xs ++ ys) ≡ where_ok (recast_answer f xs) (recast_answer f ys)
+        (recast_answer f xs)
         → answer_before o x (recast_answer f (xs ++ ys))
-        ≡ where_ok (answer_before o x (recast_answer f xs)) (recast_answer f ys) (answer_before o x (recast_answer f xs))
+        ≡ where_ok (answer_before o x (recast_answer f xs)) (recast_answer f ys)
+        (answer_before o x (recast_answer f xs))
     after None rest = refl
     after (Some y) rest = rest
 
-pub option_items_recasted : {I X : Type 0} (items : X → List I) (recasted : X → X) (f : I → Option I)
+pub option_items_recasted : {I X : Type 0} (items : X → List I) (recasted : X → X)
+    (f : I → Option I)
     → ((x : X) → items (recasted x) ≡ renamed f (items x))
-    → (o : Option X) → option_items items (option_recasted recasted o) ≡ renamed f (option_items items o)
+    → (o : Option X) → option_items items (option_recasted recasted o)
+    ≡ renamed f (option_items items o)
 option_items_recasted items recasted f each None = refl
 option_items_recasted items recasted f each (Some x) = each x
 
@@ -47,14 +56,17 @@ pub items-where_ok : {I X : Type 0} (items : X → List I) (r : Result (Unit {0}
 items-where_ok items (Ok _) next stay = refl
 items-where_ok items (Err _) next stay = refl
 
-pub pair_items_recasted : {I X Y : Type 0} (items_x : X → List I) (items_y : Y → List I) (recasted_x : X → X) (recasted_y : Y → Y) (f : I → Option I)
+pub pair_items_recasted : {I X Y : Type 0} (items_x : X → List I) (items_y : Y → List I)
+    (recasted_x : X → X) (recasted_y : Y → Y) (f : I → Option I)
     → ((x : X) → items_x (recasted_x x) ≡ renamed f (items_x x))
     → ((y : Y) → items_y (recasted_y y) ≡ renamed f (items_y y))
     → (x : X) (y : Y)
-    → items_x (recasted_x x) ++ items_y (where_ok (recast_answer f (items_x x)) (recasted_y y) y) ≡ renamed f (items_x x ++ items_y y)
+    → items_x (recasted_x x) ++ items_y (where_ok (recast_answer f (items_x x)) (recasted_y y) y)
+    ≡ renamed f (items_x x ++ items_y y)
 pair_items_recasted items_x items_y recasted_x recasted_y f each_x each_y x y =
     ap (λ l. l ++ items_y (where_ok (recast_answer f (items_x x)) (recasted_y y) y)) (each_x x)
-    ∙ ap (λ l. renamed f (items_x x) ++ l) (items-where_ok items_y (recast_answer f (items_x x)) (recasted_y y) y
+    ∙ ap (λ l. renamed f (items_x x) ++ l)
+        (items-where_ok items_y (recast_answer f (items_x x)) (recasted_y y) y
     ∙ ap (λ l. where_ok (recast_answer f (items_x x)) l (items_y y)) (each_y y))
     ∙ sym (renamed-append f (items_x x) (items_y y))
 
