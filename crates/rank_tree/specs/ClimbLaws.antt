@@ -1,5 +1,5 @@
 -- The climb after an insertion.
-use Rattle.std.proofs.Common.{◌≡◌, ◌≢◌, ℕ, ◌+◌, ◌-◌, ◌^◌, ◌<◌, ◌≤◌, List, length, ◌∷◌, Option, Some, None, refl, sym, ap, ◌∙◌, subst, arith, length-append}
+use Rattle.std.proofs.Common.{◌≡◌, ℕ, ◌+◌, ◌-◌, ◌^◌, ◌<◌, ◌≤◌, min, List, length, ◌∷◌, Option, Some, None, refl, sym, ap, ◌∙◌, subst, arith, inl, inr, length-append}
 use Rattle.std.specs.Option.{IsSome, IfSome}
 use Rattle.rank_tree.specs.Knot.{Knot}
 use Rattle.rank_tree.specs.declared.side.Side.{Side}
@@ -10,7 +10,7 @@ use Rattle.rank_tree.specs.Shape.{make, knot, root_of, Context, top, under, plug
 use Rattle.rank_tree.specs.Repair.{Spot, IsRankedRound, Restored, Grown, Leaning, KeptOff}
 use Rattle.rank_tree.specs.BoundLaws.{small_rank}
 use Rattle.rank_tree.specs.FrameLaws.{one-same, Represents-keep, Hangs-keep, make-count, make-root, make-rank, make-opens, make-closes, plug-count, plug-opens, plug-closes, plug-walk, IsDistinct-walk, write-elsewhere, write_kept}
-use Rattle.rank_tree.specs.SpotLaws.{is_some, if_some, root-lives, knot_rank, knot_ranked, reads, spotted}
+use Rattle.rank_tree.specs.SpotLaws.{is_some, root-lives, knot_rank, knot_ranked, rank_read, spot_child_of, spotted}
 use Rattle.rank_tree.specs.TurningLaws.{make-ranked, make-ranked-opens, restored}
 
 -- one node gets another rank
@@ -257,39 +257,73 @@ climb_kept n m root low high v w h written =
     let f = one-same high in
     write_kept n m high v (plug h.context t) w written (omega arith) h.is_walk
 
--- what the code of the climb reads
-pub record ClimbReads (n : Store) (root : Option ℕ) (low high : ℕ) (w : List ℕ) (h : Climbing n root low w high) (below above : Knot) (sibling : Option ℕ) : Type 0 where
+-- what the code of the climb reads: the ranks of the parent's children
+pub record ClimbReads (n : Store) (root : Option ℕ) (low high : ℕ) (w : List ℕ)
+    (h : Climbing n root low w high) (below above : Knot) (l r : ℕ) : Type 0 where
   pub rank_is : below.rank ≡ h.rank
   pub high_rank_is : above.rank ≡ h.high_rank
-  pub far_is : sibling ≡ root_of h.far
-  pub far_stands : Represents n (Some high) h.far
-  pub knot_is : above ≡ knot h.side (holder h.context) (Some low) h.high_rank (root_of h.far)
+  pub lower_is : min l r ≡ min h.rank (rank_of h.far)
 
-pub climb_reads : (n : Store) (root : Option ℕ) (low high : ℕ) (below above : Knot) (t z : Side) (sibling : Option ℕ)
-    → n low ≡ Some below → below.parent ≡ Some high → n high ≡ Some above
-    → (above.left ≡ Some low → t ≡ Left) → (above.left ≢ Some low → t ≡ Right)
-    → z ≡ other_side t → sibling ≡ child_of z above
-    → (w : List ℕ) (h : Climbing n root low w high) → ClimbReads n root low high w h below above sibling
-climb_reads n root low high below above t z sibling eb eh ea left right ez es w h =
-    let spot = climb_spot n root low high w h in
-    let r = reads n root low spot below above high t eb eh ea left right in
-    let f = spotted n root low spot in
-    record {
-      rank_is = r.low_rank_is;
-      high_rank_is = r.high_rank_is;
-      far_is = es ∙ ap (λ y. child_of y above) ez ∙ r.far_is;
-      far_stands = f.far_stands;
-      knot_is = cc f.at_high;
-    }
+-- the parent's node
+pub climb_knot : (n : Store) (root : Option ℕ) (low high : ℕ) (above : Knot)
+    → n high ≡ Some above → (w : List ℕ) (h : Climbing n root low w high)
+    → above ≡ knot h.side (holder h.context) (Some low) h.high_rank (root_of h.far)
+climb_knot n root low high above e w h =
+    let f = spotted n root low (climb_spot n root low high w h) in cc f.at_high
 
-pub climb_write : (n m : Store) (root : Option ℕ) (low high : ℕ) (below above : Knot) (sibling : Option ℕ) (w : List ℕ) (h : Climbing n root low w high)
-    → ClimbReads n root low high w h below above sibling → Written n m high (with_rank (above.rank + 1) above)
+pub climb_ranks : (n : Store) (root : Option ℕ) (low high : ℕ) (below above : Knot) → n low ≡ Some below → n high ≡ Some above
+    → (w : List ℕ) (h : Climbing n root low w high) → (below.rank ≡ h.rank) × (above.rank ≡ h.high_rank)
+climb_ranks n root low high below above eb ea w h =
+    let f = spotted n root low (climb_spot n root low high w h) in
+    let b : below ≡ knot h.side (Some high) (root_of h.outer) h.rank (root_of h.inner) = cc f.at_low in
+    let a : above ≡ knot h.side (holder h.context) (Some low) h.high_rank (root_of h.far) = cc f.at_high in
+    (ap (λ v. v.rank) b ∙ knot_rank h.side _ _ _ _, ap (λ v. v.rank) a ∙ knot_rank h.side _ _ _ _)
+
+-- the ranks of the children of a node
+lower_of : (s : Side) (n : Store) (p : Option ℕ) (t : Tree) (i k : ℕ) (far : Tree) (v : Knot)
+    (l r : ℕ) → n i ≡ Some v
+    → ((j : ℕ) → v.left ≡ Some j → IfSome (n j) (λ x. l ≡ x.rank)) → (v.left ≡ None → l ≡ 0)
+    → ((j : ℕ) → v.right ≡ Some j → IfSome (n j) (λ x. r ≡ x.rank)) → (v.right ≡ None → r ≡ 0)
+    → Represents n p (make s t i k far) → min l r ≡ min (rank_of t) (rank_of far)
+lower_of Left n p t i k far v l r e ls ln rs rn h =
+    let is : v ≡ knot Left p (root_of t) k (root_of far) = cc h.0 in
+    let f = rank_read n (Some i) t v.left l (ap (λ x. x.left) is) h.1 ls ln in
+    let g = rank_read n (Some i) far v.right r (ap (λ x. x.right) is) h.2 rs rn in
+    omega arith
+lower_of Right n p t i k far v l r e ls ln rs rn h =
+    let is : v ≡ knot Right p (root_of t) k (root_of far) = cc h.0 in
+    let f = rank_read n (Some i) far v.left l (ap (λ x. x.left) is) h.1 ls ln in
+    let g = rank_read n (Some i) t v.right r (ap (λ x. x.right) is) h.2 rs rn in
+    omega arith
+
+pub climb_reads : (n : Store) (root : Option ℕ) (low high : ℕ) (below above : Knot) (l r : ℕ)
+    → n low ≡ Some below → n high ≡ Some above
+    → ((j : ℕ) → above.left ≡ Some j → IfSome (n j) (λ x. l ≡ x.rank)) → (above.left ≡ None → l ≡ 0)
+    → ((j : ℕ) → above.right ≡ Some j → IfSome (n j) (λ x. r ≡ x.rank))
+    → (above.right ≡ None → r ≡ 0)
+    → (w : List ℕ) (h : Climbing n root low w high) → ClimbReads n root low high w h below above l r
+climb_reads n root low high below above l r eb ea ls ln rs rn w h =
+    let t = make h.side h.outer low h.rank h.inner in
+    let ranks = climb_ranks n root low high below above eb ea w h in
+    let parts = plug-opens n root h.context (make h.side t high h.high_rank h.far) h.stands in
+    let low_is = make-rank h.side h.outer low h.rank h.inner in
+    let read = lower_of h.side n (holder h.context) t high h.high_rank h.far above l r ea ls ln rs rn
+    parts.1 in
+    record { rank_is = ranks.0; high_rank_is = ranks.1; lower_is = omega arith }
+
+pub climb_write : (n m : Store) (root : Option ℕ) (low high : ℕ) (above : Knot) → n high ≡ Some above
+    → Written n m high (with_rank (above.rank + 1) above)
+    → (w : List ℕ) (h : Climbing n root low w high)
     → Written n m high (knot h.side (holder h.context) (Some low) (h.high_rank + 1) (root_of h.far))
-climb_write n m root low high below above sibling w h r written =
-    let is : with_rank (above.rank + 1) above ≡ knot h.side (holder h.context) (Some low) (h.high_rank + 1) (root_of h.far) =
-    ap (λ k. with_rank (k + 1) above) r.high_rank_is ∙ ap (λ v. with_rank (h.high_rank + 1) v) r.knot_is ∙ knot_ranked h.side (holder h.context) (Some low) h.high_rank (h.high_rank + 1)
-    (root_of h.far) in
-    subst (λ v. Written n m high v) is written
+climb_write n m root low high above e written w h =
+    let v = knot h.side (holder h.context) (Some low) h.high_rank (root_of h.far) in
+    let knot_is : above ≡ v = climb_knot n root low high above e w h in
+    let rank_is : above.rank ≡ h.high_rank = ap (λ x. x.rank) knot_is ∙ knot_rank h.side _ _ _ _ in
+    let is : with_rank (above.rank + 1) above
+    ≡ knot h.side (holder h.context) (Some low) (h.high_rank + 1) (root_of h.far) =
+    ap (λ k. with_rank (k + 1) above) rank_is ∙ ap (λ x. with_rank (h.high_rank + 1) x) knot_is
+    ∙ knot_ranked h.side (holder h.context) (Some low) h.high_rank (h.high_rank + 1) (root_of h.far) in
+    subst (λ x. Written n m high x) is written
 
 -- the parent's rank rises by one at most
 pub climb_small : (n : Store) (root : Option ℕ) (low high : ℕ) (w : List ℕ) (h : Climbing n root low w high) → h.rank ≤ 127
@@ -299,9 +333,17 @@ climb_small n root low high w h =
     let b = plug-small (under h.context h.side high h.high_rank h.far) t w (make-ranked h.side h.outer low h.rank h.inner h.fits h.outer_ranked h.inner_ranked) h.is_walk h.small in
     omega arith
 
-pub sibling_lives : (n : Store) (root : Option ℕ) (low high : ℕ) (below above : Knot) (sibling : Option ℕ) (w : List ℕ) (h : Climbing n root low w high)
-    → ClimbReads n root low high w h below above sibling → IfSome sibling (λ i. IsSome (n i))
-sibling_lives n root low high below above sibling w h r = if_some sibling (λ i. IsSome (n i)) (λ i e. root-lives n (Some high) h.far i r.far_stands (sym r.far_is ∙ e))
+pub children_live : (n : Store) (root : Option ℕ) (low high : ℕ) (above : Knot) (z : Side)
+    → n high ≡ Some above → (w : List ℕ) → Climbing n root low w high
+    → (i : ℕ) → child_of z above ≡ Some i → IsSome (n i)
+children_live n root low high above z e w h i c =
+    let f = spotted n root low (climb_spot n root low high w h) in
+    let is = climb_knot n root low high above e w h in
+    elim (spot_child_of h.side z (holder h.context) (Some low) h.high_rank (root_of h.far) i
+    (subst (λ v. child_of z v ≡ Some i) is c)) [
+      | inl u ↦ let same : low ≡ i = cc in rw (← same) (is_some (n low) _ f.at_low)
+      | inr u ↦ root-lives n (Some high) h.far i f.far_stands u
+    ]
 
 pub grown_lives : (n : Store) (root : Option ℕ) (low : ℕ) (w : List ℕ) → Grown n root low w → IsSome (n low)
 grown_lives n root low w h = is_some (n low) _ (grown_knot n root low w h)
@@ -311,14 +353,6 @@ parent_lives n root low high w h = is_some (n high) _ (spotted n root low (climb
 
 pub rank_in_at : (n : Store) (i : ℕ) (v : Knot) → n i ≡ Some v → rank_in n i ≡ v.rank
 rank_in_at n i v e = ap rank_or_zero e
-
-pub climb_ranks : (n : Store) (root : Option ℕ) (low high : ℕ) (below above : Knot) → n low ≡ Some below → n high ≡ Some above
-    → (w : List ℕ) (h : Climbing n root low w high) → (below.rank ≡ h.rank) × (above.rank ≡ h.high_rank)
-climb_ranks n root low high below above eb ea w h =
-    let f = spotted n root low (climb_spot n root low high w h) in
-    let b : below ≡ knot h.side (Some high) (root_of h.outer) h.rank (root_of h.inner) = cc f.at_low in
-    let a : above ≡ knot h.side (holder h.context) (Some low) h.high_rank (root_of h.far) = cc f.at_high in
-    (ap (λ v. v.rank) b ∙ knot_rank h.side _ _ _ _, ap (λ v. v.rank) a ∙ knot_rank h.side _ _ _ _)
 
 pub climb_falls : (n m : Store) (low high : ℕ) (below above : Knot) → n low ≡ Some below → Written n m high (with_rank (above.rank + 1) above)
     → below.rank ≤ above.rank → below.rank ≤ 127 → 255 - rank_in m high < 255 - rank_in n low

@@ -183,6 +183,13 @@ module _ (n m : Store) (root : Option ℕ) (at_holder : ℕ) (side : Side) (new 
   pub attach_works : n new ≡ Some (new_below at_holder) → Grown m root new (walk (filled g))
   attach_works slot = attached n m root at_holder side new g slot child_written
 
+  pub attach_slot : n new ≡ Some (new_below at_holder) → m new ≡ Some (new_below at_holder)
+  attach_slot slot =
+      let z = g.fresh in
+      let p = plug-count g.context new (make side leaf at_holder g.rank g.far) in
+      let q = make-count side new leaf at_holder g.rank g.far in
+      write-elsewhere n m at_holder _ child_written new (omega arith) ∙ slot
+
   pub attach_kept : KeptOff (walk (filled g)) n m
   attach_kept = attached_kept n m root at_holder side new _ g child_written
 

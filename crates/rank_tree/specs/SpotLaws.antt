@@ -184,7 +184,7 @@ spot_high n root low below high e p spot =
     let is : high ≡ spot.high = cc (spot_parent n root low below e spot) in
     rw is (is_some (n spot.high) _ f.at_high)
 
-spot_child_of : (s z : Side) (p a : Option ℕ) (k : ℕ) (b : Option ℕ) (i : ℕ) → child_of z (knot s p a k b) ≡ Some i → (a ≡ Some i) ⊎ (b ≡ Some i)
+pub spot_child_of : (s z : Side) (p a : Option ℕ) (k : ℕ) (b : Option ℕ) (i : ℕ) → child_of z (knot s p a k b) ≡ Some i → (a ≡ Some i) ⊎ (b ≡ Some i)
 spot_child_of Left Left p a k b i e = inl e
 spot_child_of Left Right p a k b i e = inr e
 spot_child_of Right Left p a k b i e = inr e

@@ -25,6 +25,8 @@ pub(crate) fn attach<N, P: PtrCore, K: Knots<N, P>>(
         → Grown (K.knots knots.new) (option_map P.Inx.number root) (P.Inx.number new) (walk (filled gap)) }
     ensures elsewhere { (gap : Gap (K.knots knots.old) (option_map P.Inx.number root) (P.Inx.number holder) side (P.Inx.number new))
         → KeptOff (walk (filled gap)) (K.knots knots.old) (K.knots knots.new) }
+    ensures slot { K.knots knots.new (P.Inx.number new)
+        ≡ Some (new_below (P.Inx.number holder)) }
     ensures keeps { K.rest knots.new ≡ K.rest knots.old }
 {
     knots.set_child(holder, side, &Some(new));

@@ -60,9 +60,10 @@ pub(crate) fn repair_inserted<N, P: PtrCore, K: Knots<N, P>>(
         if below.rank < above.rank {
             return;
         }
-        let side = side_of(above, low);
-        let sibling = above.child(side.other());
-        if rank_at(knots, sibling) + 1 < below.rank {
+        // One of these is the rank of `low`: which of them does not matter.
+        let left = rank_at(knots, above.left);
+        let right = rank_at(knots, above.right);
+        if left.min(right) + 1 < below.rank {
             lean(knots, root, low);
             return;
         }
@@ -91,5 +92,10 @@ pub fn bring_in<N, P: PtrCore, K: Knots<N, P>>(
     ensures keeps { K.rest knots.new ≡ K.rest knots.old }
 {
     attach(knots, *root, holder, side, new);
-    repair_inserted(knots, root, new);
+    // Only a holder that was a leaf rises, and then it has no other child.
+    let above = knots.read(holder);
+    if above.rank == 1 {
+        knots.set_rank(holder, above.rank + 1);
+        repair_inserted(knots, root, holder);
+    }
 }

@@ -1,4 +1,4 @@
-use Rattle.rank_tree.specs.EdgeLaws.{gap_lives, attach_works, attach_kept}
+use Rattle.rank_tree.specs.EdgeLaws.{gap_lives, attach_works, attach_slot, attach_kept}
 use Rattle.rank_tree.proofs.edges.attach.Goals as goal
 
 pub set_child-requires : goal.set_child-requires
@@ -10,3 +10,7 @@ returns-clause-does g c =
 
 pub returns-clause-elsewhere : goal.returns-clause-elsewhere
 returns-clause-elsewhere g c = λ gap. attach_kept _ _ _ _ _ _ c.set_child.ensures.does gap
+
+pub returns-clause-slot : goal.returns-clause-slot
+returns-clause-slot g c =
+    attach_slot _ _ _ _ _ _ c.set_child.ensures.does c.requires.gap c.requires.slot
