@@ -133,7 +133,7 @@ relinked_same n m r q l k i j to e f h = subst (λ z. Relinked n m r q k z to) f
 -- the code of a turn, over what it read
 pub turn_works : (n n1 n2 n3 n4 : Store) (root new_root : Option ℕ) (low jx jy : ℕ) (below above : Knot) (high : ℕ) (t : Side) (middle : Option ℕ) (lowered raised : Knot)
     → n low ≡ Some below → below.parent ≡ Some high → n high ≡ Some above
-    → (above.left ≡ Some low → t ≡ Left) → (above.left ≢ Some low → t ≡ Right)
+    → ((spot : Spot n root low) → t ≡ spot.side)
     → middle ≡ child_of (other_side t) below
     → lowered ≡ with_child t middle above
     → raised ≡ with_child (other_side t) (Some high) below
@@ -142,15 +142,14 @@ pub turn_works : (n n1 n2 n3 n4 : Store) (root new_root : Option ℕ) (low jx jy
     → Written n2 n3 low (record raised { parent = above.parent; rank = jx })
     → Relinked n3 n4 root new_root above.parent high (Some low)
     → (spot : Spot n root low) → Stands n4 new_root (turned spot jx jy) × KeptOff (walk (turned spot jx jy)) n n4
-turn_works n n1 n2 n3 n4 root new_root low jx jy below above high t middle lowered raised eb eh ea left right em el er w1 w2 w3 w4 spot =
+turn_works n n1 n2 n3 n4 root new_root low jx jy below above high t middle lowered raised eb eh ea side em el er w1 w2 w3 w4 spot =
     let f = spotted n root low spot in
     let s = spot.side in
     let below_is : below ≡ knot s (Some spot.high) (root_of spot.outer) spot.low_rank (root_of spot.inner) = cc f.at_low in
     let high_is : high ≡ spot.high = cc (ap (λ v. v.parent) below_is, knot_parent s (Some spot.high) (root_of spot.outer) spot.low_rank (root_of spot.inner)) in
     let above_is : above ≡ knot s (holder spot.context) (Some low) spot.high_rank (root_of spot.far) = cc (f.at_high, ap n high_is) in
     let parent_is : above.parent ≡ holder spot.context = ap (λ v. v.parent) above_is ∙ knot_parent s (holder spot.context) (Some low) spot.high_rank (root_of spot.far) in
-    let side_is : t ≡ s = side_found s t (holder spot.context) low spot.high_rank (root_of spot.far) f.far_other (subst (λ v. v.left ≡ Some low → t ≡ Left) above_is left)
-    (subst (λ v. v.left ≢ Some low → t ≡ Right) above_is right) in
+    let side_is : t ≡ s = side spot in
     let middle_is : middle ≡ root_of spot.inner = em ∙ ap (λ z. child_of (other_side z) below) side_is ∙ ap (λ v. child_of (other_side s) v) below_is ∙ knot_other s (Some spot.high)
     (root_of spot.outer) spot.low_rank (root_of spot.inner) in
     let lowered_is : lowered ≡ with_child s (root_of spot.inner) (knot s (holder spot.context) (Some low) spot.high_rank (root_of spot.far)) = cc in

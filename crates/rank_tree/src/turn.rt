@@ -1,12 +1,12 @@
 //! A node turns up over its parent.
-ghost use Rattle.std.specs.Prelude.{◌≡◌, ⊤};
+ghost use Rattle.std.specs.Prelude.{◌≡◌, ℕ, Option, ⊤};
 ghost use Rattle.std.specs.Option.{option_map};
 ghost use Rattle.rank_tree.specs.Tree.{walk};
 ghost use Rattle.rank_tree.specs.Shape.{Stands};
 ghost use Rattle.rank_tree.specs.Repair.{Spot, turned, KeptOff};
 
 use crate::knots::{relink, reparent};
-use crate::{Knots, TreeLinks, side_of};
+use crate::{Knots, Side, TreeLinks, side_of};
 use triple_arena_ptr::PtrCore;
 use unreached::unreached;
 
@@ -26,12 +26,52 @@ pub(crate) fn turn<N, P: PtrCore, K: Knots<N, P>>(
         → KeptOff (walk (turned spot low_rank high_rank)) (K.knots knots.old) (K.knots knots.new) }
     ensures keeps { K.rest knots.new ≡ K.rest knots.old }
 {
+    match side_below(knots, low) {
+        Side::Left => turn_on(knots, root, low, Side::Left, low_rank, high_rank),
+        Side::Right => turn_on(knots, root, low, Side::Right, low_rank, high_rank),
+    }
+}
+
+// The side of its parent on which a node stands.
+fn side_below<N, P: PtrCore, K: Knots<N, P>>(knots: &K, low: P::Inx) -> Side
+    requires spot { (root : Option ℕ) × Spot (K.knots knots.now) root (P.Inx.number low) }
+    requires no_more { ⊤ }
+    ensures { (root : Option ℕ) (spot : Spot (K.knots knots.now) root (P.Inx.number low))
+        → result ≡ spot.side }
+{
     let below = knots.read(low);
     let Some(high) = below.parent else {
         unreached!()
     };
     let above = knots.read(high);
-    let side = side_of(above, low);
+    side_of(above, low)
+}
+
+// The same turn of a node on this side of its parent. It is inlined, since the side is known at each
+// call.
+#[inline(always)]
+fn turn_on<N, P: PtrCore, K: Knots<N, P>>(
+    knots: &mut K,
+    root: &mut Option<P::Inx>,
+    low: P::Inx,
+    side: Side,
+    low_rank: u8,
+    high_rank: u8,
+)
+    requires spot { Spot (K.knots knots.old) (option_map P.Inx.number root.old) (P.Inx.number low) }
+    requires side { (spot : Spot (K.knots knots.old) (option_map P.Inx.number root.old) (P.Inx.number low))
+        → side ≡ spot.side }
+    ensures does { (spot : Spot (K.knots knots.old) (option_map P.Inx.number root.old) (P.Inx.number low))
+        → Stands (K.knots knots.new) (option_map P.Inx.number root.new) (turned spot low_rank high_rank) }
+    ensures elsewhere { (spot : Spot (K.knots knots.old) (option_map P.Inx.number root.old) (P.Inx.number low))
+        → KeptOff (walk (turned spot low_rank high_rank)) (K.knots knots.old) (K.knots knots.new) }
+    ensures keeps { K.rest knots.new ≡ K.rest knots.old }
+{
+    let below = knots.read(low);
+    let Some(high) = below.parent else {
+        unreached!()
+    };
+    let above = knots.read(high);
     let middle = below.child(side.other());
     let lowered = above.with_child(side, middle);
     knots.write(

@@ -6,8 +6,8 @@ use Rattle.rank_tree.specs.SpotLaws.{spot_low, spot_parent, spot_high, spot_chil
 use Rattle.rank_tree.specs.Tree.{walk}
 use Rattle.rank_tree.specs.Shape.{Stands}
 use Rattle.rank_tree.specs.Repair.{Spot, turned, KeptOff}
-use Rattle.rank_tree.proofs.turn.turn.Goals.{After-relink}
-use Rattle.rank_tree.proofs.turn.turn.Goals as goal
+use Rattle.rank_tree.proofs.turn.turn_on.Goals.{After-relink}
+use Rattle.rank_tree.proofs.turn.turn_on.Goals as goal
 
 -- the four changes, one after another
 works : (g : _) (c : After-relink g)
@@ -17,11 +17,11 @@ works : (g : _) (c : After-relink g)
 works g c spot =
     let number = g.P.Inx.PtrInxCore.number in
     let below = named number c.read-below.result in
-    let raised_is : named number c.with_child-raised.result ≡ with_child (other_side c.side_of-side.result) (Some (number c.in-Some.high)) below =
+    let raised_is : named number c.with_child-raised.result ≡ with_child (other_side c.args.side) (Some (number c.in-Some.high)) below =
     c.with_child-raised.ensures ∙ ap (λ z. with_child z (Some (number c.in-Some.high)) below) c.other-2.ensures in
-    turn_works _ _ _ _ _ _ _ _ c.args.low_rank c.args.high_rank _ _ _ c.side_of-side.result (option_map number c.child-middle.result) (named number c.with_child-lowered.result)
+    turn_works _ _ _ _ _ _ _ _ c.args.low_rank c.args.high_rank _ _ _ c.args.side (option_map number c.child-middle.result) (named number c.with_child-lowered.result)
     (named number c.with_child-raised.result)
-    c.read-below.ensures (ap (option_map number) c.in-Some.is) c.read-above.ensures c.side_of-side.ensures.left c.side_of-side.ensures.right
+    c.read-below.ensures (ap (option_map number) c.in-Some.is) c.read-above.ensures c.requires.side
     (c.child-middle.ensures ∙ ap (λ z. child_of z below) c.other.ensures) c.with_child-lowered.ensures raised_is
     c.write.ensures.written c.reparent.ensures.does c.write-2.ensures.written c.relink.ensures.does spot
 
