@@ -6,11 +6,11 @@ use Rattle.rank_tree.specs.declared.side.Side.{Side}
 use Rattle.rank_tree.specs.declared.side.Side.TheVariants.{Left, Right}
 use Rattle.rank_tree.specs.Store.{Store, other_side, child_of, Written, with_rank, rank_in, rank_or_zero}
 use Rattle.rank_tree.specs.Tree.{Tree, leaf, node, walk, size, rank_of, IsRanked, Fits}
-use Rattle.rank_tree.specs.Shape.{make, knot, root_of, Context, top, under, plug, holder, Represents, Hangs, Stands, one, count, count_round, IsDistinct}
+use Rattle.rank_tree.specs.Shape.{make, knot, root_of, Context, top, under, plug, holder, Hangs, Stands, one, count, count_round, IsDistinct}
 use Rattle.rank_tree.specs.Repair.{Spot, IsRankedRound, Restored, Grown, Leaning, KeptOff}
 use Rattle.rank_tree.specs.BoundLaws.{small_rank}
 use Rattle.rank_tree.specs.FrameLaws.{one-same, Represents-keep, Hangs-keep, make-count, make-root, make-rank, make-opens, make-closes, plug-count, plug-opens, plug-closes, plug-walk, IsDistinct-walk, write-elsewhere, write_kept}
-use Rattle.rank_tree.specs.SpotLaws.{is_some, root-lives, knot_rank, knot_ranked, rank_read, spot_child_of, spotted}
+use Rattle.rank_tree.specs.SpotLaws.{is_some, root-lives, knot_rank, knot_ranked, both_ranks, spot_child_of, spotted}
 use Rattle.rank_tree.specs.TurningLaws.{make-ranked, make-ranked-opens, restored}
 
 -- one node gets another rank
@@ -279,23 +279,6 @@ climb_ranks n root low high below above eb ea w h =
     let a : above ≡ knot h.side (holder h.context) (Some low) h.high_rank (root_of h.far) = cc f.at_high in
     (ap (λ v. v.rank) b ∙ knot_rank h.side _ _ _ _, ap (λ v. v.rank) a ∙ knot_rank h.side _ _ _ _)
 
--- the ranks of the children of a node
-lower_of : (s : Side) (n : Store) (p : Option ℕ) (t : Tree) (i k : ℕ) (far : Tree) (v : Knot)
-    (l r : ℕ) → n i ≡ Some v
-    → ((j : ℕ) → v.left ≡ Some j → IfSome (n j) (λ x. l ≡ x.rank)) → (v.left ≡ None → l ≡ 0)
-    → ((j : ℕ) → v.right ≡ Some j → IfSome (n j) (λ x. r ≡ x.rank)) → (v.right ≡ None → r ≡ 0)
-    → Represents n p (make s t i k far) → min l r ≡ min (rank_of t) (rank_of far)
-lower_of Left n p t i k far v l r e ls ln rs rn h =
-    let is : v ≡ knot Left p (root_of t) k (root_of far) = cc h.0 in
-    let f = rank_read n (Some i) t v.left l (ap (λ x. x.left) is) h.1 ls ln in
-    let g = rank_read n (Some i) far v.right r (ap (λ x. x.right) is) h.2 rs rn in
-    omega arith
-lower_of Right n p t i k far v l r e ls ln rs rn h =
-    let is : v ≡ knot Right p (root_of t) k (root_of far) = cc h.0 in
-    let f = rank_read n (Some i) far v.left l (ap (λ x. x.left) is) h.1 ls ln in
-    let g = rank_read n (Some i) t v.right r (ap (λ x. x.right) is) h.2 rs rn in
-    omega arith
-
 pub climb_reads : (n : Store) (root : Option ℕ) (low high : ℕ) (below above : Knot) (l r : ℕ)
     → n low ≡ Some below → n high ≡ Some above
     → ((j : ℕ) → above.left ≡ Some j → IfSome (n j) (λ x. l ≡ x.rank)) → (above.left ≡ None → l ≡ 0)
@@ -307,7 +290,7 @@ climb_reads n root low high below above l r eb ea ls ln rs rn w h =
     let ranks = climb_ranks n root low high below above eb ea w h in
     let parts = plug-opens n root h.context (make h.side t high h.high_rank h.far) h.stands in
     let low_is = make-rank h.side h.outer low h.rank h.inner in
-    let read = lower_of h.side n (holder h.context) t high h.high_rank h.far above l r ea ls ln rs rn
+    let read = both_ranks h.side n (holder h.context) t high h.high_rank h.far above l r ea ls ln rs rn
     parts.1 in
     record { rank_is = ranks.0; high_rank_is = ranks.1; lower_is = omega arith }
 

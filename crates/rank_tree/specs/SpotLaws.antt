@@ -1,5 +1,5 @@
 -- What the code of a turn reads.
-use Rattle.std.proofs.Common.{◌≡◌, ◌≢◌, ℕ, Option, Some, None, refl, sym, ap, ◌∙◌, subst, arith, rules, inl, inr, ◌⊎◌}
+use Rattle.std.proofs.Common.{◌≡◌, ◌≢◌, ℕ, min, max, Option, Some, None, refl, sym, ap, ◌∙◌, subst, arith, rules, inl, inr, ◌⊎◌}
 use Rattle.std.specs.Option.{IsSome, IfSome}
 use Rattle.std.proofs.lemmas.Bool.{cases_eq, false≢true}
 use Rattle.rank_tree.specs.Knot.{Knot}
@@ -216,6 +216,27 @@ pub rank_read : (n : Store) (p : Option ℕ) (t : Tree) (link : Option ℕ) (r :
     → ((i : ℕ) → link ≡ Some i → IfSome (n i) (λ v. r ≡ v.rank)) → (link ≡ None → r ≡ 0) → r ≡ rank_of t
 rank_read n p leaf link r e h f g = g e
 rank_read n p (node a i k b) link r e h f g = subst (λ o. IfSome o (λ v. r ≡ v.rank)) h.0 (f i e)
+
+-- the ranks of the children of a node, as they were read on the left and on the right
+pub record BothRanks (l r a b : ℕ) : Type 0 where
+  pub lower : min l r ≡ min a b
+  pub higher : max l r ≡ max a b
+
+pub both_ranks : (s : Side) (n : Store) (p : Option ℕ) (t : Tree) (i k : ℕ) (far : Tree) (v : Knot)
+    (l r : ℕ) → n i ≡ Some v
+    → ((j : ℕ) → v.left ≡ Some j → IfSome (n j) (λ x. l ≡ x.rank)) → (v.left ≡ None → l ≡ 0)
+    → ((j : ℕ) → v.right ≡ Some j → IfSome (n j) (λ x. r ≡ x.rank)) → (v.right ≡ None → r ≡ 0)
+    → Represents n p (make s t i k far) → BothRanks l r (rank_of t) (rank_of far)
+both_ranks Left n p t i k far v l r e ls ln rs rn h =
+    let is : v ≡ knot Left p (root_of t) k (root_of far) = cc h.0 in
+    let f = rank_read n (Some i) t v.left l (ap (λ x. x.left) is) h.1 ls ln in
+    let g = rank_read n (Some i) far v.right r (ap (λ x. x.right) is) h.2 rs rn in
+    record { lower = omega arith; higher = omega arith }
+both_ranks Right n p t i k far v l r e ls ln rs rn h =
+    let is : v ≡ knot Right p (root_of t) k (root_of far) = cc h.0 in
+    let f = rank_read n (Some i) far v.left l (ap (λ x. x.left) is) h.1 ls ln in
+    let g = rank_read n (Some i) t v.right r (ap (λ x. x.right) is) h.2 rs rn in
+    record { lower = omega arith; higher = omega arith }
 
 -- what the code reads round a node and its parent
 pub record Reads (n : Store) (root : Option ℕ) (low : ℕ) (spot : Spot n root low) (below above : Knot) (high : ℕ) (t : Side) : Type 0 where

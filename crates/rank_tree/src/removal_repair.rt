@@ -86,12 +86,14 @@ fn mend<N, P: PtrCore, K: Knots<N, P>>(
     let Some(low) = above.child(higher(left, right)) else {
         unreached!()
     };
-    let near = look_around(knots, low);
-    if near.low_rank <= near.outer_rank.max(near.inner_rank) + 1 {
+    let below = knots.read(low);
+    let low_left = rank_at(knots, below.left);
+    let low_right = rank_at(knots, below.right);
+    if below.rank <= low_left.max(low_right) + 1 {
         shorten(knots, root, low);
         return None;
     }
-    knots.set_rank(low, near.low_rank - 1);
+    knots.set_rank(low, below.rank - 1);
     knots.set_rank(high, rank - 1);
     above.parent
 }

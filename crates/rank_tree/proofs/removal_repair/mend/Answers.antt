@@ -1,12 +1,13 @@
 use Rattle.std.proofs.Common.{◌-◌, ◌<◌, ℕ, List, refl, ap, arith}
 use Rattle.std.specs.Option.{IsSome, option_map}
-use Rattle.rank_tree.proofs.NameLemmas.{if_named}
+use Rattle.rank_tree.proofs.NameLemmas.{if_live, if_named}
 use Rattle.rank_tree.specs.Named.{named}
 use Rattle.rank_tree.specs.Store.{rank_in}
 use Rattle.rank_tree.specs.Repair.{Broken}
-use Rattle.rank_tree.specs.SpotLaws.{spot_low}
-use Rattle.rank_tree.specs.MendLaws.{MendReads, Lowered, Higher, Sibling, broken_lives, broken_reads, broken_ends, broken_lower, broken_sibling, mend_reads, not_fit, mend_higher, higher_some, mend_lower, sibling_short, sets_lives}
-use Rattle.rank_tree.proofs.removal_repair.mend.Goals.{After-rank_at-right, After-set_rank, After-child, In-Some, After-set_rank-3}
+use Rattle.rank_tree.specs.SpotLaws.{spot_low, spot_child}
+use Rattle.rank_tree.specs.declared.side.Side.TheVariants.{Left, Right}
+use Rattle.rank_tree.specs.MendLaws.{MendReads, SiblingReads, Lowered, Higher, Sibling, broken_lives, broken_reads, broken_ends, broken_lower, broken_sibling, mend_reads, not_fit, mend_higher, higher_some, mend_lower, sibling_reads, sibling_short, sets_lives}
+use Rattle.rank_tree.proofs.removal_repair.mend.Goals.{After-rank_at-right, After-set_rank, After-child, In-Some, After-rank_at-low_right, After-set_rank-3}
 use Rattle.rank_tree.proofs.removal_repair.mend.Goals as goal
 
 -- what was read is what stands there
@@ -47,6 +48,16 @@ sibling : (g : _) (c : In-Some g) (w : List ℕ)
 sibling g c w h =
     broken_sibling _ _ _ _ _ _ w h (higher g (goal.at.In-Some g c).After-child w h) (ap (option_map g.P.Inx.PtrInxCore.number) c.in-Some.is)
 
+-- what was read of the sibling is what stands there
+read_low : (g : _) (c : After-rank_at-low_right g) (w : List ℕ)
+    (s : Sibling (g.K.Knots.knots c.args.knots.now) (option_map g.P.Inx.PtrInxCore.number c.args.root.now)
+    (g.P.Inx.PtrInxCore.number c.in-Some.low) w (g.P.Inx.PtrInxCore.number c.args.high))
+    → SiblingReads _ _ _ _ w s (named g.P.Inx.PtrInxCore.number c.read-below.result)
+    c.rank_at-low_left.result c.rank_at-low_right.result
+read_low g c w s =
+    sibling_reads _ _ _ _ _ _ _ c.read-below.ensures c.rank_at-low_left.ensures.some
+    c.rank_at-low_left.ensures.none c.rank_at-low_right.ensures.some c.rank_at-low_right.ensures.none w s
+
 -- the sibling and the node lose one rank each
 both_fall : (g : _) (c : After-set_rank-3 g) (w : List ℕ)
     → Broken (g.K.Knots.knots c.args.knots.now) (option_map g.P.Inx.PtrInxCore.number c.args.root.now)
@@ -56,9 +67,9 @@ both_fall : (g : _) (c : After-set_rank-3 g) (w : List ℕ)
     (option_map g.P.Inx.PtrInxCore.number c.read-above.result.parent) w
 both_fall g c w h =
     let s = sibling g (goal.at.After-set_rank-3 g c).In-Some w h in
-    let r = c.look_around-near.ensures _ s.spot in
+    let r = read_low g (goal.at.After-set_rank-3 g c).After-rank_at-low_right w s in
     mend_lower _ _ _ _ _ _ _ _ _ w s c.read-above.ensures (omega (arith, s, s.fits, r)) (omega (arith, s, s.fits, r))
-    (ap (λ z. z - 1) r.low_rank_is) refl c.set_rank-2.ensures.does c.set_rank-3.ensures.does
+    (ap (λ z. z - 1) r.rank_is) refl c.set_rank-2.ensures.does c.set_rank-3.ensures.does
 
 pub read-above-requires-clause-live : goal.read-above-requires-clause-live
 read-above-requires-clause-live g c = broken_lives _ _ _ _ c.requires.1
@@ -106,24 +117,36 @@ unreached-unreachable-requires g c =
     higher_some _ _ _ _ _ _ h (higher g (goal.at.unreached-unreachable-requires g c).After-child _ h)
     (ap (option_map g.P.Inx.PtrInxCore.number) c.in_default.is)
 
-pub look_around-near-requires-clause-spot : goal.look_around-near-requires-clause-spot
-look_around-near-requires-clause-spot g c =
-    (option_map g.P.Inx.PtrInxCore.number c.args.root.now, (sibling g (goal.at.look_around-near-requires-clause-spot g c).In-Some _ c.requires.1).spot)
+pub read-below-requires-clause-live : goal.read-below-requires-clause-live
+read-below-requires-clause-live g c =
+    spot_low _ _ _ (sibling g (goal.at.read-below-requires-clause-live g c).In-Some _ c.requires.1).spot
+
+pub rank_at-low_left-requires-clause-live : goal.rank_at-low_left-requires-clause-live
+rank_at-low_left-requires-clause-live g c =
+    let s = sibling g (goal.at.rank_at-low_left-requires-clause-live g c).In-Some _ c.requires.1 in
+    if_live g.P.Inx.PtrInxCore.number (g.K.Knots.knots c.args.knots.now) c.read-below.result.left
+    (spot_child _ _ _ _ Left c.read-below.ensures s.spot)
+
+pub rank_at-low_right-requires-clause-live : goal.rank_at-low_right-requires-clause-live
+rank_at-low_right-requires-clause-live g c =
+    let s = sibling g (goal.at.rank_at-low_right-requires-clause-live g c).In-Some _ c.requires.1 in
+    if_live g.P.Inx.PtrInxCore.number (g.K.Knots.knots c.args.knots.now) c.read-below.result.right
+    (spot_child _ _ _ _ Right c.read-below.ensures s.spot)
 
 pub overflow_add-max-2 : goal.overflow_add-max-2
 overflow_add-max-2 g c =
     let s = sibling g (goal.at.overflow_add-max-2 g c).In-Some _ c.requires.1 in
-    omega (arith, s, s.fits, c.look_around-near.ensures _ s.spot)
+    omega (arith, s, s.fits, read_low g (goal.at.overflow_add-max-2 g c).After-rank_at-low_right _ s)
 
 pub shorten-requires-clause-short : goal.shorten-requires-clause-short
 shorten-requires-clause-short g c =
     let s = sibling g (goal.at.shorten-requires-clause-short g c).In-Some _ c.requires.1 in
-    (c.requires.0, sibling_short _ _ _ _ _ s (omega (arith, s, s.fits, c.look_around-near.ensures _ s.spot)))
+    (c.requires.0, sibling_short _ _ _ _ _ s (omega (arith, s, s.fits, read_low g (goal.at.shorten-requires-clause-short g c).After-rank_at-low_right _ s)))
 
-pub returns-then-near-max-clause-pending : goal.returns-then-near-max-clause-pending
-returns-then-near-max-clause-pending g c = λ w h.
-    let s = sibling g (goal.at.returns-then-near-max-clause-pending g c).In-Some w h in
-    c.shorten.ensures.does w (sibling_short _ _ _ _ w s (omega (arith, s, s.fits, c.look_around-near.ensures _ s.spot)))
+pub returns-then-below-max-clause-pending : goal.returns-then-below-max-clause-pending
+returns-then-below-max-clause-pending g c = λ w h.
+    let s = sibling g (goal.at.returns-then-below-max-clause-pending g c).In-Some w h in
+    c.shorten.ensures.does w (sibling_short _ _ _ _ w s (omega (arith, s, s.fits, read_low g (goal.at.returns-then-below-max-clause-pending g c).After-rank_at-low_right w s)))
 
 pub set_rank-requires-2-clause-live : goal.set_rank-requires-2-clause-live
 set_rank-requires-2-clause-live g c = spot_low _ _ _ (sibling g (goal.at.set_rank-requires-2-clause-live g c).In-Some _ c.requires.1).spot
@@ -146,10 +169,10 @@ returns-clause-rises g c =
 pub returns-then-max-rank-clause-elsewhere : goal.returns-then-max-rank-clause-elsewhere
 returns-then-max-rank-clause-elsewhere g c = λ w h. (falls g (goal.at.returns-then-max-rank-clause-elsewhere g c).After-set_rank w h).kept
 
-pub returns-then-near-max-clause-elsewhere : goal.returns-then-near-max-clause-elsewhere
-returns-then-near-max-clause-elsewhere g c = λ w h.
-    let s = sibling g (goal.at.returns-then-near-max-clause-elsewhere g c).In-Some w h in
-    c.shorten.ensures.elsewhere w (sibling_short _ _ _ _ w s (omega (arith, s, s.fits, c.look_around-near.ensures _ s.spot)))
+pub returns-then-below-max-clause-elsewhere : goal.returns-then-below-max-clause-elsewhere
+returns-then-below-max-clause-elsewhere g c = λ w h.
+    let s = sibling g (goal.at.returns-then-below-max-clause-elsewhere g c).In-Some w h in
+    c.shorten.ensures.elsewhere w (sibling_short _ _ _ _ w s (omega (arith, s, s.fits, read_low g (goal.at.returns-then-below-max-clause-elsewhere g c).After-rank_at-low_right w s)))
 
 pub returns-clause-elsewhere : goal.returns-clause-elsewhere
 returns-clause-elsewhere g c = λ w h. (both_fall g (goal.at.returns-clause-elsewhere g c).After-set_rank-3 w h).kept
