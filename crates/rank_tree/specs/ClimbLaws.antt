@@ -1,16 +1,19 @@
 -- The climb after an insertion.
-use Rattle.std.proofs.Common.{◌≡◌, ℕ, ◌+◌, ◌-◌, ◌^◌, ◌<◌, ◌≤◌, min, List, length, ◌∷◌, Option, Some, None, refl, sym, ap, ◌∙◌, subst, arith, inl, inr, length-append}
+use Rattle.std.proofs.Common.{◌≡◌, ℕ, ◌+◌, ◌-◌, ◌^◌, ◌<◌, ◌≤◌, min, List, length, ◌∷◌, Option, Some}
+use Rattle.std.proofs.Common.{None, refl, sym, ap, ◌∙◌, subst, arith, inl, inr, length-append}
 use Rattle.std.specs.Option.{IsSome, IfSome}
 use Rattle.rank_tree.specs.Knot.{Knot}
 use Rattle.rank_tree.specs.declared.side.Side.{Side}
 use Rattle.rank_tree.specs.declared.side.Side.TheVariants.{Left, Right}
 use Rattle.rank_tree.specs.Store.{Store, other_side, child_of, Written, with_rank, rank_in, rank_or_zero}
 use Rattle.rank_tree.specs.Tree.{Tree, leaf, node, walk, size, rank_of, IsRanked, Fits}
-use Rattle.rank_tree.specs.Shape.{make, knot, root_of, Context, top, under, plug, holder, Hangs, Stands, one, count, count_round, IsDistinct}
+use Rattle.rank_tree.specs.Shape.{make, knot, root_of, Context, top, under, plug, holder, Hangs}
+use Rattle.rank_tree.specs.Shape.{Stands, one, count, count_round, IsDistinct}
 use Rattle.rank_tree.specs.Repair.{Spot, IsRankedRound, Restored, Grown, Leaning, KeptOff}
 use Rattle.rank_tree.specs.BoundLaws.{small_rank}
 use Rattle.rank_tree.specs.FrameLaws.{one-same, Represents-keep, Hangs-keep, make-count, make-root, make-rank, make-opens, make-closes, plug-count, plug-opens, plug-closes, plug-walk, IsDistinct-walk, write-elsewhere, write_kept}
-use Rattle.rank_tree.specs.SpotLaws.{is_some, root-lives, knot_rank, knot_ranked, both_ranks, spot_child_of, spotted}
+use Rattle.rank_tree.specs.SpotLaws.{is_some, root-lives, knot_rank, knot_ranked, both_ranks}
+use Rattle.rank_tree.specs.SpotLaws.{spot_child_of, spotted}
 use Rattle.rank_tree.specs.TurningLaws.{make-ranked, make-ranked-opens, restored}
 
 -- one node gets another rank
@@ -271,12 +274,16 @@ pub climb_knot : (n : Store) (root : Option ℕ) (low high : ℕ) (above : Knot)
 climb_knot n root low high above e w h =
     let f = spotted n root low (climb_spot n root low high w h) in cc f.at_high
 
-pub climb_ranks : (n : Store) (root : Option ℕ) (low high : ℕ) (below above : Knot) → n low ≡ Some below → n high ≡ Some above
-    → (w : List ℕ) (h : Climbing n root low w high) → (below.rank ≡ h.rank) × (above.rank ≡ h.high_rank)
+pub climb_ranks : (n : Store) (root : Option ℕ) (low high : ℕ) (below above : Knot) → n low
+    ≡ Some below → n high ≡ Some above
+    → (w : List ℕ) (h : Climbing n root low w high) → (below.rank ≡ h.rank) × (above.rank
+    ≡ h.high_rank)
 climb_ranks n root low high below above eb ea w h =
     let f = spotted n root low (climb_spot n root low high w h) in
-    let b : below ≡ knot h.side (Some high) (root_of h.outer) h.rank (root_of h.inner) = cc f.at_low in
-    let a : above ≡ knot h.side (holder h.context) (Some low) h.high_rank (root_of h.far) = cc f.at_high in
+    let b : below ≡ knot h.side (Some high) (root_of h.outer) h.rank
+    (root_of h.inner) = cc f.at_low in
+    let a : above ≡ knot h.side (holder h.context) (Some low) h.high_rank
+    (root_of h.far) = cc f.at_high in
     (ap (λ v. v.rank) b ∙ knot_rank h.side _ _ _ _, ap (λ v. v.rank) a ∙ knot_rank h.side _ _ _ _)
 
 pub climb_reads : (n : Store) (root : Option ℕ) (low high : ℕ) (below above : Knot) (l r : ℕ)
@@ -290,11 +297,13 @@ climb_reads n root low high below above l r eb ea ls ln rs rn w h =
     let ranks = climb_ranks n root low high below above eb ea w h in
     let parts = plug-opens n root h.context (make h.side t high h.high_rank h.far) h.stands in
     let low_is = make-rank h.side h.outer low h.rank h.inner in
-    let read = both_ranks h.side n (holder h.context) t high h.high_rank h.far above l r ea ls ln rs rn
+    let read = both_ranks h.side n (holder h.context) t high h.high_rank h.far above l r ea ls ln
+    rs rn
     parts.1 in
     record { rank_is = ranks.0; high_rank_is = ranks.1; lower_is = omega arith }
 
-pub climb_write : (n m : Store) (root : Option ℕ) (low high : ℕ) (above : Knot) → n high ≡ Some above
+pub climb_write : (n m : Store) (root : Option ℕ) (low high : ℕ) (above : Knot) → n high
+    ≡ Some above
     → Written n m high (with_rank (above.rank + 1) above)
     → (w : List ℕ) (h : Climbing n root low w high)
     → Written n m high (knot h.side (holder h.context) (Some low) (h.high_rank + 1) (root_of h.far))
@@ -305,7 +314,8 @@ climb_write n m root low high above e written w h =
     let is : with_rank (above.rank + 1) above
     ≡ knot h.side (holder h.context) (Some low) (h.high_rank + 1) (root_of h.far) =
     ap (λ k. with_rank (k + 1) above) rank_is ∙ ap (λ x. with_rank (h.high_rank + 1) x) knot_is
-    ∙ knot_ranked h.side (holder h.context) (Some low) h.high_rank (h.high_rank + 1) (root_of h.far) in
+    ∙ knot_ranked h.side (holder h.context) (Some low) h.high_rank (h.high_rank + 1)
+    (root_of h.far) in
     subst (λ x. Written n m high x) is written
 
 -- the parent's rank rises by one at most

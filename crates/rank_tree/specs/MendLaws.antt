@@ -10,8 +10,11 @@ use Rattle.rank_tree.specs.Store.{Store, other_side, child_of, Written, with_ran
 use Rattle.rank_tree.specs.Tree.{Tree, node, walk, rank_of, IsRanked, Fits}
 use Rattle.rank_tree.specs.Shape.{make, knot, root_of, Context, top, under, plug, holder, Represents, Hangs, Stands, IsDistinct, one, count}
 use Rattle.rank_tree.specs.Repair.{Spot, IsRankedRound, Restored, Broken, Nearly, Pending, Short, KeptOff}
-use Rattle.rank_tree.specs.FrameLaws.{one-same, make-count, plug-count, make-rank, make-root, make-walk, make-closes, plug-opens, plug-walk, IsDistinct-walk, write_kept, both_kept}
-use Rattle.rank_tree.specs.SpotLaws.{is_some, if_some, root-lives, spotted, knot_rank, knot_ranked, knot_parent, rank_read, both_ranks, write-lives}
+use Rattle.rank_tree.specs.FrameLaws.{one-same, make-count, plug-count, make-rank, make-root}
+use Rattle.rank_tree.specs.FrameLaws.{make-walk, make-closes, plug-opens, plug-walk}
+use Rattle.rank_tree.specs.FrameLaws.{IsDistinct-walk, write_kept, both_kept}
+use Rattle.rank_tree.specs.SpotLaws.{is_some, if_some, root-lives, spotted, knot_rank, knot_ranked}
+use Rattle.rank_tree.specs.SpotLaws.{knot_parent, rank_read, both_ranks, write-lives}
 use Rattle.rank_tree.specs.TurningLaws.{make-ranked, make-ranked-opens, plug-ranked, open_tree, root-some}
 use Rattle.rank_tree.specs.ClimbLaws.{ranked-write, same-walk-rank, near_of, as_make, as_node, near_ranks, plug-small}
 
@@ -413,18 +416,22 @@ pub record SiblingReads (n : Store) (root : Option ℕ) (low high : ℕ) (w : Li
 pub sibling_reads : (n : Store) (root : Option ℕ) (low high : ℕ) (below : Knot) (l r : ℕ)
     → n low ≡ Some below
     → ((i : ℕ) → below.left ≡ Some i → IfSome (n i) (λ v. l ≡ v.rank)) → (below.left ≡ None → l ≡ 0)
-    → ((i : ℕ) → below.right ≡ Some i → IfSome (n i) (λ v. r ≡ v.rank)) → (below.right ≡ None → r ≡ 0)
+    → ((i : ℕ) → below.right ≡ Some i → IfSome (n i) (λ v. r ≡ v.rank)) → (below.right ≡ None
+    → r ≡ 0)
     → (w : List ℕ) (h : Sibling n root low w high) → SiblingReads n root low high w h below l r
 sibling_reads n root low high below l r e ls ln rs rn w h =
     let x = h.spot in
     let s = x.side in
     let f = spotted n root low x in
-    let is : below ≡ knot s (Some x.high) (root_of x.outer) x.low_rank (root_of x.inner) = cc f.at_low in
-    let stands = make-closes s n (Some x.high) x.outer low x.low_rank x.inner f.at_low f.outer_stands
+    let is : below ≡ knot s (Some x.high) (root_of x.outer) x.low_rank
+    (root_of x.inner) = cc f.at_low in
+    let stands = make-closes s n (Some x.high) x.outer low x.low_rank x.inner f.at_low
+    f.outer_stands
     f.inner_stands in
     record {
       rank_is = ap (λ v. v.rank) is ∙ knot_rank s _ _ _ _;
-      higher_is = (both_ranks s n (Some x.high) x.outer low x.low_rank x.inner below l r e ls ln rs rn
+      higher_is = (both_ranks s n (Some x.high) x.outer low x.low_rank x.inner below l r e ls ln
+          rs rn
           stands).higher;
     }
 

@@ -1,5 +1,6 @@
 -- What the code of a turn reads.
-use Rattle.std.proofs.Common.{◌≡◌, ◌≢◌, ℕ, min, max, Option, Some, None, refl, sym, ap, ◌∙◌, subst, arith, rules, inl, inr, ◌⊎◌}
+use Rattle.std.proofs.Common.{◌≡◌, ◌≢◌, ℕ, min, max, Option, Some, None, refl, sym, ap, ◌∙◌, subst}
+use Rattle.std.proofs.Common.{arith, rules, inl, inr, ◌⊎◌}
 use Rattle.std.specs.Option.{IsSome, IfSome}
 use Rattle.std.proofs.lemmas.Bool.{cases_eq, false≢true}
 use Rattle.rank_tree.specs.Knot.{Knot}
@@ -142,7 +143,8 @@ pub turn_works : (n n1 n2 n3 n4 : Store) (root new_root : Option ℕ) (low jx jy
     → Written n2 n3 low (record raised { parent = above.parent; rank = jx })
     → Relinked n3 n4 root new_root above.parent high (Some low)
     → (spot : Spot n root low) → Stands n4 new_root (turned spot jx jy) × KeptOff (walk (turned spot jx jy)) n n4
-turn_works n n1 n2 n3 n4 root new_root low jx jy below above high t middle lowered raised eb eh ea side em el er w1 w2 w3 w4 spot =
+turn_works n n1 n2 n3 n4 root new_root low jx jy below above high t middle lowered raised eb eh ea
+    side em el er w1 w2 w3 w4 spot =
     let f = spotted n root low spot in
     let s = spot.side in
     let below_is : below ≡ knot s (Some spot.high) (root_of spot.outer) spot.low_rank (root_of spot.inner) = cc f.at_low in
@@ -183,7 +185,8 @@ spot_high n root low below high e p spot =
     let is : high ≡ spot.high = cc (spot_parent n root low below e spot) in
     rw is (is_some (n spot.high) _ f.at_high)
 
-pub spot_child_of : (s z : Side) (p a : Option ℕ) (k : ℕ) (b : Option ℕ) (i : ℕ) → child_of z (knot s p a k b) ≡ Some i → (a ≡ Some i) ⊎ (b ≡ Some i)
+pub spot_child_of : (s z : Side) (p a : Option ℕ) (k : ℕ) (b : Option ℕ) (i : ℕ)
+    → child_of z (knot s p a k b) ≡ Some i → (a ≡ Some i) ⊎ (b ≡ Some i)
 spot_child_of Left Left p a k b i e = inl e
 spot_child_of Left Right p a k b i e = inr e
 spot_child_of Right Left p a k b i e = inr e

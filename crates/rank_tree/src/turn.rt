@@ -47,8 +47,8 @@ fn side_below<N, P: PtrCore, K: Knots<N, P>>(knots: &K, low: P::Inx) -> Side
     side_of(above, low)
 }
 
-// The same turn of a node on this side of its parent. It is inlined, since the side is known at each
-// call.
+// The same turn of a node on this side of its parent. It is inlined, since the side is known at
+// each call.
 #[inline(always)]
 fn turn_on<N, P: PtrCore, K: Knots<N, P>>(
     knots: &mut K,
@@ -59,12 +59,13 @@ fn turn_on<N, P: PtrCore, K: Knots<N, P>>(
     high_rank: u8,
 )
     requires spot { Spot (K.knots knots.old) (option_map P.Inx.number root.old) (P.Inx.number low) }
-    requires side { (spot : Spot (K.knots knots.old) (option_map P.Inx.number root.old) (P.Inx.number low))
-        → side ≡ spot.side }
-    ensures does { (spot : Spot (K.knots knots.old) (option_map P.Inx.number root.old) (P.Inx.number low))
-        → Stands (K.knots knots.new) (option_map P.Inx.number root.new) (turned spot low_rank high_rank) }
-    ensures elsewhere { (spot : Spot (K.knots knots.old) (option_map P.Inx.number root.old) (P.Inx.number low))
-        → KeptOff (walk (turned spot low_rank high_rank)) (K.knots knots.old) (K.knots knots.new) }
+    requires side { (spot : Spot (K.knots knots.old) (option_map P.Inx.number root.old)
+        (P.Inx.number low)) → side ≡ spot.side }
+    ensures does { (spot : Spot (K.knots knots.old) (option_map P.Inx.number root.old)
+        (P.Inx.number low)) → Stands (K.knots knots.new) (option_map P.Inx.number root.new)
+        (turned spot low_rank high_rank) }
+    ensures elsewhere { (spot : Spot (K.knots knots.old) (option_map P.Inx.number root.old)
+        (P.Inx.number low)) → KeptOff (walk (turned spot low_rank high_rank)) (K.knots knots.old) (K.knots knots.new) }
     ensures keeps { K.rest knots.new ≡ K.rest knots.old }
 {
     let below = knots.read(low);

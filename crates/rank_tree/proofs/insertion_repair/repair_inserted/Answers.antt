@@ -4,29 +4,37 @@ use Rattle.rank_tree.proofs.NameLemmas.{if_live}
 use Rattle.rank_tree.specs.Named.{named}
 use Rattle.rank_tree.specs.Repair.{Grown}
 use Rattle.rank_tree.specs.declared.side.Side.TheVariants.{Left, Right}
-use Rattle.rank_tree.specs.ClimbLaws.{Climbing, ClimbReads, grown_under, grown_ends, grown_lives, parent_lives, children_live, climb_reads, climb_write, climb_small, climb_ends, climb_leans, climb_up, climb_kept, climb_ranks, climb_falls}
+use Rattle.rank_tree.specs.ClimbLaws.{Climbing, ClimbReads, grown_under, grown_ends, grown_lives}
+use Rattle.rank_tree.specs.ClimbLaws.{parent_lives, children_live, climb_reads, climb_write}
+use Rattle.rank_tree.specs.ClimbLaws.{climb_small, climb_ends, climb_leans, climb_up, climb_kept}
+use Rattle.rank_tree.specs.ClimbLaws.{climb_ranks, climb_falls}
 use Rattle.rank_tree.specs.FrameLaws.{both_kept}
 use Rattle.rank_tree.proofs.insertion_repair.repair_inserted.Goals.{In-Some, After-rank_at-right}
 use Rattle.rank_tree.proofs.insertion_repair.repair_inserted.Goals as goal
 
 -- the node that has grown, below its parent
 under : (g : _) (c : In-Some g) (w : List ℕ)
-    → Grown (g.K.Knots.knots c.args.knots.now) (option_map g.P.Inx.PtrInxCore.number c.args.root.now)
+    → Grown (g.K.Knots.knots c.args.knots.now) (option_map g.P.Inx.PtrInxCore.number
+    c.args.root.now)
     (g.P.Inx.PtrInxCore.number c.args.start) w
     → Climbing (g.K.Knots.knots c.climb.knots) (option_map g.P.Inx.PtrInxCore.number c.climb.root)
     (g.P.Inx.PtrInxCore.number c.climb.low) w (g.P.Inx.PtrInxCore.number c.in-Some.high)
 under g c w grown =
-    grown_under _ _ _ _ _ _ c.read-below.ensures (ap (option_map g.P.Inx.PtrInxCore.number) c.in-Some.is)
+    grown_under _ _ _ _ _ _ c.read-below.ensures (ap
+    (option_map g.P.Inx.PtrInxCore.number) c.in-Some.is)
     (c.climb.invariant.0 w grown)
 
 -- what was read is what stands there
 read : (g : _) (c : After-rank_at-right g) (w : List ℕ)
-    (h : Climbing (g.K.Knots.knots c.climb.knots) (option_map g.P.Inx.PtrInxCore.number c.climb.root)
+    (h : Climbing (g.K.Knots.knots c.climb.knots) (option_map g.P.Inx.PtrInxCore.number
+    c.climb.root)
     (g.P.Inx.PtrInxCore.number c.climb.low) w (g.P.Inx.PtrInxCore.number c.in-Some.high))
     → ClimbReads _ _ _ _ w h (named g.P.Inx.PtrInxCore.number c.read-below.result)
-    (named g.P.Inx.PtrInxCore.number c.read-above.result) c.rank_at-left.result c.rank_at-right.result
+    (named g.P.Inx.PtrInxCore.number c.read-above.result) c.rank_at-left.result
+    c.rank_at-right.result
 read g c w h =
-    climb_reads _ _ _ _ _ _ _ _ c.read-below.ensures c.read-above.ensures c.rank_at-left.ensures.some
+    climb_reads _ _ _ _ _ _ _ _ c.read-below.ensures c.read-above.ensures
+    c.rank_at-left.ensures.some
     c.rank_at-left.ensures.none c.rank_at-right.ensures.some c.rank_at-right.ensures.none w h
 
 pub read-below-requires-clause-live : goal.read-below-requires-clause-live
@@ -34,7 +42,8 @@ read-below-requires-clause-live g c = grown_lives _ _ _ _ (c.climb.invariant.0 c
 
 pub read-above-requires-clause-live : goal.read-above-requires-clause-live
 read-above-requires-clause-live g c =
-    parent_lives _ _ _ _ _ (under g (goal.at.read-above-requires-clause-live g c).In-Some _ c.requires.grown.1)
+    parent_lives _ _ _ _ _ (under g (goal.at.read-above-requires-clause-live g c).In-Some _
+    c.requires.grown.1)
 
 pub returns-then-below-above-clause-does : goal.returns-then-below-above-clause-does
 returns-then-below-above-clause-does g c = λ w grown.
@@ -77,7 +86,8 @@ overflow_add-above g c =
 
 pub returns-in_default-clause-does : goal.returns-in_default-clause-does
 returns-in_default-clause-does g c = λ w grown.
-    grown_ends _ _ _ _ w c.read-below.ensures (ap (option_map g.P.Inx.PtrInxCore.number) c.in_default.is)
+    grown_ends _ _ _ _ w c.read-below.ensures (ap (option_map g.P.Inx.PtrInxCore.number)
+    c.in_default.is)
     (c.climb.invariant.0 w grown)
 
 pub returns-then-min-below-clause-does : goal.returns-then-min-below-clause-does
@@ -102,7 +112,8 @@ climb-preserved g c =
       λ w grown.
           let h = under g at.In-Some w grown in
           let r = read g at.After-rank_at-right w h in
-          climb_up _ _ _ _ _ w h (omega arith) (omega arith) (climb_write _ _ _ _ _ _ c.read-above.ensures written w h),
+          climb_up _ _ _ _ _ w h (omega arith) (omega arith)
+          (climb_write _ _ _ _ _ _ c.read-above.ensures written w h),
       c.set_rank.ensures.keeps ∙ c.climb.invariant.1,
       λ w grown.
           both_kept w _ _ _ (c.climb.invariant.2 w grown)

@@ -6,8 +6,13 @@ use Rattle.rank_tree.specs.Store.{rank_in}
 use Rattle.rank_tree.specs.Repair.{Broken}
 use Rattle.rank_tree.specs.SpotLaws.{spot_low, spot_child}
 use Rattle.rank_tree.specs.declared.side.Side.TheVariants.{Left, Right}
-use Rattle.rank_tree.specs.MendLaws.{MendReads, SiblingReads, Lowered, Higher, Sibling, broken_lives, broken_reads, broken_ends, broken_lower, broken_sibling, mend_reads, not_fit, mend_higher, higher_some, mend_lower, sibling_reads, sibling_short, sets_lives}
-use Rattle.rank_tree.proofs.removal_repair.mend.Goals.{After-rank_at-right, After-set_rank, After-child, In-Some, After-rank_at-low_right, After-set_rank-3}
+use Rattle.rank_tree.specs.MendLaws.{MendReads, SiblingReads, Lowered, Higher, Sibling}
+use Rattle.rank_tree.specs.MendLaws.{broken_lives, broken_reads, broken_ends, broken_lower}
+use Rattle.rank_tree.specs.MendLaws.{broken_sibling, mend_reads, not_fit, mend_higher, higher_some}
+use Rattle.rank_tree.specs.MendLaws.{mend_lower, sibling_reads, sibling_short, sets_lives}
+use Rattle.rank_tree.proofs.removal_repair.mend.Goals.{After-rank_at-right, After-set_rank}
+use Rattle.rank_tree.proofs.removal_repair.mend.Goals.{After-child, In-Some}
+use Rattle.rank_tree.proofs.removal_repair.mend.Goals.{After-rank_at-low_right, After-set_rank-3}
 use Rattle.rank_tree.proofs.removal_repair.mend.Goals as goal
 
 -- what was read is what stands there
@@ -50,13 +55,15 @@ sibling g c w h =
 
 -- what was read of the sibling is what stands there
 read_low : (g : _) (c : After-rank_at-low_right g) (w : List ℕ)
-    (s : Sibling (g.K.Knots.knots c.args.knots.now) (option_map g.P.Inx.PtrInxCore.number c.args.root.now)
+    (s : Sibling (g.K.Knots.knots c.args.knots.now)
+    (option_map g.P.Inx.PtrInxCore.number c.args.root.now)
     (g.P.Inx.PtrInxCore.number c.in-Some.low) w (g.P.Inx.PtrInxCore.number c.args.high))
     → SiblingReads _ _ _ _ w s (named g.P.Inx.PtrInxCore.number c.read-below.result)
     c.rank_at-low_left.result c.rank_at-low_right.result
 read_low g c w s =
     sibling_reads _ _ _ _ _ _ _ c.read-below.ensures c.rank_at-low_left.ensures.some
-    c.rank_at-low_left.ensures.none c.rank_at-low_right.ensures.some c.rank_at-low_right.ensures.none w s
+    c.rank_at-low_left.ensures.none c.rank_at-low_right.ensures.some
+    c.rank_at-low_right.ensures.none w s
 
 -- the sibling and the node lose one rank each
 both_fall : (g : _) (c : After-set_rank-3 g) (w : List ℕ)
@@ -119,7 +126,8 @@ unreached-unreachable-requires g c =
 
 pub read-below-requires-clause-live : goal.read-below-requires-clause-live
 read-below-requires-clause-live g c =
-    spot_low _ _ _ (sibling g (goal.at.read-below-requires-clause-live g c).In-Some _ c.requires.1).spot
+    spot_low _ _ _ (sibling g (goal.at.read-below-requires-clause-live g c).In-Some _
+    c.requires.1).spot
 
 pub rank_at-low_left-requires-clause-live : goal.rank_at-low_left-requires-clause-live
 rank_at-low_left-requires-clause-live g c =
@@ -136,17 +144,37 @@ rank_at-low_right-requires-clause-live g c =
 pub overflow_add-max-2 : goal.overflow_add-max-2
 overflow_add-max-2 g c =
     let s = sibling g (goal.at.overflow_add-max-2 g c).In-Some _ c.requires.1 in
-    omega (arith, s, s.fits, read_low g (goal.at.overflow_add-max-2 g c).After-rank_at-low_right _ s)
+    omega (
+      arith,
+      s,
+      s.fits,
+      read_low g (goal.at.overflow_add-max-2 g c).After-rank_at-low_right _
+          s,
+    )
 
 pub shorten-requires-clause-short : goal.shorten-requires-clause-short
 shorten-requires-clause-short g c =
-    let s = sibling g (goal.at.shorten-requires-clause-short g c).In-Some _ c.requires.1 in
-    (c.requires.0, sibling_short _ _ _ _ _ s (omega (arith, s, s.fits, read_low g (goal.at.shorten-requires-clause-short g c).After-rank_at-low_right _ s)))
+    let s = sibling g (goal.at.shorten-requires-clause-short g c).In-Some _ c.requires.1 in (
+      c.requires.0,
+      sibling_short _ _ _ _ _ s (omega (
+        arith,
+        s,
+        s.fits,
+        read_low g
+            (goal.at.shorten-requires-clause-short g c).After-rank_at-low_right _ s,
+      )),
+    )
 
 pub returns-then-below-max-clause-pending : goal.returns-then-below-max-clause-pending
 returns-then-below-max-clause-pending g c = λ w h.
     let s = sibling g (goal.at.returns-then-below-max-clause-pending g c).In-Some w h in
-    c.shorten.ensures.does w (sibling_short _ _ _ _ w s (omega (arith, s, s.fits, read_low g (goal.at.returns-then-below-max-clause-pending g c).After-rank_at-low_right w s)))
+    c.shorten.ensures.does w (sibling_short _ _ _ _ w s (omega (
+      arith,
+      s,
+      s.fits,
+      read_low g
+          (goal.at.returns-then-below-max-clause-pending g c).After-rank_at-low_right w s,
+    )))
 
 pub set_rank-requires-2-clause-live : goal.set_rank-requires-2-clause-live
 set_rank-requires-2-clause-live g c = spot_low _ _ _ (sibling g (goal.at.set_rank-requires-2-clause-live g c).In-Some _ c.requires.1).spot
@@ -172,7 +200,13 @@ returns-then-max-rank-clause-elsewhere g c = λ w h. (falls g (goal.at.returns-t
 pub returns-then-below-max-clause-elsewhere : goal.returns-then-below-max-clause-elsewhere
 returns-then-below-max-clause-elsewhere g c = λ w h.
     let s = sibling g (goal.at.returns-then-below-max-clause-elsewhere g c).In-Some w h in
-    c.shorten.ensures.elsewhere w (sibling_short _ _ _ _ w s (omega (arith, s, s.fits, read_low g (goal.at.returns-then-below-max-clause-elsewhere g c).After-rank_at-low_right w s)))
+    c.shorten.ensures.elsewhere w (sibling_short _ _ _ _ w s (omega (
+      arith,
+      s,
+      s.fits,
+      read_low g
+          (goal.at.returns-then-below-max-clause-elsewhere g c).After-rank_at-low_right w s,
+    )))
 
 pub returns-clause-elsewhere : goal.returns-clause-elsewhere
 returns-clause-elsewhere g c = λ w h. (both_fall g (goal.at.returns-clause-elsewhere g c).After-set_rank-3 w h).kept

@@ -14,7 +14,8 @@ unreached-unreachable-requires g c =
 
 pub read-above-requires-clause-live : goal.read-above-requires-clause-live
 read-above-requires-clause-live g c =
-    spot_high _ _ _ _ _ c.read-below.ensures (ap (option_map g.P.Inx.PtrInxCore.number) c.in-Some.is)
+    spot_high _ _ _ _ _ c.read-below.ensures (ap (option_map g.P.Inx.PtrInxCore.number)
+    c.in-Some.is)
     c.requires.spot.1
 
 pub returns : goal.returns

@@ -17,9 +17,11 @@ works : (g : _) (c : After-relink g)
 works g c spot =
     let number = g.P.Inx.PtrInxCore.number in
     let below = named number c.read-below.result in
-    let raised_is : named number c.with_child-raised.result ≡ with_child (other_side c.args.side) (Some (number c.in-Some.high)) below =
+    let raised_is : named number c.with_child-raised.result
+    ≡ with_child (other_side c.args.side) (Some (number c.in-Some.high)) below =
     c.with_child-raised.ensures ∙ ap (λ z. with_child z (Some (number c.in-Some.high)) below) c.other-2.ensures in
-    turn_works _ _ _ _ _ _ _ _ c.args.low_rank c.args.high_rank _ _ _ c.args.side (option_map number c.child-middle.result) (named number c.with_child-lowered.result)
+    turn_works _ _ _ _ _ _ _ _ c.args.low_rank c.args.high_rank _ _ _ c.args.side
+    (option_map number c.child-middle.result) (named number c.with_child-lowered.result)
     (named number c.with_child-raised.result)
     c.read-below.ensures (ap (option_map number) c.in-Some.is) c.read-above.ensures c.requires.side
     (c.child-middle.ensures ∙ ap (λ z. child_of z below) c.other.ensures) c.with_child-lowered.ensures raised_is
