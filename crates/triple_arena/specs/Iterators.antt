@@ -1,5 +1,5 @@
 -- What an iterator over an arena has left, and what a search by it finds.
-use Rattle.std.specs.Prelude.{◌≡◌, ℕ, ◌+◌, ◌<◌, ◌≤◌, Bool, true, false, List, [], ◌∷◌, ◌++◌, length, map, Option, Some, None, IfSome}
+use Rattle.std.specs.Prelude.{◌≡◌, ℕ, ◌+◌, ◌<◌, ◌≤◌, Bool, true, false, List, [], ◌∷◌, ◌++◌, length, drop, map, Option, Some, None, IfSome}
 use Rattle.std.specs.Iterator.{UpTo, at_most}
 use Rattle.std.specs.Iterator.SizeHint.{IsWithinCount}
 use Rattle.triple_arena.specs.LiveEntries.{listed_from}
@@ -13,10 +13,14 @@ module _ {T : Type 0} where
 abbrev pub with_part : {V T : Type 0} → (V → T) → ℕ × (ℕ × V) → ℕ × (ℕ × T)
 with_part part entry = (entry.0, (entry.1.0, part entry.1.1))
 
--- what is left of some slots, of which so many came before: they hold so many entries, and have indexes up to the greatest
+-- the live entries of slots that have the indexes from 1 on, but for so many slots at the start
+abbrev pub listed_behind : {T : Type 0} → ℕ → List (Option (ℕ × T)) → List (ℕ × (ℕ × T))
+listed_behind passed slots = listed_from (passed + 1) (drop passed slots)
+
+-- slots of which so many were passed: the others hold so many entries, and the indexes are up to the greatest
 pub record IsCursor {E T : Type 0} (shown : E → Option (ℕ × T)) (slots : List E) (passed left greatest : ℕ) : Type 0 where
-  pub counted : left ≡ length (listed_from (passed + 1) (map shown slots))
-  pub indexed : passed + length slots ≤ greatest
+  pub counted : left ≡ length (listed_behind passed (map shown slots))
+  pub indexed : length slots ≤ greatest
 
 -- a hint of how many items are left that has the number for both bounds; and so what any hint tells of its bounds
 pub record IsExact (hint : ℕ × Option ℕ) (n : ℕ) : Type 0 where

@@ -133,9 +133,11 @@ pub(crate) trait LivePointers<P: PtrCore, T> {
     {
         let last = end.min(self.slots_len());
         for before in start..last {
-            let found = self.pointer_of(NonZeroUsize::MIN.saturating_add(before));
-            if found.is_some() {
-                return found;
+            let Some(i) = NonZeroUsize::new(before + 1) else {
+                unreached!()
+            };
+            if let Some(p) = self.pointer_of(i) {
+                return Some(p);
             }
         }
         None
@@ -150,9 +152,11 @@ pub(crate) trait LivePointers<P: PtrCore, T> {
     {
         let mut last = end.min(self.slots_len());
         while start < last {
-            let found = self.pointer_of(NonZeroUsize::MIN.saturating_add(last - 1));
-            if found.is_some() {
-                return found;
+            let Some(i) = NonZeroUsize::new(last) else {
+                unreached!()
+            };
+            if let Some(p) = self.pointer_of(i) {
+                return Some(p);
             }
             last -= 1;
         }

@@ -14,6 +14,7 @@ use std::iter::FusedIterator;
 use std::marker::{Model, PhantomData};
 use std::num::NonZeroUsize;
 use triple_arena_ptr::PtrCore;
+use unreached::unreached;
 
 /// A slot, of which an iterator gives what it holds.
 pub trait LentEntry<P: PtrCore, T> {
@@ -45,24 +46,22 @@ impl<P: PtrCore, T> LentEntry<P, T> for DirectSlot<P, T> {
 /// are left. Of each value it gives the part that `M` shows.
 #[derive(Drop)]
 pub struct Iter<'a, P: PtrCore, V, T, E: LentEntry<P, V>, M: Part<V, T>> {
-    // The slots that are left.
     slots: &'a [E],
-    // The index before that of the first of them.
+    // How many slots came before.
     passed: usize,
-    // How many of them are allocated.
+    // How many of those that are left are allocated.
     left: usize,
     entries: PhantomData<(P, &'a V, &'a T, M)>,
 }
 
 impl<'a, P: PtrCore, V, T, E: LentEntry<P, V>, M: Part<V, T>> Model for Iter<'a, P, V, T, E, M> {
-    ghost use Rattle.std.specs.Prelude.{ℕ, ◌+◌, List, map};
+    ghost use Rattle.std.specs.Prelude.{ℕ, List, map};
     ghost use Rattle.triple_arena_ptr.specs.Index.{max_index_of};
-    ghost use Rattle.triple_arena.specs.Iterators.{IsCursor, with_part};
-    ghost use Rattle.triple_arena.specs.LiveEntries.{listed_from};
+    ghost use Rattle.triple_arena.specs.Iterators.{IsCursor, listed_behind, with_part};
 
     ghost Value = { List (ℕ × (ℕ × T)) };
 
-    ghost view = { λ it. map (with_part M.part) (listed_from (it.passed + 1) (map E.shown it.slots.now)) };
+    ghost view = { λ it. map (with_part M.part) (listed_behind it.passed (map E.shown it.slots.now)) };
 
     ghost invariant = { λ it. IsCursor E.shown it.slots.now it.passed it.left (max_index_of P.Inx.greatest) };
 }
@@ -119,12 +118,13 @@ impl<'a, P: PtrCore, V, T, E: LentEntry<P, V>, M: Part<V, T>> Iterator for Iter<
     ghost remaining = { item_count (λ left. left) };
 
     fn next(&mut self) -> Option<(P, &'a T)> {
-        while let Some((slot, rest)) = self.slots.split_first() {
-            let index = NonZeroUsize::MIN.saturating_add(self.passed);
-            self.slots = rest;
-            self.passed = index.get();
+        while let Some(slot) = self.slots.get(self.passed) {
+            self.passed += 1;
             if let Some((generation, value)) = slot.lent_entry() {
                 self.left -= 1;
+                let Some(index) = NonZeroUsize::new(self.passed) else {
+                    unreached!()
+                };
                 return Some((pointer_at(index, generation), M::part_of(value)));
             }
         }
