@@ -1,15 +1,18 @@
 //! Going over one chain that is lent for reading.
-ghost use Rattle.std.specs.Prelude.{◌≡◌, ◌↔◌, ℕ, List, IsSome, IfSome};
+ghost use Rattle.std.specs.Prelude.{◌≡◌, ◌↔◌, ℕ, List, Option, Some, None, IsSome, IfSome};
 ghost use Rattle.std.specs.Iterator.{YieldsFirstBy, item_count};
+ghost use Rattle.std.specs.Option.{option_map};
 ghost use Rattle.triple_arena.specs.Content.{get, entry_at};
-ghost use Rattle.triple_arena_chain.specs.IterChains.{links_along};
+ghost use Rattle.triple_arena_chain.specs.Chains.{Ends};
+ghost use Rattle.triple_arena_chain.specs.IterChains.{lent_walk, settled, links_along};
 ghost use Rattle.triple_arena_chain.specs.Links.{ends_in};
-ghost use Rattle.triple_arena_chain.specs.Walks.{IsWalkFrom};
+ghost use Rattle.triple_arena_chain.specs.Walks.{past_index, IsWalkFrom};
 
-use crate::chain_arena::walk::ChainPtrAdvancer;
 use crate::{ChainArena, ChainArenaTrait, ChainSlots, LinkNoGen};
 use std::marker::Model;
-use triple_arena::{Advancer, PtrCore, PtrInxCore};
+use triple_arena::{ArenaTrait, PtrCore, PtrInxCore};
+use triple_arena_ptr::OptionalInx;
+use unreached::unreached;
 
 /// The pointers and the links of one chain, from a link on to the end and then backwards from the link before it, or
 /// once round a ring: seen as the list of the entries that are left.
@@ -20,7 +23,10 @@ where
     <P::Inx as PtrInxCore>::Word: 'a,
 {
     chains: &'a ChainArena<P, T, S>,
-    advancer: ChainPtrAdvancer<P>,
+    // Where the walk began, as long as it goes on, and does not go back.
+    start: OptionalInx<P::Inx, <P::Inx as PtrInxCore>::Word>,
+    // The index that comes next. At the end of a list there is none, until the walk turns.
+    at: OptionalInx<P::Inx, <P::Inx as PtrInxCore>::Word>,
 }
 
 impl<'a, P: PtrCore, T: Drop, S: ChainSlots<P, T>> Model for IterChain<'a, P, T, S>
@@ -29,17 +35,69 @@ where
     <P::Inx as PtrInxCore>::Word: 'a,
 {
     ghost use Rattle.std.specs.Prelude.{ℕ, List};
+    ghost use Rattle.std.specs.Option.{option_map};
     ghost use Rattle.triple_arena.specs.Content.{entry_at};
     ghost use Rattle.triple_arena_chain.specs.LinkShape.{IndexLink};
-    ghost use Rattle.triple_arena_chain.specs.IterChains.{links_along};
+    ghost use Rattle.triple_arena_chain.specs.IterChains.{lent_walk, links_along};
+    ghost use Rattle.triple_arena_chain.specs.Links.{ends_in};
     ghost use Rattle.triple_arena_chain.specs.Walks.{left_over, IsEnding};
 
     ghost Value = { List (ℕ × (ℕ × IndexLink P.Inx T)) };
 
     ghost view = { λ it. links_along (entry_at it.chains.now)
-        (left_over P.Inx.number it.chains.now it.advancer) };
+        (left_over P.Inx.number it.chains.now (lent_walk (ends_in P.Inx.number it.chains.now)
+        (option_map P.Inx.number it.start) (option_map P.Inx.number it.at))) };
 
-    ghost invariant = { λ it. IsEnding P.Inx.number it.chains.now it.advancer };
+    ghost invariant = { λ it. IsEnding P.Inx.number it.chains.now
+        (lent_walk (ends_in P.Inx.number it.chains.now)
+        (option_map P.Inx.number it.start) (option_map P.Inx.number it.at)) };
+}
+
+// Where a walk that began there goes on from a link with these neighbors, and where it began as long as it goes on.
+#[inline(always)]
+fn onward<I: PtrInxCore<Word = W>, W: Copy + Drop>(
+    start: OptionalInx<I, W>,
+    prev: OptionalInx<I, W>,
+    next: OptionalInx<I, W>,
+) -> (OptionalInx<I, W>, OptionalInx<I, W>)
+    ensures { (ends : ℕ → Option Ends) (i : ℕ)
+        → ends i ≡ Some (option_map I.number prev, option_map I.number next)
+        → lent_walk ends (option_map I.number result.0) (option_map I.number result.1)
+        ≡ settled (past_index ends (lent_walk ends (option_map I.number start) (Some i)) i) }
+{
+    let to = if start.is_none() { prev } else { next };
+    if to == start {
+        (OptionalInx::none(), OptionalInx::none())
+    } else {
+        (start, to)
+    }
+}
+
+impl<P: PtrCore, T: Drop, S: ChainSlots<P, T>> ChainArena<P, T, S> {
+    // The same place of a walk, which has turned at the end of a list.
+    #[inline(always)]
+    fn turned(
+        &self,
+        start: OptionalInx<P::Inx, <P::Inx as PtrInxCore>::Word>,
+        at: OptionalInx<P::Inx, <P::Inx as PtrInxCore>::Word>,
+    ) -> (
+        OptionalInx<P::Inx, <P::Inx as PtrInxCore>::Word>,
+        OptionalInx<P::Inx, <P::Inx as PtrInxCore>::Word>,
+    )
+        ensures same { lent_walk (ends_in P.Inx.number self.now)
+            (option_map P.Inx.number result.0) (option_map P.Inx.number result.1)
+            ≡ lent_walk (ends_in P.Inx.number self.now)
+            (option_map P.Inx.number start) (option_map P.Inx.number at) }
+        ensures over { result.1 ≡ None → result.0 ≡ None }
+    {
+        if !at.is_none() {
+            return (start, at);
+        }
+        match start.get() {
+            Some(start) => (OptionalInx::none(), OptionalInx::of(self.prev_of(start))),
+            None => (start, at),
+        }
+    }
 }
 
 impl<'a, P: PtrCore, T: Drop, S: ChainSlots<P, T>> Iterator for IterChain<'a, P, T, S>
@@ -54,8 +112,18 @@ where
     ghost remaining = { item_count (λ left. left) };
 
     fn next(&mut self) -> Option<(P, &'a LinkNoGen<P, T>)> {
-        let (p, link) = self.advancer.step(self.chains)?;
-        Some((p, link))
+        let chains = self.chains;
+        let (start, at) = chains.turned(self.start, self.at);
+        let i = at.get()?;
+        match chains.arena.get_inx(i) {
+            Some((generation, link)) => {
+                let (start, at) = onward(start, link.prev, link.next);
+                self.start = start;
+                self.at = at;
+                Some((P::_from_raw(i, generation), link))
+            }
+            None => unreached!(),
+        }
     }
 }
 
@@ -68,10 +136,12 @@ impl<P: PtrCore, T: Drop, S: ChainSlots<P, T>> ChainArena<P, T, S> {
             × IsWalkFrom (ends_in P.Inx.number self.now) (P.index p) walk
             × (it ≡ links_along (entry_at self.now) walk)) }
     {
-        let advancer = self.advancer_chain(p)?;
+        let _ = self.advancer_chain(p)?;
+        let start = OptionalInx::some(p.inx());
         Some(IterChain {
             chains: self,
-            advancer,
+            start,
+            at: start,
         })
     }
 }

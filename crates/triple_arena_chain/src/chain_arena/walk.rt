@@ -133,7 +133,7 @@ impl<P: PtrCore, T: Drop, S: ChainSlots<P, T>> Advancer<ChainArena<P, T, S>>
 
 impl<P: PtrCore, T: Drop, S: ChainSlots<P, T>> ChainArena<P, T, S> {
     // The previous index of the link at an index.
-    fn prev_of(&self, i: P::Inx) -> Option<P::Inx>
+    pub(crate) fn prev_of(&self, i: P::Inx) -> Option<P::Inx>
         ensures { option_map P.Inx.number result
             ≡ prev_at (ends_in P.Inx.number self.now) (P.Inx.number i) }
     {
