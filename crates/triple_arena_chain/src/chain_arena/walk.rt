@@ -1,16 +1,16 @@
 //! Walks along a chain.
-ghost use Rattle.std.specs.Prelude.{◌≡◌, ℕ, Some, IfSome};
+ghost use Rattle.std.specs.Prelude.{◌≡◌, ℕ, Some};
 ghost use Rattle.std.specs.Option.{option_map};
-ghost use Rattle.triple_arena.specs.Content.{get};
 ghost use Rattle.triple_arena.specs.LiveEntries.{live_entries};
 ghost use Rattle.triple_arena_chain.specs.Chains.{next_at, prev_at};
 ghost use Rattle.triple_arena_chain.specs.Links.{ends_in, values_in};
-ghost use Rattle.triple_arena_chain.specs.Walks.{walk_from, left_to, past_index, IsWalkAlong, ChainSteps};
+ghost use Rattle.triple_arena_chain.specs.Walks.{walk_from, left_to, past_index, ChainSteps};
 
 use crate::chain_iterators::IterLinkNoGen;
-use crate::{ChainArena, ChainArenaTrait, ChainSlots, LinkNoGen};
+use crate::{ChainArena, ChainSlots};
 use std::marker::Model;
-use triple_arena::{Advancer, ArenaTrait, PtrCore};
+use triple_arena::{Advancer, ArenaTrait, PtrCore, PtrInxCore};
+use triple_arena_ptr::OptionalInx;
 
 /// Gives the pointers to the links of a chain, one a call: from a link on to the end and then backwards from the link
 /// before it, or once round a ring. The links are free between the calls.
@@ -24,7 +24,7 @@ pub struct ChainPtrAdvancer<P: PtrCore> {
     // Where the walk began.
     start: P,
     // The index that comes next.
-    at: Option<P::Inx>,
+    at: OptionalInx<P::Inx, <P::Inx as PtrInxCore>::Word>,
     back: bool,
 }
 
@@ -48,7 +48,7 @@ impl<P: PtrCore> ChainPtrAdvancer<P> {
     {
         ChainPtrAdvancer {
             start: p,
-            at: Some(p.inx()),
+            at: OptionalInx::some(p.inx()),
             back: false,
         }
     }
@@ -57,51 +57,23 @@ impl<P: PtrCore> ChainPtrAdvancer<P> {
     fn go_on<T: Drop, S: ChainSlots<P, T>>(
         &mut self,
         chains: &ChainArena<P, T, S>,
-        prev: Option<P::Inx>,
-        next: Option<P::Inx>,
+        prev: OptionalInx<P::Inx, <P::Inx as PtrInxCore>::Word>,
+        next: OptionalInx<P::Inx, <P::Inx as PtrInxCore>::Word>,
     )
         ensures { (i : ℕ) → ends_in P.Inx.number chains.now i
             ≡ Some (option_map P.Inx.number prev, option_map P.Inx.number next)
             → self.new ≡ past_index (ends_in P.Inx.number chains.now) self.old i }
     {
+        let start = self.start.inx();
         if self.back {
             self.at = prev;
-            return;
-        }
-        match next {
-            Some(next) => {
-                self.at = if next == self.start.inx() {
-                    None
-                } else {
-                    Some(next)
-                };
-            }
-            None => {
-                self.at = chains.prev_of(self.start.inx());
-                self.back = true;
-            }
-        }
-    }
-
-    // Gives the link where the walk is, and goes on from there. Where nothing is live the walk ends.
-    pub(crate) fn step<'a, T: Drop, S: ChainSlots<P, T>>(
-        &mut self,
-        chains: &'a ChainArena<P, T, S>,
-    ) -> Option<(P, &'a LinkNoGen<P, T>)>
-        ensures steps { ChainSteps (ends_in P.Inx.number chains.now) (values_in chains.now) self.old
-            (option_map (λ e. (P.index e.0, P.generation e.0)) result) self.new }
-        ensures link { IfSome result (λ e. get chains.now (P.index e.0) (P.generation e.0) ≡ Some e.1.now) }
-    {
-        let i = self.at?;
-        match chains.arena.get_inx(i) {
-            Some((generation, link)) => {
-                self.go_on(chains, link.prev(), link.next());
-                Some((P::_from_raw(i, generation), link))
-            }
-            None => {
-                self.at = None;
-                None
-            }
+        } else if next == OptionalInx::some(start) {
+            self.at = OptionalInx::none();
+        } else if next.is_none() {
+            self.at = OptionalInx::of(chains.prev_of(start));
+            self.back = true;
+        } else {
+            self.at = next;
         }
     }
 }
@@ -116,16 +88,23 @@ impl<P: PtrCore, T: Drop, S: ChainSlots<P, T>> Advancer<ChainArena<P, T, S>>
         before (option_map (λ p. (P.index p, P.generation p)) given) after };
 
     fn advance(&mut self, chains: &ChainArena<P, T, S>) -> Option<P> {
-        match self.step(chains) {
-            Some((p, _)) => Some(p),
-            None => None,
+        let i = self.at.get()?;
+        match chains.arena.get_inx(i) {
+            Some((generation, link)) => {
+                self.go_on(chains, link.prev, link.next);
+                Some(P::_from_raw(i, generation))
+            }
+            None => {
+                self.at = OptionalInx::none();
+                None
+            }
         }
     }
 
     fn empty() -> Self {
         ChainPtrAdvancer {
             start: P::invalid(),
-            at: None,
+            at: OptionalInx::none(),
             back: false,
         }
     }
