@@ -14,20 +14,11 @@ use Rattle.triple_arena_chain.specs.Listed.{listed_value, listed_values}
 use Rattle.triple_arena_chain.specs.Renaming.{live_below, new_index, ends_renamed, FollowsRenaming, IsCompacted}
 use Rattle.triple_arena_chain.specs.CanonicalLayout.{IsLaidOut, IsAlike, IsAllGathered, IsCanonical}
 use Rattle.triple_arena_chain.proofs.PassLemmas.{live_ends}
-use Rattle.triple_arena_chain.proofs.RenamingLemmas.{slot_at, live_below-first, live_below-same, live_below-live, live_below-none, listed-ranked}
+use Rattle.triple_arena_chain.proofs.RenamingLemmas.{slot_at, slots_ranked, live_below_full, listed-ranked}
 use Rattle.triple_arena_chain.proofs.RunLemmas.{run-on, run-within}
 use Rattle.triple_arena_chain.proofs.GatherLemmas.{some_moved}
 use Rattle.triple_arena_chain.specs.CanonicalLayoutLaws.{laid_same}
 use Rattle.triple_arena_chain.proofs.GatheredLemmas.{renamed_after}
-
--- where all before an index are live it has its own number
-live_below_full : {A : Type 0} (at : ℕ → Option A) (i : ℕ) → at 0 ≡ None → ((j : ℕ) → 1 ≤ j → j < i → IsSome (at j)) → 1 ≤ i → live_below at i + 1 ≡ i
-live_below_full at zero none live one = absurd (omega (arith, one))
-live_below_full at (suc zero) none live one = let first = live_below-none at 0 none in omega (arith, first)
-live_below_full at (suc (suc n)) none live one =
-    let rest = live_below_full at (suc n) none (λ j low high. live j low (omega (arith, high))) (omega arith) in
-    let here = live_below-live at (suc n) (live (suc n) (omega arith) (omega arith)) in
-    omega (arith, rest, here)
 
 module _ (e : ℕ → Option Ends) where
   -- in the canonical layout each live index has its own number
@@ -82,12 +73,6 @@ module _ {I T : Type 0} (number : I → ℕ) (last : Option ℕ) (reset : Bool) 
   abbrev new : ℕ → ℕ
   new = new_index (ends_in number old)
 
-  live_below_slots : (k : ℕ) → live_below (ends_in number old) (suc k) ≡ live_below (slot_at old.slots) k
-  live_below_slots k =
-      let same = live_below-same (ends_in number old) (entry_at old) (λ j. sym (live_ends number old j)) (suc k) in
-      let first = live_below-first (entry_at old) k in
-      omega (arith, same, first)
-
   values_compacted : (i : ℕ) → IsSome (ends_in number old i)
       → values_in mid (new_index (ends_in number old) i) ≡ option_map (λ e. (renewed last reset old.counter, e.1)) (values_in old i)
   values_compacted zero some = absurd (true≢false (sym some))
@@ -99,7 +84,7 @@ module _ {I T : Type 0} (number : I → ℕ) (last : Option ℕ) (reset : Bool) 
       by (Some e) is =
           let there = listed-ranked 1 k old.slots e is in
           let listed : slice_get (map value_of (listed_values old)) (live_below (ends_in number old) (suc k)) ≡ Some e.1.t =
-          ap (slice_get (map value_of (listed_values old))) (live_below_slots k)
+          ap (slice_get (map value_of (listed_values old))) (slots_ranked (ends_in number old) old (λ j. sym (live_ends number old j)) k)
           ∙ slice_get-map value_of (listed_values old) (live_below (slot_at old.slots) k)
           ∙ ap (option_map value_of) (slice_get-map listed_value (live_entries old) (live_below (slot_at old.slots) k))
           ∙ ap (λ o. option_map value_of (option_map listed_value o)) there in

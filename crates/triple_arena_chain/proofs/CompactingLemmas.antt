@@ -19,16 +19,17 @@ use Rattle.triple_arena_chain.specs.Renaming.{live_below, new_index, numbered, p
 use Rattle.triple_arena_chain.proofs.ListedLemmas.{values_listed}
 use Rattle.triple_arena_chain.specs.LinkLaws.{kept_on}
 use Rattle.triple_arena_chain.proofs.PassLemmas.{live_as, live_ends}
-use Rattle.triple_arena_chain.proofs.RenamingLemmas.{AreNextsRenamed, IsApart, slot_at, live_below-first, live_below-same, live_below-apart, listed-ranked, listed-onto, nexts_live, nexts_apart, renamed_by}
+use Rattle.triple_arena_chain.proofs.RenamingLemmas.{AreNextsRenamed, IsApart, slot_at, slots_ranked, live_below-apart, listed-ranked, listed-onto, nexts_live, nexts_apart, renamed_by}
 
 module _ {X Y : Type 0} (R : X → Y → Type 0) where
-  zip_forth : (xs : List X) (ys : List Y) → AllZip R xs ys → (k : ℕ) (x : X) → slice_get xs k ≡ Some x → (y : Y) × (slice_get ys k ≡ Some y) × R x y
+  -- what is related one by one is related at each place
+  pub zip_forth : (xs : List X) (ys : List Y) → AllZip R xs ys → (k : ℕ) (x : X) → slice_get xs k ≡ Some x → (y : Y) × (slice_get ys k ≡ Some y) × R x y
   zip_forth [] ys zip k x at = absurd (cc)
   zip_forth (a ∷ xs) [] zip k x at = absurd zip
   zip_forth (a ∷ xs) (b ∷ ys) zip zero x at = let same : a ≡ x = cc in (b, refl, subst (λ z. R z b) same zip.0)
   zip_forth (a ∷ xs) (b ∷ ys) zip (suc k) x at = zip_forth xs ys zip.1 k x at
 
-  zip_back : (xs : List X) (ys : List Y) → AllZip R xs ys → (k : ℕ) (y : Y) → slice_get ys k ≡ Some y → (x : X) × (slice_get xs k ≡ Some x) × R x y
+  pub zip_back : (xs : List X) (ys : List Y) → AllZip R xs ys → (k : ℕ) (y : Y) → slice_get ys k ≡ Some y → (x : X) × (slice_get xs k ≡ Some x) × R x y
   zip_back xs [] zip k y at = absurd (cc)
   zip_back [] (b ∷ ys) zip k y at = absurd zip
   zip_back (a ∷ xs) (b ∷ ys) zip zero y at = let same : b ≡ y = cc in (a, refl, subst (R a) same zip.0)
@@ -45,6 +46,115 @@ prev_numbered n (Some v) some = refl
 next_forwarded : (e : ℕ → Option Ends) (o : Option Ends) → next_in (option_map (λ (v : Ends). (let w : Ends = (v.0, prev_of e v.1) in w)) o) ≡ prev_of e (next_in o)
 next_forwarded e None = refl
 next_forwarded e (Some v) = refl
+
+module _ {I T : Type 0} (last : Option ℕ) (reset : Bool) (c2 c3 : Content (IndexLink I T))
+    (compressed : IsCompressed entry_at live_count some_counter room_in last live_entries reset c2 c3) where
+  -- what is listed stands at its place
+  pub entry_placed : (n : ℕ) (f : ℕ × (ℕ × IndexLink I T)) → slice_get (live_entries c3) n ≡ Some f → entry_at c3 (n + 1) ≡ Some f.1
+  entry_placed n f is = compressed.entries n ∙ ap (option_map entry_of_listed) is
+
+module _ {I T : Type 0} (last : Option ℕ) (reset : Bool) (c0 c2 c3 c4 : Content (IndexLink I T)) where
+  -- links that are compressed, where what is done before and after changes interlinks alone
+  pub record AreListed : Type 0 where
+    pub before : (j : ℕ) → values_in c2 j ≡ values_in c0 j
+    pub kept_before : IsKept c0 c2
+    pub compressed : IsCompressed entry_at live_count some_counter room_in last live_entries reset c2 c3
+    pub exact : c3 ≡ compacted (renewed last reset c2.counter) (map value_of (live_entries c3)) c2
+    pub after : (k : ℕ) → values_in c4 k ≡ values_in c3 k
+    pub kept_after : IsKept c3 c4
+
+  module _ (m : AreListed) where
+    pub listed_old : listed_values c2 ≡ listed_values c0
+    listed_old = values_listed c0 c2 m.before
+
+    pub listed_new : listed_values c4 ≡ listed_values c3
+    listed_new = values_listed c3 c4 m.after
+
+    read_new : (k : ℕ) → slice_get (listed_values c4) k ≡ option_map listed_value (slice_get (live_entries c3) k)
+    read_new k = ap (λ l. slice_get l k) listed_new ∙ slice_get-map listed_value (live_entries c3) k
+
+    counters : c2.counter ≡ c0.counter
+    counters = m.kept_before.counter
+
+    pub compacted_values : (k : ℕ)
+        → values_in c4 (k + 1) ≡ option_map (λ t. (let e : ℕ × T = (renewed last reset c0.counter, t) in e)) (slice_get (map value_of (listed_values c4)) k)
+    compacted_values k =
+        m.after (k + 1)
+        ∙ ap (option_map valued) (m.compressed.entries k)
+        ∙ given (slice_get (live_entries c3) k) refl
+        ∙ ap (option_map (λ t. (let e : ℕ × T = (renewed last reset c0.counter, t) in e)))
+        (ap (option_map value_of) (sym (read_new k)) ∙ sym (slice_get-map value_of (listed_values c4) k))
+      where
+        given : (o : Option (ℕ × (ℕ × IndexLink I T))) → slice_get (live_entries c3) k ≡ o
+            → option_map valued (option_map entry_of_listed o)
+            ≡ option_map (λ t. (let e : ℕ × T = (renewed last reset c0.counter, t) in e)) (option_map value_of (option_map listed_value o))
+        given None is = refl
+        given (Some f) is =
+            let g = renewed last reset c2.counter in
+            let at : Some f.1 ≡ Some (g, f.1.1) =
+            sym (entry_placed last reset c2 c3 m.compressed k f is)
+            ∙ ap (λ d. entry_at d (k + 1)) m.exact
+            ∙ entry-compacted g (map value_of (live_entries c3)) c2 k
+            ∙ ap (option_map (λ l. (let e : ℕ × IndexLink I T = (g, l) in e))) (slice_get-map value_of (live_entries c3) k ∙ ap (option_map value_of) is) in
+            ap (λ (o : Option (ℕ × IndexLink I T)). option_map valued o) at
+            ∙ ap (λ n. Some (renewed last reset n, f.1.1.t)) counters
+
+    pub is_compacted : (number : I → ℕ) → FollowsRenaming (new_index (ends_in number c0)) (ends_in number c0) (ends_in number c4)
+        → IsCompacted number last reset (map value_of (listed_values c4)) c0 c4
+    is_compacted number renamed =
+        record {
+          renamed = renamed;
+          values = compacted_values;
+          slots = m.kept_after.slots
+              ∙ ap (λ d. length d.slots) m.exact
+              ∙ slots-compacted (renewed last reset c2.counter) (map value_of (live_entries c3)) c2
+              ∙ length-map (live_entries c3) value_of
+              ∙ live_entries-length c3
+              ∙ m.compressed.live
+              ∙ m.kept_before.live;
+          free = m.kept_after.free ∙ ap (λ d. d.free) m.exact;
+          counter = m.kept_after.counter ∙ ap (λ d. d.counter) m.exact ∙ ap (renewed last reset) counters;
+          room = m.kept_after.room ∙ ap (λ d. d.room) m.exact ∙ m.kept_before.room;
+        }
+
+    generations_of : (l : List (ℕ × (ℕ × IndexLink I T))) → map generation_of (map listed_value l) ≡ map generation_of l
+    generations_of [] = refl
+    generations_of (x ∷ l) = ap (λ r. x.1.0 ∷ r) (generations_of l)
+
+    generations_given : (counter : Option ℕ) (l : List (ℕ × (ℕ × IndexLink I T)))
+        → map (λ (e : ℕ × (ℕ × T)). generation_given last reset counter (generation_of e)) (map listed_value l)
+        ≡ map (λ (e : ℕ × (ℕ × IndexLink I T)). generation_given last reset counter (generation_of e)) l
+    generations_given counter [] = refl
+    generations_given counter (x ∷ l) = ap (λ r. generation_given last reset counter x.1.0 ∷ r) (generations_given counter l)
+
+    pub is_compressed : IsCompressed values_in live_count some_counter room_in last listed_values reset c0 c4
+    is_compressed =
+        record {
+          compact = λ k entry at. compact k entry (slice_get (live_entries c3) k) refl (sym (read_new k) ∙ at);
+          entries = λ k.
+              m.after (k + 1) ∙ ap (option_map valued) (m.compressed.entries k) ∙ both (slice_get (live_entries c3) k)
+              ∙ ap (option_map entry_of_listed) (sym (read_new k));
+          generations =
+              ap (map generation_of) listed_new
+              ∙ generations_of (live_entries c3)
+              ∙ m.compressed.generations
+              ∙ ap (λ n. map (λ (e : ℕ × (ℕ × IndexLink I T)). generation_given last reset (Some n) (generation_of e)) (live_entries c2)) counters
+              ∙ sym (generations_given (Some c0.counter) (live_entries c2))
+              ∙ ap (map (λ (e : ℕ × (ℕ × T)). generation_given last reset (Some c0.counter) (generation_of e))) listed_old;
+          live = m.kept_after.live ∙ m.compressed.live ∙ m.kept_before.live;
+          counter = ap Some m.kept_after.counter ∙ m.compressed.counter ∙ ap (λ n. Some (renewed last reset n)) counters;
+          room = m.kept_after.room ∙ m.compressed.room ∙ m.kept_before.room;
+        }
+      where
+        both : (o : Option (ℕ × (ℕ × IndexLink I T))) → option_map valued (option_map entry_of_listed o) ≡ option_map entry_of_listed (option_map listed_value o)
+        both None = refl
+        both (Some f) = refl
+
+        compact : (k : ℕ) (entry : ℕ × (ℕ × T)) (o : Option (ℕ × (ℕ × IndexLink I T))) → slice_get (live_entries c3) k ≡ o
+            → option_map listed_value o ≡ Some entry → index_of entry ≡ k + 1
+        compact k entry None is at = absurd (cc)
+        compact k entry (Some f) is at =
+            let same : listed_value f ≡ entry = cc in ap index_of (sym same) ∙ m.compressed.compact k f is
 
 module _ {I T : Type 0} (number : I → ℕ) (last : Option ℕ) (reset : Bool) (c0 c1 c2 c3 : Content (IndexLink I T)) where
   -- the passes up to the one that moves the links
@@ -93,10 +203,7 @@ module _ {I T : Type 0} (number : I → ℕ) (last : Option ℕ) (reset : Bool) 
       goes : option_map number link.1.1.next ≡ next_at (ends_in number c2) i
 
     rank_slots : (k : ℕ) → live_below e0 (suc k) ≡ live_below (slot_at c2.slots) k
-    rank_slots k =
-        let same = live_below-same e0 (entry_at c2) live_same (suc k) in
-        let first = live_below-first (entry_at c2) k in
-        omega (arith, same, first)
+    rank_slots k = slots_ranked e0 c2 live_same k
 
     moved_link : (i : ℕ) → IsSome (e0 i) → Moved i
     moved_link zero some = absurd (true≢false (sym some))
@@ -114,14 +221,11 @@ module _ {I T : Type 0} (number : I → ℕ) (last : Option ℕ) (reset : Bool) 
               goes = ap (option_map number) z.2.1 ∙ sym (ap (λ o. next_in (option_map (entry_ends number) o)) is);
             }
 
-    at_place : (n : ℕ) (f : ℕ × (ℕ × IndexLink I T)) → slice_get (live_entries c3) n ≡ Some f → entry_at c3 (n + 1) ≡ Some f.1
-    at_place n f is = m.compressed.entries n ∙ ap (option_map entry_of_listed) is
-
     moved_ends : (i : ℕ) → IsSome (e0 i) → ends_in number c3 (to i) ≡ Some (None, option_map to (next_at e0 i))
     moved_ends i some =
         let l = moved_link i some in
         let here : Option Ends = Some (None, option_map number l.link.1.1.next) in
-        ap (option_map (entry_ends number)) (at_place (live_below e0 i) l.link l.listed)
+        ap (option_map (entry_ends number)) (entry_placed last reset c2 c3 m.compressed (live_below e0 i) l.link l.listed)
         ∙ ap (λ o. Some (option_map number o, option_map number l.link.1.1.next)) l.alone
         ∙ ap (λ o. Some (None, o)) (l.goes ∙ nexts2 i)
 
@@ -170,11 +274,16 @@ module _ {I T : Type 0} (number : I → ℕ) (last : Option ℕ) (reset : Bool) 
 
     module _ (c4 : Content (IndexLink I T)) (nexts : (k : ℕ) → next_at (ends_in number c4) k ≡ next_at (ends_in number c3) k)
         (agreed : IsAgreed (ends_in number c4)) (values : (k : ℕ) → values_in c4 k ≡ values_in c3 k) (kept : IsKept c3 c4) where
-      pub listed_old : listed_values c2 ≡ listed_values c0
-      listed_old = values_listed c0 c2 values02
-
-      pub listed_new : listed_values c4 ≡ listed_values c3
-      listed_new = values_listed c3 c4 values
+      pub are_listed : AreListed last reset c0 c2 c3 c4
+      are_listed =
+          record {
+            before = values02;
+            kept_before = kept02;
+            compressed = m.compressed;
+            exact = m.exact;
+            after = values;
+            kept_after = kept;
+          }
 
       live34 : (k : ℕ) → is_some (ends_in number c4 k) ≡ is_some (ends_in number c3 k)
       live34 k = live_ends number c4 k ∙ live_as c3 c4 values k ∙ sym (live_ends number c3 k)
@@ -188,88 +297,3 @@ module _ {I T : Type 0} (number : I → ℕ) (last : Option ℕ) (reset : Bool) 
             onto = λ k some. moved.onto k (sym (live34 k) ∙ some);
           })
           apart agreed
-
-      read_new : (k : ℕ) → slice_get (listed_values c4) k ≡ option_map listed_value (slice_get (live_entries c3) k)
-      read_new k = ap (λ l. slice_get l k) listed_new ∙ slice_get-map listed_value (live_entries c3) k
-
-      counters : c2.counter ≡ c0.counter
-      counters = kept02.counter
-
-      pub compacted_values : (k : ℕ)
-          → values_in c4 (k + 1) ≡ option_map (λ t. (let e : ℕ × T = (renewed last reset c0.counter, t) in e)) (slice_get (map value_of (listed_values c4)) k)
-      compacted_values k =
-          values (k + 1)
-          ∙ ap (option_map valued) (m.compressed.entries k)
-          ∙ given (slice_get (live_entries c3) k) refl
-          ∙ ap (option_map (λ t. (let e : ℕ × T = (renewed last reset c0.counter, t) in e)))
-          (ap (option_map value_of) (sym (read_new k)) ∙ sym (slice_get-map value_of (listed_values c4) k))
-        where
-          given : (o : Option (ℕ × (ℕ × IndexLink I T))) → slice_get (live_entries c3) k ≡ o
-              → option_map valued (option_map entry_of_listed o)
-              ≡ option_map (λ t. (let e : ℕ × T = (renewed last reset c0.counter, t) in e)) (option_map value_of (option_map listed_value o))
-          given None is = refl
-          given (Some f) is =
-              let g = renewed last reset c2.counter in
-              let at : Some f.1 ≡ Some (g, f.1.1) =
-              sym (at_place k f is)
-              ∙ ap (λ d. entry_at d (k + 1)) m.exact
-              ∙ entry-compacted g (map value_of (live_entries c3)) c2 k
-              ∙ ap (option_map (λ l. (let e : ℕ × IndexLink I T = (g, l) in e))) (slice_get-map value_of (live_entries c3) k ∙ ap (option_map value_of) is) in
-              ap (λ (o : Option (ℕ × IndexLink I T)). option_map valued o) at
-              ∙ ap (λ n. Some (renewed last reset n, f.1.1.t)) counters
-
-      pub is_compacted : IsCompacted number last reset (map value_of (listed_values c4)) c0 c4
-      is_compacted =
-          record {
-            renamed = renamed_links;
-            values = compacted_values;
-            slots = kept.slots
-                ∙ ap (λ d. length d.slots) m.exact
-                ∙ slots-compacted (renewed last reset c2.counter) (map value_of (live_entries c3)) c2
-                ∙ length-map (live_entries c3) value_of
-                ∙ live_entries-length c3
-                ∙ m.compressed.live
-                ∙ kept02.live;
-            free = kept.free ∙ ap (λ d. d.free) m.exact;
-            counter = kept.counter ∙ ap (λ d. d.counter) m.exact ∙ ap (renewed last reset) counters;
-            room = kept.room ∙ ap (λ d. d.room) m.exact ∙ kept02.room;
-          }
-
-      generations_of : (l : List (ℕ × (ℕ × IndexLink I T))) → map generation_of (map listed_value l) ≡ map generation_of l
-      generations_of [] = refl
-      generations_of (x ∷ l) = ap (λ r. x.1.0 ∷ r) (generations_of l)
-
-      generations_given : (counter : Option ℕ) (l : List (ℕ × (ℕ × IndexLink I T)))
-          → map (λ (e : ℕ × (ℕ × T)). generation_given last reset counter (generation_of e)) (map listed_value l)
-          ≡ map (λ (e : ℕ × (ℕ × IndexLink I T)). generation_given last reset counter (generation_of e)) l
-      generations_given counter [] = refl
-      generations_given counter (x ∷ l) = ap (λ r. generation_given last reset counter x.1.0 ∷ r) (generations_given counter l)
-
-      pub is_compressed : IsCompressed values_in live_count some_counter room_in last listed_values reset c0 c4
-      is_compressed =
-          record {
-            compact = λ k entry at. compact k entry (slice_get (live_entries c3) k) refl (sym (read_new k) ∙ at);
-            entries = λ k.
-                values (k + 1) ∙ ap (option_map valued) (m.compressed.entries k) ∙ both (slice_get (live_entries c3) k)
-                ∙ ap (option_map entry_of_listed) (sym (read_new k));
-            generations =
-                ap (map generation_of) listed_new
-                ∙ generations_of (live_entries c3)
-                ∙ m.compressed.generations
-                ∙ ap (λ n. map (λ (e : ℕ × (ℕ × IndexLink I T)). generation_given last reset (Some n) (generation_of e)) (live_entries c2)) counters
-                ∙ sym (generations_given (Some c0.counter) (live_entries c2))
-                ∙ ap (map (λ (e : ℕ × (ℕ × T)). generation_given last reset (Some c0.counter) (generation_of e))) listed_old;
-            live = kept.live ∙ m.compressed.live ∙ kept02.live;
-            counter = ap Some kept.counter ∙ m.compressed.counter ∙ ap (λ n. Some (renewed last reset n)) counters;
-            room = kept.room ∙ m.compressed.room ∙ kept02.room;
-          }
-        where
-          both : (o : Option (ℕ × (ℕ × IndexLink I T))) → option_map valued (option_map entry_of_listed o) ≡ option_map entry_of_listed (option_map listed_value o)
-          both None = refl
-          both (Some f) = refl
-
-          compact : (k : ℕ) (entry : ℕ × (ℕ × T)) (o : Option (ℕ × (ℕ × IndexLink I T))) → slice_get (live_entries c3) k ≡ o
-              → option_map listed_value o ≡ Some entry → index_of entry ≡ k + 1
-          compact k entry None is at = absurd (cc)
-          compact k entry (Some f) is at =
-              let same : listed_value f ≡ entry = cc in ap index_of (sym same) ∙ m.compressed.compact k f is

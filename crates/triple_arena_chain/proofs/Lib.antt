@@ -40,3 +40,4 @@ pub mod MovedLinkLemmas
 pub mod MovedChainLemmas
 pub mod MovingLemmas
 pub mod MovedInOrderLemmas
+pub mod RenewalLemmas

@@ -2,6 +2,7 @@
 use Rattle.std.proofs.Common.{◌≡◌, ℕ, zero, suc, ◌+◌, ◌<◌, ◌≤◌, Bool, true, false, if◌then◌else◌, List, [], ◌∷◌, map, get_or, Option, Some, None, is_some, IsSome, option_map, inl, inr, refl, sym, ap, subst, ◌∙◌, arith}
 use Rattle.std.specs.Prelude.{slice_get}
 use Rattle.std.proofs.lemmas.Bool.Decides.{leb_tells}
+use Rattle.triple_arena.specs.Content.{Content, entry_at}
 use Rattle.triple_arena.specs.LiveEntries.{listed_from}
 use Rattle.triple_arena_chain.specs.Chains.{Ends, next_at, prev_at, IsAgreed, first_or, last_or, Stands, Off, On, Apart}
 use Rattle.triple_arena_chain.specs.ChainLaws.{On-cons}
@@ -29,6 +30,15 @@ module _ {A : Type 0} (at : ℕ → Option A) where
             live_below-none i (none i below.1 (omega arith)) ∙ live_below-flat low i below.1 (λ j above under. none j above (omega (arith, under)))
         | inr above ↦ let is : suc i ≡ low = omega (arith, within, above.1) in ap (live_below at) is
       ]
+
+  -- where all before an index are live it has its own number
+  pub live_below_full : (i : ℕ) → at 0 ≡ None → ((j : ℕ) → 1 ≤ j → j < i → IsSome (at j)) → 1 ≤ i → live_below at i + 1 ≡ i
+  live_below_full zero none live one = absurd (omega (arith, one))
+  live_below_full (suc zero) none live one = let first = live_below-none 0 none in omega (arith, first)
+  live_below_full (suc (suc n)) none live one =
+      let rest = live_below_full (suc n) none (λ j low high. live j low (omega (arith, high))) (omega arith) in
+      let here = live_below-live (suc n) (live (suc n) (omega arith) (omega arith)) in
+      omega (arith, rest, here)
 
   -- where index 0 is not live, a live index has fewer live ones below it than its number
   pub live_below-below : at 0 ≡ None → (i : ℕ) → live_below at (suc i) ≤ i
@@ -78,6 +88,14 @@ live_below-same at bt same (suc i) =
 module _ {T : Type 0} where
   abbrev pub slot_at : List (Option (ℕ × T)) → ℕ → Option (ℕ × T)
   slot_at xs j = get_or xs j None
+
+  -- the rank of a slot is that of its index
+  pub slots_ranked : {A : Type 0} (at : ℕ → Option A) (c : Content T) → ((j : ℕ) → is_some (entry_at c j) ≡ is_some (at j)) → (k : ℕ)
+      → live_below at (suc k) ≡ live_below (slot_at c.slots) k
+  slots_ranked at c same k =
+      let all = live_below-same at (entry_at c) same (suc k) in
+      let first = live_below-first (entry_at c) k in
+      omega (arith, all, first)
 
   -- a live slot is listed at its rank
   pub listed-ranked : (n k : ℕ) (xs : List (Option (ℕ × T))) (e : ℕ × T) → slot_at xs k ≡ Some e

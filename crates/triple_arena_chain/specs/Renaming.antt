@@ -53,6 +53,10 @@ module _ {I T : Type 0} where
   abbrev pub IsLeftWithNext : ℕ × (ℕ × IndexLink I T) → ℕ × (ℕ × IndexLink I T) → Type 0
   IsLeftWithNext old new = (new.1.1.prev ≡ None) × (new.1.1.next ≡ old.1.1.next)
 
+  -- a listed link that has the neighbors of another one
+  abbrev pub IsLeftInPlace : ℕ × (ℕ × IndexLink I T) → ℕ × (ℕ × IndexLink I T) → Type 0
+  IsLeftInPlace old new = (new.1.1.prev ≡ old.1.1.prev) × (new.1.1.next ≡ old.1.1.next)
+
 module _ {I T : Type 0} (number : I → ℕ) where
   -- the links stand at the indexes from 1 on, in the order that they had, with these values and with the generation renewed;
   -- the interlinks follow them, and no index is free

@@ -12,7 +12,7 @@ ghost use Rattle.triple_arena_chain.specs.Renaming.{numbered, prev_of, forwarded
 ghost use Rattle.triple_arena_chain.specs.Values.{room_in};
 
 use crate::chain_arena::interlinks::{relink, set_next, set_prev};
-use crate::chain_arena::mapping::compact_links;
+use crate::chain_arena::mapping::{compact_links, renew_links};
 use crate::{ChainSlots, LinkNoGen};
 use std::num::NonZeroUsize;
 use triple_arena::{Advancer, Arena, ArenaTrait, InvalidationOption, PtrCore, PtrInxCore};
@@ -146,6 +146,10 @@ where
         (list_map value_of (listed_values arena.new)) arena.old arena.new }
     ensures formed { IsChained P.Inx.number arena.new }
 {
+    // Where no index is free each link stays.
+    if arena.freelist_root().is_none() {
+        return renew_links(arena, reset, map);
+    }
     number_links(arena);
     forward_nexts(arena);
     let answer = compact_links(arena, reset, map);
