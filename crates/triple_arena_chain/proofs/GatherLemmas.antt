@@ -117,7 +117,7 @@ module _ (e : ℕ → Option Ends) (agreed : IsAgreed e) where
       ]
 
   module _ (first placed : ℕ) (o : IsOpen e first placed) where
-    in_run : (p : ℕ) → first < p → p < placed → next_at e p ≡ Some (p + 1)
+    pub in_run : (p : ℕ) → first < p → p < placed → next_at e p ≡ Some (p + 1)
     in_run p low high =
         let is = o.placed_is in
         follows_next (first + 1) (o.count + 1) p (next_at e placed) o.follows (omega (arith, low)) (omega (arith, high, is))
@@ -197,14 +197,6 @@ module _ (e : ℕ → Option Ends) (agreed : IsAgreed e) where
         (subst (λ n. Follows e (range_with_len (first + 1) n) (Some (first + 1))) (sym count)
         (subst (Follows e (range_with_len (first + 1) (o.count + 1))) round o.follows))
         (run-off (first + 1 + 1) o.count (first + 1) (inl (omega arith))))
-
-    -- in the canonical layout the next one stands behind the last placed one
-    pub laid_further : (n j : ℕ) → IsLaidOut e n → next_at e placed ≡ Some j → j ≢ first + 1 → j ≡ placed + 1
-    laid_further n j laid goes other = by (laid_next e n placed j laid goes)
-      where
-        by : Leads e placed j → j ≡ placed + 1
-        by (further is) = is
-        by (around m ring is) = absurd (let past = next_past j goes other in omega (arith, past, is))
 
     -- the chains up to the last placed index are whole, once the last chain is
     pub closed_done : (c : Chain) → IsChainOf e c → members c ≡ range_with_len (first + 1) (o.count + 1) → IsClosed e placed

@@ -15,7 +15,7 @@ use Rattle.triple_arena_chain.specs.Lists.{Chain, Linear, Cyclic, members, all_m
 use Rattle.triple_arena_chain.specs.Links.{values_in, ends_in, IsChained}
 use Rattle.triple_arena_chain.specs.Renaming.{renamed, ends_renamed, FollowsRenaming}
 use Rattle.triple_arena_chain.specs.CanonicalLayoutLaws.{laid_same}
-use Rattle.triple_arena_chain.specs.CanonicalLayout.{IsLaidOut, IsHead, IsClosed, IsMoved, IsGathered, IsAllGathered, swapped_index}
+use Rattle.triple_arena_chain.specs.CanonicalLayout.{IsLaidOut, IsHead, IsClosed, IsRearranged, AreGathered, swapped_index}
 use Rattle.triple_arena_chain.proofs.PassLemmas.{live_ends}
 use Rattle.triple_arena_chain.proofs.WalkLemmas.{bounded}
 use Rattle.triple_arena_chain.proofs.SwapLemmas.{swap_i, swap_other}
@@ -95,238 +95,210 @@ pub are_append : (e : ℕ → Option Ends) (cs : List Chain) (c : Chain) → Are
 are_append e [] c are chain written = ((chain, written), tt)
 are_append e (d ∷ cs) c are chain written = (are.0, are_append e cs c are.1 chain written)
 
-module _ {I T : Type 0} (number : I → ℕ) where
-  -- where no index changes
-  pub moved_nowhere : (f : ℕ → ℕ) (c : Content (IndexLink I T)) → ((k : ℕ) → f k ≡ k) → IsChained number c → IsMoved number f c c
-  moved_nowhere f c fixed chained =
-      record {
-        renamed = record {
-          ends = λ i some. ap (ends_in number c) (fixed i) ∙ sym (ends_fixed f (ends_in number c i) fixed);
-          apart = λ i j some some' same. sym (fixed i) ∙ same ∙ fixed j;
-          onto = λ k some. (k, some, fixed k);
-          lists = λ d chain. subst (IsChainOf (ends_in number c)) (sym (renamed_fixed f d (λ k on. fixed k))) chain;
-        };
-        values = λ i some. ap (values_in c) (fixed i);
-        live = λ i some. some;
-        kept = record { live = refl; slots = refl; free = refl; counter = refl; room = refl };
-        chained = chained;
-      }
+-- where no index changes
+moved_nowhere : (f : ℕ → ℕ) (e : ℕ → Option Ends) → ((k : ℕ) → f k ≡ k) → IsAgreed e → IsRearranged f e e
+moved_nowhere f e fixed agreed =
+    record {
+      renamed = record {
+        ends = λ i some. ap e (fixed i) ∙ sym (ends_fixed f (e i) fixed);
+        apart = λ i j some some' same. sym (fixed i) ∙ same ∙ fixed j;
+        onto = λ k some. (k, some, fixed k);
+        lists = λ d chain. subst (IsChainOf e) (sym (renamed_fixed f d (λ k on. fixed k))) chain;
+      };
+      live = λ i some. some;
+      agreed = agreed;
+    }
 
-  pub moved_none : (c : Content (IndexLink I T)) → IsChained number c → IsMoved number (λ i. i) c c
-  moved_none c chained = moved_nowhere (λ i. i) c (λ k. refl) chained
+moved_after : (f g : ℕ → ℕ) (a b c : ℕ → Option Ends) → IsRearranged g a b → IsRearranged f b c → IsRearranged (λ i. f (g i)) a c
+moved_after f g a b c m n =
+    record {
+      renamed = renamed_after f g a b c m.renamed n.renamed;
+      live = λ i some. m.live i (n.live i some);
+      agreed = n.agreed;
+    }
 
-  -- an exchange with itself moves nothing
-  pub moved_itself : (c : Content (IndexLink I T)) (i j : ℕ) → i ≡ j → IsChained number c → IsMoved number (swapped_index i j) c c
-  moved_itself c i j same chained = moved_nowhere (swapped_index i j) c (λ k. ap (λ n. swapped_index i n k) (sym same) ∙ swapped_self i k) chained
+-- where no index changes the interlinks stay
+moved_same : (f : ℕ → ℕ) (a b : ℕ → Option Ends) → IsRearranged f a b → ((i : ℕ) → f i ≡ i) → (i : ℕ) → b i ≡ a i
+moved_same f a b m fixed i = by (none_or_some (a i))
+  where
+    by : (a i ≡ None) ⊎ IsSome (a i) → b i ≡ a i
+    by (inr some) = ap b (sym (fixed i)) ∙ m.renamed.ends i some ∙ ends_fixed f (a i) fixed
+    by (inl gone) = none_of (b i) (λ some. true≢false (sym (m.live i some) ∙ ap is_some gone)) ∙ sym gone
+      where
+        none_of : (o : Option Ends) → (IsSome o → ⊥) → o ≡ None
+        none_of None never = refl
+        none_of (Some v) never = absurd (never refl)
 
-  pub moved_after : (f g : ℕ → ℕ) (a b c : Content (IndexLink I T)) → IsMoved number g a b → IsMoved number f b c → IsMoved number (λ i. f (g i)) a c
-  moved_after f g a b c m n =
-      record {
-        renamed = renamed_after f g (ends_in number a) (ends_in number b) (ends_in number c) m.renamed n.renamed;
-        values = λ i some. n.values (g i) (some_moved g (ends_in number a) (ends_in number b) m.renamed i some) ∙ m.values i some;
-        live = λ i some. m.live i (n.live i some);
-        kept = kept_on a b c m.kept n.kept;
-        chained = n.chained;
-      }
+-- one chain more is a run, behind the indexes up to `first`, whose links stay
+pub record IsGathered (first placed : ℕ) (to : ℕ → ℕ) (old new : ℕ → Option Ends) : Type 0 where
+  pub moved : IsRearranged to old new
+  pub fixed : (i : ℕ) → i ≤ first → to i ≡ i
+  pub chain : Chain
+  pub is_chain : IsChainOf new chain
+  pub written : IsWritten chain
+  pub is_run : members chain ≡ range_with_len (first + 1) (placed - first)
+  pub more : first < placed
+  pub live : IsSome (new placed)
+  pub closed : IsClosed new placed
+  pub stays : (n : ℕ) → IsLaidOut old n → (i : ℕ) → to i ≡ i
 
-  -- where no index changes the interlinks stay
-  pub moved_same : (f : ℕ → ℕ) (a b : Content (IndexLink I T)) → IsMoved number f a b → ((i : ℕ) → f i ≡ i) → (i : ℕ) → ends_in number b i ≡ ends_in number a i
-  moved_same f a b m fixed i = by (none_or_some (ends_in number a i))
-    where
-      by : (ends_in number a i ≡ None) ⊎ IsSome (ends_in number a i) → ends_in number b i ≡ ends_in number a i
-      by (inr some) = ap (ends_in number b) (sym (fixed i)) ∙ m.renamed.ends i some ∙ ends_fixed f (ends_in number a i) fixed
-      by (inl gone) = none_of (ends_in number b i) (λ some. true≢false (sym (m.live i some) ∙ ap is_some gone)) ∙ sym gone
-        where
-          none_of : (o : Option Ends) → (IsSome o → ⊥) → o ≡ None
-          none_of None never = refl
-          none_of (Some v) never = absurd (never refl)
+-- links up to `placed` are placed
+pub record IsPlacing (first placed : ℕ) (to : ℕ → ℕ) (old now : ℕ → Option Ends) : Type 0 where
+  pub moved : IsRearranged to old now
+  pub fixed : (i : ℕ) → i ≤ first → to i ≡ i
+  pub opened : IsOpen now first placed
+  pub stays : (n : ℕ) → IsLaidOut old n → (i : ℕ) → to i ≡ i
 
-  -- what is live is among the slots
-  pub within_slots : (c : Content (IndexLink I T)) (i : ℕ) → IsSome (ends_in number c i) → i ≤ length c.slots
-  within_slots c i some = let less = bounded number c i some in omega (arith, less)
+pub placing_first : (first h : ℕ) (old now : ℕ → Option Ends) → IsAgreed old → IsClosed old first
+    → IsSome (old h) → IsHead old h → first < h → (IsHead old (first + 1) → h ≡ first + 1)
+    → IsRearranged (swapped_index h (first + 1)) old now → IsPlacing first (first + 1) (swapped_index h (first + 1)) old now
+placing_first first h old now agreed closed some head past own m =
+    record {
+      moved = m;
+      fixed = λ i low. swap_fixes h (first + 1) first i past (omega arith) low;
+      opened =
+          open_first now m.agreed first
+          (subst (λ k. IsSome (now k)) (swap_i h (first + 1)) (some_moved (swapped_index h (first + 1)) old now m.renamed h some))
+          (head_moved (swapped_index h (first + 1)) old now m.renamed h (first + 1) (swap_i h (first + 1)) some head)
+          (closed_moved (swapped_index h (first + 1)) old now m.renamed m.live first
+          (λ i low. swap_fixes h (first + 1) first i past (omega arith) low) agreed closed);
+      stays = λ n laid i.
+          let is = own (laid_head old n first agreed laid closed) in
+          ap (λ k. swapped_index k (first + 1) i) is ∙ swapped_self (first + 1) i;
+    }
 
-  -- links up to `placed` are placed
-  pub record IsPlacing (first placed : ℕ) (old now : Content (IndexLink I T)) : Type 0 where
-    pub to : ℕ → ℕ
-    pub moved : IsMoved number to old now
-    pub fixed : (i : ℕ) → i ≤ first → to i ≡ i
-    pub opened : IsOpen (ends_in number now) first placed
-    pub stays : (n : ℕ) → IsLaidOut (ends_in number old) n → (i : ℕ) → to i ≡ i
+pub placing_more : (first placed j : ℕ) (to : ℕ → ℕ) (old c new : ℕ → Option Ends) → IsPlacing first placed to old c → next_at c placed ≡ Some j
+    → j ≢ first + 1 → IsRearranged (swapped_index j (placed + 1)) c new → IsPlacing first (placed + 1) (λ i. swapped_index j (placed + 1) (to i)) old new
+placing_more first placed j to old c new p goes other m =
+    let e = c in
+    let past : placed < j = next_past c p.moved.agreed first placed p.opened j goes other in
+    let at = p.opened.placed_is in
+    record {
+      moved = moved_after (swapped_index j (placed + 1)) to old c new p.moved m;
+      fixed = λ i low. ap (swapped_index j (placed + 1)) (p.fixed i low) ∙ swap_fixes j (placed + 1) first i (omega (arith, past, at)) (omega (arith, at)) low;
+      opened =
+          open_more (swapped_index j (placed + 1)) c new m.renamed m.live p.moved.agreed first placed j p.opened
+          (λ i low. swap_fixes j (placed + 1) placed i past (omega arith) low) goes (swap_i j (placed + 1)) m.agreed;
+      stays = λ n laid i.
+          let fixed = p.stays n laid in
+          let same = moved_same to old c p.moved fixed placed in
+          let before : next_at old placed ≡ Some j = sym (ap next_in same) ∙ goes in
+          let is : j ≡ placed + 1 = by_leads j past (laid_next old n placed j laid before) in
+          ap (swapped_index j (placed + 1)) (fixed i) ∙ ap (λ k. swapped_index k (placed + 1) i) is ∙ swapped_self (placed + 1) i;
+    }
+  where
+    by_leads : (q : ℕ) → placed < q → Leads old placed q → q ≡ placed + 1
+    by_leads q past (further is) = is
+    by_leads q past (around n ring is) = absurd (omega (arith, past, is))
 
-  pub placing_first : (first h : ℕ) (old now : Content (IndexLink I T)) → IsChained number old → IsClosed (ends_in number old) first
-      → IsSome (ends_in number old h) → IsHead (ends_in number old) h → first < h → (IsHead (ends_in number old) (first + 1) → h ≡ first + 1)
-      → IsMoved number (swapped_index h (first + 1)) old now → IsPlacing first (first + 1) old now
-  placing_first first h old now chained closed some head past own m =
-      record {
-        to = swapped_index h (first + 1);
-        moved = m;
-        fixed = λ i low. swap_fixes h (first + 1) first i past (omega arith) low;
-        opened =
-            open_first (ends_in number now) m.chained.agreed first
-            (subst (λ k. IsSome (ends_in number now k)) (swap_i h (first + 1)) (some_moved (swapped_index h (first + 1)) (ends_in number old) (ends_in number now) m.renamed h some))
-            (head_moved (swapped_index h (first + 1)) (ends_in number old) (ends_in number now) m.renamed h (first + 1) (swap_i h (first + 1)) some head)
-            (closed_moved (swapped_index h (first + 1)) (ends_in number old) (ends_in number now) m.renamed m.live first
-            (λ i low. swap_fixes h (first + 1) first i past (omega arith) low) chained.agreed closed);
-        stays = λ n laid i.
-            let is = own (laid_head (ends_in number old) n first chained.agreed laid closed) in
-            ap (λ k. swapped_index k (first + 1) i) is ∙ swapped_self (first + 1) i;
-      }
+pub placing_done : (first placed : ℕ) (to : ℕ → ℕ) (old new : ℕ → Option Ends) → IsPlacing first placed to old new
+    → ((next_at new placed ≡ None) ⊎ (next_at new placed ≡ Some (first + 1))) → IsGathered first placed to old new
+placing_done first placed to old new p over = by over
+  where
+    e : ℕ → Option Ends
+    e = new
 
-  pub placing_more : (first placed j : ℕ) (old c new : Content (IndexLink I T)) → IsPlacing first placed old c → next_at (ends_in number c) placed ≡ Some j
-      → j ≢ first + 1 → IsMoved number (swapped_index j (placed + 1)) c new → IsPlacing first (placed + 1) old new
-  placing_more first placed j old c new p goes other m =
-      let e = ends_in number c in
-      let past : placed < j = next_past (ends_in number c) p.moved.chained.agreed first placed p.opened j goes other in
-      let at = p.opened.placed_is in
-      record {
-        to = λ i. swapped_index j (placed + 1) (p.to i);
-        moved = moved_after (swapped_index j (placed + 1)) p.to old c new p.moved m;
-        fixed = λ i low. ap (swapped_index j (placed + 1)) (p.fixed i low) ∙ swap_fixes j (placed + 1) first i (omega (arith, past, at)) (omega (arith, at)) low;
-        opened =
-            open_more (swapped_index j (placed + 1)) (ends_in number c) (ends_in number new) m.renamed m.live p.moved.chained.agreed first placed j p.opened
-            (λ i low. swap_fixes j (placed + 1) placed i past (omega arith) low) goes (swap_i j (placed + 1)) m.chained.agreed;
-        stays = λ n laid i.
-            let fixed = p.stays n laid in
-            let same = moved_same p.to old c p.moved fixed placed in
-            let before : next_at (ends_in number old) placed ≡ Some j = sym (ap next_in same) ∙ goes in
-            let is : j ≡ placed + 1 = by_leads j past (laid_next (ends_in number old) n placed j laid before) in
-            ap (swapped_index j (placed + 1)) (fixed i) ∙ ap (λ k. swapped_index k (placed + 1) i) is ∙ swapped_self (placed + 1) i;
-      }
-    where
-      by_leads : (q : ℕ) → placed < q → Leads (ends_in number old) placed q → q ≡ placed + 1
-      by_leads q past (further is) = is
-      by_leads q past (around n ring is) = absurd (omega (arith, past, is))
+    agreed : IsAgreed new
+    agreed = p.moved.agreed
 
-  pub placing_done : (first placed : ℕ) (old new : Content (IndexLink I T)) → IsPlacing first placed old new
-      → ((next_at (ends_in number new) placed ≡ None) ⊎ (next_at (ends_in number new) placed ≡ Some (first + 1))) → IsGathered number first placed old new
-  placing_done first placed old new p over = by over
-    where
-      e : ℕ → Option Ends
-      e = ends_in number new
+    count : p.opened.count + 1 ≡ placed - first
+    count = let at = p.opened.placed_is in omega (arith, at)
 
-      agreed : IsAgreed (ends_in number new)
-      agreed = p.moved.chained.agreed
+    gathered : (c : Chain) → IsChainOf new c → IsWritten c → members c ≡ range_with_len (first + 1) (p.opened.count + 1)
+        → IsGathered first placed to old new
+    gathered c chain written is =
+        let at = p.opened.placed_is in
+        record {
+          moved = p.moved;
+          fixed = p.fixed;
+          chain = c;
+          is_chain = chain;
+          written = written;
+          is_run = is ∙ ap (range_with_len (first + 1)) count;
+          more = omega (arith, at);
+          live = placed_live new agreed first placed p.opened;
+          closed = closed_done new agreed first placed p.opened c chain is;
+          stays = p.stays;
+        }
 
-      count : p.opened.count + 1 ≡ placed - first
-      count = let at = p.opened.placed_is in omega (arith, at)
+    not_empty : (m : ℕ) → range_with_len (first + 1) (m + 1) ≢ []
+    not_empty m is = let long = sym (length-range_with_len (first + 1) (m + 1)) ∙ ap length is in omega (arith, long)
 
-      gathered : (c : Chain) → IsChainOf (ends_in number new) c → IsWritten c → members c ≡ range_with_len (first + 1) (p.opened.count + 1)
-          → IsGathered number first placed old new
-      gathered c chain written is =
-          let at = p.opened.placed_is in
-          record {
-            to = p.to;
-            moved = p.moved;
-            fixed = p.fixed;
-            chain = c;
-            is_chain = chain;
-            written = written;
-            is_run = is ∙ ap (range_with_len (first + 1)) count;
-            more = omega (arith, at);
-            within = within_slots new placed (placed_live (ends_in number new) agreed first placed p.opened);
-            closed = closed_done (ends_in number new) agreed first placed p.opened c chain is;
-            stays = p.stays;
-          }
+    first_is : (m : ℕ) → first_or (range_with_len (first + 1) (m + 1)) None ≡ Some (first + 1)
+    first_is m = let one : m + 1 ≡ suc m = omega arith in ap (λ n. first_or (range_with_len (first + 1) n) None) one
 
-      not_empty : (m : ℕ) → range_with_len (first + 1) (m + 1) ≢ []
-      not_empty m is = let long = sym (length-range_with_len (first + 1) (m + 1)) ∙ ap length is in omega (arith, long)
+    by : (next_at new placed ≡ None) ⊎ (next_at new placed ≡ Some (first + 1)) → IsGathered first placed to old new
+    by (inl none) =
+        gathered (Linear (range_with_len (first + 1) (p.opened.count + 1))) (done_linear new agreed first placed p.opened none)
+        (not_empty p.opened.count) refl
+    by (inr round) =
+        gathered (Cyclic (range_with_len (first + 1) (p.opened.count + 1))) (done_ring new agreed first placed p.opened round)
+        (first + 1, first_is p.opened.count, λ k on. (run-within (first + 1) (p.opened.count + 1) k on).0) refl
 
-      first_is : (m : ℕ) → first_or (range_with_len (first + 1) (m + 1)) None ≡ Some (first + 1)
-      first_is m = let one : m + 1 ≡ suc m = omega arith in ap (λ n. first_or (range_with_len (first + 1) n) None) one
+pub gathered_none : (e : ℕ → Option Ends) → e 0 ≡ None → IsAgreed e → AreGathered 0 (λ i. i) e e
+gathered_none e zeroth agreed =
+    record {
+      moved = moved_nowhere (λ i. i) e (λ k. refl) agreed;
+      chains = [];
+      are = tt;
+      runs = refl;
+      closed = record {
+        on = λ p q goes low. absurd (none_there p low (live_next_in (e p) q goes));
+        back = λ p q goes low. absurd (none_there q low (live_prev_in (e q) p (agreed.forward p q goes)));
+      };
+      stays = λ n laid i. refl;
+    }
+  where
+    none_there : (p : ℕ) → p ≤ 0 → IsSome (e p) → ⊥
+    none_there p low some =
+        let is : p ≡ 0 = omega (arith, low) in true≢false (sym (subst (λ k. IsSome (e k)) is some) ∙ ap is_some zeroth)
 
-      by : (next_at (ends_in number new) placed ≡ None) ⊎ (next_at (ends_in number new) placed ≡ Some (first + 1)) → IsGathered number first placed old new
-      by (inl none) =
-          gathered (Linear (range_with_len (first + 1) (p.opened.count + 1))) (done_linear (ends_in number new) agreed first placed p.opened none)
-          (not_empty p.opened.count) refl
-      by (inr round) =
-          gathered (Cyclic (range_with_len (first + 1) (p.opened.count + 1))) (done_ring (ends_in number new) agreed first placed p.opened round)
-          (first + 1, first_is p.opened.count, λ k on. (run-within (first + 1) (p.opened.count + 1) k on).0) refl
+pub gathered_more : (placed more : ℕ) (f to : ℕ → ℕ) (old c new : ℕ → Option Ends) → AreGathered placed to old c → IsGathered placed more f c new
+    → AreGathered more (λ i. f (to i)) old new
+gathered_more placed more f to old c new a g =
+    record {
+      moved = moved_after f to old c new a.moved g.moved;
+      chains = a.chains ++ g.chain ∷ [];
+      are = are_append new a.chains g.chain (keep a.chains a.are (λ k on. (run-within 1 placed k (subst (λ l. On l k) a.runs on)).1)) g.is_chain g.written;
+      runs =
+          let up = g.more in
+          let sum : placed + (more - placed) ≡ more = omega (arith, up) in
+          let one : placed + 1 ≡ 1 + placed = omega arith in
+          all_append a.chains g.chain ∙ ap (λ l. l ++ members g.chain) a.runs
+          ∙ ap (λ l. range_with_len 1 placed ++ l) (g.is_run ∙ ap (λ u. range_with_len u (more - placed)) one)
+          ∙ sym (run-append 1 placed (more - placed)) ∙ ap (range_with_len 1) sum;
+      closed = g.closed;
+      stays = λ n laid i.
+          let fixed = a.stays n laid in
+          let there = laid_same old c n (moved_same to old c a.moved fixed) laid in
+          ap f (fixed i) ∙ g.stays n there i;
+    }
+  where
+    keep : (cs : List Chain) → AreAllChainsOf c cs → ((k : ℕ) → On (all_members cs) k → k < 1 + placed) → AreAllChainsOf new cs
+    keep [] are low = tt
+    keep (d ∷ cs) are low = (
+      (
+        subst (IsChainOf new)
+            (renamed_fixed f d (λ k on. g.fixed k (let within = low k (On-front (members d) (all_members cs) k on) in omega (arith, within))))
+            (g.moved.renamed.lists d are.0.0),
+        are.0.1,
+      ),
+      keep cs are.1 (λ k on. low k (On-back (members d) (all_members cs) k on)),
+    )
 
-  -- whole chains stand at the indexes up to `placed`
-  pub record AreGathered (placed : ℕ) (old now : Content (IndexLink I T)) : Type 0 where
-    pub to : ℕ → ℕ
-    pub moved : IsMoved number to old now
-    pub chains : List Chain
-    pub are : AreAllChainsOf (ends_in number now) chains
-    pub runs : all_members chains ≡ range_with_len 1 placed
-    pub closed : IsClosed (ends_in number now) placed
-    pub stays : (n : ℕ) → IsLaidOut (ends_in number old) n → (i : ℕ) → to i ≡ i
-
-  pub gathered_none : (c : Content (IndexLink I T)) → IsChained number c → AreGathered 0 c c
-  gathered_none c chained =
-      record {
-        to = λ i. i;
-        moved = moved_none c chained;
-        chains = [];
-        are = tt;
-        runs = refl;
-        closed = record {
-          on = λ p q goes low. absurd (none_there p low (live_next_in (ends_in number c p) q goes));
-          back = λ p q goes low. absurd (none_there q low (live_prev_in (ends_in number c q) p (chained.agreed.forward p q goes)));
-        };
-        stays = λ n laid i. refl;
-      }
-    where
-      none_there : (p : ℕ) → p ≤ 0 → IsSome (ends_in number c p) → ⊥
-      none_there p low some = let is : p ≡ 0 = omega (arith, low) in true≢false (sym (subst (λ k. IsSome (ends_in number c k)) is some))
-
-  pub gathered_more : (placed more : ℕ) (old c new : Content (IndexLink I T)) → AreGathered placed old c → IsGathered number placed more c new
-      → AreGathered more old new
-  gathered_more placed more old c new a g =
-      record {
-        to = λ i. g.to (a.to i);
-        moved = moved_after g.to a.to old c new a.moved g.moved;
-        chains = a.chains ++ g.chain ∷ [];
-        are = are_append (ends_in number new) a.chains g.chain (keep a.chains a.are (λ k on. (run-within 1 placed k (subst (λ l. On l k) a.runs on)).1)) g.is_chain g.written;
-        runs =
-            let up = g.more in
-            let sum : placed + (more - placed) ≡ more = omega (arith, up) in
-            let one : placed + 1 ≡ 1 + placed = omega arith in
-            all_append a.chains g.chain ∙ ap (λ l. l ++ members g.chain) a.runs
-            ∙ ap (λ l. range_with_len 1 placed ++ l) (g.is_run ∙ ap (λ u. range_with_len u (more - placed)) one)
-            ∙ sym (run-append 1 placed (more - placed)) ∙ ap (range_with_len 1) sum;
-        closed = g.closed;
-        stays = λ n laid i.
-            let fixed = a.stays n laid in
-            let there = laid_same (ends_in number old) (ends_in number c) n (moved_same a.to old c a.moved fixed) laid in
-            ap g.to (fixed i) ∙ g.stays n there i;
-      }
-    where
-      keep : (cs : List Chain) → AreAllChainsOf (ends_in number c) cs → ((k : ℕ) → On (all_members cs) k → k < 1 + placed) → AreAllChainsOf (ends_in number new) cs
-      keep [] are low = tt
-      keep (d ∷ cs) are low = (
-        (
-          subst (IsChainOf (ends_in number new))
-              (renamed_fixed g.to d (λ k on. g.fixed k (let within = low k (On-front (members d) (all_members cs) k on) in omega (arith, within))))
-              (g.moved.renamed.lists d are.0.0),
-          are.0.1,
-        ),
-        keep cs are.1 (λ k on. low k (On-back (members d) (all_members cs) k on)),
-      )
-
-  pub gathered_all : (placed : ℕ) (old new : Content (IndexLink I T)) → AreGathered placed old new → placed ≡ length old.slots → IsAllGathered number old new
-  gathered_all placed old new a is =
-      record {
-        to = a.to;
-        moved = a.moved;
-        laid_out = record {
-          chains = a.chains;
-          are = record {
-            chains = a.are;
-            once = subst Apart (sym a.runs) (run-apart 1 placed);
-            whole = λ i some.
-                let within = within_slots new i some in
-                let same = a.moved.kept.slots in
-                subst (λ l. On l i) (sym a.runs) (run-on 1 placed i (positive i some) (omega (arith, within, same, is)));
-          };
-          runs = a.runs ∙ ap (range_with_len 1) is;
-        };
-        stays = a.stays;
-      }
-    where
-      positive : (i : ℕ) → IsSome (ends_in number new i) → 1 ≤ i
-      positive zero some = absurd (true≢false (sym some))
-      positive (suc k) some = omega arith
+-- and all chains are
+pub gathered_all : (placed n : ℕ) (to : ℕ → ℕ) (old new : ℕ → Option Ends) → AreGathered placed to old new → placed ≡ n → ((i : ℕ) → IsSome (new i) → (1 ≤ i) × (i ≤ n))
+    → IsLaidOut new n
+gathered_all placed n to old new a is within =
+    record {
+      chains = a.chains;
+      are = record {
+        chains = a.are;
+        once = subst Apart (sym a.runs) (run-apart 1 placed);
+        whole = λ i some. let in_it = within i some in subst (λ l. On l i) (sym a.runs) (run-on 1 placed i in_it.0 (omega (arith, in_it.1, is)));
+      };
+      runs = a.runs ∙ ap (range_with_len 1) is;
+    }
 
 module _ {A : Type 0} where
   count_more : (x : Option A) (xs : List (Option A)) → count_by is_some (x ∷ xs) ≡ cond (is_some x) 1 0 + count_by is_some xs
@@ -346,6 +318,10 @@ module _ {A : Type 0} where
       let more = count_more (Some x) xs in all_there xs k (omega (arith, more, all)) (omega (arith, below))
 
 module _ {I T : Type 0} (number : I → ℕ) where
+  -- what is live is among the slots
+  pub within_slots : (c : Content (IndexLink I T)) (i : ℕ) → IsSome (ends_in number c i) → i ≤ length c.slots
+  within_slots c i some = let less = bounded number c i some in omega (arith, less)
+
   -- where no index is free each one up to the last is live
   pub full_live : (c : Content (IndexLink I T)) (i : ℕ) → IsWellFormed c → c.free ≡ [] → 1 ≤ i → i ≤ length c.slots → IsSome (ends_in number c i)
   full_live c zero formed full low high = absurd (omega (arith, low))
@@ -353,23 +329,3 @@ module _ {I T : Type 0} (number : I → ℕ) where
       let counted = formed.counted in
       let none = ap length full in
       live_ends number c (suc k) ∙ all_there c.slots k (omega (arith, counted, none)) (omega (arith, high))
-
-  pub record Step (placed j : ℕ) (old c : Content (IndexLink I T)) : Type 0 where
-    pub past : placed < j
-    pub within : j ≤ length old.slots
-    pub live : IsSome (ends_in number c j)
-    pub place : IsSome (ends_in number c (placed + 1))
-
-  pub placing_step : (first placed j : ℕ) (old c : Content (IndexLink I T)) → old.free ≡ [] → IsPlacing number first placed old c
-      → next_at (ends_in number c) placed ≡ Some j → j ≢ first + 1 → Step placed j old c
-  placing_step first placed j old c full p goes other =
-      let past = next_past (ends_in number c) p.moved.chained.agreed first placed p.opened j goes other in
-      let live = live_prev_in (ends_in number c j) placed (p.moved.chained.agreed.forward placed j goes) in
-      let within = within_slots number c j live in
-      let same = p.moved.kept.slots in
-      record {
-        past = past;
-        within = omega (arith, within, same);
-        live = live;
-        place = full_live c (placed + 1) p.moved.chained.formed (p.moved.kept.free ∙ full) (omega arith) (omega (arith, past, within));
-      }

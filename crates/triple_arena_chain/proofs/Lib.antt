@@ -41,3 +41,9 @@ pub mod MovedChainLemmas
 pub mod MovingLemmas
 pub mod MovedInOrderLemmas
 pub mod RenewalLemmas
+pub mod BroughtLemmas
+pub mod NoteLemmas
+pub mod HeadLemmas
+pub mod GoingLemmas
+pub mod RejoinLemmas
+pub mod LaidLemmas

@@ -14,7 +14,7 @@ use Rattle.triple_arena_chain.specs.Renaming.{live_below, numbered, prev_of, for
 use Rattle.triple_arena_chain.proofs.RenamingLemmas.{live_below-live, live_below-below, live_below-flat}
 
 module _ {I T : Type 0} where
-  some_valued : (o : Option (ℕ × IndexLink I T)) → is_some (option_map valued o) ≡ is_some o
+  pub some_valued : (o : Option (ℕ × IndexLink I T)) → is_some (option_map valued o) ≡ is_some o
   some_valued None = refl
   some_valued (Some e) = refl
 

@@ -5,9 +5,9 @@ use Rattle.std.specs.Option.{option_map}
 use Rattle.triple_arena.specs.Compression.{renewed}
 use Rattle.triple_arena.specs.Content.{Content, live_count}
 use Rattle.triple_arena_chain.specs.LinkShape.{IndexLink}
-use Rattle.triple_arena_chain.specs.Chains.{Ends, next_at, prev_at, IsRing}
+use Rattle.triple_arena_chain.specs.Chains.{Ends, next_at, prev_at, IsAgreed, IsRing}
 use Rattle.triple_arena_chain.specs.Links.{ends_in, values_in, IsKept, IsChained}
-use Rattle.triple_arena_chain.specs.Lists.{Chain, members, all_members, IsChainOf, IsWritten, AreChains}
+use Rattle.triple_arena_chain.specs.Lists.{Chain, members, all_members, AreAllChainsOf, AreChains}
 use Rattle.triple_arena_chain.specs.Renaming.{ends_renamed, FollowsRenaming}
 
 -- the chains, one after another, are the indexes from 1 to n
@@ -33,6 +33,21 @@ swapped_index i j k = if k == i then j else if k == j then i else k
 abbrev pub under : (ℕ → ℕ) → (ℕ → Option Ends) → ℕ → Option Ends
 under name ends k = option_map (ends_renamed name) (ends (name k))
 
+-- the live indexes have other names, and their interlinks and chains follow
+pub record IsRearranged (to : ℕ → ℕ) (old new : ℕ → Option Ends) : Type 0 where
+  pub renamed : FollowsRenaming to old new
+  pub live : (i : ℕ) → IsSome (new i) → IsSome (old i)
+  pub agreed : IsAgreed new
+
+-- whole chains stand at the indexes up to `placed`
+pub record AreGathered (placed : ℕ) (to : ℕ → ℕ) (old now : ℕ → Option Ends) : Type 0 where
+  pub moved : IsRearranged to old now
+  pub chains : List Chain
+  pub are : AreAllChainsOf now chains
+  pub runs : all_members chains ≡ range_with_len 1 placed
+  pub closed : IsClosed now placed
+  pub stays : (n : ℕ) → IsLaidOut old n → (i : ℕ) → to i ≡ i
+
 module _ {I T : Type 0} where
   -- each link has the counter as its generation
   abbrev pub IsAlike : Content (IndexLink I T) → Type 0
@@ -46,20 +61,6 @@ module _ {I T : Type 0} (number : I → ℕ) where
     pub live : (i : ℕ) → IsSome (ends_in number new i) → IsSome (ends_in number old i)
     pub kept : IsKept old new
     pub chained : IsChained number new
-
-  -- one chain more is a run, behind the indexes up to `first`, whose links stay
-  pub record IsGathered (first placed : ℕ) (old new : Content (IndexLink I T)) : Type 0 where
-    pub to : ℕ → ℕ
-    pub moved : IsMoved to old new
-    pub fixed : (i : ℕ) → i ≤ first → to i ≡ i
-    pub chain : Chain
-    pub is_chain : IsChainOf (ends_in number new) chain
-    pub written : IsWritten chain
-    pub is_run : members chain ≡ range_with_len (first + 1) (placed - first)
-    pub more : first < placed
-    pub within : placed ≤ length new.slots
-    pub closed : IsClosed (ends_in number new) placed
-    pub stays : (n : ℕ) → IsLaidOut (ends_in number old) n → (i : ℕ) → to i ≡ i
 
   -- all chains are runs from index 1 on
   pub record IsAllGathered (old new : Content (IndexLink I T)) : Type 0 where

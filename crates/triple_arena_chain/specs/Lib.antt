@@ -21,6 +21,7 @@ pub mod Listed
 pub mod ListedLaws
 pub mod Renaming
 pub mod CanonicalLayout
+pub mod Notes
 pub mod Runs
 pub mod CanonicalTransfer
 pub mod CanonicalTransferLaws

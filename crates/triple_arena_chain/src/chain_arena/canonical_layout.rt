@@ -4,73 +4,27 @@ ghost use Rattle.std.specs.Option.{option_map};
 ghost use Rattle.triple_arena_ptr.specs.Index.{max_index_of};
 ghost use Rattle.triple_arena_ptr.specs.InvalidationOption.{overflowed};
 ghost use Rattle.triple_arena.specs.Compression.{renewal_wraps};
-ghost use Rattle.triple_arena.specs.Content.{live_count};
-ghost use Rattle.triple_arena_chain.specs.Chains.{prev_at, On};
-ghost use Rattle.triple_arena_chain.specs.Links.{ends_in, IsChained};
+ghost use Rattle.triple_arena.specs.Content.{entry_at, live_count, IsWellFormed};
+ghost use Rattle.triple_arena_chain.specs.Chains.{prev_at, next_at, On, IsAgreed};
+ghost use Rattle.triple_arena_chain.specs.Links.{ends_in, values_in, IsKept, IsChained};
 ghost use Rattle.triple_arena_chain.specs.Lists.{Chain, members, IsChainOf};
-ghost use Rattle.triple_arena_chain.specs.CanonicalLayout.{swapped_index, IsAlike, IsMoved, IsHead, IsClosed, IsGathered, IsAllGathered, IsCanonical};
+ghost use Rattle.triple_arena_chain.specs.CanonicalLayout.{IsAlike, IsHead, IsAllGathered, IsCanonical};
+ghost use Rattle.triple_arena_chain.specs.Notes.{up_to, before_past, IsLed, IsLedOn, IsBrought, IsGathering, IsRejoinable, StartsAt, GathersUpTo};
 
-use crate::chain_arena::compression::{next_there, prev_there};
-use crate::chain_arena::interlinks::relink;
+use crate::chain_arena::compression::prev_there;
+use crate::chain_arena::interlinks::{set_next, set_prev};
 use crate::{ChainArena, ChainSlots, LinkNoGen};
 use std::num::NonZeroUsize;
 use triple_arena::{
     Arena, ArenaTrait, DisjointableArenaTrait, InvalidationOption, PtrCore, PtrInxCore,
 };
-
-// An index after those at `i` and `j` have changed places.
-fn swapped<I: PtrInxCore>(at: Option<I>, i: I, j: I) -> Option<I>
-    ensures { option_map I.number result
-        ≡ option_map (swapped_index (I.number i) (I.number j)) (option_map I.number at) }
-{
-    match at {
-        Some(k) => {
-            if k == i {
-                Some(j)
-            } else if k == j {
-                Some(i)
-            } else {
-                Some(k)
-            }
-        }
-        None => None,
-    }
-}
+use unreached::unreached;
 
 // Whether two indexes are one.
 pub(crate) fn is_one<I: PtrInxCore>(i: I, j: I) -> bool
     ensures { IsTrue result ↔ (I.number i ≡ I.number j) }
 {
     i == j
-}
-
-// The links at `i` and `j`, which are live, change places, and the interlinks follow them.
-fn swap_links<P, T, S>(arena: &mut Arena<P, LinkNoGen<P, T>, S>, i: P::Inx, j: P::Inx)
-where
-    P: PtrCore,
-    T: Drop,
-    S: ChainSlots<P, T>,
-    requires chained { IsChained P.Inx.number arena.old }
-    requires alike { IsAlike arena.old }
-    requires i_is_live { IsSome (ends_in P.Inx.number arena.old (P.Inx.number i)) }
-    requires j_is_live { IsSome (ends_in P.Inx.number arena.old (P.Inx.number j)) }
-    ensures moved { IsMoved P.Inx.number (swapped_index (P.Inx.number i) (P.Inx.number j)) arena.old arena.new }
-    ensures alike { IsAlike arena.new }
-{
-    if is_one(i, j) {
-        return;
-    }
-    let first = arena.get_inx_unwrap(i);
-    let first_prev = swapped(first.prev(), i, j);
-    let first_next = swapped(first.next(), i, j);
-    let second = arena.get_inx_unwrap(j);
-    let second_prev = swapped(second.prev(), i, j);
-    let second_next = swapped(second.next(), i, j);
-    arena.swap_inx(i, j);
-    relink(arena, Some(i), second_next, Some(i), second_prev);
-    relink(arena, Some(j), first_next, Some(j), first_prev);
-    relink(arena, second_prev, Some(i), second_next, Some(i));
-    relink(arena, first_prev, Some(j), first_next, Some(j));
 }
 
 // The index behind so many others.
@@ -94,8 +48,6 @@ where
     requires live { IsSome (ends_in P.Inx.number arena.now (P.Inx.number k)) }
     ensures live { IsSome (ends_in P.Inx.number arena.now (P.Inx.number result)) }
     ensures head { IsHead (ends_in P.Inx.number arena.now) (P.Inx.number result) }
-    ensures past { (low : ℕ) → IsClosed (ends_in P.Inx.number arena.now) low → low < P.Inx.number k
-        → low < P.Inx.number result }
     ensures own { IsHead (ends_in P.Inx.number arena.now) (P.Inx.number k) → P.Inx.number result ≡ P.Inx.number k }
     ensures same { (c : Chain) → IsChainOf (ends_in P.Inx.number arena.now) c → On (members c) (P.Inx.number k)
         → On (members c) (P.Inx.number result) }
@@ -116,40 +68,186 @@ where
     unreachable!()
 }
 
+// Whether an index is one of those up to `count`.
+fn is_within<I: PtrInxCore>(i: I, count: usize) -> bool
+    ensures { IsTrue result ↔ (I.number i ≤ count) }
+{
+    match i.try_into_usize() {
+        Some(i) => i.get() <= count,
+        None => false,
+    }
+}
+
+// Whether there is an index, and it is this one.
+fn is_same<I: PtrInxCore>(i: Option<I>, j: I) -> bool
+    ensures { IsTrue result ↔ (option_map I.number i ≡ Some (I.number j)) }
+{
+    match i {
+        Some(i) => is_one(i, j),
+        None => false,
+    }
+}
+
+// Where the link is that had the index `i`, if the notes of the indexes up to `placed` lead to it.
+fn led_to<P, T, S>(arena: &Arena<P, LinkNoGen<P, T>, S>, i: P::Inx, placed: usize) -> P::Inx
+where
+    P: PtrCore,
+    T: Drop,
+    S: ChainSlots<P, T>,
+    requires led { IsLedOn (ends_in P.Inx.number arena.now) placed (P.Inx.number i) }
+    ensures { (k : ℕ) → IsLed (ends_in P.Inx.number arena.now) placed (P.Inx.number i) k
+        → P.Inx.number result ≡ k }
+{
+    let mut at = i;
+    'note: while is_within(at, placed) {
+        match arena.get_inx_unwrap(at).prev() {
+            Some(to) => at = to,
+            None => unreached!(),
+        }
+    }
+    at
+}
+
+// The first index of the chain of the one at `k`, behind those that are placed. Where it is a ring that is `k`, and with it
+// comes the index that it had.
+fn unplaced_start<P, T, S>(
+    arena: &Arena<P, LinkNoGen<P, T>, S>,
+    k: P::Inx,
+    placed: usize,
+) -> (P::Inx, Option<P::Inx>)
+where
+    P: PtrCore,
+    T: Drop,
+    S: ChainSlots<P, T>,
+    requires gathering { IsGathering P.Inx.number placed arena.now }
+    requires behind { P.Inx.number k ≡ placed + 1 }
+    requires live { IsSome (ends_in P.Inx.number arena.now (P.Inx.number k)) }
+    ensures { StartsAt P.Inx.number placed (P.Inx.number result.0)
+        (option_map P.Inx.number result.1) arena.now }
+{
+    let mut at = k;
+    // No more links are passed than indexes fit.
+    'back: for _ in 0..arena.capacity() {
+        match arena.get_inx_unwrap(at).prev() {
+            Some(prev) => {
+                let before = led_to(arena, prev, placed);
+                if is_one(before, k) {
+                    return (k, Some(prev));
+                }
+                at = before;
+            }
+            None => return (at, None),
+        }
+    }
+    unreachable!()
+}
+
+// Brings the link at `at` to `place`, as the next of `last` if there is one. It changes places with the one there, and notes
+// where that one went.
+fn bring<P, T, S>(
+    arena: &mut Arena<P, LinkNoGen<P, T>, S>,
+    last: Option<P::Inx>,
+    at: P::Inx,
+    place: P::Inx,
+)
+where
+    P: PtrCore,
+    T: Drop,
+    S: ChainSlots<P, T>,
+    requires formed { IsWellFormed arena.old }
+    requires alike { IsAlike arena.old }
+    requires last_is_live { IfSome last (λ i. IsSome (entry_at arena.old (P.Inx.number i))) }
+    requires at_is_live { IsSome (entry_at arena.old (P.Inx.number at)) }
+    requires place_is_live { IsSome (entry_at arena.old (P.Inx.number place)) }
+    ensures { IsBrought P.Inx.number (option_map P.Inx.number last) (P.Inx.number at)
+        (P.Inx.number place) arena.old arena.new }
+{
+    set_next(arena, last, Some(place));
+    arena.swap_inx(at, place);
+    set_prev(arena, Some(place), Some(at));
+}
+
 // Brings the chain of the first index behind `first` others to successive indexes from there on, and answers the last one.
 fn gather_chain<P, T, S>(arena: &mut Arena<P, LinkNoGen<P, T>, S>, first: usize) -> usize
 where
     P: PtrCore,
     T: Drop,
     S: ChainSlots<P, T>,
-    requires chained { IsChained P.Inx.number arena.old }
-    requires alike { IsAlike arena.old }
-    requires full { arena.old.free ≡ [] }
-    requires closed { IsClosed (ends_in P.Inx.number arena.old) first }
+    requires gathering { IsGathering P.Inx.number first arena.old }
     requires more { first < length arena.old.slots }
-    ensures gathered { IsGathered P.Inx.number first result arena.old arena.new }
-    ensures alike { IsAlike arena.new }
+    ensures gathered { GathersUpTo P.Inx.number first result arena.old arena.new }
+    ensures more { first < result }
+    ensures within { result ≤ length arena.old.slots }
 {
     // Each live index is one of the pointers'.
     let _ = arena.capacity();
     let start = behind(first);
-    let head = chain_start(arena, start);
-    swap_links(arena, head, start);
+    let (head, round) = unplaced_start(arena, start, first);
+    bring(arena, None, head, start);
     let mut last = start;
     let mut placed = first + 1;
     'link: loop {
-        match next_there(arena, last) {
+        match arena.get_inx_unwrap(last).next() {
             Some(next) => {
-                if is_one(next, start) {
+                if is_same(round, next) {
+                    set_next(arena, Some(last), Some(start));
                     return placed;
                 }
+                let at = led_to(arena, next, placed);
                 let place = behind(placed);
-                swap_links(arena, next, place);
+                bring(arena, Some(last), at, place);
                 last = place;
                 placed += 1;
             }
             None => return placed,
         }
+    }
+}
+
+// Of the next index of the link at `i`, which is behind `count` others: it, if it is not past `i`, and else `i`.
+fn parted<I: PtrInxCore>(next: Option<I>, i: I, count: usize) -> (Option<I>, Option<I>)
+    ensures back { option_map I.number result.0 ≡ up_to count (option_map I.number next) }
+    ensures before { option_map I.number result.1
+        ≡ before_past count (I.number i) (option_map I.number next) }
+{
+    match next {
+        Some(next) => {
+            if is_within(next, count) {
+                (Some(next), None)
+            } else {
+                (None, Some(i))
+            }
+        }
+        None => (None, None),
+    }
+}
+
+// Gives the first `len` links their previous indexes, by their next ones.
+fn rejoin<P, T, S>(arena: &mut Arena<P, LinkNoGen<P, T>, S>, len: usize)
+where
+    P: PtrCore,
+    T: Drop,
+    S: ChainSlots<P, T>,
+    requires formed { IsWellFormed arena.old }
+    requires rejoinable { IsRejoinable (ends_in P.Inx.number arena.old) len }
+    ensures nexts { (k : ℕ) → next_at (ends_in P.Inx.number arena.new) k
+        ≡ next_at (ends_in P.Inx.number arena.old) k }
+    ensures agreed { IsAgreed (ends_in P.Inx.number arena.new) }
+    ensures values { (k : ℕ) → values_in arena.new k ≡ values_in arena.old k }
+    ensures kept { IsKept arena.old arena.new }
+    ensures formed { IsWellFormed arena.new }
+{
+    // Each live index is one of the pointers'.
+    let _ = arena.capacity();
+    let mut before = None;
+    let mut count = 0;
+    'link: while count < len {
+        let i = behind(count);
+        count += 1;
+        set_prev(arena, Some(i), before);
+        let (back, following) = parted(arena.get_inx_unwrap(i).next(), i, count);
+        set_prev(arena, back, Some(i));
+        before = following;
     }
 }
 
@@ -169,6 +267,7 @@ where
     'chain: while placed < len {
         placed = gather_chain(arena, placed);
     }
+    rejoin(arena, len);
 }
 
 impl<P: PtrCore, T: Drop, S: ChainSlots<P, T>> ChainArena<P, T, S> {

@@ -105,7 +105,7 @@ where
     compress_by(
         arena,
         reset,
-        move |from, link, to| -> IndexLink<OptionalInx<I, W>, T>
+        move |old, link, renewed| -> IndexLink<OptionalInx<I, W>, T>
             requires { F.IsAlwaysCallable map }
             ensures step { F.step map.entry from link.t to result.t map.exit }
             ensures ends { (result.prev ≡ link.prev) × (result.next ≡ link.next) }
@@ -114,7 +114,7 @@ where
             IndexLink {
                 prev: link.prev,
                 next: link.next,
-                t: map(from, link.t, to),
+                t: map(old, link.t, renewed),
             }
         },
     )

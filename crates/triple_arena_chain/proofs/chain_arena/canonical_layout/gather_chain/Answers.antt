@@ -1,126 +1,191 @@
-use Rattle.std.proofs.Common.{true≢false, rules, IsSome, ◌≡◌, ◌^◌, ◌≢◌, ◌+◌, ◌<◌, Some, None, length, option_map, inl, inr, sym, ap, subst, ◌∙◌, arith}
+use Rattle.std.proofs.Common.{true≢false, rules, ◌≡◌, ◌≢◌, ◌^◌, ◌+◌, ◌<◌, IsSome, Some, None, length, option_map, sym, ap, subst, ◌∙◌, arith}
+use Rattle.triple_arena.specs.Content.{entry_at}
 use Rattle.triple_arena_chain.specs.Chains.{next_at}
 use Rattle.triple_arena_chain.specs.Links.{ends_in}
-use Rattle.triple_arena_chain.specs.CanonicalLayout.{IsMoved, IsHead, swapped_index}
-use Rattle.triple_arena_chain.proofs.GatheredLemmas.{full_live, placing_first, placing_more, placing_done, placing_step, Step}
+use Rattle.triple_arena_chain.specs.Notes.{IsBrought}
+use Rattle.triple_arena_chain.proofs.GoingLemmas.{place_first, start_live, way_first, way_last, way_formed, way_alike, way_within, way_next, way_more, way_over, way_round}
+use Rattle.triple_arena_chain.proofs.PassLemmas.{live_ends}
+use Rattle.triple_arena_chain.proofs.SwappedLinkLemmas.{next_found}
 use Rattle.triple_arena_chain.proofs.chain_arena.canonical_layout.gather_chain.Goals as goal
 
-pub chain_start-head-requires-clause-live : goal.chain_start-head-requires-clause-live
-chain_start-head-requires-clause-live g c =
-    let is = c.behind-start.ensures in
-    let more = c.requires.more in
-    full_live g.P.Inx.PtrInxCore.number _ _ c.requires.chained.formed c.requires.full (omega (arith, is)) (omega (arith, is, more))
+pub unplaced_start-requires-clause-live : goal.unplaced_start-requires-clause-live
+unplaced_start-requires-clause-live g c =
+    subst (λ k. IsSome (ends_in g.P.Inx.PtrInxCore.number c.args.arena.now k)) (sym c.behind-start.ensures)
+    (place_first g.P.Inx.PtrInxCore.number c.args.first c.args.arena.now c.requires.gathering c.requires.more)
+
+pub bring-requires-clause-formed : goal.bring-requires-clause-formed
+bring-requires-clause-formed g c = c.requires.gathering.have.are.noted.formed
+
+pub bring-requires-clause-alike : goal.bring-requires-clause-alike
+bring-requires-clause-alike g c = c.requires.gathering.have.are.alike
+
+pub bring-requires-clause-at_is_live : goal.bring-requires-clause-at_is_live
+bring-requires-clause-at_is_live g c =
+    start_live g.P.Inx.PtrInxCore.number c.args.first c.args.arena.now c.requires.gathering c.requires.more _ _ c.unplaced_start.ensures
+
+pub bring-requires-clause-place_is_live : goal.bring-requires-clause-place_is_live
+bring-requires-clause-place_is_live g c =
+    let number = g.P.Inx.PtrInxCore.number in
+    sym (live_ends number c.args.arena.now (number c.behind-start.result))
+    ∙ subst (λ k. IsSome (ends_in number c.args.arena.now k)) (sym c.behind-start.ensures)
+    (place_first number c.args.first c.args.arena.now c.requires.gathering c.requires.more)
 
 pub link-init : goal.link-init
 link-init g c =
     let number = g.P.Inx.PtrInxCore.number in
-    let is = c.behind-start.ensures in
     record {
-      placing =
-          placing_first number c.args.first (number c.chain_start-head.result) c.args.arena.now c.swap_links.new.arena c.requires.chained c.requires.closed
-          c.chain_start-head.ensures.live c.chain_start-head.ensures.head (c.chain_start-head.ensures.past c.args.first c.requires.closed (omega (arith, is)))
-          (λ head. c.chain_start-head.ensures.own (subst (IsHead (ends_in number c.args.arena.now)) (sym is) head) ∙ is)
-          (subst (λ k. IsMoved number (swapped_index (number c.chain_start-head.result) k) c.args.arena.now c.swap_links.new.arena) is c.swap_links.ensures.moved);
-      alike = c.swap_links.ensures.alike;
-      last = is;
+      way =
+          way_first number c.args.first c.args.arena.now c.requires.gathering c.requires.more _ _ c.bring.new.arena c.unplaced_start.ensures
+          (subst (λ k. IsBrought number None (number c.unplaced_start.result.0) k c.args.arena.now c.bring.new.arena) c.behind-start.ensures c.bring.ensures);
+      last = c.behind-start.ensures;
+      more = omega arith;
     }
 
-pub returns-then-is_one-clause-gathered : goal.returns-then-is_one-clause-gathered
-returns-then-is_one-clause-gathered g c =
+pub get_inx_unwrap-requires : goal.get_inx_unwrap-requires
+get_inx_unwrap-requires g c =
     let number = g.P.Inx.PtrInxCore.number in
-    let same : number c.in-Some.next ≡ number c.behind-start.result = c.is_one.ensures.0 c.if-is_one.true in
+    subst (λ k. IsSome (entry_at c.link.arena k)) (sym c.link.invariant.last)
+    (way_last number c.args.first c.link.placed _ c.args.arena.now c.link.arena c.requires.gathering c.link.invariant.way)
+
+pub returns-then-is_same-clause-gathered : goal.returns-then-is_same-clause-gathered
+returns-then-is_same-clause-gathered g c =
+    let number = g.P.Inx.PtrInxCore.number in
     let goes : next_at (ends_in number c.link.arena) c.link.placed ≡ Some (number c.in-Some.next) =
-    ap (next_at (ends_in number c.link.arena)) (sym c.link.invariant.last) ∙ sym c.next_there.ensures ∙ ap (option_map number) c.in-Some.is in
-    placing_done number c.args.first c.link.placed c.args.arena.now c.link.arena c.link.invariant.placing (inr (goes ∙ ap Some (same ∙ c.behind-start.ensures)))
+    ap (next_at (ends_in number c.link.arena)) (sym c.link.invariant.last) ∙ next_found number c.link.arena _ _ c.get_inx_unwrap.ensures
+    ∙ ap (option_map number) (sym c.next.ensures ∙ c.in-Some.is) in
+    way_round number c.args.first c.link.placed (number c.in-Some.next) _ c.args.arena.now c.link.arena c.set_next.new.arena c.link.last c.behind-start.result
+    c.link.invariant.way goes (c.is_same.ensures.0 c.if-is_same.true) c.link.invariant.last c.behind-start.ensures c.set_next.ensures
+
+pub returns-then-is_same-clause-within : goal.returns-then-is_same-clause-within
+returns-then-is_same-clause-within g c =
+    way_within g.P.Inx.PtrInxCore.number c.args.first c.link.placed _ c.args.arena.now c.link.arena c.requires.gathering c.link.invariant.way
 
 pub returns-in-None-clause-gathered : goal.returns-in-None-clause-gathered
 returns-in-None-clause-gathered g c =
     let number = g.P.Inx.PtrInxCore.number in
-    let goes : next_at (ends_in number c.link.arena) c.link.placed ≡ None =
-    ap (next_at (ends_in number c.link.arena)) (sym c.link.invariant.last) ∙ sym c.next_there.ensures ∙ ap (option_map number) c.in-None.is in
-    placing_done number c.args.first c.link.placed c.args.arena.now c.link.arena c.link.invariant.placing (inl goes)
+    let gone : next_at (ends_in number c.link.arena) c.link.placed ≡ None =
+    ap (next_at (ends_in number c.link.arena)) (sym c.link.invariant.last) ∙ next_found number c.link.arena _ _ c.get_inx_unwrap.ensures
+    ∙ ap (option_map number) (sym c.next.ensures ∙ c.in-None.is) in
+    way_over number c.args.first c.link.placed _ c.args.arena.now c.link.arena c.link.invariant.way gone
+
+pub returns-in-None-clause-within : goal.returns-in-None-clause-within
+returns-in-None-clause-within g c =
+    way_within g.P.Inx.PtrInxCore.number c.args.first c.link.placed _ c.args.arena.now c.link.arena c.requires.gathering c.link.invariant.way
+
+pub led_to-at-requires : goal.led_to-at-requires
+led_to-at-requires g c =
+    let number = g.P.Inx.PtrInxCore.number in
+    let goes : next_at (ends_in number c.link.arena) c.link.placed ≡ Some (number c.in-Some.next) =
+    ap (next_at (ends_in number c.link.arena)) (sym c.link.invariant.last) ∙ next_found number c.link.arena _ _ c.get_inx_unwrap.ensures
+    ∙ ap (option_map number) (sym c.next.ensures ∙ c.in-Some.is) in
+    let away : option_map number c.unplaced_start.result.1 ≢ Some (number c.in-Some.next) =
+    λ same. true≢false (sym (c.is_same.ensures.1 same) ∙ c.if-is_same.false) in
+    let n = way_next number c.args.first c.link.placed _ c.args.arena.now c.link.arena c.requires.gathering c.link.invariant.way (number c.in-Some.next) goes
+    away in
+    record { led = (n.at, n.led) }
 
 pub behind-place-requires : goal.behind-place-requires
 behind-place-requires g c =
     let number = g.P.Inx.PtrInxCore.number in
-    let other : number c.in-Some.next ≢ number c.behind-start.result = λ same. true≢false (sym (c.is_one.ensures.1 same) ∙ c.if-is_one.false) in
     let goes : next_at (ends_in number c.link.arena) c.link.placed ≡ Some (number c.in-Some.next) =
-    ap (next_at (ends_in number c.link.arena)) (sym c.link.invariant.last) ∙ sym c.next_there.ensures ∙ ap (option_map number) c.in-Some.is in
-    let away : number c.in-Some.next ≢ c.args.first + 1 = λ same. other (same ∙ sym c.behind-start.ensures) in
-    let s : Step number c.link.placed (number c.in-Some.next) c.args.arena.now c.link.arena =
-    placing_step number c.args.first c.link.placed (number c.in-Some.next) c.args.arena.now c.link.arena c.requires.full c.link.invariant.placing goes away in
+    ap (next_at (ends_in number c.link.arena)) (sym c.link.invariant.last) ∙ next_found number c.link.arena _ _ c.get_inx_unwrap.ensures
+    ∙ ap (option_map number) (sym c.next.ensures ∙ c.in-Some.is) in
+    let away : option_map number c.unplaced_start.result.1 ≢ Some (number c.in-Some.next) =
+    λ same. true≢false (sym (c.is_same.ensures.1 same) ∙ c.if-is_same.false) in
+    let n = way_next number c.args.first c.link.placed _ c.args.arena.now c.link.arena c.requires.gathering c.link.invariant.way (number c.in-Some.next) goes
+    away in
     let holds = c.capacity.ensures.holds_all in
     let bounded = c.capacity.ensures.bounded in
-    let counted = c.requires.chained.formed.counted in
-    let none = ap (λ l. length l) c.requires.full in
-    omega (arith, s.past, s.within, holds, bounded, counted, none)
+    let counted = c.requires.gathering.have.are.noted.formed.counted in
+    let none = ap (λ l. length l) (c.requires.gathering.have.are.noted.kept.free ∙ c.requires.gathering.have.are.full) in
+    omega (arith, n.more, holds, bounded, counted, none)
 
-pub swap_links-requires-in-Some-clause-i_is_live : goal.swap_links-requires-in-Some-clause-i_is_live
-swap_links-requires-in-Some-clause-i_is_live g c =
-    let number = g.P.Inx.PtrInxCore.number in
-    let other : number c.in-Some.next ≢ number c.behind-start.result = λ same. true≢false (sym (c.is_one.ensures.1 same) ∙ c.if-is_one.false) in
-    let goes : next_at (ends_in number c.link.arena) c.link.placed ≡ Some (number c.in-Some.next) =
-    ap (next_at (ends_in number c.link.arena)) (sym c.link.invariant.last) ∙ sym c.next_there.ensures ∙ ap (option_map number) c.in-Some.is in
-    let away : number c.in-Some.next ≢ c.args.first + 1 = λ same. other (same ∙ sym c.behind-start.ensures) in
-    let s : Step number c.link.placed (number c.in-Some.next) c.args.arena.now c.link.arena =
-    placing_step number c.args.first c.link.placed (number c.in-Some.next) c.args.arena.now c.link.arena c.requires.full c.link.invariant.placing goes away in
-    s.live
+pub bring-requires-in-Some-clause-formed : goal.bring-requires-in-Some-clause-formed
+bring-requires-in-Some-clause-formed g c =
+    way_formed g.P.Inx.PtrInxCore.number c.args.first c.link.placed _ c.args.arena.now c.link.arena c.requires.gathering c.link.invariant.way
 
-pub swap_links-requires-in-Some-clause-j_is_live : goal.swap_links-requires-in-Some-clause-j_is_live
-swap_links-requires-in-Some-clause-j_is_live g c =
+pub bring-requires-in-Some-clause-alike : goal.bring-requires-in-Some-clause-alike
+bring-requires-in-Some-clause-alike g c =
+    way_alike g.P.Inx.PtrInxCore.number c.args.first c.link.placed _ c.args.arena.now c.link.arena c.requires.gathering c.link.invariant.way
+
+pub bring-requires-in-Some-clause-last_is_live : goal.bring-requires-in-Some-clause-last_is_live
+bring-requires-in-Some-clause-last_is_live g c =
     let number = g.P.Inx.PtrInxCore.number in
-    let other : number c.in-Some.next ≢ number c.behind-start.result = λ same. true≢false (sym (c.is_one.ensures.1 same) ∙ c.if-is_one.false) in
+    subst (λ k. IsSome (entry_at c.link.arena k)) (sym c.link.invariant.last)
+    (way_last number c.args.first c.link.placed _ c.args.arena.now c.link.arena c.requires.gathering c.link.invariant.way)
+
+pub bring-requires-in-Some-clause-at_is_live : goal.bring-requires-in-Some-clause-at_is_live
+bring-requires-in-Some-clause-at_is_live g c =
+    let number = g.P.Inx.PtrInxCore.number in
     let goes : next_at (ends_in number c.link.arena) c.link.placed ≡ Some (number c.in-Some.next) =
-    ap (next_at (ends_in number c.link.arena)) (sym c.link.invariant.last) ∙ sym c.next_there.ensures ∙ ap (option_map number) c.in-Some.is in
-    let away : number c.in-Some.next ≢ c.args.first + 1 = λ same. other (same ∙ sym c.behind-start.ensures) in
-    let s : Step number c.link.placed (number c.in-Some.next) c.args.arena.now c.link.arena =
-    placing_step number c.args.first c.link.placed (number c.in-Some.next) c.args.arena.now c.link.arena c.requires.full c.link.invariant.placing goes away in
-    subst (λ k. IsSome (ends_in number c.link.arena k)) (sym c.behind-place.ensures) s.place
+    ap (next_at (ends_in number c.link.arena)) (sym c.link.invariant.last) ∙ next_found number c.link.arena _ _ c.get_inx_unwrap.ensures
+    ∙ ap (option_map number) (sym c.next.ensures ∙ c.in-Some.is) in
+    let away : option_map number c.unplaced_start.result.1 ≢ Some (number c.in-Some.next) =
+    λ same. true≢false (sym (c.is_same.ensures.1 same) ∙ c.if-is_same.false) in
+    let n = way_next number c.args.first c.link.placed _ c.args.arena.now c.link.arena c.requires.gathering c.link.invariant.way (number c.in-Some.next) goes
+    away in
+    subst (λ k. IsSome (entry_at c.link.arena k)) (sym (c.led_to-at.ensures n.at n.led)) n.live
+
+pub bring-requires-in-Some-clause-place_is_live : goal.bring-requires-in-Some-clause-place_is_live
+bring-requires-in-Some-clause-place_is_live g c =
+    let number = g.P.Inx.PtrInxCore.number in
+    let goes : next_at (ends_in number c.link.arena) c.link.placed ≡ Some (number c.in-Some.next) =
+    ap (next_at (ends_in number c.link.arena)) (sym c.link.invariant.last) ∙ next_found number c.link.arena _ _ c.get_inx_unwrap.ensures
+    ∙ ap (option_map number) (sym c.next.ensures ∙ c.in-Some.is) in
+    let away : option_map number c.unplaced_start.result.1 ≢ Some (number c.in-Some.next) =
+    λ same. true≢false (sym (c.is_same.ensures.1 same) ∙ c.if-is_same.false) in
+    let n = way_next number c.args.first c.link.placed _ c.args.arena.now c.link.arena c.requires.gathering c.link.invariant.way (number c.in-Some.next) goes
+    away in
+    subst (λ k. IsSome (entry_at c.link.arena k)) (sym c.behind-place.ensures) n.place
 
 pub overflow_add-placed-in-Some : goal.overflow_add-placed-in-Some
 overflow_add-placed-in-Some g c =
     let number = g.P.Inx.PtrInxCore.number in
-    let other : number c.in-Some.next ≢ number c.behind-start.result = λ same. true≢false (sym (c.is_one.ensures.1 same) ∙ c.if-is_one.false) in
     let goes : next_at (ends_in number c.link.arena) c.link.placed ≡ Some (number c.in-Some.next) =
-    ap (next_at (ends_in number c.link.arena)) (sym c.link.invariant.last) ∙ sym c.next_there.ensures ∙ ap (option_map number) c.in-Some.is in
-    let away : number c.in-Some.next ≢ c.args.first + 1 = λ same. other (same ∙ sym c.behind-start.ensures) in
-    let s : Step number c.link.placed (number c.in-Some.next) c.args.arena.now c.link.arena =
-    placing_step number c.args.first c.link.placed (number c.in-Some.next) c.args.arena.now c.link.arena c.requires.full c.link.invariant.placing goes away in
+    ap (next_at (ends_in number c.link.arena)) (sym c.link.invariant.last) ∙ next_found number c.link.arena _ _ c.get_inx_unwrap.ensures
+    ∙ ap (option_map number) (sym c.next.ensures ∙ c.in-Some.is) in
+    let away : option_map number c.unplaced_start.result.1 ≢ Some (number c.in-Some.next) =
+    λ same. true≢false (sym (c.is_same.ensures.1 same) ∙ c.if-is_same.false) in
+    let n = way_next number c.args.first c.link.placed _ c.args.arena.now c.link.arena c.requires.gathering c.link.invariant.way (number c.in-Some.next) goes
+    away in
     let holds = c.capacity.ensures.holds_all in
     let bounded = c.capacity.ensures.bounded in
-    let counted = c.requires.chained.formed.counted in
-    let none = ap (λ l. length l) c.requires.full in
+    let counted = c.requires.gathering.have.are.noted.formed.counted in
+    let none = ap (λ l. length l) (c.requires.gathering.have.are.noted.kept.free ∙ c.requires.gathering.have.are.full) in
     let fits : length c.args.arena.now.slots < 2 ^ 64 = omega (arith, holds, bounded, counted, none) in
-    search (rules, s.past, s.within, fits)
+    search (rules, n.more, fits)
 
 pub link-smaller : goal.link-smaller
 link-smaller g c =
     let number = g.P.Inx.PtrInxCore.number in
-    let other : number c.in-Some.next ≢ number c.behind-start.result = λ same. true≢false (sym (c.is_one.ensures.1 same) ∙ c.if-is_one.false) in
     let goes : next_at (ends_in number c.link.arena) c.link.placed ≡ Some (number c.in-Some.next) =
-    ap (next_at (ends_in number c.link.arena)) (sym c.link.invariant.last) ∙ sym c.next_there.ensures ∙ ap (option_map number) c.in-Some.is in
-    let away : number c.in-Some.next ≢ c.args.first + 1 = λ same. other (same ∙ sym c.behind-start.ensures) in
-    let s : Step number c.link.placed (number c.in-Some.next) c.args.arena.now c.link.arena =
-    placing_step number c.args.first c.link.placed (number c.in-Some.next) c.args.arena.now c.link.arena c.requires.full c.link.invariant.placing goes away in
-    let past = s.past in
-    let within = s.within in
-    omega (arith, past, within)
+    ap (next_at (ends_in number c.link.arena)) (sym c.link.invariant.last) ∙ next_found number c.link.arena _ _ c.get_inx_unwrap.ensures
+    ∙ ap (option_map number) (sym c.next.ensures ∙ c.in-Some.is) in
+    let away : option_map number c.unplaced_start.result.1 ≢ Some (number c.in-Some.next) =
+    λ same. true≢false (sym (c.is_same.ensures.1 same) ∙ c.if-is_same.false) in
+    let n = way_next number c.args.first c.link.placed _ c.args.arena.now c.link.arena c.requires.gathering c.link.invariant.way (number c.in-Some.next) goes
+    away in
+    let more = n.more in
+    omega (arith, more)
 
 pub link-preserved : goal.link-preserved
 link-preserved g c =
     let number = g.P.Inx.PtrInxCore.number in
-    let other : number c.in-Some.next ≢ number c.behind-start.result = λ same. true≢false (sym (c.is_one.ensures.1 same) ∙ c.if-is_one.false) in
     let goes : next_at (ends_in number c.link.arena) c.link.placed ≡ Some (number c.in-Some.next) =
-    ap (next_at (ends_in number c.link.arena)) (sym c.link.invariant.last) ∙ sym c.next_there.ensures ∙ ap (option_map number) c.in-Some.is in
-    let away : number c.in-Some.next ≢ c.args.first + 1 = λ same. other (same ∙ sym c.behind-start.ensures) in
-    let s : Step number c.link.placed (number c.in-Some.next) c.args.arena.now c.link.arena =
-    placing_step number c.args.first c.link.placed (number c.in-Some.next) c.args.arena.now c.link.arena c.requires.full c.link.invariant.placing goes away in
+    ap (next_at (ends_in number c.link.arena)) (sym c.link.invariant.last) ∙ next_found number c.link.arena _ _ c.get_inx_unwrap.ensures
+    ∙ ap (option_map number) (sym c.next.ensures ∙ c.in-Some.is) in
+    let away : option_map number c.unplaced_start.result.1 ≢ Some (number c.in-Some.next) =
+    λ same. true≢false (sym (c.is_same.ensures.1 same) ∙ c.if-is_same.false) in
+    let n = way_next number c.args.first c.link.placed _ c.args.arena.now c.link.arena c.requires.gathering c.link.invariant.way (number c.in-Some.next) goes
+    away in
+    let more = c.link.invariant.more in
     record {
-      placing =
-          placing_more number c.args.first c.link.placed (number c.in-Some.next) c.args.arena.now c.link.arena c.swap_links-in-Some.new.arena
-          c.link.invariant.placing goes away
-          (subst (λ k. IsMoved number (swapped_index (number c.in-Some.next) k) c.link.arena c.swap_links-in-Some.new.arena) c.behind-place.ensures
-          c.swap_links-in-Some.ensures.moved);
-      alike = c.swap_links-in-Some.ensures.alike;
+      way =
+          way_more number c.args.first c.link.placed (number c.led_to-at.result) _ c.args.arena.now c.link.arena c.bring-in-Some.new.arena c.link.invariant.way
+          (number c.in-Some.next) goes away c.led_to-at.ensures
+          (subst (λ k. IsBrought number (Some c.link.placed) (number c.led_to-at.result) k c.link.arena c.bring-in-Some.new.arena) c.behind-place.ensures
+          (subst (λ k. IsBrought number (Some k) (number c.led_to-at.result) (number c.behind-place.result) c.link.arena c.bring-in-Some.new.arena)
+          c.link.invariant.last c.bring-in-Some.ensures));
       last = c.behind-place.ensures;
+      more = omega (arith, more);
     }

@@ -1,14 +1,12 @@
 use Rattle.std.specs.Prelude.{◌-◌, ◌≤◌, length}
-use Rattle.triple_arena_chain.specs.CanonicalLayout.{IsAlike}
-use Rattle.triple_arena_chain.proofs.GatheredLemmas.{AreGathered}
+use Rattle.triple_arena_chain.specs.Notes.{HavePlaces}
 use Rattle.triple_arena_chain.proofs.chain_arena.canonical_layout.gather_chains.Given as goal
 
 -- the chains up to so many indexes are whole
 abbrev pub invariant-chain : goal.invariant-chain
 invariant-chain g l =
     record {
-      gathered : AreGathered g.P.Inx.PtrInxCore.number l.placed l.fn.arena l.arena;
-      alike : IsAlike l.arena;
+      places : HavePlaces g.P.Inx.PtrInxCore.number l.placed l.fn.arena l.arena;
       within : l.placed ≤ length l.fn.arena.slots;
     }
 
