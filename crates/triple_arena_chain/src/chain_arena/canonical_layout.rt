@@ -108,8 +108,8 @@ where
     at
 }
 
-// The first index of the chain of the one at `k`, behind those that are placed. Where it is a ring that is `k`, and with it
-// comes the index that it had.
+// The first index of the chain of the one at `k`, which is not placed yet. Where it is a ring that
+// is `k` itself, and the index that its link had comes with it.
 fn unplaced_start<P, T, S>(
     arena: &Arena<P, LinkNoGen<P, T>, S>,
     k: P::Inx,
@@ -142,8 +142,8 @@ where
     unreachable!()
 }
 
-// Brings the link at `at` to `place`, as the next of `last` if there is one. It changes places with the one there, and notes
-// where that one went.
+// Brings the link at `at` to `place`, as the next of `last` if there is one. It changes places with
+// the one there, and notes where that one went.
 fn bring<P, T, S>(
     arena: &mut Arena<P, LinkNoGen<P, T>, S>,
     last: Option<P::Inx>,
@@ -167,7 +167,8 @@ where
     set_prev(arena, Some(place), Some(at));
 }
 
-// Brings the chain of the first index behind `first` others to successive indexes from there on, and answers the last one.
+// Brings the chain of the first index behind `first` others to successive indexes from there on,
+// and answers the last one. A next index is looked up by the notes, since it is an old name.
 fn gather_chain<P, T, S>(arena: &mut Arena<P, LinkNoGen<P, T>, S>, first: usize) -> usize
 where
     P: PtrCore,
@@ -204,7 +205,7 @@ where
     }
 }
 
-// Of the next index of the link at `i`, which is behind `count` others: it, if it is not past `i`, and else `i`.
+// A next index, if it is one of those up to `count`, and `i`, if it is past them.
 fn parted<I: PtrInxCore>(next: Option<I>, i: I, count: usize) -> (Option<I>, Option<I>)
     ensures back { option_map I.number result.0 ≡ up_to count (option_map I.number next) }
     ensures before { option_map I.number result.1
@@ -222,7 +223,8 @@ fn parted<I: PtrInxCore>(next: Option<I>, i: I, count: usize) -> (Option<I>, Opt
     }
 }
 
-// Gives the first `len` links their previous indexes, by their next ones.
+// Gives the first `len` links their previous indexes, by their next ones: each of these is one
+// further, or not past the link that has it.
 fn rejoin<P, T, S>(arena: &mut Arena<P, LinkNoGen<P, T>, S>, len: usize)
 where
     P: PtrCore,

@@ -107,7 +107,7 @@ where
         reset,
         move |old, link, renewed| -> IndexLink<OptionalInx<I, W>, T>
             requires { F.IsAlwaysCallable map }
-            ensures step { F.step map.entry from link.t to result.t map.exit }
+            ensures step { F.step map.entry old link.t renewed result.t map.exit }
             ensures ends { (result.prev ≡ link.prev) × (result.next ≡ link.next) }
             ensures again { F.IsAlwaysCallable map.exit }
         {
