@@ -47,6 +47,15 @@ next_forwarded : (e : ℕ → Option Ends) (o : Option Ends) → next_in (option
 next_forwarded e None = refl
 next_forwarded e (Some v) = refl
 
+-- what is named as a next is live, once the links have their numbers
+pub numbered_live : {I T : Type 0} (number : I → ℕ) (c0 c1 : Content (IndexLink I T)) → IsChained number c0
+    → IsRelinked number (numbered (ends_in number c0)) c0 c1 → (p q : ℕ) → next_at (ends_in number c1) p ≡ Some q → IsSome (ends_in number c1 q)
+numbered_live number c0 c1 chained first p q goes =
+    let own : next_at (ends_in number c0) p ≡ Some q =
+    sym (ap next_in (first.ends p) ∙ next_numbered (new_index (ends_in number c0) p) (ends_in number c0 p)) ∙ goes in
+    live_ends number c1 q ∙ live_as c0 c1 first.values q ∙ sym (live_ends number c0 q)
+    ∙ live_prev_in (ends_in number c0 q) p (chained.agreed.forward p q own)
+
 module _ {I T : Type 0} (last : Option ℕ) (reset : Bool) (c2 c3 : Content (IndexLink I T))
     (compressed : IsCompressed entry_at live_count some_counter room_in last live_entries reset c2 c3) where
   -- what is listed stands at its place

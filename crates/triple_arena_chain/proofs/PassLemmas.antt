@@ -242,15 +242,22 @@ module _ {I T : Type 0} (number : I → ℕ) (old : Content (IndexLink I T)) whe
   prev_of_stays c low p None = refl
   prev_of_stays c low p (Some j) = prevs_stay c low p j
 
+  -- what a link ahead names is live
+  pub passed_next : (c : Content (IndexLink I T)) (low : ℕ) → IsPassed number (forwarded held) low old c
+      → ((p q : ℕ) → next_at held p ≡ Some q → IsSome (held q)) → (i : ℕ) → low ≤ i → (q : ℕ) → next_at (ends_in number c) i ≡ Some q
+      → IsSome (entry_at c q)
+  passed_next c low p live i above q goes =
+      live_as old c p.values q ∙ sym (live_ends number old q) ∙ live i q (sym (ap next_in (p.ahead i above)) ∙ goes)
+
   -- the first live index ahead has its next under the new index
-  pub forwarded_one : (c new : Content (IndexLink I T)) (w : Walk) (i g : ℕ) (x : I) (next o : Option I)
+  pub forwarded_one : (c new : Content (IndexLink I T)) (w : Walk) (i g : ℕ) (x : I) (o : Option I)
       → IsPassed number (forwarded held) w.low old c → w.falls ≡ false → IsFirstLive (entry_at c) w i g → number x ≡ i
-      → option_map number next ≡ next_at (ends_in number c) i → option_map number o ≡ prev_of (ends_in number c) (option_map number next)
+      → option_map number o ≡ prev_of (ends_in number c) (next_at (ends_in number c) i)
       → new ≡ with_next_of number c (Some x) o → IsPassed number (forwarded held) (i + 1) old new
-  forwarded_one c new w i g x next o p rises first at goes gives made =
+  forwarded_one c new w i g x o p rises first at gives made =
       passed_one number (forwarded held) old free_forwarded c new w i g p rises first
       (next_written number c new x o i at made
-      ∙ ap (λ m. renext m (ends_in number c i)) (gives ∙ ap (prev_of (ends_in number c)) goes ∙ prev_of_stays c w.low p (next_at (ends_in number c) i))
+      ∙ ap (λ m. renext m (ends_in number c i)) (gives ∙ prev_of_stays c w.low p (next_at (ends_in number c) i))
       ∙ ap (λ e. renext (prev_of held (next_in e)) e) (p.ahead i first.ahead.0)
       ∙ by_ends (held i))
       (next_unwritten number c new x o i at made)

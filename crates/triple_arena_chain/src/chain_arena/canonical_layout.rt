@@ -11,7 +11,6 @@ ghost use Rattle.triple_arena_chain.specs.Lists.{Chain, members, IsChainOf};
 ghost use Rattle.triple_arena_chain.specs.CanonicalLayout.{IsAlike, IsHead, IsAllGathered, IsCanonical};
 ghost use Rattle.triple_arena_chain.specs.Notes.{up_to, before_past, IsLed, IsLedOn, IsBrought, IsGathering, IsRejoinable, StartsAt, GathersUpTo};
 
-use crate::chain_arena::compression::prev_there;
 use crate::chain_arena::interlinks::{set_next, set_prev};
 use crate::{ChainArena, ChainSlots, LinkNoGen};
 use std::num::NonZeroUsize;
@@ -55,7 +54,7 @@ where
     let mut at = k;
     // No more links are passed than indexes fit.
     'back: for _ in 0..arena.capacity() {
-        match prev_there(arena, Some(at)) {
+        match arena.get_inx_unwrap(at).prev() {
             Some(prev) => {
                 if is_one(prev, k) {
                     return k;

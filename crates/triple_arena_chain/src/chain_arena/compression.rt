@@ -4,7 +4,7 @@ ghost use Rattle.std.specs.Option.{option_map};
 ghost use Rattle.triple_arena_ptr.specs.InvalidationOption.{overflowed};
 ghost use Rattle.triple_arena.specs.Changes.{IsCompressed};
 ghost use Rattle.triple_arena.specs.Compression.{renewal_wraps, value_of, IsMapped};
-ghost use Rattle.triple_arena.specs.Content.{live_count, some_counter, IsWellFormed};
+ghost use Rattle.triple_arena.specs.Content.{entry_at, live_count, some_counter, IsWellFormed};
 ghost use Rattle.triple_arena_chain.specs.Chains.{next_at, prev_at, IsAgreed};
 ghost use Rattle.triple_arena_chain.specs.Links.{ends_in, values_in, IsKept, IsChained, IsRelinked};
 ghost use Rattle.triple_arena_chain.specs.Listed.{listed_values};
@@ -39,38 +39,20 @@ where
     }
 }
 
-// The next index of the link at an index, if both are there.
-pub(crate) fn next_there<P, T, S>(arena: &Arena<P, LinkNoGen<P, T>, S>, i: P::Inx) -> Option<P::Inx>
+// What the link that the one at `i` names as its next has as its previous index.
+fn name_of_next<P, T, S>(arena: &Arena<P, LinkNoGen<P, T>, S>, i: P::Inx) -> Option<P::Inx>
 where
     P: PtrCore,
     T: Drop,
     S: ChainSlots<P, T>,
-    ensures { option_map P.Inx.number result
-        ≡ next_at (ends_in P.Inx.number arena.now) (P.Inx.number i) }
+    requires live { IsSome (entry_at arena.now (P.Inx.number i)) }
+    requires next { (q : ℕ) → next_at (ends_in P.Inx.number arena.now) (P.Inx.number i) ≡ Some q
+        → IsSome (entry_at arena.now q) }
+    ensures { option_map P.Inx.number result ≡ prev_of (ends_in P.Inx.number arena.now)
+        (next_at (ends_in P.Inx.number arena.now) (P.Inx.number i)) }
 {
-    match arena.get_inx(i) {
-        Some((_, link)) => link.next(),
-        None => None,
-    }
-}
-
-// The previous index of the link at an index, if both are there.
-pub(crate) fn prev_there<P, T, S>(
-    arena: &Arena<P, LinkNoGen<P, T>, S>,
-    at: Option<P::Inx>,
-) -> Option<P::Inx>
-where
-    P: PtrCore,
-    T: Drop,
-    S: ChainSlots<P, T>,
-    ensures { option_map P.Inx.number result
-        ≡ prev_of (ends_in P.Inx.number arena.now) (option_map P.Inx.number at) }
-{
-    match at {
-        Some(i) => match arena.get_inx(i) {
-            Some((_, link)) => link.prev(),
-            None => None,
-        },
+    match arena.get_inx_unwrap(i).next() {
+        Some(next) => arena.get_inx_unwrap(next).prev(),
         None => None,
     }
 }
@@ -81,7 +63,9 @@ where
     P: PtrCore,
     T: Drop,
     S: ChainSlots<P, T>,
-    requires { IsWellFormed arena.old }
+    requires formed { IsWellFormed arena.old }
+    requires live { (p q : ℕ) → next_at (ends_in P.Inx.number arena.old) p ≡ Some q
+        → IsSome (ends_in P.Inx.number arena.old q) }
     ensures forwarded { IsRelinked P.Inx.number (forwarded (ends_in P.Inx.number arena.old))
         arena.old arena.new }
     ensures formed { IsWellFormed arena.new }
@@ -89,8 +73,7 @@ where
     let mut advancer = arena.advancer();
     while let Some(p) = advancer.advance(arena) {
         let i = p.inx();
-        let next = next_there(arena, i);
-        let renamed = prev_there(arena, next);
+        let renamed = name_of_next(arena, i);
         set_next(arena, Some(i), renamed);
     }
 }
@@ -117,7 +100,7 @@ where
     let mut advancer = arena.advancer();
     while let Some(p) = advancer.advance(arena) {
         let i = p.inx();
-        let next = next_there(arena, i);
+        let next = arena.get_inx_unwrap(i).next();
         // `relink` asks two things, which is cheaper to answer than what `set_prev` asks.
         relink(arena, None, None, next, Some(i));
     }

@@ -1,6 +1,10 @@
-use Rattle.triple_arena_chain.proofs.CompactingLemmas.{AreMoved, AreListed, alone, live, nexts_one, are_listed, renamed_links, listed_old, listed_new, is_compacted, is_compressed}
+use Rattle.triple_arena_chain.proofs.CompactingLemmas.{numbered_live, AreMoved, AreListed, alone, live, nexts_one, are_listed, renamed_links, listed_old, listed_new, is_compacted, is_compressed}
 use Rattle.triple_arena_chain.proofs.RenewalLemmas.{AreRenewed, none_free, renewed_listed, unmoved_links, unmoved_chained}
 use Rattle.triple_arena_chain.proofs.chain_arena.compression.compress_links.Goals as goal
+
+pub forward_nexts-requires-clause-live : goal.forward_nexts-requires-clause-live
+forward_nexts-requires-clause-live g c =
+    numbered_live g.P.Inx.PtrInxCore.number c.args.arena.now c.number_links.new.arena c.requires.chained c.number_links.ensures.numbered
 
 -- the passes up to the last one
 ready : (g : _) (c : goal.After-join_nexts-arg-1 g)

@@ -1,9 +1,10 @@
-use Rattle.std.proofs.Common.{◌≡◌, ◌≤◌, Some, option_map, sym, subst, ◌∙◌}
+use Rattle.std.proofs.Common.{◌≡◌, ◌≤◌, Some, IsSome, sym, ap, subst, ◌∙◌}
 use Rattle.triple_arena_chain.specs.Chains.{next_at}
+use Rattle.triple_arena.specs.Content.{entry_at}
 use Rattle.triple_arena.specs.Walk.{past}
 use Rattle.triple_arena_chain.specs.Links.{ends_in}
-use Rattle.triple_arena_chain.specs.Renaming.{forwarded}
-use Rattle.triple_arena_chain.proofs.PassLemmas.{IsPassed, passed_by, next_unchanged, live_as, begun, free_forwarded, forwarded_one}
+use Rattle.triple_arena_chain.specs.Renaming.{forwarded, prev_of}
+use Rattle.triple_arena_chain.proofs.PassLemmas.{found_live, passed_next, IsPassed, passed_by, next_unchanged, live_as, begun, free_forwarded, forwarded_one}
 use Rattle.triple_arena_chain.proofs.chain_arena.compression.forward_nexts.Goals as goal
 
 pub loop-p-init : goal.loop-p-init
@@ -13,8 +14,20 @@ loop-p-init g c =
       reaches = c.advancer-advancer.ensures.high;
       passed =
           begun g.P.Inx.PtrInxCore.number _ c.args.arena.now (free_forwarded g.P.Inx.PtrInxCore.number c.args.arena.now) _ c.advancer-advancer.ensures.low
-          c.requires;
+          c.requires.formed;
     }
+
+pub name_of_next-renamed-requires-clause-live : goal.name_of_next-renamed-requires-clause-live
+name_of_next-renamed-requires-clause-live g c =
+    subst (λ k. IsSome (entry_at c.loop-p.arena k)) (sym c.inx-i.ensures)
+    (found_live (entry_at c.loop-p.arena) _ _ (c.in-Some.ensures).given.0.live)
+
+pub name_of_next-renamed-requires-clause-next : goal.name_of_next-renamed-requires-clause-next
+name_of_next-renamed-requires-clause-next g c =
+    let number = g.P.Inx.PtrInxCore.number in
+    λ q goes.
+    passed_next number c.args.arena.now c.loop-p.arena c.loop-p.advancer.low c.loop-p.invariant.passed c.requires.live (g.P.PtrCore.index c.in-Some.p)
+    (c.in-Some.ensures).given.0.ahead.0 q (ap (next_at (ends_in number c.loop-p.arena)) (sym c.inx-i.ensures) ∙ goes)
 
 pub loop-p-preserved : goal.loop-p-preserved
 loop-p-preserved g c =
@@ -23,7 +36,7 @@ loop-p-preserved g c =
     let next = passed_by c.loop-p.advancer c.advance.new.self (g.P.PtrCore.index c.in-Some.p) rises after in
     let same =
     live_as c.loop-p.arena c.set_next.new.arena
-    (next_unchanged g.P.Inx.PtrInxCore.number c.loop-p.arena c.set_next.new.arena (Some c.inx-i.result) c.prev_there-renamed.result c.set_next.ensures) in
+    (next_unchanged g.P.Inx.PtrInxCore.number c.loop-p.arena c.set_next.new.arena (Some c.inx-i.result) c.name_of_next-renamed.result c.set_next.ensures) in
     record {
       rises = next.rises;
       reaches = λ j some. subst (λ h. j ≤ h) (sym next.high) (c.loop-p.invariant.reaches j (sym (same j) ∙ some));
@@ -32,9 +45,10 @@ loop-p-preserved g c =
           (λ n. IsPassed g.P.Inx.PtrInxCore.number (forwarded (ends_in g.P.Inx.PtrInxCore.number c.args.arena.now)) n c.args.arena.now c.set_next.new.arena)
           (sym next.low)
           (forwarded_one g.P.Inx.PtrInxCore.number c.args.arena.now c.loop-p.arena c.set_next.new.arena c.loop-p.advancer (g.P.PtrCore.index c.in-Some.p)
-          (g.P.PtrCore.generation c.in-Some.p) c.inx-i.result c.next_there-next.result c.prev_there-renamed.result c.loop-p.invariant.passed rises
+          (g.P.PtrCore.generation c.in-Some.p) c.inx-i.result c.name_of_next-renamed.result c.loop-p.invariant.passed rises
           (c.in-Some.ensures).given.0 c.inx-i.ensures
-          (subst (λ n. option_map g.P.Inx.PtrInxCore.number c.next_there-next.result ≡ next_at (ends_in g.P.Inx.PtrInxCore.number c.loop-p.arena) n) c.inx-i.ensures
-          c.next_there-next.ensures)
-          c.prev_there-renamed.ensures c.set_next.ensures);
+          (c.name_of_next-renamed.ensures
+          ∙ ap (λ n. prev_of (ends_in g.P.Inx.PtrInxCore.number c.loop-p.arena) (next_at (ends_in g.P.Inx.PtrInxCore.number c.loop-p.arena) n))
+          c.inx-i.ensures)
+          c.set_next.ensures);
     }
