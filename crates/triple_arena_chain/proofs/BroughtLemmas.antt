@@ -1,10 +1,10 @@
 -- A link that is brought to its place, as it is written.
-use Rattle.std.proofs.Common.{◌≡◌, ℕ, Option, Some, None, IsSome, IfSome, is_some, option_map, refl, sym, ap, subst, ◌∙◌}
+use Rattle.std.proofs.Common.{◌≡◌, ℕ, Option, Some, IsSome, is_some, option_map, sym, ap, subst, ◌∙◌}
 use Rattle.triple_arena.specs.Entries.{with_values_exchanged}
 use Rattle.triple_arena.specs.Content.{Content, entry_at, with_exchange, IsWellFormed}
 use Rattle.triple_arena.specs.ExchangeLaws.{formed-with_exchange}
 use Rattle.triple_arena_chain.specs.LinkShape.{IndexLink}
-use Rattle.triple_arena_chain.specs.Chains.{Ends, with_prev, with_next_if, with_prev_if}
+use Rattle.triple_arena_chain.specs.Chains.{with_next_if}
 use Rattle.triple_arena_chain.specs.Links.{valued, values_in, entry_ends, ends_in, with_next_of, with_prev_of, IsKept}
 use Rattle.triple_arena_chain.specs.LinkLaws.{kept_on, ends-with_next_of, ends-with_prev_of, values-with_prev_of, kept-with_next_of, kept-with_prev_of, formed-with_next_of, formed-with_prev_of}
 use Rattle.triple_arena_chain.specs.CanonicalLayout.{swapped_index, IsAlike}

@@ -1,9 +1,9 @@
 -- A canonical compression as a whole: the links go to the first indexes, and then each chain to successive ones.
-use Rattle.std.proofs.Common.{◌≡◌, ℕ, zero, suc, ◌+◌, ◌<◌, ◌≤◌, Bool, length, map, Option, Some, None, IsSome, is_some, option_map, true≢false, refl, sym, ap, subst, ◌∙◌, arith}
+use Rattle.std.proofs.Common.{◌≡◌, ℕ, zero, suc, ◌+◌, Bool, length, map, Option, Some, None, IsSome, is_some, option_map, true≢false, refl, sym, ap, subst, ◌∙◌, arith}
 use Rattle.std.specs.Prelude.{slice_get}
 use Rattle.std.proofs.lemmas.Option.{slice_get-map}
 use Rattle.triple_arena.specs.Compression.{renewed, value_of}
-use Rattle.triple_arena.specs.Content.{Content, entry_at, live_count}
+use Rattle.triple_arena.specs.Content.{Content, live_count}
 use Rattle.triple_arena.specs.LiveEntries.{live_entries}
 use Rattle.triple_arena_chain.specs.LinkShape.{IndexLink}
 use Rattle.triple_arena_chain.specs.Chains.{Ends, next_in, prev_in, IsAgreed, On}

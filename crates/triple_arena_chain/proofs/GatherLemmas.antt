@@ -6,8 +6,8 @@ use Rattle.triple_arena_chain.specs.Chains.{Ends, next_in, prev_in, next_at, pre
 use Rattle.triple_arena_chain.specs.ListLaws.{On-first, On-back, Follows, Follows-append, Follows-live, live_next_in, live_prev_in, linear_by, ring_by, holds_next, holds_prev, turned}
 use Rattle.triple_arena_chain.specs.Lists.{Chain, Linear, Cyclic, members, IsChainOf}
 use Rattle.triple_arena_chain.specs.Renaming.{ends_renamed, FollowsRenaming}
-use Rattle.triple_arena_chain.specs.CanonicalLayout.{IsLaidOut, IsHead, IsClosed}
-use Rattle.triple_arena_chain.proofs.RunLemmas.{run-append, run-on, run-off, run-within, Leads, further, around, laid_next}
+use Rattle.triple_arena_chain.specs.CanonicalLayout.{IsHead, IsClosed}
+use Rattle.triple_arena_chain.proofs.RunLemmas.{run-append, run-on, run-off, run-within}
 
 module _ (to : ℕ → ℕ) (e e' : ℕ → Option Ends) (r : FollowsRenaming to e e') where
   next_some : (o : Option Ends) → next_in (option_map (ends_renamed to) o) ≡ option_map to (next_in o)

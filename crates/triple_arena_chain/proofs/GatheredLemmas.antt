@@ -7,12 +7,11 @@ use Rattle.std.proofs.lemmas.List.Sums.{sum_by-cons}
 use Rattle.std.proofs.lemmas.Bool.Decides.{eqb_tells}
 use Rattle.std.proofs.lemmas.List.FromFn.{length-range_with_len}
 use Rattle.triple_arena.specs.Content.{Content, IsWellFormed}
-use Rattle.triple_arena_chain.specs.LinkLaws.{kept_on}
 use Rattle.triple_arena_chain.specs.LinkShape.{IndexLink}
 use Rattle.triple_arena_chain.specs.Chains.{Ends, next_in, next_at, IsAgreed, first_or, On, Apart}
 use Rattle.triple_arena_chain.specs.ListLaws.{On-first, On-front, On-back, live_next_in, live_prev_in}
 use Rattle.triple_arena_chain.specs.Lists.{Chain, Linear, Cyclic, members, all_members, IsChainOf, IsWritten, AreAllChainsOf}
-use Rattle.triple_arena_chain.specs.Links.{values_in, ends_in, IsChained}
+use Rattle.triple_arena_chain.specs.Links.{ends_in}
 use Rattle.triple_arena_chain.specs.Renaming.{renamed, ends_renamed, FollowsRenaming}
 use Rattle.triple_arena_chain.specs.CanonicalLayoutLaws.{laid_same}
 use Rattle.triple_arena_chain.specs.CanonicalLayout.{IsLaidOut, IsHead, IsClosed, IsRearranged, AreGathered, swapped_index}

@@ -1,34 +1,29 @@
 -- A chain whose links are brought to successive places, one after another.
-use Rattle.std.proofs.Common.{◌≡◌, ◌≢◌, ℕ, zero, suc, ◌+◌, ◌-◌, ◌<◌, ◌≤◌, [], length, Option, Some, None, IsSome, is_some, option_map, true≢false, refl, sym, ap, subst, ◌∙◌, arith, inl, inr, ◌⊎◌}
+use Rattle.std.proofs.Common.{◌≡◌, ◌≢◌, ℕ, ◌+◌, ◌<◌, ◌≤◌, [], length, Option, Some, None, IsSome, is_some, option_map, refl, sym, ap, subst, ◌∙◌, arith, inl, inr, ◌⊎◌}
 use Rattle.std.proofs.lemmas.Bool.Decides.{eqb_tells, leb_tells}
 use Rattle.triple_arena.specs.Content.{Content, entry_at, IsWellFormed}
 use Rattle.triple_arena_chain.specs.LinkShape.{IndexLink}
-use Rattle.triple_arena_chain.specs.Chains.{Ends, next_in, next_at, prev_at, with_next, IsAgreed}
-use Rattle.triple_arena_chain.specs.ListLaws.{live_next_in, live_prev_in}
+use Rattle.triple_arena_chain.specs.Chains.{Ends, next_at, prev_at, with_next, IsAgreed}
+use Rattle.triple_arena_chain.specs.ListLaws.{live_prev_in}
 use Rattle.triple_arena_chain.specs.Links.{values_in, ends_in, with_next_of, IsKept}
 use Rattle.triple_arena_chain.specs.LinkLaws.{ends-with_next_of, kept-with_next_of, formed-with_next_of}
 use Rattle.triple_arena_chain.proofs.PassLemmas.{live_ends, next_unchanged}
-use Rattle.triple_arena_chain.specs.Renaming.{ends_renamed}
 use Rattle.triple_arena_chain.specs.CanonicalLayout.{swapped_index, under, IsAlike, IsRearranged}
 use Rattle.triple_arena_chain.specs.Notes.{IsLed, IsBrought, AreNoted, AreLaid, HavePlaces, IsStart, IsGathering, StartsAt, GathersUpTo}
 use Rattle.triple_arena_chain.proofs.GatherLemmas.{some_moved, next_moved, prev_moved, next_past, placed_live, in_run}
-use Rattle.triple_arena_chain.proofs.GatheredLemmas.{IsPlacing, IsGathered, placing_first, placing_more, placing_done, gathered_more, full_live, within_slots}
+use Rattle.triple_arena_chain.proofs.GatheredLemmas.{IsPlacing, placing_first, placing_more, placing_done, gathered_more, full_live, within_slots}
 use Rattle.triple_arena_chain.proofs.HeadLemmas.{laid_zero}
-use Rattle.triple_arena_chain.proofs.NoteLemmas.{noted_more, noted_over, noted_closed}
+use Rattle.triple_arena_chain.proofs.NoteLemmas.{none_at_zero, noted_more, noted_over, noted_closed}
 use Rattle.triple_arena_chain.proofs.RenamingLemmas.{renamed_by}
-use Rattle.triple_arena_chain.proofs.SwapLemmas.{swap_i, swap_j, swap_other, swap_twice, next-renamed, IsAgreed-renamed}
+use Rattle.triple_arena_chain.proofs.SwapLemmas.{some_under, swap_i, swap_other, swap_twice, next-renamed, IsAgreed-renamed}
 
 -- two live indexes change places
 module _ (e : ℕ → Option Ends) (agreed : IsAgreed e) (i j : ℕ) (live_i : IsSome (e i)) (live_j : IsSome (e j)) where
   abbrev name : ℕ → ℕ
   name = swapped_index i j
 
-  some_under : (o : Option Ends) → is_some (option_map (ends_renamed (swapped_index i j)) o) ≡ is_some o
-  some_under None = refl
-  some_under (Some v) = refl
-
   live_at : (k : ℕ) → is_some (under (swapped_index i j) e k) ≡ is_some (e (swapped_index i j k))
-  live_at k = some_under (e (swapped_index i j k))
+  live_at k = some_under (swapped_index i j) (e (swapped_index i j k))
 
   live_back : (k : ℕ) → IsSome (e (swapped_index i j k)) → IsSome (e k)
   live_back k some =
@@ -130,11 +125,7 @@ module _ {I T : Type 0} (number : I → ℕ) where
     last_live = placed_live g.laid g.placing.moved.agreed first placed g.placing.opened
 
     going_zero : g.laid 0 ≡ None
-    going_zero = by (g.laid 0) (sym (g.noted.live 0))
-      where
-        by : (o : Option Ends) → is_some o ≡ is_some (ends_in number c 0) → o ≡ None
-        by None is = refl
-        by (Some v) is = absurd (true≢false is)
+    going_zero = none_at_zero number g.laid c g.noted.live
 
     next_all : (x : ℕ) → IsSome (ends_in number old x) → next_at g.laid (all x) ≡ option_map g.turn (option_map to (next_at (ends_in number old) x))
     next_all x some =
@@ -204,7 +195,6 @@ module _ {I T : Type 0} (number : I → ℕ) where
         → IsBrought number (Some placed) (g.turn (to name)) (placed + 1) c c' → IsGoing first (placed + 1) round to old before c'
     going_more name c' is away b =
         let s = going_step name is away in
-        let j : ℕ = g.turn (to name) in
         let rearranged =
         rearranged_swap g.laid g.placing.moved.agreed (g.turn (to name)) (placed + 1) (sym (g.noted.live (g.turn (to name))) ∙ s.live)
         (sym (g.noted.live (placed + 1)) ∙ s.place) in
@@ -302,9 +292,6 @@ module _ {I T : Type 0} (number : I → ℕ) where
 
   module _ (first placed : ℕ) (round : Option ℕ) (start c : Content (IndexLink I T)) (has : IsGathering number first start)
       (w : IsOnWay first placed round start c) where
-    abbrev a : AreLaid number first has.old has.have.laid start
-    a = has.have.are
-
     going : IsGoing number first placed round has.have.are.to has.old has.have.laid c
     going = w has.old has.have.laid has.have.are
 

@@ -1,24 +1,21 @@
 -- The walk back to the first link of a chain whose links are not placed yet, by the indexes that they had.
-use Rattle.std.proofs.Common.{◌≡◌, ◌≢◌, ℕ, ◌+◌, ◌<◌, ◌≤◌, Option, Some, None, IsSome, is_some, option_map, true≢false, refl, sym, ap, subst, ◌∙◌, arith, inl, inr}
+use Rattle.std.proofs.Common.{◌≡◌, ◌≢◌, ℕ, ◌+◌, ◌<◌, Option, Some, None, IsSome, option_map, sym, ap, subst, ◌∙◌, arith, inl, inr}
 use Rattle.std.proofs.lemmas.Bool.Decides.{leb_tells}
 use Rattle.triple_arena.specs.Content.{Content}
 use Rattle.triple_arena_chain.specs.LinkShape.{IndexLink}
 use Rattle.triple_arena_chain.specs.Chains.{Ends, prev_in, next_at, prev_at}
-use Rattle.triple_arena_chain.specs.ListLaws.{live_next_in, live_prev_in}
+use Rattle.triple_arena_chain.specs.ListLaws.{live_next_in}
 use Rattle.triple_arena_chain.specs.Links.{ends_in}
 use Rattle.triple_arena_chain.specs.CanonicalLayout.{IsHead}
 use Rattle.triple_arena_chain.specs.Notes.{IsLed, AreLaid, IsStart}
 use Rattle.triple_arena_chain.proofs.ChainStartLemmas.{IsBack, back_live, back_more, back_none, back_past, ring_head}
 use Rattle.triple_arena_chain.proofs.GatherLemmas.{prev_moved}
+use Rattle.triple_arena_chain.proofs.NoteLemmas.{none_at_zero}
 
 module _ {I T : Type 0} (number : I → ℕ) (placed : ℕ) (old : Content (IndexLink I T)) (laid : ℕ → Option Ends) (now : Content (IndexLink I T))
     (a : AreLaid number placed old laid now) where
   pub laid_zero : laid 0 ≡ None
-  laid_zero = by (laid 0) (sym (a.noted.live 0))
-    where
-      by : (o : Option Ends) → is_some o ≡ is_some (ends_in number now 0) → o ≡ None
-      by None is = refl
-      by (Some v) is = absurd (true≢false is)
+  laid_zero = none_at_zero number laid now a.noted.live
 
   -- the previous link of one that is not placed
   pub record IsBefore (at raw : ℕ) : Type 0 where

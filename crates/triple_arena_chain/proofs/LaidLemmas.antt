@@ -1,19 +1,18 @@
 -- Chains that are brought to successive indexes, from before the first one to after the last one.
-use Rattle.std.proofs.Common.{◌≡◌, ◌≢◌, ℕ, zero, suc, ◌+◌, ◌<◌, ◌≤◌, [], length, Option, Some, None, IsSome, is_some, option_map, true≢false, refl, sym, ap, subst, ◌∙◌, arith, inl, inr, ◌⊎◌}
+use Rattle.std.proofs.Common.{◌≡◌, ℕ, zero, suc, ◌+◌, ◌<◌, ◌≤◌, [], length, Option, Some, None, IsSome, is_some, true≢false, refl, sym, ap, subst, ◌∙◌, arith, inl, inr, ◌⊎◌}
 use Rattle.std.proofs.lemmas.Bool.Decides.{eqb_tells, leb_tells}
 use Rattle.triple_arena.specs.Content.{Content, IsWellFormed}
 use Rattle.triple_arena_chain.specs.LinkShape.{IndexLink}
-use Rattle.triple_arena_chain.specs.Chains.{Ends, next_in, prev_in, next_at, prev_at, IsAgreed}
+use Rattle.triple_arena_chain.specs.Chains.{Ends, next_in, next_at, prev_at, IsAgreed}
 use Rattle.triple_arena_chain.specs.CanonicalLayoutLaws.{laid_same}
 use Rattle.triple_arena_chain.specs.LinkLaws.{kept_on}
-use Rattle.triple_arena_chain.specs.ListLaws.{chain_where, live_next_in, live_prev_in}
+use Rattle.triple_arena_chain.specs.ListLaws.{chain_where, live_prev_in}
 use Rattle.triple_arena_chain.specs.Links.{values_in, ends_in, IsKept, IsChained}
-use Rattle.triple_arena_chain.specs.Renaming.{renamed, FollowsRenaming}
+use Rattle.triple_arena_chain.specs.Renaming.{renamed}
 use Rattle.triple_arena_chain.specs.CanonicalLayout.{IsLaidOut, IsAlike, IsAllGathered}
-use Rattle.triple_arena_chain.specs.Notes.{AreLaid, HavePlaces, IsGathering, IsRejoinable}
-use Rattle.triple_arena_chain.proofs.GatherLemmas.{some_moved}
+use Rattle.triple_arena_chain.specs.Notes.{AreLaid, HavePlaces, IsRejoinable}
 use Rattle.triple_arena_chain.proofs.GatheredLemmas.{gathered_none, gathered_all, full_live, within_slots}
-use Rattle.triple_arena_chain.proofs.NoteLemmas.{noted_none}
+use Rattle.triple_arena_chain.proofs.NoteLemmas.{none_at_zero, noted_none}
 use Rattle.triple_arena_chain.proofs.PassLemmas.{live_as, live_ends}
 use Rattle.triple_arena_chain.proofs.RunLemmas.{Leads, further, around, laid_next}
 use Rattle.triple_arena_chain.proofs.SwapLemmas.{ends_by_parts}
@@ -66,16 +65,12 @@ module _ {I T : Type 0} (number : I → ℕ) where
           | inl within ↦
               elim (eqb_tells k 0) [
                 | inl none ↦
-                    ap (next_at (ends_in number now)) none.1 ∙ nothing (laid 0) (sym (a.noted.live 0)) ∙ ap (next_at laid) (sym none.1)
+                    ap (next_at (ends_in number now)) none.1 ∙ sym (ap next_in (none_at_zero number laid now a.noted.live)) ∙ ap (next_at laid) (sym none.1)
                 | inr some ↦ a.noted.done k within.1 some.1
               ]
           | inr past ↦ beyond k past.1 (ends_in number now k) (laid k) refl refl
         ]
       where
-        nothing : (o : Option Ends) → is_some o ≡ is_some (ends_in number now 0) → None ≡ next_in o
-        nothing None is = refl
-        nothing (Some v) is = absurd (true≢false is)
-
         beyond : (k : ℕ) → n < k → (o r : Option Ends) → ends_in number now k ≡ o → laid k ≡ r → next_in o ≡ next_in r
         beyond k past (Some v) r is is' = absurd (let within = bound k (ap is_some is) in omega (arith, within, past))
         beyond k past None None is is' = refl

@@ -5,16 +5,16 @@ use Rattle.std.proofs.lemmas.Bool.Decides.{eqb_tells, leb_tells}
 use Rattle.triple_arena.specs.Content.{Content, entry_at, IsWellFormed}
 use Rattle.triple_arena_chain.specs.LinkLaws.{kept_on}
 use Rattle.triple_arena_chain.specs.LinkShape.{IndexLink}
-use Rattle.triple_arena_chain.specs.Chains.{Ends, next_in, prev_in, next_at, prev_at, renext, reprev, with_next, with_prev, with_next_if}
-use Rattle.triple_arena_chain.specs.Links.{values_in, ends_in, IsKept, IsChained}
+use Rattle.triple_arena_chain.specs.Chains.{Ends, next_in, prev_in, next_at, prev_at, renext, reprev, with_next, with_next_if}
+use Rattle.triple_arena_chain.specs.Links.{values_in, ends_in, IsKept}
 use Rattle.triple_arena_chain.specs.ListLaws.{live_next_in, live_prev_in}
 use Rattle.triple_arena_chain.specs.Renaming.{ends_renamed}
 use Rattle.triple_arena_chain.specs.CanonicalLayout.{swapped_index, under}
 use Rattle.triple_arena_chain.specs.Notes.{LeadsTo, IsLed, IsBrought, AreNoted}
-use Rattle.triple_arena_chain.proofs.AgreedLemmas.{next_reprev, prev_renext}
+use Rattle.triple_arena_chain.proofs.AgreedLemmas.{next_reprev}
 use Rattle.triple_arena_chain.proofs.PassLemmas.{live_as, live_ends, some_valued}
-use Rattle.triple_arena_chain.proofs.PlaceLemmas.{next-with_prev_if, prev-with_next_if}
-use Rattle.triple_arena_chain.proofs.SwapLemmas.{swap_i, swap_j, swap_other, swap_twice, next-renamed}
+use Rattle.triple_arena_chain.proofs.PlaceLemmas.{prev-with_next_if}
+use Rattle.triple_arena_chain.proofs.SwapLemmas.{some_under, swap_i, swap_j, swap_other, swap_twice, next-renamed}
 
 module _ (e : ℕ → Option Ends) (placed : ℕ) where
   -- past the placed ones no note is followed
@@ -123,6 +123,15 @@ prev_of_reprev None n some = absurd (true≢false (sym some))
 prev_of_reprev (Some v) n some = refl
 
 module _ {I T : Type 0} (number : I → ℕ) where
+  -- no link is at index 0
+  pub none_at_zero : (laid : ℕ → Option Ends) (now : Content (IndexLink I T)) → ((k : ℕ) → is_some (ends_in number now k) ≡ is_some (laid k))
+      → laid 0 ≡ None
+  none_at_zero laid now live = by (laid 0) (live 0)
+    where
+      by : (o : Option Ends) → is_some (ends_in number now 0) ≡ is_some o → o ≡ None
+      by None is = refl
+      by (Some v) is = absurd (true≢false (sym is))
+
   -- before any link is placed
   pub noted_none : (c : Content (IndexLink I T)) → IsWellFormed c → AreNoted number 0 0 (λ i. i) c (ends_in number c) c
   noted_none c formed =
@@ -211,10 +220,6 @@ module _ {I T : Type 0} (number : I → ℕ) where
         ∙ ap (next_at f) (fixed last low) ∙ ap next_in written ∙ next_of_renext (ends_in number c last) (Some (m + 1)) there
         ∙ sym (next_laid last low ∙ ap (option_map s) (goes is) ∙ ap Some (swap_i a (m + 1)))
 
-    some_under : (o : Option Ends) → is_some (option_map (ends_renamed (swapped_index a (m + 1))) o) ≡ is_some o
-    some_under None = refl
-    some_under (Some v) = refl
-
     live_at : (k : ℕ) → is_some (ends_in number c' k) ≡ is_some (ends_in number c (s k))
     live_at k =
         live_ends number c' k ∙ sym (some_valued (entry_at c' k)) ∙ ap is_some (b.values k) ∙ some_valued (entry_at c (s k)) ∙ sym (live_ends number c (s k))
@@ -222,7 +227,7 @@ module _ {I T : Type 0} (number : I → ℕ) where
     pub noted_more : AreNoted number (m + 1) (m + 1) (λ i. swapped_index a (m + 1) (to i)) old (under (swapped_index a (m + 1)) laid) c'
     noted_more =
         record {
-          live = λ k. live_at k ∙ n.live (s k) ∙ sym (some_under (laid (s k)));
+          live = λ k. live_at k ∙ n.live (s k) ∙ sym (some_under (swapped_index a (m + 1)) (laid (s k)));
           values = λ x some. b.values (s (to x)) ∙ ap (values_in c) (swap_twice a (m + 1) (to x)) ∙ n.values x some;
           kept = kept_on old c c' n.kept b.kept;
           formed = b.formed;

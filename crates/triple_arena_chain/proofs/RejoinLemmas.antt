@@ -5,7 +5,7 @@ use Rattle.triple_arena.specs.Content.{Content, entry_at, IsWellFormed}
 use Rattle.triple_arena_chain.specs.LinkLaws.{kept_on}
 use Rattle.triple_arena_chain.specs.LinkShape.{IndexLink}
 use Rattle.triple_arena_chain.specs.Chains.{Ends, next_in, prev_in, next_at, prev_at, with_prev_if, IsAgreed}
-use Rattle.triple_arena_chain.specs.ListLaws.{live_next_in}
+use Rattle.triple_arena_chain.specs.ListLaws.{live_next_in, live_prev_in}
 use Rattle.triple_arena_chain.specs.Links.{values_in, ends_in, with_prev_of, IsKept, IsRelinked}
 use Rattle.triple_arena_chain.specs.Notes.{IsRejoinable, up_to, before_past}
 use Rattle.triple_arena_chain.proofs.ConnectionLemmas.{both_written, both_formed}
@@ -238,10 +238,6 @@ module _ {I T : Type 0} (number : I → ℕ) where
             r.forward p q (can.within p (live_next_in (ends_in number old p) q own)) (can.within q (can.named p q own)) own;
         backward = λ p q comes.
             let live : IsSome (ends_in number old q) =
-            sym (live_ends number now q ∙ live_as old now r.values q ∙ sym (live_ends number old q)) ∙ live_prev (ends_in number now q) p comes in
+            sym (live_ends number now q ∙ live_as old now r.values q ∙ sym (live_ends number old q)) ∙ live_prev_in (ends_in number now q) p comes in
             r.nexts p ∙ r.backward p q (can.within q live) comes;
       }
-    where
-      live_prev : (o : Option Ends) (p : ℕ) → prev_in o ≡ Some p → IsSome o
-      live_prev None p is = absurd (let no : None ≡ Some p = is in cc)
-      live_prev (Some v) p is = refl

@@ -1,5 +1,5 @@
 -- A compression of links where no index is free: each link stays where it is.
-use Rattle.std.proofs.Common.{◌≡◌, ℕ, zero, suc, ◌+◌, ◌<◌, ◌≤◌, Bool, true, not, true≢false, List, [], ◌∷◌, length, map, Option, Some, None, is_some, IsSome, option_map, refl, sym, ap, ◌∙◌, arith}
+use Rattle.std.proofs.Common.{◌≡◌, ℕ, zero, suc, ◌+◌, Bool, true, not, true≢false, List, [], ◌∷◌, map, Option, Some, None, is_some, IsSome, option_map, refl, sym, ap, ◌∙◌, arith}
 use Rattle.std.specs.Prelude.{slice_get}
 use Rattle.std.specs.List.{AllZip}
 use Rattle.triple_arena.specs.Changes.{IsCompressed}
@@ -7,7 +7,7 @@ use Rattle.triple_arena.specs.Compression.{renewed, value_of, entry_of_listed, c
 use Rattle.triple_arena.specs.Content.{Content, entry_at, live_count, some_counter, IsWellFormed}
 use Rattle.triple_arena.specs.LiveEntries.{live_entries}
 use Rattle.triple_arena_chain.specs.LinkShape.{IndexLink}
-use Rattle.triple_arena_chain.specs.Chains.{Ends, next_in, prev_in, next_at, prev_at, IsAgreed}
+use Rattle.triple_arena_chain.specs.Chains.{Ends, next_in, next_at}
 use Rattle.triple_arena_chain.specs.ChainLaws.{IsAgreed-same}
 use Rattle.triple_arena_chain.specs.ListLaws.{live_prev_in}
 use Rattle.triple_arena_chain.specs.Links.{entry_ends, ends_in, IsChained}

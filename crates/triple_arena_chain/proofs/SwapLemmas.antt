@@ -2,16 +2,20 @@
 use Rattle.std.proofs.Common.{◌≡◌, ◌≢◌, ℕ, Option, Some, None, is_some, option_map, refl, sym, ap, ◌∙◌, inl, inr}
 use Rattle.std.proofs.lemmas.Bool.{eq-eqb, ne_eqb}
 use Rattle.std.proofs.lemmas.Bool.Decides.{eqb_tells}
-use Rattle.triple_arena_chain.specs.Chains.{Ends, renext, reprev, with_next_if, with_prev_if, IsAgreed, next_at, prev_at, next_in, prev_in}
+use Rattle.triple_arena_chain.specs.Chains.{Ends, IsAgreed, next_at, prev_at, next_in, prev_in}
 use Rattle.triple_arena_chain.specs.Renaming.{ends_renamed}
 use Rattle.triple_arena_chain.specs.CanonicalLayout.{swapped_index, under}
-use Rattle.triple_arena_chain.proofs.PlaceLemmas.{is_it, next-with_prev_if, prev-with_next_if, next-hit, next-miss, prev-hit, prev-miss, valid-with_next_if}
 
 pub ends_by_parts : (o r : Option Ends) → is_some o ≡ is_some r → next_in o ≡ next_in r → prev_in o ≡ prev_in r → o ≡ r
 ends_by_parts None None v n p = refl
 ends_by_parts None (Some w) v n p = absurd (cc)
 ends_by_parts (Some u) None v n p = absurd (cc)
 ends_by_parts (Some u) (Some w) v n p = ap (λ a. let x : Ends = (a, u.1) in Some x) p ∙ ap (λ b. let x : Ends = (w.0, b) in Some x) n
+
+-- what is live stays so under other names
+pub some_under : (name : ℕ → ℕ) (o : Option Ends) → is_some (option_map (ends_renamed name) o) ≡ is_some o
+some_under name None = refl
+some_under name (Some v) = refl
 
 module _ (name : ℕ → ℕ) (twice : (k : ℕ) → name (name k) ≡ k) (e : ℕ → Option Ends) where
   pub next-renamed : (k : ℕ) → next_at (under name e) k ≡ option_map name (next_at e (name k))

@@ -1,18 +1,13 @@
 -- Two links that change places, and a link that is read.
-use Rattle.std.proofs.Common.{◌≡◌, ℕ, Option, Some, None, IsSome, IfSome, is_some, true≢false, option_map, refl, sym, ap, subst, ◌∙◌, inl, inr}
+use Rattle.std.proofs.Common.{◌≡◌, ℕ, Option, Some, None, IsSome, true≢false, option_map, refl, sym, ap, subst, ◌∙◌, inl, inr}
 use Rattle.std.proofs.lemmas.Bool.Decides.{eqb_tells}
 use Rattle.triple_arena.specs.Entries.{with_values_exchanged, revalued}
-use Rattle.triple_arena.specs.Content.{Content, entry_at, with_exchange, IsWellFormed}
-use Rattle.triple_arena.specs.ExchangeLaws.{live-with_exchange, slots-with_exchange, counter-with_exchange, free-with_exchange, room-with_exchange, formed-with_exchange}
+use Rattle.triple_arena.specs.Content.{Content, entry_at, with_exchange}
+use Rattle.triple_arena.specs.ExchangeLaws.{live-with_exchange, slots-with_exchange, counter-with_exchange, free-with_exchange, room-with_exchange}
 use Rattle.triple_arena_chain.specs.LinkShape.{IndexLink}
-use Rattle.triple_arena_chain.specs.Chains.{Ends, next_at, prev_at, next_in, prev_in}
-use Rattle.triple_arena_chain.specs.ListLaws.{live_next_in, live_prev_in}
-use Rattle.triple_arena_chain.specs.ChainLaws.{IsAgreed-same}
-use Rattle.triple_arena_chain.specs.Links.{valued, values_in, IsKept, IsChained, IsRelinked, link_ends, entry_ends, ends_in, with_next_of, with_prev_of}
-use Rattle.triple_arena_chain.specs.LinkLaws.{kept_on}
-use Rattle.triple_arena_chain.specs.Renaming.{ends_renamed}
-use Rattle.triple_arena_chain.specs.CanonicalLayout.{swapped_index, under, IsAlike, IsMoved}
-use Rattle.triple_arena_chain.proofs.PassLemmas.{live_ends}
+use Rattle.triple_arena_chain.specs.Chains.{next_at, prev_at, next_in, prev_in}
+use Rattle.triple_arena_chain.specs.Links.{valued, values_in, IsKept, link_ends, entry_ends, ends_in}
+use Rattle.triple_arena_chain.specs.CanonicalLayout.{swapped_index, IsAlike}
 
 module _ {I T : Type 0} (number : I → ℕ) where
   revalued-ends : (o o' : Option (ℕ × IndexLink I T)) → IsSome o → option_map (entry_ends number) (revalued o o') ≡ option_map (entry_ends number) o'

@@ -1,5 +1,5 @@
 -- The canonical layout: each chain is one run of successive indexes.
-use Rattle.std.specs.Prelude.{◌≡◌, ℕ, ◌+◌, ◌-◌, ◌<◌, ◌≤◌, ◌==◌, ◌⊎◌, Bool, List, [], ◌∷◌, Option, Some, None, IsSome, length, if◌then◌else◌}
+use Rattle.std.specs.Prelude.{◌≡◌, ℕ, ◌≤◌, ◌==◌, ◌⊎◌, Bool, List, [], ◌∷◌, Option, Some, None, IsSome, length, if◌then◌else◌}
 use Rattle.std.specs.List.{range_with_len}
 use Rattle.std.specs.Option.{option_map}
 use Rattle.triple_arena.specs.Compression.{renewed}
@@ -7,7 +7,7 @@ use Rattle.triple_arena.specs.Content.{Content, live_count}
 use Rattle.triple_arena_chain.specs.LinkShape.{IndexLink}
 use Rattle.triple_arena_chain.specs.Chains.{Ends, next_at, prev_at, IsAgreed, IsRing}
 use Rattle.triple_arena_chain.specs.Links.{ends_in, values_in, IsKept, IsChained}
-use Rattle.triple_arena_chain.specs.Lists.{Chain, members, all_members, AreAllChainsOf, AreChains}
+use Rattle.triple_arena_chain.specs.Lists.{Chain, all_members, AreAllChainsOf, AreChains}
 use Rattle.triple_arena_chain.specs.Renaming.{ends_renamed, FollowsRenaming}
 
 -- the chains, one after another, are the indexes from 1 to n

@@ -1,4 +1,4 @@
-use Rattle.std.proofs.Common.{Some, sym, ◌∙◌}
+use Rattle.std.proofs.Common.{Some}
 use Rattle.triple_arena_chain.proofs.BroughtLemmas.{next_keeps, place_stays, brought}
 use Rattle.triple_arena_chain.proofs.chain_arena.canonical_layout.bring.Goals as goal
 

@@ -1,4 +1,4 @@
-use Rattle.std.proofs.Common.{true≢false, rules, ◌≡◌, ◌≢◌, ◌^◌, ◌+◌, ◌<◌, IsSome, Some, None, length, option_map, sym, ap, subst, ◌∙◌, arith}
+use Rattle.std.proofs.Common.{true≢false, rules, ◌≡◌, ◌≢◌, ◌^◌, ◌<◌, IsSome, Some, None, length, option_map, sym, ap, subst, ◌∙◌, arith}
 use Rattle.triple_arena.specs.Content.{entry_at}
 use Rattle.triple_arena_chain.specs.Chains.{next_at}
 use Rattle.triple_arena_chain.specs.Links.{ends_in}

@@ -1,5 +1,5 @@
-use Rattle.std.proofs.Common.{◌≡◌, length, ap, sym, subst, ◌∙◌, arith}
-use Rattle.triple_arena_chain.specs.Notes.{HavePlaces, IsRejoinable}
+use Rattle.std.proofs.Common.{◌≡◌, length, ap, subst, arith}
+use Rattle.triple_arena_chain.specs.Notes.{IsRejoinable}
 use Rattle.triple_arena_chain.specs.Links.{ends_in}
 use Rattle.triple_arena_chain.proofs.LaidLemmas.{places_none, rejoinable, all_gathered}
 use Rattle.triple_arena_chain.proofs.chain_arena.canonical_layout.gather_chains.Goals as goal
