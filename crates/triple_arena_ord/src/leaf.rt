@@ -90,33 +90,30 @@ fn gap_beside<P: PtrCore, T: Drop, S: OrdSlots<P, T>>(
     neighbors_beside(chains, holder, side)
 }
 
-// What an end of the list is after one more index stands beside another.
-pub(crate) fn moved<I: PtrInxCore>(
-    side: Side,
-    end: Side,
-    link: Option<I>,
-    from: I,
-    to: I,
-) -> Option<I>
-    ensures { option_map I.number result ≡ moved side end (option_map I.number link) (I.number from) (I.number to) }
+// An end of the list moves if one more index stands beside another.
+pub(crate) fn move_end<I: PtrInxCore>(link: &mut Option<I>, side: Side, end: Side, from: I, to: I)
+    ensures { option_map I.number link.new
+        ≡ moved side end (option_map I.number link.old) (I.number from) (I.number to) }
 {
     match side {
         Side::Left => match end {
-            Side::Left => replaced(link, from, to),
-            Side::Right => link,
+            Side::Left => replace(link, from, to),
+            Side::Right => {}
         },
         Side::Right => match end {
-            Side::Left => link,
-            Side::Right => replaced(link, from, to),
+            Side::Left => {}
+            Side::Right => replace(link, from, to),
         },
     }
 }
 
-fn replaced<I: PtrInxCore>(link: Option<I>, from: I, to: I) -> Option<I>
-    ensures { option_map I.number result ≡ replaced (option_map I.number link) (I.number from) (I.number to) }
+fn replace<I: PtrInxCore>(link: &mut Option<I>, from: I, to: I)
+    ensures { option_map I.number link.new
+        ≡ replaced (option_map I.number link.old) (I.number from) (I.number to) }
 {
-    match link {
-        Some(i) => { if i == from { Some(to) } else { Some(i) } }
-        None => None,
+    if let Some(i) = *link {
+        if i == from {
+            *link = Some(to);
+        }
     }
 }

@@ -43,7 +43,7 @@ mod settle;
 mod text;
 pub(crate) mod walk;
 
-use crate::leaf::{insert_leaf, moved};
+use crate::leaf::{insert_leaf, move_end};
 use crate::{IndexNode, OrdSlots, SimpleOrdArenaNode};
 use rank_tree::Side;
 use std::marker::Model;
@@ -150,8 +150,8 @@ impl<P: PtrCore, T: Drop, S: OrdSlots<P, T>> SimpleOrdArena<P, T, S> {
     {
         let p = insert_leaf(&mut self.chains, &mut self.root, holder, side, t);
         let inx = p.inx();
-        self.first = moved(side, Side::Left, self.first, holder, inx);
-        self.last = moved(side, Side::Right, self.last, holder, inx);
+        move_end(&mut self.first, side, Side::Left, holder, inx);
+        move_end(&mut self.last, side, Side::Right, holder, inx);
         p
     }
 

@@ -31,13 +31,15 @@ pub(crate) fn neighbors<P: PtrCore, T: Drop, S: OrdSlots<P, T>>(
     }
 }
 
-// What an end of the list is without an index, which had this neighbor.
-fn ended<I: PtrInxCore>(end: Option<I>, gone: I, neighbor: Option<I>) -> Option<I>
-    ensures { option_map I.number result ≡ ended (option_map I.number end) (I.number gone) (option_map I.number neighbor) }
+// An end of the list leaves an index, which had this neighbor.
+fn end_at<I: PtrInxCore>(end: &mut Option<I>, gone: I, neighbor: Option<I>)
+    ensures { option_map I.number end.new
+        ≡ ended (option_map I.number end.old) (I.number gone) (option_map I.number neighbor) }
 {
-    match end {
-        Some(i) => { if i == gone { neighbor } else { Some(i) } }
-        None => None,
+    if let Some(i) = *end {
+        if i == gone {
+            *end = neighbor;
+        }
     }
 }
 
@@ -74,8 +76,8 @@ impl<P: PtrCore, T: Drop, S: OrdSlots<P, T>> SimpleOrdArena<P, T, S> {
     {
         let (prev, next) = neighbors(&self.chains, gone);
         let taken = take_entry(&mut self.chains, &mut self.root, gone, next);
-        self.first = ended(self.first, gone, next);
-        self.last = ended(self.last, gone, prev);
+        end_at(&mut self.first, gone, next);
+        end_at(&mut self.last, gone, prev);
         item_of::<P, T>(taken)
     }
 }

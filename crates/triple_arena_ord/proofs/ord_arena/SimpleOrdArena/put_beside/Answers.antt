@@ -12,6 +12,6 @@ invariant_of-self g c =
     let s : StandsBeside c.args.side (order_in number o) (order_in number p) (number c.args.holder) (number c.inx-inx.result) =
     subst (λ z. StandsBeside c.args.side (order_in number o) (order_in number p) (number c.args.holder) z) (sym c.inx-inx.ensures) c.insert_leaf-p.ensures.order in (
       c.insert_leaf-p.ensures.ordered,
-      c.moved-self-inside.ensures ∙ first_moved number o p c.self.invariant.0 c.args.side (number c.args.holder) (number c.inx-inx.result) s _ c.self.invariant.1,
-      c.moved-self-inside-2.ensures ∙ last_moved number o p c.self.invariant.0 c.args.side (number c.args.holder) (number c.inx-inx.result) s _ c.self.invariant.2,
+      c.move_end.ensures ∙ first_moved number o p c.self.invariant.0 c.args.side (number c.args.holder) (number c.inx-inx.result) s _ c.self.invariant.1,
+      c.move_end-2.ensures ∙ last_moved number o p c.self.invariant.0 c.args.side (number c.args.holder) (number c.inx-inx.result) s _ c.self.invariant.2,
     )
