@@ -7,8 +7,8 @@ use triple_arena_ptr::Probes;
 
 /// Searches by halves a list of `len` numbers that rise, the one at `i` given by `number_at(i)`.
 ///
-/// Returns `Ok` with the place of the wanted number, else `Err` with the place where it would stand. Each comparison
-/// is a tick.
+/// Returns `Ok` with the place of the wanted number, else `Err` with the place where it would
+/// stand. Each comparison is a tick.
 pub fn search<F: Fn(usize) -> u64 + Drop>(
     len: usize,
     wanted: u64,
@@ -18,7 +18,8 @@ pub fn search<F: Fn(usize) -> u64 + Drop>(
     requires { (i : ℕ) → i < len → F.pre number_at i }
     ensures found { IfOk result (λ i. (i < len) × F.post number_at i wanted) }
     ensures within { IfErr result (λ i. i ≤ len) }
-    ensures before { IfErr result (λ i. 0 < i → (n : ℕ) × (n < wanted) × F.post number_at (i - 1) n) }
+    ensures before { IfErr result (λ i. 0 < i → (n : ℕ) × (n < wanted)
+        × F.post number_at (i - 1) n) }
     ensures behind { IfErr result (λ i. i < len → (n : ℕ) × (wanted < n) × F.post number_at i n) }
     ensures bound { probes.new ≤ probes.old + most_comparisons len }
     ensures rises { probes.old ≤ probes.new }

@@ -5,7 +5,8 @@ use Rattle.std.proofs.lemmas.Bool.{cases_eq, cases_lt}
 use Rattle.std.proofs.Math.Nat.{mul-le-mul, mul-le-mul_left, pow-suc, pow-le-pow_right}
 use Rattle.rank_tree.specs.Tree.{Tree, leaf, node, Fits, IsRanked, rank_of, size, height}
 
--- a ranked tree of rank k and more has at least this many nodes, and one: 1, 2, 3, then twice what two ranks less have
+-- a ranked tree of rank k and more has at least this many nodes, and one: 1, 2, 3, then twice what
+-- two ranks less have
 abbrev least : ℕ → ℕ
 least zero = 1
 least (suc zero) = 2
@@ -35,7 +36,8 @@ least-child a s k h p q = let g = least-near (suc k) a (omega arith) (omega arit
 least-one : (a s : ℕ) → least a ≤ s + 1 → 1 ≤ a → a ≤ 1 → 1 ≤ s
 least-one a s h p q = let e : 1 ≡ a = omega arith in let g = rw (← e) at h in omega arith
 
-least-node : (a b k s t : ℕ) → Fits a k b → least a ≤ s + 1 → least b ≤ t + 1 → least k ≤ s + t + 1 + 1
+least-node : (a b k s t : ℕ) → Fits a k b → least a ≤ s + 1 → least b ≤ t + 1
+    → least k ≤ s + t + 1 + 1
 least-node a b zero s t f p q = omega arith
 least-node a b (suc zero) s t f p q = omega arith
 least-node a b (suc (suc zero)) s t f p q = elim (cases_lt 0 a) [
@@ -49,7 +51,8 @@ least-node a b (suc (suc (suc k))) s t f p q =
 
 least-size : (t : Tree) → IsRanked t → least (rank_of t) ≤ size t + 1
 least-size leaf w = omega arith
-least-size (node l i k r) w = least-node (rank_of l) (rank_of r) k (size l) (size r) w.0 (least-size l w.1) (least-size r w.2)
+least-size (node l i k r) w = least-node (rank_of l) (rank_of r) k (size l) (size r) w.0
+    (least-size l w.1) (least-size r w.2)
 
 square-double : (x : ℕ) → (2 * x) * (2 * x) ≡ 4 * (x * x)
 square-double x = grind arith
@@ -63,7 +66,8 @@ least-square (suc (suc (suc k))) h =
     let e : 2 ^ (suc (suc (suc k)) + 1) ≡ 4 * 2 ^ (suc k + 1) = pow-four k in
     rw (e, square-double (least (suc k))) (mul-le-mul_left 4 g)
 
-pub size_bound : (t : Tree) → IsRanked t → 0 < size t → 2 ^ (rank_of t + 1) ≤ (size t + 1) * (size t + 1)
+pub size_bound : (t : Tree) → IsRanked t → 0 < size t
+    → 2 ^ (rank_of t + 1) ≤ (size t + 1) * (size t + 1)
 size_bound leaf w h = absurd (omega arith)
 size_bound (node l i k r) w h =
     let f = w.0 in
@@ -86,6 +90,7 @@ small_rank (node l i k r) w h =
     let g : size t + 1 ≤ 2 ^ 64 = omega arith in
     let p : (size t + 1) * (size t + 1) ≤ 2 ^ 64 * 2 ^ 64 = mul-le-mul g g in
     elim (cases_lt 127 k) [
-      | inl q ↦ let m : 2 ^ 129 ≤ 2 ^ (k + 1) = pow-le-pow_right {n = 2} (lit< tt) {i = 129} {j = k + 1} (omega arith) in absurd (omega arith)
+      | inl q ↦ let m : 2 ^ 129 ≤ 2 ^ (k + 1) =
+          pow-le-pow_right {n = 2} (lit< tt) {i = 129} {j = k + 1} (omega arith) in absurd (omega arith)
       | inr q ↦ q
     ]

@@ -9,7 +9,14 @@ use Rattle.rank_tree.specs.ClimbLaws.{size-walk}
 use Rattle.rank_tree.specs.FrameLaws.{Represents-keep, Represents-reparent, reparent-elsewhere, write-elsewhere}
 
 pub built_none : (k : ℕ) (n : Store) → IsBuilt k [] None n n
-built_none k n = record { tree = leaf; is_walk = refl; halves = tt; root_is = refl; represents = tt; elsewhere = λ j none. refl }
+built_none k n = record {
+  tree = leaf;
+  is_walk = refl;
+  halves = tt;
+  root_is = refl;
+  represents = tt;
+  elsewhere = λ j none. refl;
+}
 
 -- no index of the left part is in the right one, and the root is in neither
 left_apart : (l r : Tree) (i k : ℕ) → IsDistinct (node l i k r) → IsDistinct l
@@ -18,9 +25,11 @@ left_apart l r i k d = record { once = λ j. let h = d.once j in omega (arith, h
 right_apart : (l r : Tree) (i k : ℕ) → IsDistinct (node l i k r) → IsDistinct r
 right_apart l r i k d = record { once = λ j. let h = d.once j in omega (arith, h) }
 
-module _ (k m i : ℕ) (v w : List ℕ) (left right : Option ℕ) (n0 n1 n2 n3 n4 n5 : Store) (a : IsBuilt (k - 1) v left n0 n1) (b : IsBuilt (k - 1) w right n1 n2)
+module _ (k m i : ℕ) (v w : List ℕ) (left right : Option ℕ) (n0 n1 n2 n3 n4 n5 : Store)
+    (a : IsBuilt (k - 1) v left n0 n1) (b : IsBuilt (k - 1) w right n1 n2)
     (up_left : Reparented n2 n3 left (Some i)) (up_right : Reparented n3 n4 right (Some i))
-    (top : Written n4 n5 i (record { parent = None; left = left; right = right; rank = part_rank k m }))
+    (top : Written n4 n5 i
+    (record { parent = None; left = left; right = right; rank = part_rank k m }))
     (half : length v ≡ m / 2) (whole : length v + length w + 1 ≡ m)
     (distinct : IsDistinct (node a.tree i (part_rank k m) b.tree)) where
   once : (j : ℕ) → count j a.tree + one j i + count j b.tree ≤ 1
@@ -46,25 +55,31 @@ module _ (k m i : ℕ) (v w : List ℕ) (left right : Option ℕ) (n0 n1 n2 n3 n
 
   left_there : Represents n3 (Some i) a.tree
   left_there =
-      Represents-reparent n2 n3 None (Some i) a.tree (left_apart a.tree b.tree i (part_rank k m) distinct) left_link
+      Represents-reparent n2 n3 None (Some i) a.tree
+      (left_apart a.tree b.tree i (part_rank k m) distinct) left_link
       (Represents-keep n1 n2 None a.tree left_stays a.represents)
 
   left_last : Represents n5 (Some i) a.tree
   left_last =
       Represents-keep n3 n5 (Some i) a.tree
-      (λ j on. let h = once j in top_else j (omega (arith, h, on)) ∙ right_else j (omega (arith, h, on))) left_there
+      (λ j on. let h = once j in top_else j (omega (arith, h, on)) ∙ right_else j
+      (omega (arith, h, on))) left_there
 
   right_there : Represents n4 (Some i) b.tree
   right_there =
-      Represents-reparent n3 n4 None (Some i) b.tree (right_apart a.tree b.tree i (part_rank k m) distinct) right_link
-      (Represents-keep n2 n3 None b.tree (λ j on. let h = once j in left_else j (omega (arith, h, on))) b.represents)
+      Represents-reparent n3 n4 None (Some i) b.tree
+      (right_apart a.tree b.tree i (part_rank k m) distinct) right_link
+      (Represents-keep n2 n3 None b.tree
+      (λ j on. let h = once j in left_else j (omega (arith, h, on))) b.represents)
 
   right_last : Represents n5 (Some i) b.tree
-  right_last = Represents-keep n4 n5 (Some i) b.tree (λ j on. let h = once j in top_else j (omega (arith, h, on))) right_there
+  right_last = Represents-keep n4 n5 (Some i) b.tree
+      (λ j on. let h = once j in top_else j (omega (arith, h, on))) right_there
 
   root_last : n5 i ≡ Some (knot Left None (root_of a.tree) (part_rank k m) (root_of b.tree))
   root_last =
-      top.here ∙ ap (λ o. Some (knot Left None o (part_rank k m) right)) a.root_is ∙ ap (λ o. Some (knot Left None (root_of a.tree) (part_rank k m) o)) b.root_is
+      top.here ∙ ap (λ o. Some (knot Left None o (part_rank k m) right)) a.root_is ∙ ap
+      (λ o. Some (knot Left None (root_of a.tree) (part_rank k m) o)) b.root_is
 
   sizes : size a.tree + size b.tree + 1 ≡ m
   sizes =
@@ -85,6 +100,7 @@ module _ (k m i : ℕ) (v w : List ℕ) (left right : Option ℕ) (n0 n1 n2 n3 n
         root_is = refl;
         represents = (root_last, left_last, right_last);
         elsewhere = λ j none.
-            top_else j (omega (arith, none)) ∙ right_else j (omega (arith, none)) ∙ left_else j (omega (arith, none))
+            top_else j (omega (arith, none)) ∙ right_else j (omega (arith, none)) ∙ left_else j
+            (omega (arith, none))
             ∙ b.elsewhere j (omega (arith, none)) ∙ a.elsewhere j (omega (arith, none));
       }

@@ -10,7 +10,8 @@ use Rattle.rank_tree.specs.Repair.{Exchange, KeptOff}
 use Rattle.rank_tree.specs.FrameLaws.{Represents-keep, Hangs-keep, plug-count, plug-opens, plug-closes, Represents-reparent, reparent-elsewhere, relink-elsewhere, Hangs-relink, write-elsewhere, count-walk}
 use Rattle.rank_tree.specs.SpotLaws.{is_some, root-lives, holder-lives}
 
-pub exchanged : (n n1 n2 n3 n4 : Store) (root new_root : Option ℕ) (old new : ℕ) (h : Exchange n root old new)
+pub exchanged : (n n1 n2 n3 n4 : Store) (root new_root : Option ℕ) (old new : ℕ)
+    (h : Exchange n root old new)
     → Written n n1 new (knot Left (holder h.context) (root_of h.left) h.rank (root_of h.right))
     → Reparented n1 n2 (root_of h.left) (Some new) → Reparented n2 n3 (root_of h.right) (Some new)
     → Relinked n3 n4 root new_root (holder h.context) old (Some new)
@@ -20,49 +21,75 @@ exchanged n n1 n2 n3 n4 root new_root old new h w1 w2 w3 w4 =
     let l = h.left in
     let r = h.right in
     let whole = node l old h.rank r in
-    let once : (j : ℕ) → count_round j c + (count j l + one j old + count j r) ≤ 1 = λ j. let o = h.distinct.once j in let p = plug-count c j whole in omega arith in
-    let fresh : count_round new c + (count new l + one new old + count new r) ≡ 0 = let o = h.fresh in let p = plug-count c new whole in omega arith in
+    let once : (j : ℕ) → count_round j c + (count j l + one j old + count j r) ≤ 1 = λ j. let o =
+    h.distinct.once j in let p = plug-count c j whole in omega arith in
+    let fresh : count_round new c + (count new l + one new old + count new r) ≡ 0 = let o =
+    h.fresh in let p = plug-count c new whole in omega arith in
     let early : (j : ℕ) → 0 < count_round j c + (count j l + count j r) → n1 j ≡ n j = λ j z.
-    w1.elsewhere j (λ e. let f = fresh in let y = subst (λ v. 0 < count_round v c + (count v l + count v r)) e z in absurd (omega arith)) in
+    w1.elsewhere j (λ e. let f = fresh in let y =
+    subst (λ v. 0 < count_round v c + (count v l + count v r)) e z in absurd (omega arith)) in
     let e0 = plug-opens n root c whole h.stands in
-    let round_3 = Hangs-keep n n3 root c (Some old) (λ j z. let o = once j in reparent-elsewhere n2 n3 (Some new) r w3 j (omega arith) ∙ reparent-elsewhere n1 n2 (Some new) l w2 j
+    let round_3 = Hangs-keep n n3 root c (Some old)
+    (λ j z. let o = once j in reparent-elsewhere n2 n3 (Some new) r w3 j
+    (omega arith) ∙ reparent-elsewhere n1 n2 (Some new) l w2 j
     (omega arith) ∙ early j (omega arith)) e0.0 in
-    let round_4 = Hangs-relink n3 n4 root new_root c old (Some new) (λ j. let o = once j in omega arith) w4 round_3 in
+    let round_4 = Hangs-relink n3 n4 root new_root c old (Some new)
+    (λ j. let o = once j in omega arith) w4 round_3 in
     let l_1 = Represents-keep n n1 (Some old) l (λ j z. early j (omega arith)) e0.1.1 in
-    let l_2 = Represents-reparent n1 n2 (Some old) (Some new) l (record { once = λ j. let o = once j in omega arith }) w2 l_1 in
-    let l_4 = Represents-keep n2 n4 (Some new) l (λ j z. let o = once j in relink-elsewhere n3 n4 root new_root c old (Some new) w4 j (omega arith) ∙ reparent-elsewhere n2 n3 (Some new) r w3
+    let l_2 = Represents-reparent n1 n2 (Some old) (Some new) l
+    (record { once = λ j. let o = once j in omega arith }) w2 l_1 in
+    let l_4 = Represents-keep n2 n4 (Some new) l
+    (λ j z. let o = once j in relink-elsewhere n3 n4 root new_root c old (Some new) w4 j
+    (omega arith) ∙ reparent-elsewhere n2 n3 (Some new) r w3
     j (omega arith)) l_2 in
-    let r_2 = Represents-keep n n2 (Some old) r (λ j z. let o = once j in reparent-elsewhere n1 n2 (Some new) l w2 j (omega arith) ∙ early j (omega arith)) e0.1.2 in
-    let r_3 = Represents-reparent n2 n3 (Some old) (Some new) r (record { once = λ j. let o = once j in omega arith }) w3 r_2 in
-    let r_4 = Represents-keep n3 n4 (Some new) r (λ j z. let o = once j in relink-elsewhere n3 n4 root new_root c old (Some new) w4 j (omega arith)) r_3 in
-    let at_new = let f = fresh in relink-elsewhere n3 n4 root new_root c old (Some new) w4 new (omega arith) ∙ reparent-elsewhere n2 n3 (Some new) r w3 new (omega arith) ∙ reparent-elsewhere
+    let r_2 = Represents-keep n n2 (Some old) r
+    (λ j z. let o = once j in reparent-elsewhere n1 n2 (Some new) l w2 j (omega arith) ∙ early j
+    (omega arith)) e0.1.2 in
+    let r_3 = Represents-reparent n2 n3 (Some old) (Some new) r
+    (record { once = λ j. let o = once j in omega arith }) w3 r_2 in
+    let r_4 = Represents-keep n3 n4 (Some new) r
+    (λ j z. let o = once j in relink-elsewhere n3 n4 root new_root c old (Some new) w4 j
+    (omega arith)) r_3 in
+    let at_new = let f = fresh in relink-elsewhere n3 n4 root new_root c old (Some new) w4 new
+    (omega arith) ∙ reparent-elsewhere n2 n3 (Some new) r w3 new
+    (omega arith) ∙ reparent-elsewhere
     n1 n2 (Some new) l w2 new (omega arith) ∙ w1.here in
     plug-closes n4 new_root c (node l new h.rank r) round_4 (at_new, l_4, r_4)
 
-exchanged_kept : (n n1 n2 n3 n4 : Store) (root new_root : Option ℕ) (old new : ℕ) (v : Knot) (h : Exchange n root old new)
-    → Written n n1 new v → Reparented n1 n2 (root_of h.left) (Some new) → Reparented n2 n3 (root_of h.right) (Some new)
-    → Relinked n3 n4 root new_root (holder h.context) old (Some new) → KeptOff (walk (plug h.context (node h.left new h.rank h.right))) n n4
+exchanged_kept : (n n1 n2 n3 n4 : Store) (root new_root : Option ℕ) (old new : ℕ) (v : Knot)
+    (h : Exchange n root old new)
+    → Written n n1 new v → Reparented n1 n2 (root_of h.left) (Some new)
+    → Reparented n2 n3 (root_of h.right) (Some new)
+    → Relinked n3 n4 root new_root (holder h.context) old (Some new)
+    → KeptOff (walk (plug h.context (node h.left new h.rank h.right))) n n4
 exchanged_kept n n1 n2 n3 n4 root new_root old new v h w1 w2 w3 w4 = λ j off.
     let c = h.context in
     let t = node h.left new h.rank h.right in
     let z = count-walk j (plug c t) ∙ off in
     let p = plug-count c j t in
-    relink-elsewhere n3 n4 root new_root c old (Some new) w4 j (omega arith) ∙ reparent-elsewhere n2 n3 (Some new) h.right w3 j (omega arith)
-    ∙ reparent-elsewhere n1 n2 (Some new) h.left w2 j (omega arith) ∙ write-elsewhere n n1 new v w1 j (omega arith)
+    relink-elsewhere n3 n4 root new_root c old (Some new) w4 j
+    (omega arith) ∙ reparent-elsewhere n2 n3 (Some new) h.right w3 j (omega arith)
+    ∙ reparent-elsewhere n1 n2 (Some new) h.left w2 j (omega arith) ∙ write-elsewhere n n1 new v w1
+    j (omega arith)
 
-pub exchange_knot : (n : Store) (root : Option ℕ) (old new : ℕ) (h : Exchange n root old new) (value : Knot) → n old ≡ Some value
+pub exchange_knot : (n : Store) (root : Option ℕ) (old new : ℕ) (h : Exchange n root old new)
+    (value : Knot) → n old ≡ Some value
     → value ≡ knot Left (holder h.context) (root_of h.left) h.rank (root_of h.right)
-exchange_knot n root old new h value e = let f = (plug-opens n root h.context (node h.left old h.rank h.right) h.stands).1.0 in cc
+exchange_knot n root old new h value e = let f =
+    (plug-opens n root h.context (node h.left old h.rank h.right) h.stands).1.0 in cc
 
-pub exchange_lives : (n : Store) (root : Option ℕ) (old new : ℕ) → Exchange n root old new → IsSome (n old)
-exchange_lives n root old new h = is_some (n old) _ (plug-opens n root h.context (node h.left old h.rank h.right) h.stands).1.0
+pub exchange_lives : (n : Store) (root : Option ℕ) (old new : ℕ) → Exchange n root old new
+    → IsSome (n old)
+exchange_lives n root old new h
+    = is_some (n old) _ (plug-opens n root h.context (node h.left old h.rank h.right) h.stands).1.0
 
 pub record ExchangeLives (n : Store) (value : Knot) : Type 0 where
   pub left : (i : ℕ) → value.left ≡ Some i → IsSome (n i)
   pub right : (i : ℕ) → value.right ≡ Some i → IsSome (n i)
   pub parent : (i : ℕ) → value.parent ≡ Some i → IsSome (n i)
 
-pub exchange_links : (n : Store) (root : Option ℕ) (old new : ℕ) (h : Exchange n root old new) (value : Knot) → n old ≡ Some value → ExchangeLives n value
+pub exchange_links : (n : Store) (root : Option ℕ) (old new : ℕ) (h : Exchange n root old new)
+    (value : Knot) → n old ≡ Some value → ExchangeLives n value
 exchange_links n root old new h value e =
     let is = exchange_knot n root old new h value e in
     let o = plug-opens n root h.context (node h.left old h.rank h.right) h.stands in
@@ -72,15 +99,20 @@ exchange_links n root old new h value e =
       parent = λ i u. holder-lives n root h.context _ i o.0 (ap (λ v. v.parent) (sym is) ∙ u);
     }
 
-pub exchange_works : (n n1 n2 n3 n4 : Store) (root new_root : Option ℕ) (old new : ℕ) (value : Knot) → n old ≡ Some value
-    → Written n n1 new value → Reparented n1 n2 value.left (Some new) → Reparented n2 n3 value.right (Some new) → Relinked n3 n4 root new_root value.parent old (Some new)
+pub exchange_works : (n n1 n2 n3 n4 : Store) (root new_root : Option ℕ) (old new : ℕ) (value : Knot)
+    → n old ≡ Some value
+    → Written n n1 new value → Reparented n1 n2 value.left (Some new)
+    → Reparented n2 n3 value.right (Some new)
+    → Relinked n3 n4 root new_root value.parent old (Some new)
     → (h : Exchange n root old new)
-    → Stands n4 new_root (plug h.context (node h.left new h.rank h.right)) × KeptOff (walk (plug h.context (node h.left new h.rank h.right))) n n4
+    → Stands n4 new_root (plug h.context (node h.left new h.rank h.right))
+    × KeptOff (walk (plug h.context (node h.left new h.rank h.right))) n n4
 exchange_works n n1 n2 n3 n4 root new_root old new value e w1 w2 w3 w4 h =
     let is = exchange_knot n root old new h value e in
     let moved_left = subst (λ v. Reparented n1 n2 v.left (Some new)) is w2 in
     let moved_right = subst (λ v. Reparented n2 n3 v.right (Some new)) is w3 in
     let hung = subst (λ v. Relinked n3 n4 root new_root v.parent old (Some new)) is w4 in (
-      exchanged n n1 n2 n3 n4 root new_root old new h (subst (λ v. Written n n1 new v) is w1) moved_left moved_right hung,
+      exchanged n n1 n2 n3 n4 root new_root old new h
+          (subst (λ v. Written n n1 new v) is w1) moved_left moved_right hung,
       exchanged_kept n n1 n2 n3 n4 root new_root old new value h w1 moved_left moved_right hung,
     )

@@ -50,19 +50,25 @@ pub AllIn-map : (P Q : ℕ → Type 0) → ((y : ℕ) → P y → Q y) → (xs :
 AllIn-map P Q f [] p = tt
 AllIn-map P Q f (x ∷ xs) p = (f x p.0, AllIn-map P Q f xs p.1)
 
-pub parted-after : (f : ℕ → Ordering) (xs : List ℕ) (i : ℕ) (ys : List ℕ) → IsParted f (xs ++ i ∷ ys) → AllIn (λ y. Before (f i) (f y)) ys
+pub parted-after : (f : ℕ → Ordering) (xs : List ℕ) (i : ℕ) (ys : List ℕ)
+    → IsParted f (xs ++ i ∷ ys) → AllIn (λ y. Before (f i) (f y)) ys
 parted-after f [] i ys s = s.0
 parted-after f (x ∷ xs) i ys s = parted-after f xs i ys s.1
 
-pub parted-before : (f : ℕ → Ordering) (xs : List ℕ) (i : ℕ) (ys : List ℕ) → IsParted f (xs ++ i ∷ ys) → AllIn (λ y. Before (f y) (f i)) xs
+pub parted-before : (f : ℕ → Ordering) (xs : List ℕ) (i : ℕ) (ys : List ℕ)
+    → IsParted f (xs ++ i ∷ ys) → AllIn (λ y. Before (f y) (f i)) xs
 parted-before f [] i ys s = tt
-parted-before f (x ∷ xs) i ys s = ((AllIn-back (λ y. Before (f x) (f y)) xs (i ∷ ys) s.0).0, parted-before f xs i ys s.1)
+parted-before f (x ∷ xs) i ys s
+    = ((AllIn-back (λ y. Before (f x) (f y)) xs (i ∷ ys) s.0).0, parted-before f xs i ys s.1)
 
-some_pair : (x i : ℕ) (d e : Ordering) → ◌≡◌ {A = Option (ℕ × Ordering)} (Some (x, d)) (Some (i, e)) → (x ≡ i) × (d ≡ e)
-some_pair x i d e h = let p : ℕ × Ordering = (x, d) in let q : ℕ × Ordering = (i, e) in let g : p ≡ q = cc in (ap (λ p. p.0) g, ap (λ p. p.1) g)
+some_pair : (x i : ℕ) (d e : Ordering) → ◌≡◌ {A = Option (ℕ × Ordering)} (Some (x, d)) (Some (i, e))
+    → (x ≡ i) × (d ≡ e)
+some_pair x i d e h = let p : ℕ × Ordering = (x, d) in let q : ℕ × Ordering =
+    (i, e) in let g : p ≡ q = cc in (ap (λ p. p.0) g, ap (λ p. p.1) g)
 
 -- how far a search has come
-pub record Descent (n : Store) (f : ℕ → Ordering) (whole : Tree) (link : Option ℕ) (place : Option (ℕ × Ordering)) (asked : ℕ) : Type 0 where
+pub record Descent (n : Store) (f : ℕ → Ordering) (whole : Tree) (link : Option ℕ)
+    (place : Option (ℕ × Ordering)) (asked : ℕ) : Type 0 where
   pub context : Context
   pub rest : Tree
   pub is : plug context rest ≡ whole
@@ -73,9 +79,11 @@ pub record Descent (n : Store) (f : ℕ → Ordering) (whole : Tree) (link : Opt
   pub left_over : asked + rank_of rest ≤ rank_of whole
   pub counted : asked + asked_down f rest ≡ asked_down f whole
   pub answered : (i : ℕ) (d : Ordering) → place ≡ Some (i, d) → f i ≡ d
-  pub parted : IsParted f (walk whole) → AllIn (λ y. f y ≡ Greater) (before context) × AllIn (λ y. f y ≡ Less) (after context)
+  pub parted : IsParted f (walk whole) → AllIn (λ y. f y ≡ Greater) (before context)
+      × AllIn (λ y. f y ≡ Less) (after context)
 
-pub descent_begins : (n : Store) (f : ℕ → Ordering) (root : Option ℕ) (t : Tree) → Stands n root t → IsRanked t → Descent n f t root None 0
+pub descent_begins : (n : Store) (f : ℕ → Ordering) (root : Option ℕ) (t : Tree) → Stands n root t
+    → IsRanked t → Descent n f t root None 0
 descent_begins n f root t stands ranked =
     record {
       context = top;
@@ -92,10 +100,13 @@ descent_begins n f root t stands ranked =
       parted = λ o. (tt, tt);
     }
 
-pub place_lives : (c : Context) (i : ℕ) (d : Ordering) → last_of c ≡ Some (i, d) → 0 < count_round i c
+pub place_lives : (c : Context) (i : ℕ) (d : Ordering) → last_of c ≡ Some (i, d)
+    → 0 < count_round i c
 place_lives top i d e = absurd (cc)
-place_lives (under c Left x k far) i d e = let f : x ≡ i = (some_pair x i Less d e).0 in let g = one-same i in rw f (omega arith)
-place_lives (under c Right x k far) i d e = let f : x ≡ i = (some_pair x i Greater d e).0 in let g = one-same i in rw f (omega arith)
+place_lives (under c Left x k far) i d e = let f : x ≡ i =
+    (some_pair x i Less d e).0 in let g = one-same i in rw f (omega arith)
+place_lives (under c Right x k far) i d e = let f : x ≡ i = (some_pair x i Greater d e).0 in let g =
+    one-same i in rw f (omega arith)
 
 place_top : (c : Context) → last_of c ≡ None → c ≡ top
 place_top top e = refl
@@ -104,7 +115,8 @@ place_top (under c Right x k far) e = absurd (cc)
 
 -- at the end, the last that was asked is a neighbor of the gap
 place_places : (f : ℕ → Ordering) (c : Context) (i : ℕ) (d : Ordering) → last_of c ≡ Some (i, d)
-    → AllIn (λ y. f y ≡ Greater) (before c) → AllIn (λ y. f y ≡ Less) (after c) → Places f (walk (plug c leaf)) i d
+    → AllIn (λ y. f y ≡ Greater) (before c) → AllIn (λ y. f y ≡ Less) (after c)
+    → Places f (walk (plug c leaf)) i d
 place_places f top i d e lo hi = absurd (cc)
 place_places f (under c Left x k far) i d e lo hi =
     let xi : x ≡ i = (some_pair x i Less d e).0 in
@@ -112,7 +124,8 @@ place_places f (under c Left x k far) i d e lo hi =
     record {
       before = before c;
       after = walk far ++ after c;
-      is = plug-walk_is (under c Left x k far) leaf ∙ ap (λ z. before c ++ z ∷ (walk far ++ after c)) xi;
+      is = plug-walk_is (under c Left x k far) leaf ∙ ap
+          (λ z. before c ++ z ∷ (walk far ++ after c)) xi;
       less = λ u. lo;
       greater = λ u. absurd (cc);
     }
@@ -122,7 +135,8 @@ place_places f (under c Right x k far) i d e lo hi =
     record {
       before = before c ++ walk far;
       after = after c;
-      is = plug-walk_is (under c Right x k far) leaf ∙ simp append_assoc (ap (λ z. before c ++ (walk far ++ z ∷ after c)) xi);
+      is = plug-walk_is (under c Right x k far) leaf ∙ simp append_assoc
+          (ap (λ z. before c ++ (walk far ++ z ∷ after c)) xi);
       less = λ u. absurd (cc);
       greater = λ u. hi;
     }
@@ -131,7 +145,8 @@ pub rest_leaf : (t : Tree) → root_of t ≡ None → t ≡ leaf
 rest_leaf leaf e = refl
 rest_leaf (node l i k r) e = absurd (cc)
 
-pub descent_ends : (n : Store) (f : ℕ → Ordering) (whole : Tree) (link : Option ℕ) (place : Option (ℕ × Ordering)) (asked : ℕ) → link ≡ None
+pub descent_ends : (n : Store) (f : ℕ → Ordering) (whole : Tree) (link : Option ℕ)
+    (place : Option (ℕ × Ordering)) (asked : ℕ) → link ≡ None
     → Descent n f whole link place asked → IsAnswer f whole place
 descent_ends n f whole link place asked e h =
     let nil : h.rest ≡ leaf = rest_leaf h.rest (sym h.link_is ∙ e) in
@@ -139,13 +154,16 @@ descent_ends n f whole link place asked e h =
     record {
       empty = λ u. let c : h.context ≡ top = place_top h.context (sym h.place_is ∙ u) in
           ap root_of (sym is) ∙ ap (λ z. root_of (plug z leaf)) c;
-      lives = λ i d u. let p = place_lives h.context i d (sym h.place_is ∙ u) in let q = plug-count h.context i leaf in subst (λ t. 0 < count i t) is (omega arith);
+      lives = λ i d u. let p = place_lives h.context i d (sym h.place_is ∙ u) in let q =
+          plug-count h.context i leaf in subst (λ t. 0 < count i t) is (omega arith);
       asked = h.answered;
-      parted = λ i d u s. let o = h.parted s in subst (λ t. Places f (walk t) i d) is (place_places f h.context i d (sym h.place_is ∙ u) o.0 o.1);
+      parted = λ i d u s. let o = h.parted s in subst (λ t. Places f (walk t) i d) is
+          (place_places f h.context i d (sym h.place_is ∙ u) o.0 o.1);
     }
 
 -- then all were asked
-pub descent_asked : (n : Store) (f : ℕ → Ordering) (whole : Tree) (link : Option ℕ) (place : Option (ℕ × Ordering)) (asked : ℕ) → link ≡ None
+pub descent_asked : (n : Store) (f : ℕ → Ordering) (whole : Tree) (link : Option ℕ)
+    (place : Option (ℕ × Ordering)) (asked : ℕ) → link ≡ None
     → Descent n f whole link place asked → asked ≡ asked_down f whole
 descent_asked n f whole link place asked e h =
     let nil : h.rest ≡ leaf = rest_leaf h.rest (sym h.link_is ∙ e) in
@@ -154,7 +172,8 @@ descent_asked n f whole link place asked e h =
     omega (arith, none, all)
 
 -- what was asked last has no child where the hole is
-place_free : (n : Store) (root : Option ℕ) (c : Context) → Hangs n root c None → (i : ℕ) (d : Ordering) → last_of c ≡ Some (i, d) → IsFreeAt d (n i)
+place_free : (n : Store) (root : Option ℕ) (c : Context) → Hangs n root c None
+    → (i : ℕ) (d : Ordering) → last_of c ≡ Some (i, d) → IsFreeAt d (n i)
 place_free n root top h i d e = absurd (cc)
 place_free n root (under c Left x k far) h i d e =
     let p = some_pair x i Less d e in
@@ -163,15 +182,20 @@ place_free n root (under c Right x k far) h i d e =
     let p = some_pair x i Greater d e in
     subst (λ d. IsFreeAt d (n i)) p.1 (subst (λ j. IsFreeAt Greater (n j)) p.0 (rw (h.0) refl))
 
-pub descent_free : (n : Store) (f : ℕ → Ordering) (root : Option ℕ) (whole : Tree) (link : Option ℕ) (place : Option (ℕ × Ordering)) (asked : ℕ) → Stands n root whole
-    → link ≡ None → Descent n f whole link place asked → (i : ℕ) (d : Ordering) → place ≡ Some (i, d) → IsFreeAt d (n i)
+pub descent_free : (n : Store) (f : ℕ → Ordering) (root : Option ℕ) (whole : Tree) (link : Option ℕ)
+    (place : Option (ℕ × Ordering)) (asked : ℕ) → Stands n root whole
+    → link ≡ None → Descent n f whole link place asked → (i : ℕ) (d : Ordering)
+    → place ≡ Some (i, d) → IsFreeAt d (n i)
 descent_free n f root whole link place asked stands e h i d at =
     let nil : h.rest ≡ leaf = rest_leaf h.rest (sym h.link_is ∙ e) in
     let is : whole ≡ plug h.context leaf = sym h.is ∙ ap (λ t. plug h.context t) nil in
-    place_free n root h.context (plug-opens n root h.context leaf (subst (Stands n root) is stands)).0 i d (sym h.place_is ∙ at)
+    place_free n root h.context
+    (plug-opens n root h.context leaf (subst (Stands n root) is stands)).0 i d
+    (sym h.place_is ∙ at)
 
 -- one step down
-pub record Here (n : Store) (f : ℕ → Ordering) (whole : Tree) (i : ℕ) (v : Knot) (asked : ℕ) : Type 0 where
+pub record Here (n : Store) (f : ℕ → Ordering) (whole : Tree) (i : ℕ) (v : Knot) (asked : ℕ)
+    : Type 0 where
   pub lives : 0 < count i whole
   pub rank_left : rank_or_link n v.left < rank_in n i
   pub rank_right : rank_or_link n v.right < rank_in n i
@@ -181,13 +205,17 @@ pub record Here (n : Store) (f : ℕ → Ordering) (whole : Tree) (i : ℕ) (v :
   pub all_asked : f i ≡ Equal → asked + 1 ≡ asked_down f whole
   pub in_bound : asked + 1 ≤ rank_of whole
 
-answers : (f : ℕ → Ordering) (x : ℕ) (e : Ordering) → f x ≡ e → (i : ℕ) (d : Ordering) → ◌≡◌ {A = Option (ℕ × Ordering)} (Some (x, e)) (Some (i, d)) → f i ≡ d
+answers : (f : ℕ → Ordering) (x : ℕ) (e : Ordering) → f x ≡ e → (i : ℕ) (d : Ordering)
+    → ◌≡◌ {A = Option (ℕ × Ordering)} (Some (x, e)) (Some (i, d)) → f i ≡ d
 answers f x e q i d u = let g = some_pair x i e d u in sym (ap f g.0) ∙ q ∙ g.1
 
-here_at : (n : Store) (f : ℕ → Ordering) (c : Context) (l : Tree) (i k : ℕ) (r : Tree) (asked : ℕ) (v : Knot)
-    → n i ≡ Some v → Represents n (holder c) (node l i k r) → IsRanked (node l i k r) → asked + k ≤ rank_of (plug c (node l i k r))
+here_at : (n : Store) (f : ℕ → Ordering) (c : Context) (l : Tree) (i k : ℕ) (r : Tree)
+    (asked : ℕ) (v : Knot)
+    → n i ≡ Some v → Represents n (holder c) (node l i k r) → IsRanked (node l i k r)
+    → asked + k ≤ rank_of (plug c (node l i k r))
     → asked + asked_down f (node l i k r) ≡ asked_down f (plug c (node l i k r))
-    → (IsParted f (walk (plug c (node l i k r))) → AllIn (λ y. f y ≡ Greater) (before c) × AllIn (λ y. f y ≡ Less) (after c))
+    → (IsParted f (walk (plug c (node l i k r))) → AllIn (λ y. f y ≡ Greater) (before c)
+    × AllIn (λ y. f y ≡ Less) (after c))
     → Here n f (plug c (node l i k r)) i v asked
 here_at n f c l i k r asked v e h ranked over asks parted =
     let fits = ranked.0 in
@@ -197,10 +225,13 @@ here_at n f c l i k r asked v e h ranked over asks parted =
     let k_is : rank_in n i ≡ k = ap rank_or_zero h.0 in
     let lr = rank_link n (Some i) l h.1 in
     let rr = rank_link n (Some i) r h.2 in
-    let flat : walk (plug c (node l i k r)) ≡ (before c ++ walk l) ++ i ∷ (walk r ++ after c) = plug-walk_is c (node l i k r) ∙ simp append_assoc in
+    let flat : walk (plug c (node l i k r)) ≡ (before c ++ walk l) ++ i ∷ (walk r ++ after c) =
+    plug-walk_is c (node l i k r) ∙ simp append_assoc in
     let here = one-same i in
     let counted = plug-count c i (node l i k r) in
-    let led : (d : Ordering) → f i ≡ d → asked + (1 + led_by d (asked_down f l) (asked_down f r)) ≡ asked_down f (plug c (node l i k r)) =
+    let led : (d : Ordering) → f i ≡ d
+    → asked + (1 + led_by d (asked_down f l) (asked_down f r))
+    ≡ asked_down f (plug c (node l i k r)) =
     λ d q. ap (λ d. asked + (1 + led_by d (asked_down f l) (asked_down f r))) (sym q) ∙ asks in
     record {
       lives = omega arith;
@@ -220,11 +251,14 @@ here_at n f c l i k r asked v e h ranked over asks parted =
         answered = answers f i Less q;
         parted = λ s.
             let o = parted s in
-            let up = parted-after f (before c ++ walk l) i (walk r ++ after c) (subst (IsParted f) flat s) in (
+            let up = parted-after f (before c ++ walk l) i (walk r ++ after c)
+            (subst (IsParted f) flat s) in (
               o.0,
               (
                 q,
-                AllIn-append (λ y. f y ≡ Less) (walk r) (after c) (AllIn-map (λ y. Before (f i) (f y)) (λ y. f y ≡ Less) (λ y z. z.less q) (walk r)
+                AllIn-append (λ y. f y ≡ Less) (walk r) (after c)
+                    (AllIn-map (λ y. Before (f i) (f y)) (λ y. f y ≡ Less)
+                    (λ y z. z.less q) (walk r)
                     (AllIn-front (λ y. Before (f i) (f y)) (walk r) (after c) up)) o.1,
               ),
             );
@@ -242,9 +276,13 @@ here_at n f c l i k r asked v e h ranked over asks parted =
         answered = answers f i Greater q;
         parted = λ s.
             let o = parted s in
-            let down = parted-before f (before c ++ walk l) i (walk r ++ after c) (subst (IsParted f) flat s) in (
-              AllIn-append (λ y. f y ≡ Greater) (before c) (walk l ++ i ∷ []) o.0 (AllIn-append (λ y. f y ≡ Greater) (walk l) (i ∷ [])
-                  (AllIn-map (λ y. Before (f y) (f i)) (λ y. f y ≡ Greater) (λ y z. z.greater q) (walk l) (AllIn-back (λ y. Before (f y) (f i)) (before c) (walk l) down)) (q, tt)),
+            let down = parted-before f (before c ++ walk l) i (walk r ++ after c)
+            (subst (IsParted f) flat s) in (
+              AllIn-append (λ y. f y ≡ Greater) (before c) (walk l ++ i ∷ []) o.0
+                  (AllIn-append (λ y. f y ≡ Greater) (walk l) (i ∷ [])
+                  (AllIn-map (λ y. Before (f y) (f i)) (λ y. f y ≡ Greater) (λ y z. z.greater q)
+                  (walk l) (AllIn-back (λ y. Before (f y) (f i)) (before c) (walk l) down))
+                  (q, tt)),
               o.1,
             );
       };
@@ -267,29 +305,41 @@ here_at n f c l i k r asked v e h ranked over asks parted =
       };
     }
 
-pub step_down : (n : Store) (f : ℕ → Ordering) (whole : Tree) (link : Option ℕ) (place : Option (ℕ × Ordering)) (asked : ℕ) (i : ℕ) (v : Knot)
+pub step_down : (n : Store) (f : ℕ → Ordering) (whole : Tree) (link : Option ℕ)
+    (place : Option (ℕ × Ordering)) (asked : ℕ) (i : ℕ) (v : Knot)
     → link ≡ Some i → n i ≡ Some v → Descent n f whole link place asked → Here n f whole i v asked
 step_down n f whole link place asked i v e ev h = go h.rest refl
   where
     go : (t : Tree) → t ≡ h.rest → Here n f whole i v asked
-    go leaf u = let z : root_of h.rest ≡ Some i = sym h.link_is ∙ e in let y = ap root_of u in absurd (cc)
+    go leaf u = let z : root_of h.rest ≡ Some i = sym h.link_is ∙ e in let y =
+        ap root_of u in absurd (cc)
     go (node l x k r) u =
         let z : x ≡ i = cc (ap root_of u, h.link_is, e) in
-        let is : plug h.context (node l i k r) ≡ whole = ap (λ b. plug h.context (node l b k r)) (sym z) ∙ ap (λ t. plug h.context t) u ∙ h.is in
+        let is : plug h.context (node l i k r) ≡ whole =
+        ap (λ b. plug h.context (node l b k r)) (sym z) ∙ ap (λ t. plug h.context t) u ∙ h.is in
         let same : h.rest ≡ node l i k r = sym u ∙ ap (λ b. node l b k r) z in
         let over = h.left_over in
         subst (λ t. Here n f t i v asked) is
-        (here_at n f h.context l i k r asked v ev (subst (λ t. Represents n (holder h.context) t) same h.stands) (subst IsRanked same h.ranked)
-        (rw is (let y = ap rank_of same in omega arith)) (ap (λ t. asked + asked_down f t) (sym same) ∙ h.counted ∙ ap (asked_down f) (sym is))
-        (subst (λ t. IsParted f (walk t) → AllIn (λ y. f y ≡ Greater) (before h.context) × AllIn (λ y. f y ≡ Less) (after h.context)) (sym is) h.parted))
+        (here_at n f h.context l i k r asked v ev
+        (subst (λ t. Represents n (holder h.context) t) same h.stands)
+        (subst IsRanked same h.ranked)
+        (rw is (let y = ap rank_of same in omega arith))
+        (ap (λ t. asked + asked_down f t) (sym same) ∙ h.counted ∙ ap (asked_down f) (sym is))
+        (subst (λ t. IsParted f (walk t) → AllIn (λ y. f y ≡ Greater) (before h.context)
+        × AllIn (λ y. f y ≡ Less) (after h.context)) (sym is) h.parted))
 
-pub descent_lives : (n : Store) (f : ℕ → Ordering) (whole : Tree) (link : Option ℕ) (place : Option (ℕ × Ordering)) (asked : ℕ) (i : ℕ)
+pub descent_lives : (n : Store) (f : ℕ → Ordering) (whole : Tree) (link : Option ℕ)
+    (place : Option (ℕ × Ordering)) (asked : ℕ) (i : ℕ)
     → link ≡ Some i → Descent n f whole link place asked → (0 < count i whole) × IsSome (n i)
 descent_lives n f whole link place asked i e h =
     let z : root_of h.rest ≡ Some i = sym h.link_is ∙ e in
     let p = root-counted h.rest i z in
-    let q = plug-count h.context i h.rest in
-    (subst (λ t. 0 < count i t) h.is (omega arith), root-lives n (holder h.context) h.rest i h.stands z)
+    let q = plug-count h.context i h.rest in (
+      subst (λ t. 0 < count i t) h.is (omega arith),
+      root-lives n
+          (holder h.context) h.rest i h.stands z,
+    )
 
-pub falls_down : (n : Store) (link next : Option ℕ) (i : ℕ) → link ≡ Some i → rank_or_link n next < rank_in n i → rank_or_link n next < rank_or_link n link
+pub falls_down : (n : Store) (link next : Option ℕ) (i : ℕ) → link ≡ Some i
+    → rank_or_link n next < rank_in n i → rank_or_link n next < rank_or_link n link
 falls_down n link next i e h = rw e h

@@ -29,10 +29,13 @@ near_nearly Left a b k f = f
 near_nearly Right a b k f = omega arith
 
 -- a subtree has lost one rank
-pub pending_up : (m : Store) (root : Option ℕ) (c : Context) (t : Tree) (k : ℕ) (w : List ℕ) → IsDistinct (plug c t)
-    → Stands m root (plug c t) → IsRanked t → rank_of t + 1 ≡ k → IsRankedRound c k → walk (plug c t) ≡ w → length w < 2 ^ 64
+pub pending_up : (m : Store) (root : Option ℕ) (c : Context) (t : Tree) (k : ℕ) (w : List ℕ)
+    → IsDistinct (plug c t)
+    → Stands m root (plug c t) → IsRanked t → rank_of t + 1 ≡ k → IsRankedRound c k
+    → walk (plug c t) ≡ w → length w < 2 ^ 64
     → Pending m root (holder c) w
-pending_up m root top t k w d h r e round q small = record { tree = t; stands = h; ranked = r; is_walk = q }
+pending_up m root top t k w d h r e round q small
+    = record { tree = t; stands = h; ranked = r; is_walk = q }
 pending_up m root (under c s i j far) t k w d h r e round q small =
     let f = round.0 in
     let is = as_node s t i j far in
@@ -54,17 +57,22 @@ pending_up m root (under c s i j far) t k w d h r e round q small =
 
 pub broken_knot : (n : Store) (root : Option ℕ) (high : ℕ) (w : List ℕ) (h : Broken n root high w)
     → n high ≡ Some (knot Left (holder h.context) (root_of h.left) h.rank (root_of h.right))
-broken_knot n root high w h = (plug-opens n root h.context (node h.left high h.rank h.right) h.stands).1.0
+broken_knot n root high w h
+    = (plug-opens n root h.context (node h.left high h.rank h.right) h.stands).1.0
 
-pub broken_lives : (n : Store) (root : Option ℕ) (high : ℕ) (w : List ℕ) → Broken n root high w → IsSome (n high)
+pub broken_lives : (n : Store) (root : Option ℕ) (high : ℕ) (w : List ℕ) → Broken n root high w
+    → IsSome (n high)
 broken_lives n root high w h = is_some (n high) _ (broken_knot n root high w h)
 
-link_lives : (n : Store) (p : Option ℕ) (t : Tree) (link : Option ℕ) → link ≡ root_of t → Represents n p t
+link_lives : (n : Store) (p : Option ℕ) (t : Tree) (link : Option ℕ) → link ≡ root_of t
+    → Represents n p t
     → IfSome link (λ i. IsSome (n i))
-link_lives n p t link e h = if_some link (λ i. IsSome (n i)) (λ i u. root-lives n p t i h (sym e ∙ u))
+link_lives n p t link e h
+    = if_some link (λ i. IsSome (n i)) (λ i u. root-lives n p t i h (sym e ∙ u))
 
 -- what the code reads of the broken node
-pub record BrokenReads (n : Store) (root : Option ℕ) (high : ℕ) (w : List ℕ) (h : Broken n root high w) (above : Knot) : Type 0 where
+pub record BrokenReads (n : Store) (root : Option ℕ) (high : ℕ) (w : List ℕ)
+    (h : Broken n root high w) (above : Knot) : Type 0 where
   pub knot_is : above ≡ knot Left (holder h.context) (root_of h.left) h.rank (root_of h.right)
   pub left_is : above.left ≡ root_of h.left
   pub right_is : above.right ≡ root_of h.right
@@ -81,7 +89,8 @@ pub broken_reads : (n : Store) (root : Option ℕ) (high : ℕ) (above : Knot) �
     → (w : List ℕ) (h : Broken n root high w) → BrokenReads n root high w h above
 broken_reads n root high above e w h =
     let o = plug-opens n root h.context (node h.left high h.rank h.right) h.stands in
-    let is : above ≡ knot Left (holder h.context) (root_of h.left) h.rank (root_of h.right) = cc (broken_knot n root high w h) in
+    let is : above ≡ knot Left (holder h.context) (root_of h.left) h.rank (root_of h.right) =
+    cc (broken_knot n root high w h) in
     let left_is : above.left ≡ root_of h.left = ap (λ v. v.left) is in
     let right_is : above.right ≡ root_of h.right = ap (λ v. v.right) is in
     record {
@@ -94,36 +103,45 @@ broken_reads n root high above e w h =
       right_stands = o.1.2;
       left_lives = link_lives n (Some high) h.left above.left left_is o.1.1;
       right_lives = link_lives n (Some high) h.right above.right right_is o.1.2;
-      left_small = plug-small (under h.context Left high h.rank h.right) h.left w h.left_ranked h.is_walk h.small;
-      right_small = plug-small (under h.context Right high h.rank h.left) h.right w h.right_ranked h.is_walk h.small;
+      left_small = plug-small (under h.context Left high h.rank h.right) h.left w h.left_ranked
+          h.is_walk h.small;
+      right_small = plug-small (under h.context Right high h.rank h.left) h.right w h.right_ranked
+          h.is_walk h.small;
     }
 
 -- its rule holds after all
-pub broken_ends : (n : Store) (root : Option ℕ) (high : ℕ) (w : List ℕ) (h : Broken n root high w) → h.rank ≤ rank_of h.left + 2
-    → h.rank ≤ rank_of h.right + 2 → h.rank ≤ rank_of h.left + rank_of h.right + 1 → Restored n root w
+pub broken_ends : (n : Store) (root : Option ℕ) (high : ℕ) (w : List ℕ) (h : Broken n root high w)
+    → h.rank ≤ rank_of h.left + 2
+    → h.rank ≤ rank_of h.right + 2 → h.rank ≤ rank_of h.left + rank_of h.right + 1
+    → Restored n root w
 broken_ends n root high w h p q r =
     let f = h.nearly in
     let fits : Fits (rank_of h.left) h.rank (rank_of h.right) = omega arith in
     record {
       tree = plug h.context (node h.left high h.rank h.right);
       stands = h.stands;
-      ranked = plug-ranked h.context (node h.left high h.rank h.right) h.round (fits, h.left_ranked, h.right_ranked);
+      ranked = plug-ranked h.context (node h.left high h.rank h.right) h.round
+          (fits, h.left_ranked, h.right_ranked);
       is_walk = h.is_walk;
     }
 
 -- the parent of a broken node is higher, and what is written below leaves it alone
-pub round_rises : (n : Store) (root : Option ℕ) (c : Context) (link : Option ℕ) (k : ℕ) → IsRankedRound c k → Hangs n root c link
+pub round_rises : (n : Store) (root : Option ℕ) (c : Context) (link : Option ℕ) (k : ℕ)
+    → IsRankedRound c k → Hangs n root c link
     → IfSome (holder c) (λ i. k < rank_in n i)
 round_rises n root top link k r h = tt
-round_rises n root (under c Left i j far) link k r h = let f = r.0 in let e = ap rank_or_zero h.0 in omega arith
-round_rises n root (under c Right i j far) link k r h = let f = r.0 in let e = ap rank_or_zero h.0 in omega arith
+round_rises n root (under c Left i j far) link k r h = let f = r.0 in let e =
+    ap rank_or_zero h.0 in omega arith
+round_rises n root (under c Right i j far) link k r h = let f = r.0 in let e =
+    ap rank_or_zero h.0 in omega arith
 
 -- a node's rule fails: a child is too low, or a node without children too high
 abbrev pub IsUnfit : ℕ → ℕ → ℕ → Type 0
 IsUnfit a k b = k ≤ a + 2 → k ≤ b + 2 → a + b + 2 ≤ k
 
 -- the node loses one rank
-pub record Lowered (m : Store) (root : Option ℕ) (high : ℕ) (old : Store) (parent : Option ℕ) (w : List ℕ) : Type 0 where
+pub record Lowered (m : Store) (root : Option ℕ) (high : ℕ) (old : Store) (parent : Option ℕ)
+    (w : List ℕ) : Type 0 where
   pub pending : Pending m root parent w
   pub rises : IfSome parent (λ i. rank_in old high < rank_in m i)
   pub kept : KeptOff w old m
@@ -131,13 +149,15 @@ pub record Lowered (m : Store) (root : Option ℕ) (high : ℕ) (old : Store) (p
 -- a node whose children are both two lower may lose one
 pub broken_lower : (n m : Store) (root : Option ℕ) (high : ℕ) (above : Knot) → n high ≡ Some above
     → Written n m high (with_rank (above.rank - 1) above) → (w : List ℕ) (h : Broken n root high w)
-    → rank_of h.left + 2 ≤ h.rank → rank_of h.right + 2 ≤ h.rank → Lowered m root high n above.parent w
+    → rank_of h.left + 2 ≤ h.rank → rank_of h.right + 2 ≤ h.rank
+    → Lowered m root high n above.parent w
 broken_lower n m root high above e written w h p q =
     let r = broken_reads n root high above e w h in
     let f = h.nearly in
     let old = node h.left high h.rank h.right in
     let new = node h.left high (h.rank - 1) h.right in
-    let value : with_rank (above.rank - 1) above ≡ knot Left (holder h.context) (root_of h.left) (h.rank - 1) (root_of h.right) =
+    let value : with_rank (above.rank - 1) above ≡ knot Left (holder h.context) (root_of h.left)
+    (h.rank - 1) (root_of h.right) =
     ap (λ k. with_rank (k - 1) above) r.rank_is ∙ ap (with_rank (h.rank - 1)) r.knot_is in
     let stands = ranked-write n m root h.context Left h.left high h.rank (h.rank - 1) h.right
     (subst (λ v. Written n m high v) value written) h.distinct h.stands in
@@ -146,7 +166,8 @@ broken_lower n m root high above e written w h p q =
     let fits : Fits (rank_of h.left) (h.rank - 1) (rank_of h.right) = omega arith in
     let o = plug-opens m root h.context new stands in
     let old_rank : rank_in n high ≡ h.rank = ap rank_or_zero (broken_knot n root high w h) in
-    let pending = pending_up m root h.context new h.rank w distinct stands (fits, h.left_ranked, h.right_ranked) (omega arith) h.round
+    let pending = pending_up m root h.context new h.rank w distinct stands
+    (fits, h.left_ranked, h.right_ranked) (omega arith) h.round
     (sym same ∙ h.is_walk) h.small in
     let rises = round_rises m root h.context (Some high) h.rank h.round o.0 in
     record {
@@ -154,7 +175,9 @@ broken_lower n m root high above e written w h p q =
       rises =
           subst (λ l. IfSome l (λ i. rank_in n high < rank_in m i)) (sym r.holder_is)
           (subst (λ k. IfSome (holder h.context) (λ i. k < rank_in m i)) (sym old_rank) rises);
-      kept = let p = plug-count h.context high old in let q = one-same high in write_kept n m high _ (plug h.context old) w written (omega arith) h.is_walk;
+      kept = let p = plug-count h.context high old in let q =
+          one-same high in write_kept n m high _ (plug h.context old) w written
+          (omega arith) h.is_walk;
     }
 
 pub no_fit : (a k b : ℕ) → ((k ≤ a + 2) × (k ≤ b + 2) × (k ≤ a + b + 1) → ⊥) → IsUnfit a k b
@@ -174,13 +197,16 @@ pub record Sibling (n : Store) (root : Option ℕ) (low : ℕ) (w : List ℕ) (h
   pub one_less : spot.low_rank + 1 ≡ spot.high_rank
   pub three_less : rank_of spot.far + 3 ≡ spot.high_rank
   pub round : IsRankedRound spot.context spot.high_rank
-  pub is_walk : walk (plug spot.context (make spot.side (make spot.side spot.outer low spot.low_rank spot.inner)
+  pub is_walk : walk (plug spot.context
+      (make spot.side (make spot.side spot.outer low spot.low_rank spot.inner)
       spot.high spot.high_rank spot.far)) ≡ w
   pub small : length w < 2 ^ 64
 
 -- a turn comes, where a child of the sibling is one below it
-pub sibling_short : (n : Store) (root : Option ℕ) (low high : ℕ) (w : List ℕ) (h : Sibling n root low w high)
-    → h.spot.low_rank + h.spot.low_rank ≤ rank_of h.spot.outer + rank_of h.spot.inner + 3 → Short n root low w
+pub sibling_short : (n : Store) (root : Option ℕ) (low high : ℕ) (w : List ℕ)
+    (h : Sibling n root low w high)
+    → h.spot.low_rank + h.spot.low_rank ≤ rank_of h.spot.outer + rank_of h.spot.inner + 3
+    → Short n root low w
 sibling_short n root low high w h tall = record {
   spot = h.spot;
   fits = h.fits;
@@ -198,7 +224,8 @@ Left≢Right : Left ≡ Right → ⊥
 Left≢Right e = cc
 
 -- the side that the code takes is that of the higher child
-higher_side : (z : Side) (a b : Tree) → (rank_of a < rank_of b → z ≡ Right) → (rank_of b ≤ rank_of a → z ≡ Left)
+higher_side : (z : Side) (a b : Tree) → (rank_of a < rank_of b → z ≡ Right)
+    → (rank_of b ≤ rank_of a → z ≡ Left)
     → rank_of (near_of z a b) ≡ max (rank_of a) (rank_of b)
 higher_side Left a b f g = elim (cases_lt (rank_of a) (rank_of b)) [
   | inl h ↦ absurd (Left≢Right (f h))
@@ -209,7 +236,8 @@ higher_side Right a b f g = elim (cases_lt (rank_of a) (rank_of b)) [
   | inr h ↦ absurd (Left≢Right (sym (g h)))
 ]
 
-three_less_of : (a k b m n : ℕ) → Nearly a k b → IsUnfit a k b → k < max a b + 2 → m ≡ max a b → m + n ≡ a + b → n + 3 ≡ k
+three_less_of : (a k b m n : ℕ) → Nearly a k b → IsUnfit a k b → k < max a b + 2 → m ≡ max a b
+    → m + n ≡ a + b → n + 3 ≡ k
 three_less_of a k b m n f g h e u = elim (cases_lt (a + 2) k) [
   | inl p ↦ omega arith
   | inr p ↦ elim (cases_lt (b + 2) k) [
@@ -218,22 +246,26 @@ three_less_of a k b m n f g h e u = elim (cases_lt (a + 2) k) [
   ]
 ]
 
-child_near : (z : Side) (p : Option ℕ) (a b : Tree) (k : ℕ) → child_of z (knot Left p (root_of a) k (root_of b)) ≡ root_of (near_of z a b)
+child_near : (z : Side) (p : Option ℕ) (a b : Tree) (k : ℕ)
+    → child_of z (knot Left p (root_of a) k (root_of b)) ≡ root_of (near_of z a b)
 child_near Left p a b k = refl
 child_near Right p a b k = refl
 
 -- the higher child, and what holds of the ranks
-pub record Higher (n : Store) (root : Option ℕ) (high : ℕ) (w : List ℕ) (h : Broken n root high w) (z : Side)
+pub record Higher (n : Store) (root : Option ℕ) (high : ℕ) (w : List ℕ)
+    (h : Broken n root high w) (z : Side)
     (link : Option ℕ) : Type 0 where
   pub link_is : link ≡ root_of (near_of z h.left h.right)
   pub one_less : rank_of (near_of z h.left h.right) + 1 ≡ h.rank
   pub three_less : rank_of (near_of (other_side z) h.left h.right) + 3 ≡ h.rank
 
-pub broken_higher : (n : Store) (root : Option ℕ) (high : ℕ) (above : Knot) (z : Side) → n high ≡ Some above
+pub broken_higher : (n : Store) (root : Option ℕ) (high : ℕ) (above : Knot) (z : Side)
+    → n high ≡ Some above
     → (w : List ℕ) (h : Broken n root high w)
     → (rank_of h.left < rank_of h.right → z ≡ Right) → (rank_of h.right ≤ rank_of h.left → z ≡ Left)
     → IsUnfit (rank_of h.left) h.rank (rank_of h.right)
-    → h.rank < max (rank_of h.left) (rank_of h.right) + 2 → Higher n root high w h z (child_of z above)
+    → h.rank < max (rank_of h.left) (rank_of h.right) + 2
+    → Higher n root high w h z (child_of z above)
 broken_higher n root high above z e w h right left not_fits tight =
     let r = broken_reads n root high above e w h in
     let o = near_nearly z h.left h.right h.rank h.nearly in
@@ -243,16 +275,19 @@ broken_higher n root high above z e w h right left not_fits tight =
     record {
       link_is = ap (child_of z) r.knot_is ∙ child_near z (holder h.context) h.left h.right h.rank;
       one_less = omega arith;
-      three_less = three_less_of (rank_of h.left) h.rank (rank_of h.right) _ _ h.nearly not_fits tight more sum;
+      three_less = three_less_of (rank_of h.left) h.rank
+          (rank_of h.right) _ _ h.nearly not_fits tight more sum;
     }
 
-pub broken_sibling : (n : Store) (root : Option ℕ) (high low : ℕ) (z : Side) (link : Option ℕ) (w : List ℕ) (h : Broken n root high w)
+pub broken_sibling : (n : Store) (root : Option ℕ) (high low : ℕ) (z : Side) (link : Option ℕ)
+    (w : List ℕ) (h : Broken n root high w)
     → Higher n root high w h z link → link ≡ Some low → Sibling n root low w high
 broken_sibling n root high low z link w h up e =
     let near = near_of z h.left h.right in
     let far = near_of (other_side z) h.left h.right in
     let v = open_tree z near low (sym up.link_is ∙ e) in
-    let is : node h.left high h.rank h.right ≡ make z (make z v.near low v.rank v.far) high h.rank far =
+    let is : node h.left high h.rank h.right
+    ≡ make z (make z v.near low v.rank v.far) high h.rank far =
     as_make z h.left high h.rank h.right ∙ ap (λ t. make z t high h.rank far) v.is in
     let near_is = subst IsRanked v.is (near_ranked z h.left h.right h.left_ranked h.right_ranked) in
     let parts = make-ranked-opens z v.near low v.rank v.far near_is in
@@ -284,7 +319,8 @@ broken_sibling n root high low z link w h up e =
     }
 
 -- it is there
-pub higher_some : (n : Store) (root : Option ℕ) (high : ℕ) (z : Side) (link : Option ℕ) (w : List ℕ) (h : Broken n root high w)
+pub higher_some : (n : Store) (root : Option ℕ) (high : ℕ) (z : Side) (link : Option ℕ) (w : List ℕ)
+    (h : Broken n root high w)
     → Higher n root high w h z link → link ≡ None → ⊥
 higher_some n root high z link w h up none =
     let one_less = up.one_less in
@@ -292,11 +328,14 @@ higher_some n root high z link w h up none =
     root-some (near_of z h.left h.right) (omega arith) (sym up.link_is ∙ none)
 
 -- the sibling and the node lose one rank each
-pub sibling_lower : (n m m' : Store) (root : Option ℕ) (low high j k : ℕ) (w : List ℕ) (h : Sibling n root low w high)
+pub sibling_lower : (n m m' : Store) (root : Option ℕ) (low high j k : ℕ) (w : List ℕ)
+    (h : Sibling n root low w high)
     → h.spot.low_rank ≡ rank_of h.spot.outer + 2 → h.spot.low_rank ≡ rank_of h.spot.inner + 2
     → j ≡ h.spot.low_rank - 1 → k ≡ h.spot.high_rank - 1
-    → Written n m low (knot h.spot.side (Some h.spot.high) (root_of h.spot.outer) j (root_of h.spot.inner))
-    → Written m m' h.spot.high (knot h.spot.side (holder h.spot.context) (Some low) k (root_of h.spot.far))
+    → Written n m low (knot h.spot.side (Some h.spot.high) (root_of h.spot.outer) j
+    (root_of h.spot.inner))
+    → Written m m' h.spot.high
+    (knot h.spot.side (holder h.spot.context) (Some low) k (root_of h.spot.far))
     → Lowered m' root h.spot.high n (holder h.spot.context) w
 sibling_lower n m m' root low high j k w h p q ej ek written written' =
     let x = h.spot in
@@ -310,13 +349,17 @@ sibling_lower n m m' root low high j k w h p q ej ek written written' =
     let old = make s old_low x.high x.high_rank x.far in
     let between = make s new_low x.high x.high_rank x.far in
     let new = make s new_low x.high k x.far in
-    let same = make-walk s old_low new_low x.high x.high_rank x.far (same-walk-rank s x.outer low x.low_rank j x.inner) in
+    let same = make-walk s old_low new_low x.high x.high_rank x.far
+    (same-walk-rank s x.outer low x.low_rank j x.inner) in
     let same_whole = plug-walk c old between same in
-    let half = ranked-write n m root (under c s x.high x.high_rank x.far) s x.outer low x.low_rank j x.inner written x.distinct x.stands in
+    let half = ranked-write n m root (under c s x.high x.high_rank x.far) s x.outer low x.low_rank j
+    x.inner written x.distinct x.stands in
     let half_distinct = IsDistinct-walk (plug c old) (plug c between) same_whole x.distinct in
     let link : Some low ≡ root_of new_low = sym (make-root s x.outer low j x.inner) in
-    let high_written = subst (λ l. Written m m' x.high (knot s (holder c) l k (root_of x.far))) link written' in
-    let done = ranked-write m m' root c s new_low x.high x.high_rank k x.far high_written half_distinct half in
+    let high_written = subst (λ l. Written m m' x.high (knot s (holder c) l k (root_of x.far)))
+    link written' in
+    let done = ranked-write m m' root c s new_low x.high x.high_rank k x.far high_written
+    half_distinct half in
     let new_walk = plug-walk c between new (same-walk-rank s new_low x.high x.high_rank k x.far) in
     let low_fits : Fits (rank_of x.outer) j (rank_of x.inner) = omega arith in
     let low_rank = make-rank s x.outer low j x.inner in
@@ -326,21 +369,28 @@ sibling_lower n m m' root low high j k w h p q ej ek written written' =
     let ranked = make-ranked s new_low x.high k x.far fits low_ranked h.far_ranked in
     let o = plug-opens m' root c new done in
     let f2 = spotted n root low x in
-    let old_rank : rank_in n x.high ≡ x.high_rank = ap rank_or_zero f2.at_high ∙ knot_rank s _ _ _ _ in
+    let old_rank : rank_in n x.high ≡ x.high_rank =
+    ap rank_or_zero f2.at_high ∙ knot_rank s _ _ _ _ in
     record {
       pending =
-          pending_up m' root c new x.high_rank w (IsDistinct-walk _ _ new_walk half_distinct) done ranked (omega arith) h.round
+          pending_up m' root c new x.high_rank w (IsDistinct-walk _ _ new_walk half_distinct) done
+          ranked (omega arith) h.round
           (sym new_walk ∙ sym same_whole ∙ h.is_walk) h.small;
       rises =
           subst (λ z. IfSome (holder c) (λ i. z < rank_in m' i)) (sym old_rank)
           (round_rises m' root c (root_of new) x.high_rank h.round o.0);
       kept =
           let at_low : 0 < count low (plug c old) =
-          let f = plug-count c low old in let g = make-count s low old_low x.high x.high_rank x.far in
-          let i = make-count s low x.outer low x.low_rank x.inner in let l = one-same low in omega arith in
+          let f = plug-count c low old in let g =
+          make-count s low old_low x.high x.high_rank x.far in
+          let i = make-count s low x.outer low x.low_rank x.inner in let l =
+          one-same low in omega arith in
           let at_high : 0 < count x.high (plug c old) =
-          let f = plug-count c x.high old in let g = make-count s x.high old_low x.high x.high_rank x.far in let l = one-same x.high in omega arith in
-          both_kept w n m m' (write_kept n m low _ (plug c old) w written at_low h.is_walk) (write_kept m m' x.high _ (plug c old) w written' at_high h.is_walk);
+          let f = plug-count c x.high old in let g =
+          make-count s x.high old_low x.high x.high_rank x.far in let l =
+          one-same x.high in omega arith in
+          both_kept w n m m' (write_kept n m low _ (plug c old) w written at_low h.is_walk)
+          (write_kept m m' x.high _ (plug c old) w written' at_high h.is_walk);
     }
 
 pub spot_apart : (n : Store) (root : Option ℕ) (low : ℕ) (spot : Spot n root low) → spot.high ≢ low
@@ -356,11 +406,13 @@ spot_apart n root low spot e =
 
 -- the repair goes up
 pub mend_falls : (n m : Store) (high : ℕ) (link next : Option ℕ) → link ≡ Some high
-    → IfSome next (λ i. rank_in n high < rank_in m i) → rank_in n high < 256 → ahead m next < ahead n link
+    → IfSome next (λ i. rank_in n high < rank_in m i) → rank_in n high < 256
+    → ahead m next < ahead n link
 mend_falls n m high link None e h small = rw e (omega arith)
 mend_falls n m high link (Some i) e h small = rw e (omega arith)
 
-pub broken_small : (n : Store) (root : Option ℕ) (high : ℕ) (w : List ℕ) → Broken n root high w → rank_in n high < 256
+pub broken_small : (n : Store) (root : Option ℕ) (high : ℕ) (w : List ℕ) → Broken n root high w
+    → rank_in n high < 256
 broken_small n root high w h =
     let r = broken_reads n root high _ (broken_knot n root high w h) w h in
     let e = ap rank_or_zero (broken_knot n root high w h) in
@@ -368,7 +420,8 @@ broken_small n root high w h =
     omega arith
 
 -- what the code of a step reads
-pub record MendReads (n : Store) (root : Option ℕ) (high : ℕ) (w : List ℕ) (h : Broken n root high w) (above : Knot)
+pub record MendReads (n : Store) (root : Option ℕ) (high : ℕ) (w : List ℕ)
+    (h : Broken n root high w) (above : Knot)
     (l r : ℕ) : Type 0 where
   pub rank_is : above.rank ≡ h.rank
   pub left_is : l ≡ rank_of h.left
@@ -376,9 +429,11 @@ pub record MendReads (n : Store) (root : Option ℕ) (high : ℕ) (w : List ℕ)
   pub left_small : rank_of h.left ≤ 127
   pub right_small : rank_of h.right ≤ 127
 
-pub mend_reads : (n : Store) (root : Option ℕ) (high : ℕ) (above : Knot) (l r : ℕ) → n high ≡ Some above
+pub mend_reads : (n : Store) (root : Option ℕ) (high : ℕ) (above : Knot) (l r : ℕ)
+    → n high ≡ Some above
     → ((i : ℕ) → above.left ≡ Some i → IfSome (n i) (λ v. l ≡ v.rank)) → (above.left ≡ None → l ≡ 0)
-    → ((i : ℕ) → above.right ≡ Some i → IfSome (n i) (λ v. r ≡ v.rank)) → (above.right ≡ None → r ≡ 0)
+    → ((i : ℕ) → above.right ≡ Some i → IfSome (n i) (λ v. r ≡ v.rank))
+    → (above.right ≡ None → r ≡ 0)
     → (w : List ℕ) (h : Broken n root high w) → MendReads n root high w h above l r
 mend_reads n root high above l r e ls ln rs rn w h =
     let b = broken_reads n root high above e w h in
@@ -391,21 +446,26 @@ mend_reads n root high above l r e ls ln rs rn w h =
     }
 
 -- what the code found about the rule
-pub not_fit : (b : Bool) (l k r : ℕ) → (IsTrue b ↔ ((k ≤ l + 2) × (k ≤ r + 2) × (k ≤ l + r + 1))) → b ≡ false → IsUnfit l k r
+pub not_fit : (b : Bool) (l k r : ℕ) → (IsTrue b ↔ ((k ≤ l + 2) × (k ≤ r + 2) × (k ≤ l + r + 1)))
+    → b ≡ false → IsUnfit l k r
 not_fit b l k r f e = no_fit l k r (λ q. false≢true (sym e ∙ f.1 q))
 
-not_fit_at : (n : Store) (root : Option ℕ) (high : ℕ) (w : List ℕ) (h : Broken n root high w) (above : Knot) (l r : ℕ)
-    → MendReads n root high w h above l r → IsUnfit l above.rank r → IsUnfit (rank_of h.left) h.rank (rank_of h.right)
+not_fit_at : (n : Store) (root : Option ℕ) (high : ℕ) (w : List ℕ) (h : Broken n root high w)
+    (above : Knot) (l r : ℕ)
+    → MendReads n root high w h above l r → IsUnfit l above.rank r
+    → IsUnfit (rank_of h.left) h.rank (rank_of h.right)
 not_fit_at n root high w h above l r m f p q = let g = f (omega arith) (omega arith) in omega arith
 
-pub mend_higher : (n : Store) (root : Option ℕ) (high : ℕ) (above : Knot) (l r : ℕ) (z : Side) (link : Option ℕ) (w : List ℕ)
+pub mend_higher : (n : Store) (root : Option ℕ) (high : ℕ) (above : Knot) (l r : ℕ) (z : Side)
+    (link : Option ℕ) (w : List ℕ)
     (h : Broken n root high w) → MendReads n root high w h above l r → n high ≡ Some above
     → IsUnfit l above.rank r → above.rank < max l r + 2 → (l < r → z ≡ Right) → (r ≤ l → z ≡ Left)
     → link ≡ child_of z above → Higher n root high w h z link
 mend_higher n root high above l r z link w h m e not_fits tight right left is =
     let not_fits_at = not_fit_at n root high w h above l r m not_fits in
     subst (Higher n root high w h z) (sym is)
-    (broken_higher n root high above z e w h (λ p. right (omega arith)) (λ p. left (omega arith)) not_fits_at (omega arith))
+    (broken_higher n root high above z e w h (λ p. right (omega arith))
+    (λ p. left (omega arith)) not_fits_at (omega arith))
 
 -- what the code reads of the sibling: its rank, and those of its children
 pub record SiblingReads (n : Store) (root : Option ℕ) (low high : ℕ) (w : List ℕ)
@@ -436,11 +496,14 @@ sibling_reads n root low high below l r e ls ln rs rn w h =
     }
 
 -- both lose one rank
-pub mend_lower : (n m m' : Store) (root : Option ℕ) (low high j k : ℕ) (above : Knot) (w : List ℕ) (h : Sibling n root low w high)
-    → n high ≡ Some above → h.spot.low_rank ≡ rank_of h.spot.outer + 2 → h.spot.low_rank ≡ rank_of h.spot.inner + 2
+pub mend_lower : (n m m' : Store) (root : Option ℕ) (low high j k : ℕ) (above : Knot) (w : List ℕ)
+    (h : Sibling n root low w high)
+    → n high ≡ Some above → h.spot.low_rank ≡ rank_of h.spot.outer + 2
+    → h.spot.low_rank ≡ rank_of h.spot.inner + 2
     → j ≡ h.spot.low_rank - 1 → k ≡ above.rank - 1
     → ((v : Knot) → n low ≡ Some v → Written n m low (with_rank j v))
-    → ((v : Knot) → m high ≡ Some v → Written m m' high (with_rank k v)) → Lowered m' root high n above.parent w
+    → ((v : Knot) → m high ≡ Some v → Written m m' high (with_rank k v))
+    → Lowered m' root high n above.parent w
 mend_lower n m m' root low high j k above w h e p q ej ek one_written two_written =
     let x = h.spot in
     let s = x.side in
@@ -449,23 +512,31 @@ mend_lower n m m' root low high j k above w h e p q ej ek one_written two_writte
     let low_written = subst (λ v. Written n m low v)
     (knot_ranked s (Some x.high) (root_of x.outer) x.low_rank j (root_of x.inner)) old_low in
     let knot_at : ℕ → Knot = λ r. knot s (holder x.context) (Some low) r (root_of x.far) in
-    let at_high : m x.high ≡ Some (knot_at x.high_rank) = old_low.elsewhere x.high (spot_apart n root low x) ∙ f.at_high in
-    let old_high = two_written _ (subst (λ i. m i ≡ Some (knot_at x.high_rank)) h.high_is at_high) in
-    let new_high = subst (λ v. Written m m' high v) (knot_ranked s (holder x.context) (Some low) x.high_rank k (root_of x.far)) old_high in
+    let at_high : m x.high ≡ Some (knot_at x.high_rank) =
+    old_low.elsewhere x.high (spot_apart n root low x) ∙ f.at_high in
+    let old_high = two_written _
+    (subst (λ i. m i ≡ Some (knot_at x.high_rank)) h.high_is at_high) in
+    let new_high = subst (λ v. Written m m' high v)
+    (knot_ranked s (holder x.context) (Some low) x.high_rank k (root_of x.far)) old_high in
     let high_written = subst (λ i. Written m m' i (knot_at k)) (sym h.high_is) new_high in
     let above_is : above ≡ knot_at x.high_rank = cc (f.at_high, ap n h.high_is) in
     let high_rank_is : above.rank ≡ x.high_rank = ap (λ v. v.rank) above_is ∙ knot_rank s _ _ _ _ in
-    let done = sibling_lower n m m' root low high j k w h p q ej (ek ∙ ap (λ z. z - 1) high_rank_is) low_written high_written in
+    let done = sibling_lower n m m' root low high j k w h p q ej
+    (ek ∙ ap (λ z. z - 1) high_rank_is) low_written high_written in
     let parent_is : above.parent ≡ holder x.context =
-    ap (λ v. v.parent) above_is ∙ knot_parent s (holder x.context) (Some low) x.high_rank (root_of x.far) in
-    subst (λ i. Lowered m' root i n above.parent w) h.high_is (subst (λ o. Lowered m' root x.high n o w) (sym parent_is) done)
+    ap (λ v. v.parent) above_is ∙ knot_parent s (holder x.context) (Some low) x.high_rank
+    (root_of x.far) in
+    subst (λ i. Lowered m' root i n above.parent w) h.high_is
+    (subst (λ o. Lowered m' root x.high n o w) (sym parent_is) done)
 
 -- a write of a rank where a node stands leaves each node standing
 sets_some : (n m : Store) (i k : ℕ) (o : Option Knot) → n i ≡ o → IsSome o
-    → ((v : Knot) → n i ≡ Some v → Written n m i (with_rank k v)) → (j : ℕ) → IsSome (n j) → IsSome (m j)
+    → ((v : Knot) → n i ≡ Some v → Written n m i (with_rank k v)) → (j : ℕ) → IsSome (n j)
+    → IsSome (m j)
 sets_some n m i k None e h w j l = absurd (false≢true h)
 sets_some n m i k (Some v) e h w j l = write-lives n m i (with_rank k v) (w v e) j l
 
-pub sets_lives : (n m : Store) (i k : ℕ) → IsSome (n i) → ((v : Knot) → n i ≡ Some v → Written n m i (with_rank k v))
+pub sets_lives : (n m : Store) (i k : ℕ) → IsSome (n i)
+    → ((v : Knot) → n i ≡ Some v → Written n m i (with_rank k v))
     → (j : ℕ) → IsSome (n j) → IsSome (m j)
 sets_lives n m i k h w j l = sets_some n m i k (n i) refl h w j l

@@ -7,7 +7,8 @@ use Rattle.rank_tree.specs.Shape.{Represents, count}
 use Rattle.rank_tree.specs.FrameLaws.{one-other}
 use Rattle.rank_tree.specs.SpotLaws.{is_some}
 
-pub counted-lives : (n : Store) (p : Option ℕ) (t : Tree) → Represents n p t → (j : ℕ) → 0 < count j t → IsSome (n j)
+pub counted-lives : (n : Store) (p : Option ℕ) (t : Tree) → Represents n p t → (j : ℕ)
+    → 0 < count j t → IsSome (n j)
 counted-lives n p leaf h j c = absurd (omega arith)
 counted-lives n p (node l i k r) h j c =
     elim (cases_lt 0 (count j l)) [

@@ -1,4 +1,5 @@
-//! A leaf that comes below a node, a node with at most one child that leaves, and one that takes the place of another.
+//! A leaf that comes below a node, a node with at most one child that leaves, and one that takes
+//! the place of another.
 ghost use Rattle.std.specs.Prelude.{◌≡◌, ℕ, Some, None, IsSome};
 ghost use Rattle.std.specs.Option.{option_map};
 ghost use Rattle.rank_tree.specs.Tree.{node, walk};
@@ -18,12 +19,16 @@ pub(crate) fn attach<N, P: PtrCore, K: Knots<N, P>>(
     side: Side,
     new: P::Inx,
 )
-    requires gap { Gap (K.knots knots.old) (option_map P.Inx.number root) (P.Inx.number holder) side (P.Inx.number new) }
+    requires gap { Gap (K.knots knots.old) (option_map P.Inx.number root) (P.Inx.number holder) side
+        (P.Inx.number new) }
     requires slot { K.knots knots.old (P.Inx.number new)
         ≡ Some (new_below (P.Inx.number holder)) }
-    ensures does { (gap : Gap (K.knots knots.old) (option_map P.Inx.number root) (P.Inx.number holder) side (P.Inx.number new))
-        → Grown (K.knots knots.new) (option_map P.Inx.number root) (P.Inx.number new) (walk (filled gap)) }
-    ensures elsewhere { (gap : Gap (K.knots knots.old) (option_map P.Inx.number root) (P.Inx.number holder) side (P.Inx.number new))
+    ensures does { (gap : Gap (K.knots knots.old) (option_map P.Inx.number root)
+        (P.Inx.number holder) side (P.Inx.number new))
+        → Grown (K.knots knots.new) (option_map P.Inx.number root) (P.Inx.number new)
+        (walk (filled gap)) }
+    ensures elsewhere { (gap : Gap (K.knots knots.old) (option_map P.Inx.number root)
+        (P.Inx.number holder) side (P.Inx.number new))
         → KeptOff (walk (filled gap)) (K.knots knots.old) (K.knots knots.new) }
     ensures slot { K.knots knots.new (P.Inx.number new)
         ≡ Some (new_below (P.Inx.number holder)) }
@@ -39,9 +44,12 @@ pub(crate) fn detach<N, P: PtrCore, K: Knots<N, P>>(
     gone: P::Inx,
 ) -> Option<P::Inx>
     requires { Loose (K.knots knots.old) (option_map P.Inx.number root.old) (P.Inx.number gone) }
-    ensures does { (loose : Loose (K.knots knots.old) (option_map P.Inx.number root.old) (P.Inx.number gone))
-        → Pending (K.knots knots.new) (option_map P.Inx.number root.new) (option_map P.Inx.number result) (walk (plug loose.context loose.sub)) }
-    ensures elsewhere { (loose : Loose (K.knots knots.old) (option_map P.Inx.number root.old) (P.Inx.number gone))
+    ensures does { (loose : Loose (K.knots knots.old) (option_map P.Inx.number root.old)
+        (P.Inx.number gone))
+        → Pending (K.knots knots.new) (option_map P.Inx.number root.new)
+        (option_map P.Inx.number result) (walk (plug loose.context loose.sub)) }
+    ensures elsewhere { (loose : Loose (K.knots knots.old) (option_map P.Inx.number root.old)
+        (P.Inx.number gone))
         → KeptOff (walk (plug loose.context loose.sub)) (K.knots knots.old) (K.knots knots.new) }
     ensures keeps { K.rest knots.new ≡ K.rest knots.old }
 {
@@ -59,13 +67,18 @@ pub fn exchange<N, P: PtrCore, K: Knots<N, P>>(
     old: P::Inx,
     new: P::Inx,
 )
-    requires place { Exchange (K.knots knots.old) (option_map P.Inx.number root.old) (P.Inx.number old) (P.Inx.number new) }
+    requires place { Exchange (K.knots knots.old) (option_map P.Inx.number root.old)
+        (P.Inx.number old) (P.Inx.number new) }
     requires slot { IsSome (K.knots knots.old (P.Inx.number new)) }
-    ensures does { (place : Exchange (K.knots knots.old) (option_map P.Inx.number root.old) (P.Inx.number old) (P.Inx.number new))
+    ensures does { (place : Exchange (K.knots knots.old) (option_map P.Inx.number root.old)
+        (P.Inx.number old) (P.Inx.number new))
         → Stands (K.knots knots.new) (option_map P.Inx.number root.new)
         (plug place.context (node place.left (P.Inx.number new) place.rank place.right)) }
-    ensures elsewhere { (place : Exchange (K.knots knots.old) (option_map P.Inx.number root.old) (P.Inx.number old) (P.Inx.number new))
-        → KeptOff (walk (plug place.context (node place.left (P.Inx.number new) place.rank place.right))) (K.knots knots.old) (K.knots knots.new) }
+    ensures elsewhere { (place : Exchange (K.knots knots.old) (option_map P.Inx.number root.old)
+        (P.Inx.number old) (P.Inx.number new))
+        → KeptOff (walk (plug place.context
+        (node place.left (P.Inx.number new) place.rank place.right))) (K.knots knots.old)
+        (K.knots knots.new) }
     ensures keeps { K.rest knots.new ≡ K.rest knots.old }
 {
     let knot = knots.read(old);
@@ -76,8 +89,10 @@ pub fn exchange<N, P: PtrCore, K: Knots<N, P>>(
 }
 
 fn first_child<I: PtrInxCore>(knot: TreeLinks<I>) -> Option<I>
-    ensures left { (i : ℕ) → option_map I.number knot.left ≡ Some i → option_map I.number result ≡ Some i }
-    ensures right { option_map I.number knot.left ≡ None → option_map I.number result ≡ option_map I.number knot.right }
+    ensures left { (i : ℕ) → option_map I.number knot.left ≡ Some i
+        → option_map I.number result ≡ Some i }
+    ensures right { option_map I.number knot.left ≡ None
+        → option_map I.number result ≡ option_map I.number knot.right }
 {
     match knot.left {
         Some(i) => Some(i),

@@ -13,11 +13,14 @@ use unreached::unreached;
 
 /// `low` turns up over its parent of the same rank, or its inner child does, twice.
 fn lean<N, P: PtrCore, K: Knots<N, P>>(knots: &mut K, root: &mut Option<P::Inx>, low: P::Inx)
-    requires leaning { (w : List ℕ) × Leaning (K.knots knots.old) (option_map P.Inx.number root.old) (P.Inx.number low) w }
+    requires leaning { (w : List ℕ)
+        × Leaning (K.knots knots.old) (option_map P.Inx.number root.old) (P.Inx.number low) w }
     requires no_more { ⊤ }
-    ensures does { (w : List ℕ) → Leaning (K.knots knots.old) (option_map P.Inx.number root.old) (P.Inx.number low) w
+    ensures does { (w : List ℕ)
+        → Leaning (K.knots knots.old) (option_map P.Inx.number root.old) (P.Inx.number low) w
         → Restored (K.knots knots.new) (option_map P.Inx.number root.new) w }
-    ensures elsewhere { (w : List ℕ) → Leaning (K.knots knots.old) (option_map P.Inx.number root.old) (P.Inx.number low) w
+    ensures elsewhere { (w : List ℕ)
+        → Leaning (K.knots knots.old) (option_map P.Inx.number root.old) (P.Inx.number low) w
         → KeptOff w (K.knots knots.old) (K.knots knots.new) }
     ensures keeps { K.rest knots.new ≡ K.rest knots.old }
 {
@@ -44,11 +47,14 @@ pub(crate) fn repair_inserted<N, P: PtrCore, K: Knots<N, P>>(
     root: &mut Option<P::Inx>,
     start: P::Inx,
 )
-    requires grown { (w : List ℕ) × Grown (K.knots knots.old) (option_map P.Inx.number root.old) (P.Inx.number start) w }
+    requires grown { (w : List ℕ)
+        × Grown (K.knots knots.old) (option_map P.Inx.number root.old) (P.Inx.number start) w }
     requires no_more { ⊤ }
-    ensures does { (w : List ℕ) → Grown (K.knots knots.old) (option_map P.Inx.number root.old) (P.Inx.number start) w
+    ensures does { (w : List ℕ)
+        → Grown (K.knots knots.old) (option_map P.Inx.number root.old) (P.Inx.number start) w
         → Restored (K.knots knots.new) (option_map P.Inx.number root.new) w }
-    ensures elsewhere { (w : List ℕ) → Grown (K.knots knots.old) (option_map P.Inx.number root.old) (P.Inx.number start) w
+    ensures elsewhere { (w : List ℕ)
+        → Grown (K.knots knots.old) (option_map P.Inx.number root.old) (P.Inx.number start) w
         → KeptOff w (K.knots knots.old) (K.knots knots.new) }
     ensures keeps { K.rest knots.new ≡ K.rest knots.old }
 {
@@ -82,12 +88,15 @@ pub fn bring_in<N, P: PtrCore, K: Knots<N, P>>(
     side: Side,
     new: P::Inx,
 )
-    requires gap { Gap (K.knots knots.old) (option_map P.Inx.number root.old) (P.Inx.number holder) side (P.Inx.number new) }
+    requires gap { Gap (K.knots knots.old) (option_map P.Inx.number root.old)
+        (P.Inx.number holder) side (P.Inx.number new) }
     requires slot { K.knots knots.old (P.Inx.number new)
         ≡ Some (new_below (P.Inx.number holder)) }
-    ensures does { (gap : Gap (K.knots knots.old) (option_map P.Inx.number root.old) (P.Inx.number holder) side (P.Inx.number new))
+    ensures does { (gap : Gap (K.knots knots.old) (option_map P.Inx.number root.old)
+        (P.Inx.number holder) side (P.Inx.number new))
         → Restored (K.knots knots.new) (option_map P.Inx.number root.new) (walk (filled gap)) }
-    ensures elsewhere { (gap : Gap (K.knots knots.old) (option_map P.Inx.number root.old) (P.Inx.number holder) side (P.Inx.number new))
+    ensures elsewhere { (gap : Gap (K.knots knots.old) (option_map P.Inx.number root.old)
+        (P.Inx.number holder) side (P.Inx.number new))
         → KeptOff (walk (filled gap)) (K.knots knots.old) (K.knots knots.new) }
     ensures keeps { K.rest knots.new ≡ K.rest knots.old }
 {

@@ -8,8 +8,9 @@ ghost use Rattle.rank_tree.specs.Named.{named};
 use crate::{Side, TreeLinks, side_of};
 use triple_arena_ptr::PtrCore;
 
-/// A place that keeps the nodes of a tree by the indexes of a pointer type, and whatever else beside them. `N` is the type of what
-/// it keeps the nodes in, so that the crate of that type can write the `impl` for an arena of another crate.
+/// A place that keeps the nodes of a tree by the indexes of a pointer type, and whatever else
+/// beside them. `N` is the type of what it keeps the nodes in, so that the crate of that type can
+/// write the `impl` for an arena of another crate.
 pub trait Knots<N, P: PtrCore> {
     // The node at each index.
     ghost knots: { Self → Store };
@@ -29,21 +30,24 @@ pub trait Knots<N, P: PtrCore> {
     fn write(&mut self, i: P::Inx, knot: &TreeLinks<P::Inx>)
         requires live { IsSome (knots self.old (P.Inx.number i)) }
         requires no_more { ⊤ }
-        ensures written { Written (knots self.old) (knots self.new) (P.Inx.number i) (named P.Inx.number knot.now) }
+        ensures written { Written (knots self.old) (knots self.new) (P.Inx.number i)
+            (named P.Inx.number knot.now) }
         ensures keeps { rest self.new ≡ rest self.old };
 
     /// A node gets another parent.
     fn set_parent(&mut self, i: P::Inx, parent: &Option<P::Inx>)
         requires { IsSome (knots self.old (P.Inx.number i)) }
         ensures does { (v : Knot) → knots self.old (P.Inx.number i) ≡ Some v
-            → Written (knots self.old) (knots self.new) (P.Inx.number i) (with_parent (option_map P.Inx.number parent.now) v) }
+            → Written (knots self.old) (knots self.new) (P.Inx.number i)
+            (with_parent (option_map P.Inx.number parent.now) v) }
         ensures keeps { rest self.new ≡ rest self.old };
 
     /// A node gets another child on a side.
     fn set_child(&mut self, i: P::Inx, side: Side, child: &Option<P::Inx>)
         requires { IsSome (knots self.old (P.Inx.number i)) }
         ensures does { (v : Knot) → knots self.old (P.Inx.number i) ≡ Some v
-            → Written (knots self.old) (knots self.new) (P.Inx.number i) (with_child side (option_map P.Inx.number child.now) v) }
+            → Written (knots self.old) (knots self.new) (P.Inx.number i)
+            (with_child side (option_map P.Inx.number child.now) v) }
         ensures keeps { rest self.new ≡ rest self.old };
 
     /// A node gets another rank.
@@ -63,7 +67,8 @@ pub fn reparent<N, P: PtrCore, K: Knots<N, P>>(
 )
     requires live { IfSome link (λ i. IsSome (K.knots knots.old (P.Inx.number i))) }
     requires no_more { ⊤ }
-    ensures does { Reparented (K.knots knots.old) (K.knots knots.new) (option_map P.Inx.number link) (option_map P.Inx.number parent) }
+    ensures does { Reparented (K.knots knots.old) (K.knots knots.new) (option_map P.Inx.number link)
+        (option_map P.Inx.number parent) }
     ensures keeps { K.rest knots.new ≡ K.rest knots.old }
 {
     if let Some(i) = link {
@@ -81,7 +86,8 @@ pub(crate) fn relink<N, P: PtrCore, K: Knots<N, P>>(
 )
     requires live { IfSome holder (λ i. IsSome (K.knots knots.old (P.Inx.number i))) }
     requires no_more { ⊤ }
-    ensures does { Relinked (K.knots knots.old) (K.knots knots.new) (option_map P.Inx.number root.old) (option_map P.Inx.number root.new)
+    ensures does { Relinked (K.knots knots.old) (K.knots knots.new)
+        (option_map P.Inx.number root.old) (option_map P.Inx.number root.new)
         (option_map P.Inx.number holder) (P.Inx.number from) (option_map P.Inx.number to) }
     ensures keeps { K.rest knots.new ≡ K.rest knots.old }
 {
@@ -98,7 +104,8 @@ pub(crate) fn relink<N, P: PtrCore, K: Knots<N, P>>(
 pub(crate) fn rank_at<N, P: PtrCore, K: Knots<N, P>>(knots: &K, link: Option<P::Inx>) -> u8
     requires live { IfSome link (λ i. IsSome (K.knots knots.now (P.Inx.number i))) }
     requires no_more { ⊤ }
-    ensures some { (i : ℕ) → option_map P.Inx.number link ≡ Some i → IfSome (K.knots knots.now i) (λ v. result ≡ v.rank) }
+    ensures some { (i : ℕ) → option_map P.Inx.number link ≡ Some i
+        → IfSome (K.knots knots.now i) (λ v. result ≡ v.rank) }
     ensures none { option_map P.Inx.number link ≡ None → result ≡ 0 }
 {
     match link {

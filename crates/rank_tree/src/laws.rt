@@ -5,16 +5,18 @@ ghost use Rattle.rank_tree.specs.Store.{Store};
 ghost use Rattle.rank_tree.specs.Tree.{Tree, IsRanked, height, rank_of, size};
 ghost use Rattle.rank_tree.specs.Shape.{Stands};
 
-/// No path in a tree that keeps the rules has more nodes than the rank r of its root. A tree of n nodes, if n is not 0, has
-/// `2^(r+1) <= (n+1)^2`.
+/// No path in a tree that keeps the rules has more nodes than the rank r of its root. A tree of n
+/// nodes, if n is not 0, has `2^(r+1) <= (n+1)^2`.
 pub fn paths_are_short()
     ensures high { (t : Tree) → IsRanked t → height t ≤ rank_of t }
-    ensures low { (t : Tree) → IsRanked t → 0 < size t → 2 ^ (rank_of t + 1) ≤ (size t + 1) * (size t + 1) }
+    ensures low { (t : Tree) → IsRanked t → 0 < size t
+        → 2 ^ (rank_of t + 1) ≤ (size t + 1) * (size t + 1) }
 {}
 
 /// The nodes determine the tree that hangs from a root.
 pub fn nodes_determine_the_tree()
-    ensures { (nodes : Store) (root : Option ℕ) (t u : Tree) → Stands nodes root t → Stands nodes root u → t ≡ u }
+    ensures { (nodes : Store) (root : Option ℕ) (t u : Tree) → Stands nodes root t
+        → Stands nodes root u → t ≡ u }
 {}
 
 /// The halving tree of a list keeps the rules, and a list has no more than one.

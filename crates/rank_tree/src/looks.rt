@@ -24,7 +24,8 @@ pub(crate) fn look_around<N, P: PtrCore, K: Knots<N, P>>(knots: &K, low: P::Inx)
     requires spot { (root : Option ℕ) × Spot (K.knots knots.now) root (P.Inx.number low) }
     requires no_more { ⊤ }
     ensures { (root : Option ℕ) → (spot : Spot (K.knots knots.now) root (P.Inx.number low))
-        → IsAround (K.knots knots.now) root (P.Inx.number low) spot (P.Inx.number result.high) (option_map P.Inx.number result.inner)
+        → IsAround (K.knots knots.now) root (P.Inx.number low) spot (P.Inx.number result.high)
+        (option_map P.Inx.number result.inner)
         result.low_rank result.high_rank result.outer_rank result.inner_rank result.far_rank }
 {
     let below = knots.read(low);

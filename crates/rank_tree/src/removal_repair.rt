@@ -16,11 +16,14 @@ use unreached::unreached;
 
 /// The higher child `low` turns up, or its inner child does, twice.
 fn shorten<N, P: PtrCore, K: Knots<N, P>>(knots: &mut K, root: &mut Option<P::Inx>, low: P::Inx)
-    requires short { (w : List ℕ) × Short (K.knots knots.old) (option_map P.Inx.number root.old) (P.Inx.number low) w }
+    requires short { (w : List ℕ)
+        × Short (K.knots knots.old) (option_map P.Inx.number root.old) (P.Inx.number low) w }
     requires no_more { ⊤ }
-    ensures does { (w : List ℕ) → Short (K.knots knots.old) (option_map P.Inx.number root.old) (P.Inx.number low) w
+    ensures does { (w : List ℕ)
+        → Short (K.knots knots.old) (option_map P.Inx.number root.old) (P.Inx.number low) w
         → Restored (K.knots knots.new) (option_map P.Inx.number root.new) w }
-    ensures elsewhere { (w : List ℕ) → Short (K.knots knots.old) (option_map P.Inx.number root.old) (P.Inx.number low) w
+    ensures elsewhere { (w : List ℕ)
+        → Short (K.knots knots.old) (option_map P.Inx.number root.old) (P.Inx.number low) w
         → KeptOff w (K.knots knots.old) (K.knots knots.new) }
     ensures keeps { K.rest knots.new ≡ K.rest knots.old }
 {
@@ -63,12 +66,16 @@ fn mend<N, P: PtrCore, K: Knots<N, P>>(
     root: &mut Option<P::Inx>,
     high: P::Inx,
 ) -> Option<P::Inx>
-    requires { (w : List ℕ) × Broken (K.knots knots.old) (option_map P.Inx.number root.old) (P.Inx.number high) w }
-    ensures pending { (w : List ℕ) → Broken (K.knots knots.old) (option_map P.Inx.number root.old) (P.Inx.number high) w
-        → Pending (K.knots knots.new) (option_map P.Inx.number root.new) (option_map P.Inx.number result) w }
+    requires { (w : List ℕ)
+        × Broken (K.knots knots.old) (option_map P.Inx.number root.old) (P.Inx.number high) w }
+    ensures pending { (w : List ℕ)
+        → Broken (K.knots knots.old) (option_map P.Inx.number root.old) (P.Inx.number high) w
+        → Pending (K.knots knots.new) (option_map P.Inx.number root.new)
+        (option_map P.Inx.number result) w }
     ensures rises { IfSome result (λ i. rank_in (K.knots knots.old) (P.Inx.number high)
         < rank_in (K.knots knots.new) (P.Inx.number i)) }
-    ensures elsewhere { (w : List ℕ) → Broken (K.knots knots.old) (option_map P.Inx.number root.old) (P.Inx.number high) w
+    ensures elsewhere { (w : List ℕ)
+        → Broken (K.knots knots.old) (option_map P.Inx.number root.old) (P.Inx.number high) w
         → KeptOff w (K.knots knots.old) (K.knots knots.new) }
     ensures keeps { K.rest knots.new ≡ K.rest knots.old }
 {
@@ -104,11 +111,17 @@ pub(crate) fn repair_removed<N, P: PtrCore, K: Knots<N, P>>(
     root: &mut Option<P::Inx>,
     start: Option<P::Inx>,
 )
-    requires pending { (w : List ℕ) × Pending (K.knots knots.old) (option_map P.Inx.number root.old) (option_map P.Inx.number start) w }
+    requires pending { (w : List ℕ)
+        × Pending (K.knots knots.old) (option_map P.Inx.number root.old)
+        (option_map P.Inx.number start) w }
     requires no_more { ⊤ }
-    ensures does { (w : List ℕ) → Pending (K.knots knots.old) (option_map P.Inx.number root.old) (option_map P.Inx.number start) w
+    ensures does { (w : List ℕ)
+        → Pending (K.knots knots.old) (option_map P.Inx.number root.old)
+        (option_map P.Inx.number start) w
         → Restored (K.knots knots.new) (option_map P.Inx.number root.new) w }
-    ensures elsewhere { (w : List ℕ) → Pending (K.knots knots.old) (option_map P.Inx.number root.old) (option_map P.Inx.number start) w
+    ensures elsewhere { (w : List ℕ)
+        → Pending (K.knots knots.old) (option_map P.Inx.number root.old)
+        (option_map P.Inx.number start) w
         → KeptOff w (K.knots knots.old) (K.knots knots.new) }
     ensures keeps { K.rest knots.new ≡ K.rest knots.old }
 {
@@ -118,17 +131,22 @@ pub(crate) fn repair_removed<N, P: PtrCore, K: Knots<N, P>>(
     }
 }
 
-/// Takes the node at `gone`, which has no child on one side, out of the tree. After it the rules hold.
+/// Takes the node at `gone`, which has no child on one side, out of the tree. After it the rules
+/// hold.
 pub fn bring_out<N, P: PtrCore, K: Knots<N, P>>(
     knots: &mut K,
     root: &mut Option<P::Inx>,
     gone: P::Inx,
 )
-    requires loose { Loose (K.knots knots.old) (option_map P.Inx.number root.old) (P.Inx.number gone) }
+    requires loose { Loose (K.knots knots.old) (option_map P.Inx.number root.old)
+        (P.Inx.number gone) }
     requires no_more { ⊤ }
-    ensures does { (loose : Loose (K.knots knots.old) (option_map P.Inx.number root.old) (P.Inx.number gone))
-        → Restored (K.knots knots.new) (option_map P.Inx.number root.new) (walk (plug loose.context loose.sub)) }
-    ensures elsewhere { (loose : Loose (K.knots knots.old) (option_map P.Inx.number root.old) (P.Inx.number gone))
+    ensures does { (loose : Loose (K.knots knots.old) (option_map P.Inx.number root.old)
+        (P.Inx.number gone))
+        → Restored (K.knots knots.new) (option_map P.Inx.number root.new)
+        (walk (plug loose.context loose.sub)) }
+    ensures elsewhere { (loose : Loose (K.knots knots.old) (option_map P.Inx.number root.old)
+        (P.Inx.number gone))
         → KeptOff (walk (plug loose.context loose.sub)) (K.knots knots.old) (K.knots knots.new) }
     ensures keeps { K.rest knots.new ≡ K.rest knots.old }
 {

@@ -33,7 +33,8 @@ impl<I: PtrInxCore> TreeLinks<I> {
 
     /// The same with another child on a side.
     pub fn with_child(self, side: Side, child: Option<I>) -> TreeLinks<I>
-        ensures { named I.number result ≡ with_child side (option_map I.number child) (named I.number self) }
+        ensures { named I.number result ≡ with_child side (option_map I.number child)
+            (named I.number self) }
     {
         match side {
             Side::Left => TreeLinks {
@@ -48,7 +49,8 @@ impl<I: PtrInxCore> TreeLinks<I> {
     }
 }
 
-/// The side on which a node has this child: the left one if it is the left child, and else the right one.
+/// The side on which a node has this child: the left one if it is the left child, and else the
+/// right one.
 pub fn side_of<I: PtrInxCore>(knot: TreeLinks<I>, child: I) -> Side
     ensures left { option_map I.number knot.left ≡ Some (I.number child) → result ≡ Side.Left }
     ensures right { option_map I.number knot.left ≢ Some (I.number child) → result ≡ Side.Right }

@@ -20,9 +20,12 @@ pub(crate) fn turn<N, P: PtrCore, K: Knots<N, P>>(
 )
     requires spot { Spot (K.knots knots.old) (option_map P.Inx.number root.old) (P.Inx.number low) }
     requires no_more { ⊤ }
-    ensures does { (spot : Spot (K.knots knots.old) (option_map P.Inx.number root.old) (P.Inx.number low))
-        → Stands (K.knots knots.new) (option_map P.Inx.number root.new) (turned spot low_rank high_rank) }
-    ensures elsewhere { (spot : Spot (K.knots knots.old) (option_map P.Inx.number root.old) (P.Inx.number low))
+    ensures does { (spot : Spot (K.knots knots.old) (option_map P.Inx.number root.old)
+        (P.Inx.number low))
+        → Stands (K.knots knots.new) (option_map P.Inx.number root.new)
+        (turned spot low_rank high_rank) }
+    ensures elsewhere { (spot : Spot (K.knots knots.old) (option_map P.Inx.number root.old)
+        (P.Inx.number low))
         → KeptOff (walk (turned spot low_rank high_rank)) (K.knots knots.old) (K.knots knots.new) }
     ensures keeps { K.rest knots.new ≡ K.rest knots.old }
 {
@@ -65,7 +68,8 @@ fn turn_on<N, P: PtrCore, K: Knots<N, P>>(
         (P.Inx.number low)) → Stands (K.knots knots.new) (option_map P.Inx.number root.new)
         (turned spot low_rank high_rank) }
     ensures elsewhere { (spot : Spot (K.knots knots.old) (option_map P.Inx.number root.old)
-        (P.Inx.number low)) → KeptOff (walk (turned spot low_rank high_rank)) (K.knots knots.old) (K.knots knots.new) }
+        (P.Inx.number low)) → KeptOff (walk (turned spot low_rank high_rank)) (K.knots knots.old)
+        (K.knots knots.new) }
     ensures keeps { K.rest knots.new ≡ K.rest knots.old }
 {
     let below = knots.read(low);

@@ -3,8 +3,8 @@ use Rattle.std.specs.Prelude.{ℕ, ◌-◌, ◌^◌, Option, Some, None, min, na
 use Rattle.triple_arena_ptr.specs.Index.{max_index_of}
 use Rattle.triple_arena_stack.specs.Room.{Room, capacity, with_reserved}
 
--- the greatest capacity of an arena over a stack with this limit, if there is one: every entry has an index of the
--- pointer's type, of which this is the greatest
+-- the greatest capacity of an arena over a stack with this limit, if there is one: every entry has
+-- an index of the pointer's type, of which this is the greatest
 abbrev pub index_limit : ℕ → Option ℕ → Option ℕ
 index_limit greatest (Some limit) = Some (min limit (max_index_of greatest))
 index_limit greatest None = if nat_lt greatest (2 ^ 64 - 1) then Some greatest else None

@@ -1,5 +1,6 @@
--- What each exact state after a compression holds, of an `Arena` and of a `DirectArena`: the entry at each index, how many are
--- live, how far the slots reach, the counter, the free indexes, the room, and that the slots are within it.
+-- What each exact state after a compression holds, of an `Arena` and of a `DirectArena`: the entry
+-- at each index, how many are live, how far the slots reach, the counter, the free indexes, the
+-- room, and that the slots are within it.
 use Rattle.std.proofs.Common.{◌≡◌, Bool, ℕ, zero, suc, ◌+◌, ◌-◌, List, [], ◌∷◌, length, map, get_or, slice_get, count_by, cond, Option, Some, None, is_some, refl, ap, ◌∙◌, arith}
 use Rattle.std.specs.List.{zip}
 use Rattle.std.specs.Option.{option_map}
@@ -27,7 +28,8 @@ module _ {X : Type 0} where
       omega (arith, rest, more)
 
 -- a list beside one that is as long is as long
-length-zip : {X Y : Type 0} (xs : List X) (ys : List Y) → length xs ≡ length ys → length (zip xs ys) ≡ length ys
+length-zip : {X Y : Type 0} (xs : List X) (ys : List Y) → length xs ≡ length ys
+    → length (zip xs ys) ≡ length ys
 length-zip [] [] same = refl
 length-zip [] (y ∷ ys) same = absurd (omega (arith, same))
 length-zip (x ∷ xs) [] same = refl
@@ -38,11 +40,13 @@ module _ {T : Type 0} where
   abbrev entry : ℕ → T → ℕ × T
   entry g t = (g, t)
 
-  held : (g : ℕ) (values : List T) → map (λ t. Some (entry g t)) values ≡ map Some (map (entry g) values)
+  held : (g : ℕ) (values : List T)
+      → map (λ t. Some (entry g t)) values ≡ map Some (map (entry g) values)
   held g [] = refl
   held g (t ∷ values) = ap (λ l. Some (entry g t) ∷ l) (held g values)
 
-  read : (g : ℕ) (values : List T) (k : ℕ) → slice_get (map (entry g) values) k ≡ option_map (entry g) (slice_get values k)
+  read : (g : ℕ) (values : List T) (k : ℕ)
+      → slice_get (map (entry g) values) k ≡ option_map (entry g) (slice_get values k)
   read g [] k = refl
   read g (t ∷ values) zero = refl
   read g (t ∷ values) (suc k) = read g values k
@@ -51,7 +55,8 @@ module _ {T : Type 0} where
   pub length-values : (c : Content T) → length (map value_of (live_entries c)) ≡ live_count c
   length-values c = length-map (live_entries c) value_of ∙ live_entries-length c
 
-  pub length-direct_values : (d : DirectContent T) → length (map value_of (direct_live_entries d)) ≡ direct_live_count d
+  pub length-direct_values : (d : DirectContent T)
+      → length (map value_of (direct_live_entries d)) ≡ direct_live_count d
   length-direct_values d = length-values (as_content d)
 
   -- the values stand at the indexes from 1 on, with this generation
@@ -65,44 +70,57 @@ module _ {T : Type 0} where
       ∙ full_reads (map (entry g) values) k
       ∙ read g values k
 
-  pub live-compacted : (g : ℕ) (values : List T) (c : Content T) → live_count (compacted g values c) ≡ length values
+  pub live-compacted : (g : ℕ) (values : List T) (c : Content T)
+      → live_count (compacted g values c) ≡ length values
   live-compacted g values c =
-      ap (count_by is_some) (held g values) ∙ full_counts (map (entry g) values) ∙ length-map values (entry g)
+      ap (count_by is_some) (held g values) ∙ full_counts
+      (map (entry g) values) ∙ length-map values (entry g)
 
-  pub slots-compacted : (g : ℕ) (values : List T) (c : Content T) → length (compacted g values c).slots ≡ length values
+  pub slots-compacted : (g : ℕ) (values : List T) (c : Content T)
+      → length (compacted g values c).slots ≡ length values
   slots-compacted g values c = length-map values (λ t. Some (entry g t))
 
-  pub counter-compacted : (g : ℕ) (values : List T) (c : Content T) → (compacted g values c).counter ≡ g
+  pub counter-compacted : (g : ℕ) (values : List T) (c : Content T)
+      → (compacted g values c).counter ≡ g
   counter-compacted g values c = refl
 
   pub free-compacted : (g : ℕ) (values : List T) (c : Content T) → (compacted g values c).free ≡ []
   free-compacted g values c = refl
 
-  pub room-compacted : (g : ℕ) (values : List T) (c : Content T) → (compacted g values c).room ≡ c.room
+  pub room-compacted : (g : ℕ) (values : List T) (c : Content T)
+      → (compacted g values c).room ≡ c.room
   room-compacted g values c = refl
 
-  pub formed-compacted : (g : ℕ) (values : List T) (c : Content T) → length values ≡ live_count c → IsWellFormed c
+  pub formed-compacted : (g : ℕ) (values : List T) (c : Content T) → length values ≡ live_count c
+      → IsWellFormed c
       → IsWellFormed (compacted g values c)
   formed-compacted g values c same formed =
       let live = live-compacted g values c in
       let slots = slots-compacted g values c in
       let counted = formed.counted in
       let fits = formed.fits in
-      record { free = tt; counted = omega (arith, live, slots); fits = omega (arith, slots, same, counted, fits) }
+      record {
+        free = tt;
+        counted = omega (arith, live, slots);
+        fits = omega (arith, slots, same, counted, fits);
+      }
 
   abbrev renewals : Option ℕ → DirectContent T → Bool → List ℕ
   renewals last d reset = map (renewed last reset) (map generation_of (direct_live_entries d))
 
-  renewals-length : (last : Option ℕ) (d : DirectContent T) (reset : Bool) → length (renewals last d reset) ≡ direct_live_count d
+  renewals-length : (last : Option ℕ) (d : DirectContent T) (reset : Bool)
+      → length (renewals last d reset) ≡ direct_live_count d
   renewals-length last d reset =
       length-map (map generation_of (direct_live_entries d)) (renewed last reset)
       ∙ length-map (direct_live_entries d) generation_of
       ∙ live_entries-length (as_content d)
 
   -- the values stand at the indexes from 1 on, each beside its own generation renewed
-  pub entry-compressed : (last : Option ℕ) (d : DirectContent T) (reset : Bool) (values : List T) (k : ℕ)
+  pub entry-compressed : (last : Option ℕ) (d : DirectContent T) (reset : Bool)
+      (values : List T) (k : ℕ)
       → direct_entry_at (compressed last d reset values) (k + 1)
-      ≡ slice_get (zip (map (renewed last reset) (map generation_of (direct_live_entries d))) values) k
+      ≡ slice_get (zip (map (renewed last reset)
+      (map generation_of (direct_live_entries d))) values) k
   entry-compressed last d reset values k =
       let back : k + 1 - 1 ≡ k = omega arith in
       let slots = (compressed last d reset values).slots in
@@ -110,7 +128,8 @@ module _ {T : Type 0} where
       ∙ ap (λ n. get_or slots n None) back
       ∙ full_reads (zip (renewals last d reset) values) k
 
-  pub live-compressed : (last : Option ℕ) (d : DirectContent T) (reset : Bool) (values : List T) → length values ≡ direct_live_count d
+  pub live-compressed : (last : Option ℕ) (d : DirectContent T) (reset : Bool) (values : List T)
+      → length values ≡ direct_live_count d
       → direct_live_count (compressed last d reset values) ≡ direct_live_count d
   live-compressed last d reset values same =
       let old = renewals-length last d reset in
@@ -118,7 +137,8 @@ module _ {T : Type 0} where
       let zipped = length-zip (renewals last d reset) values (omega (arith, old, same)) in
       omega (arith, all, zipped, same)
 
-  pub slots-compressed : (last : Option ℕ) (d : DirectContent T) (reset : Bool) (values : List T) → length values ≡ direct_live_count d
+  pub slots-compressed : (last : Option ℕ) (d : DirectContent T) (reset : Bool) (values : List T)
+      → length values ≡ direct_live_count d
       → length (compressed last d reset values).slots ≡ direct_live_count d
   slots-compressed last d reset values same =
       let old = renewals-length last d reset in
@@ -126,10 +146,12 @@ module _ {T : Type 0} where
       let zipped = length-zip (renewals last d reset) values (omega (arith, old, same)) in
       omega (arith, all, zipped, same)
 
-  pub room-compressed : (last : Option ℕ) (d : DirectContent T) (reset : Bool) (values : List T) → (compressed last d reset values).room ≡ d.room
+  pub room-compressed : (last : Option ℕ) (d : DirectContent T) (reset : Bool) (values : List T)
+      → (compressed last d reset values).room ≡ d.room
   room-compressed last d reset values = refl
 
-  pub formed-compressed : (last : Option ℕ) (d : DirectContent T) (reset : Bool) (values : List T) → length values ≡ direct_live_count d
+  pub formed-compressed : (last : Option ℕ) (d : DirectContent T) (reset : Bool) (values : List T)
+      → length values ≡ direct_live_count d
       → IsDirectlyWellFormed d → IsDirectlyWellFormed (compressed last d reset values)
   formed-compressed last d reset values same formed =
       let slots = slots-compressed last d reset values same in

@@ -5,7 +5,8 @@ use Rattle.triple_arena_ptr.specs.Generation.{second_generation, next_generation
 use Rattle.triple_arena.specs.Content.{Content}
 use Rattle.triple_arena.specs.LiveEntries.{live_entries}
 
--- the generation after this one: with a reset the second, else the next, where `last` is the last one
+-- the generation after this one: with a reset the second, else the next, where `last` is the last
+-- one
 abbrev pub renewed : Option ℕ → Bool → ℕ → ℕ
 renewed last reset g = if reset then second_generation last else next_generation last g
 
@@ -13,12 +14,14 @@ renewed last reset g = if reset then second_generation last else next_generation
 abbrev pub renewal_wraps : Option ℕ → Bool → ℕ → Bool
 renewal_wraps last reset g = if reset then false else next_wraps last g
 
--- the generation that an entry is given: that of the counter, or its own one renewed where there is no counter
+-- the generation that an entry is given: that of the counter, or its own one renewed where there is
+-- no counter
 abbrev pub generation_given : Option ℕ → Bool → Option ℕ → ℕ → ℕ
 generation_given last reset None own = renewed last reset own
 generation_given last reset (Some counter) own = renewed last reset counter
 
--- whether a step starts the generations again: of the counter, or of an entry's own one where there is no counter
+-- whether a step starts the generations again: of the counter, or of an entry's own one where there
+-- is no counter
 abbrev pub compression_wraps : Option ℕ → Bool → Option ℕ → List ℕ → Bool
 compression_wraps last reset None generations = list_any (renewal_wraps last reset) generations
 compression_wraps last reset (Some counter) generations = renewal_wraps last reset counter
@@ -49,9 +52,11 @@ module _ {T : Type 0} where
 
   -- the entries stand at the indexes from 1 on
   abbrev pub IsCompact : List (ℕ × (ℕ × T)) → Type 0
-  IsCompact entries = (k : ℕ) (entry : ℕ × (ℕ × T)) → slice_get entries k ≡ Some entry → index_of entry ≡ k + 1
+  IsCompact entries = (k : ℕ) (entry : ℕ × (ℕ × T)) → slice_get entries k ≡ Some entry
+      → index_of entry ≡ k + 1
 
-  -- the content with these values alone, at the indexes from 1 on, where the entries and the counter have this generation
+  -- the content with these values alone, at the indexes from 1 on, where the entries and the
+  -- counter have this generation
   abbrev pub compacted : ℕ → List T → Content T → Content T
   compacted g values c = record c { slots = map (λ t. Some (g, t)) values; counter = g; free = [] }
 
@@ -71,9 +76,10 @@ module _ {P T : Type 0} (index generation : P → ℕ) where
   abbrev pub entry_after : Move P T → ℕ × (ℕ × T)
   entry_after move = listed_under move.to move.given
 
-  -- a map was called once at each of the entries `old`, in their order, with the pointers that belong to it and to
-  -- its place in `new`, and gave the values of `new`
-  pub record IsMapped {F : Type 0} (step : F → P → T → P → T → F → Type 0) (f : F) (old new : List (ℕ × (ℕ × T))) : Type 0 where
+  -- a map was called once at each of the entries `old`, in their order, with the pointers that
+  -- belong to it and to its place in `new`, and gave the values of `new`
+  pub record IsMapped {F : Type 0} (step : F → P → T → P → T → F → Type 0) (f : F)
+      (old new : List (ℕ × (ℕ × T))) : Type 0 where
     pub moves : List (Move P T)
     pub last : F
     pub calls : FoldsTo (λ g move h. step g move.from move.value move.to move.given h) f moves last

@@ -9,9 +9,9 @@ use Rattle.triple_arena_stack.specs.Room.{Room, capacity, room_after, limited}
 use Rattle.triple_arena.specs.Entries.{value_if}
 use Rattle.triple_arena.specs.ArenaRoom.{room_with}
 
--- the generation and the value at each index, from index 1 on, or nothing where it is free; the generation of the
--- next entry; the free indexes, the next one to be taken first; and the room: the reserved slots, and the greatest
--- capacity, if there is one
+-- the generation and the value at each index, from index 1 on, or nothing where it is free; the
+-- generation of the next entry; the free indexes, the next one to be taken first; and the room: the
+-- reserved slots, and the greatest capacity, if there is one
 pub record Content (T : Type 0) : Type 0 where
   pub slots : List (Option (ℕ × T))
   pub counter : ℕ
@@ -23,9 +23,15 @@ abbrev pub content_code : {T : Type 0} → Coded T → Coded (Content T)
 content_code {T} code =
     code_by
     (List (Option (ℕ × T)) × (ℕ × (List ℕ × (ℕ × Option ℕ))))
-    (coded× (coded_list (coded_option (coded× coded_ℕ code))) (coded× coded_ℕ (coded× (coded_list coded_ℕ) (coded× coded_ℕ (coded_option coded_ℕ)))))
+    (coded× (coded_list (coded_option (coded× coded_ℕ code)))
+    (coded× coded_ℕ (coded× (coded_list coded_ℕ) (coded× coded_ℕ (coded_option coded_ℕ)))))
     (λ c. (c.slots, (c.counter, (c.free, (c.room.reserved, c.room.limit)))))
-    (λ p. record { slots = p.0; counter = p.1.0; free = p.1.1.0; room = record { reserved = p.1.1.1.0; limit = p.1.1.1.1 } })
+    (λ p. record {
+      slots = p.0;
+      counter = p.1.0;
+      free = p.1.1.0;
+      room = record { reserved = p.1.1.1.0; limit = p.1.1.1.1 };
+    })
     (λ _. refl)
 
 -- an index is not on a list
@@ -73,9 +79,11 @@ module _ {T : Type 0} where
     where
       at_first : List ℕ → Content T
       at_first [] = record c { slots = c.slots ++ Some (c.counter, t) ∷ [] }
-      at_first (index ∷ rest) = record c { slots = slice_set c.slots (index - 1) (Some (c.counter, t)); free = rest }
+      at_first (index ∷ rest)
+          = record c { slots = slice_set c.slots (index - 1) (Some (c.counter, t)); free = rest }
 
-  -- the content with no entry at this index, which is live: the last slot goes, another is the next one to be taken
+  -- the content with no entry at this index, which is live: the last slot goes, another is the next
+  -- one to be taken
   abbrev pub vacated : Content T → ℕ → Content T
   vacated c index =
       if index == length c.slots
@@ -147,18 +155,24 @@ module _ {T : Type 0} where
   abbrev pub last_index : Content T → ℕ
   last_index c = length c.slots - suffix_len is_none c.slots
 
-  -- the content with no free slot after the last live one: the free indexes past that go, the others keep their order
+  -- the content with no free slot after the last live one: the free indexes past that go, the
+  -- others keep their order
   abbrev pub without_free_end : Content T → Content T
   without_free_end c =
-      record c { slots = take (last_index c) c.slots; free = filter (λ index. nat_le index (last_index c)) c.free }
+      record c {
+        slots = take (last_index c) c.slots;
+        free = filter (λ index. nat_le index (last_index c)) c.free;
+      }
 
-  -- the content with no slot past this number, where no live one is past it: the free slots at the end go
+  -- the content with no slot past this number, where no live one is past it: the free slots at the
+  -- end go
   abbrev pub fitted : Content T → ℕ → Content T
   fitted c max = if nat_lt max (length c.slots) then without_free_end c else c
 
   -- the content with this greatest capacity, or that of the greatest index where it is less
   abbrev pub with_limit : ℕ → Content T → ℕ → Content T
-  with_limit greatest c max = in_room (fitted c max) (limited c.room (min max (max_index_of greatest)))
+  with_limit greatest c max
+      = in_room (fitted c max) (limited c.room (min max (max_index_of greatest)))
 
   -- the indexes of the free ones among slots that have the indexes from this one on, rising
   abbrev pub vacant_from : ℕ → List (Option (ℕ × T)) → List ℕ
@@ -181,7 +195,8 @@ module _ {T : Type 0} where
   AllVacant c [] = Unit {0}
   AllVacant c (index ∷ rest) = IsVacant c index × (Lacks rest index × AllVacant c rest)
 
-  -- the free indexes are those of the slots that are not live, each once, and the slots are within the capacity
+  -- the free indexes are those of the slots that are not live, each once, and the slots are within
+  -- the capacity
   pub record IsWellFormed (c : Content T) : Type 0 where
     pub free : AllVacant c c.free
     pub counted : live_count c + length c.free ≡ length c.slots

@@ -1,5 +1,5 @@
--- The entries of a content by their slots, what carries the free indexes over from one content to another, and what a
--- write of a value changes and keeps.
+-- The entries of a content by their slots, what carries the free indexes over from one content to
+-- another, and what a write of a value changes and keeps.
 use Rattle.std.proofs.Common.{◌≡◌, ◌≢◌, ◌==◌, if◌then◌else◌, ℕ, zero, suc, ◌+◌, ◌-◌, ◌<◌, ◌≤◌, List, [], ◌∷◌, length, get_or, set, cond, Option, Some, None, IsSome, is_some, true≢false, inl, inr, refl, sym, ap, subst, ◌∙◌, arith}
 use Rattle.std.proofs.lemmas.Bool.{eq-eqb, ne_eqb}
 use Rattle.std.proofs.lemmas.Bool.Decides.{eqb_tells}
@@ -18,16 +18,19 @@ module _ {T : Type 0} where
       let back : k ≡ suc k - 1 = omega arith in
       ap (λ n. get_or c.slots n None) back
 
-  pub within_slots : (xs : List (Option (ℕ × T))) (k : ℕ) (e : ℕ × T) → get_or xs k None ≡ Some e → k < length xs
+  pub within_slots : (xs : List (Option (ℕ × T))) (k : ℕ) (e : ℕ × T) → get_or xs k None ≡ Some e
+      → k < length xs
   within_slots [] k e found = absurd (cc)
   within_slots (x ∷ xs) zero e found = omega arith
   within_slots (x ∷ xs) (suc k) e found = let h = within_slots xs k e found in omega arith
 
   -- what is live has a value under its generation
-  pub live_value : (entries : ℕ → Option (ℕ × T)) (i g : ℕ) → generation_at entries i ≡ Some g → None ≡ value_if g (entries i) → ⊥
+  pub live_value : (entries : ℕ → Option (ℕ × T)) (i g : ℕ) → generation_at entries i ≡ Some g
+      → None ≡ value_if g (entries i) → ⊥
   live_value entries i g live none = by_entry (entries i) live none
     where
-      by_entry : (o : Option (ℕ × T)) → option_map (λ (e : ℕ × T). e.0) o ≡ Some g → None ≡ value_if g o → ⊥
+      by_entry : (o : Option (ℕ × T)) → option_map (λ (e : ℕ × T). e.0) o ≡ Some g
+          → None ≡ value_if g o → ⊥
       by_entry None live none = absurd (cc)
       by_entry (Some e) live none =
           let same : e.0 ≡ g = cc in
@@ -61,15 +64,23 @@ module _ {T : Type 0} where
       by_entry None e some = absurd (true≢false (sym some))
       by_entry (Some x) e some =
           elim (eqb_tells i 0) [
-            | inl none ↦ absurd (let read : entry_at c 0 ≡ Some x = subst (λ n. entry_at c n ≡ Some x) none.1 e in cc)
+            | inl none ↦ absurd (let read : entry_at c 0 ≡ Some x =
+                subst (λ n. entry_at c n ≡ Some x) none.1 e in cc)
             | inr other ↦
                 let positive : 0 < i = omega (arith, other.1) in
                 let read = sym (entry_at_slot c i positive) ∙ e in
-                record { entry = x; is = e; positive = positive; within = within_slots c.slots (i - 1) x read; read = read }
+                record {
+                  entry = x;
+                  is = e;
+                  positive = positive;
+                  within = within_slots c.slots (i - 1) x read;
+                  read = read;
+                }
           ]
 
   -- a write of the slot at an index from 1 on
-  pub entry-set : (c c' : Content T) (i j : ℕ) (o : Option (ℕ × T)) → 0 < i → i - 1 < length c.slots → c'.slots ≡ set c.slots (i - 1) o
+  pub entry-set : (c c' : Content T) (i j : ℕ) (o : Option (ℕ × T)) → 0 < i → i - 1 < length c.slots
+      → c'.slots ≡ set c.slots (i - 1) o
       → entry_at c' j ≡ (if j == i then o else entry_at c j)
   entry-set c c' i zero o positive within written = rw (ne_eqb 0 i (λ e. omega arith)) refl
   entry-set c c' i (suc k) o positive within written =
@@ -83,7 +94,8 @@ module _ {T : Type 0} where
       ]
 
   -- the entries are those of the slots
-  pub entry-same_slots : (c d : Content T) → c.slots ≡ d.slots → (j : ℕ) → entry_at c j ≡ entry_at d j
+  pub entry-same_slots : (c d : Content T) → c.slots ≡ d.slots → (j : ℕ)
+      → entry_at c j ≡ entry_at d j
   entry-same_slots c d same zero = refl
   entry-same_slots c d same (suc k) = ap (λ xs. get_or xs k None) same
 
@@ -93,13 +105,15 @@ module _ {T : Type 0} where
   entry-no_slots c none (suc k) = rw none refl
 
   -- each live index is within the capacity
-  pub live-within : (c : Content T) → IsWellFormed c → (j : ℕ) → IsSome (entry_at c j) → j ≤ arena_capacity c
+  pub live-within : (c : Content T) → IsWellFormed c → (j : ℕ) → IsSome (entry_at c j)
+      → j ≤ arena_capacity c
   live-within c formed j some =
       let l = live_entry c j some in
       omega (arith, l.positive, l.within, formed.fits)
 
   -- a live index is not a free one
-  pub live-lacks : (c : Content T) (i : ℕ) → IsSome (entry_at c i) → (l : List ℕ) → AllVacant c l → Lacks l i
+  pub live-lacks : (c : Content T) (i : ℕ) → IsSome (entry_at c i) → (l : List ℕ)
+      → AllVacant c l → Lacks l i
   live-lacks c i some [] all = tt
   live-lacks c i some (j ∷ l) all =
       let differs : j ≢ i =
@@ -108,31 +122,43 @@ module _ {T : Type 0} where
       (differs, live-lacks c i some l all.1.1)
 
   -- free indexes stay free where the slots are no fewer and no entry comes
-  pub vacant-kept : (c d : Content T) → length c.slots ≤ length d.slots → ((j : ℕ) → entry_at c j ≡ None → entry_at d j ≡ None) → (l : List ℕ)
+  pub vacant-kept : (c d : Content T) → length c.slots ≤ length d.slots
+      → ((j : ℕ) → entry_at c j ≡ None → entry_at d j ≡ None) → (l : List ℕ)
       → AllVacant c l → AllVacant d l
   vacant-kept c d more none [] all = tt
   vacant-kept c d more none (j ∷ l) all =
       let first = all.0 in (
-        record { positive = first.positive; within = omega (arith, more, first.within); vacant = none j first.vacant },
+        record {
+          positive = first.positive;
+          within = omega (arith, more, first.within);
+          vacant = none j first.vacant;
+        },
         (all.1.0, vacant-kept c d more none l all.1.1),
       )
 
   -- the same of all indexes but one, which is none of them
-  pub vacant-others : (c d : Content T) (i : ℕ) → ((j : ℕ) → j ≢ i → j ≤ length c.slots → j ≤ length d.slots)
+  pub vacant-others : (c d : Content T) (i : ℕ)
+      → ((j : ℕ) → j ≢ i → j ≤ length c.slots → j ≤ length d.slots)
       → ((j : ℕ) → j ≢ i → entry_at c j ≡ None → entry_at d j ≡ None)
       → (l : List ℕ) → Lacks l i → AllVacant c l → AllVacant d l
   vacant-others c d i within none [] lacks all = tt
   vacant-others c d i within none (j ∷ l) lacks all =
       let first = all.0 in (
-        record { positive = first.positive; within = within j lacks.0 first.within; vacant = none j lacks.0 first.vacant },
+        record {
+          positive = first.positive;
+          within = within j lacks.0 first.within;
+          vacant = none j lacks.0 first.vacant;
+        },
         (all.1.0, vacant-others c d i within none l lacks.1 all.1.1),
       )
 
   -- a write of a value changes the entry at its index alone
-  pub entry-with_value : (c : Content T) (i : ℕ) (t : T) (j : ℕ) → entry_at (with_value c i t) j ≡ with_value_at (entry_at c) i t j
+  pub entry-with_value : (c : Content T) (i : ℕ) (t : T) (j : ℕ)
+      → entry_at (with_value c i t) j ≡ with_value_at (entry_at c) i t j
   entry-with_value c i t j = by_entry (entry_at c i) refl
     where
-      by_entry : (o : Option (ℕ × T)) → entry_at c i ≡ o → entry_at (with_value c i t) j ≡ with_value_at (entry_at c) i t j
+      by_entry : (o : Option (ℕ × T)) → entry_at c i ≡ o
+          → entry_at (with_value c i t) j ≡ with_value_at (entry_at c) i t j
       by_entry None e =
           elim (eqb_tells j i) [
             | inl same ↦ rw (same.0, e) (ap (entry_at c) same.1 ∙ e)
@@ -141,20 +167,24 @@ module _ {T : Type 0} where
       by_entry (Some x) e =
           let some : IsSome (entry_at c i) = rw e refl in
           let l = live_entry c i some in
-          rw e (entry-set c (record c { slots = set c.slots (i - 1) (Some (x.0, t)) }) i j (Some (x.0, t)) l.positive l.within refl)
+          rw e (entry-set c (record c { slots = set c.slots (i - 1) (Some (x.0, t)) }) i j
+          (Some (x.0, t)) l.positive l.within refl)
 
   -- a write of a value changes the slots alone, and keeps their number and how many are live
-  slots-changed : (c : Content T) (i : ℕ) (t : T) → with_value c i t ≡ record c { slots = (with_value c i t).slots }
+  slots-changed : (c : Content T) (i : ℕ) (t : T)
+      → with_value c i t ≡ record c { slots = (with_value c i t).slots }
   slots-changed c i t = by_entry (entry_at c i) refl
     where
-      by_entry : (o : Option (ℕ × T)) → entry_at c i ≡ o → with_value c i t ≡ record c { slots = (with_value c i t).slots }
+      by_entry : (o : Option (ℕ × T)) → entry_at c i ≡ o
+          → with_value c i t ≡ record c { slots = (with_value c i t).slots }
       by_entry None e = rw e refl
       by_entry (Some x) e = rw e refl
 
   pub counter-with_value : (c : Content T) (i : ℕ) (t : T) → (with_value c i t).counter ≡ c.counter
   counter-with_value c i t = ap (λ d. d.counter) (slots-changed c i t)
 
-  pub some_counter-with_value : (c : Content T) (i : ℕ) (t : T) → Some (with_value c i t).counter ≡ Some c.counter
+  pub some_counter-with_value : (c : Content T) (i : ℕ) (t : T)
+      → Some (with_value c i t).counter ≡ Some c.counter
   some_counter-with_value c i t = ap Some (counter-with_value c i t)
 
   pub room-with_value : (c : Content T) (i : ℕ) (t : T) → (with_value c i t).room ≡ c.room
@@ -163,46 +193,59 @@ module _ {T : Type 0} where
   pub free-with_value : (c : Content T) (i : ℕ) (t : T) → (with_value c i t).free ≡ c.free
   free-with_value c i t = ap (λ d. d.free) (slots-changed c i t)
 
-  pub slots-with_value : (c : Content T) (i : ℕ) (t : T) → length (with_value c i t).slots ≡ length c.slots
+  pub slots-with_value : (c : Content T) (i : ℕ) (t : T)
+      → length (with_value c i t).slots ≡ length c.slots
   slots-with_value c i t = by_entry (entry_at c i) refl
     where
-      by_entry : (o : Option (ℕ × T)) → entry_at c i ≡ o → length (with_value c i t).slots ≡ length c.slots
+      by_entry : (o : Option (ℕ × T)) → entry_at c i ≡ o
+          → length (with_value c i t).slots ≡ length c.slots
       by_entry None e = rw e refl
       by_entry (Some x) e = rw e (length-set c.slots (i - 1) (Some (x.0, t)))
 
   -- the next index is still free
-  pub next-with_value : (c : Content T) (i : ℕ) (t : T) → next_index (with_value c i t) ≡ next_index c
+  pub next-with_value : (c : Content T) (i : ℕ) (t : T)
+      → next_index (with_value c i t) ≡ next_index c
   next-with_value c i t = by_entry (entry_at c i) refl
     where
-      by_entry : (o : Option (ℕ × T)) → entry_at c i ≡ o → next_index (with_value c i t) ≡ next_index c
+      by_entry : (o : Option (ℕ × T)) → entry_at c i ≡ o
+          → next_index (with_value c i t) ≡ next_index c
       by_entry None e = rw e refl
       by_entry (Some x) e = rw e (first_free c.free)
         where
-          first_free : (l : List ℕ) → next_index (record c { slots = set c.slots (i - 1) (Some (x.0, t)); free = l }) ≡ next_index (record c { free = l })
+          first_free : (l : List ℕ)
+              → next_index (record c { slots = set c.slots (i - 1) (Some (x.0, t)); free = l })
+              ≡ next_index (record c { free = l })
           first_free [] = ap (λ n. n + 1) (length-set c.slots (i - 1) (Some (x.0, t)))
           first_free (j ∷ l) = refl
 
-  pub live-with_value : (c : Content T) (i : ℕ) (t : T) → live_count (with_value c i t) ≡ live_count c
+  pub live-with_value : (c : Content T) (i : ℕ) (t : T)
+      → live_count (with_value c i t) ≡ live_count c
   live-with_value c i t = by_entry (entry_at c i) refl
     where
-      by_entry : (o : Option (ℕ × T)) → entry_at c i ≡ o → live_count (with_value c i t) ≡ live_count c
+      by_entry : (o : Option (ℕ × T)) → entry_at c i ≡ o
+          → live_count (with_value c i t) ≡ live_count c
       by_entry None e = rw e refl
       by_entry (Some x) e =
           let some : IsSome (entry_at c i) = rw e refl in
           let l = live_entry c i some in
-          let counted = rw l.read at (sum_by-set (λ o. cond (is_some o) 1 0) c.slots (i - 1) (Some (x.0, t)) None l.within) in
+          let counted = rw l.read at
+          (sum_by-set (λ o. cond (is_some o) 1 0) c.slots (i - 1)
+          (Some (x.0, t)) None l.within) in
           rw e (omega (arith, counted))
 
-  none-with_value : (c : Content T) (i : ℕ) (t : T) (j : ℕ) → entry_at c j ≡ None → entry_at (with_value c i t) j ≡ None
+  none-with_value : (c : Content T) (i : ℕ) (t : T) (j : ℕ) → entry_at c j ≡ None
+      → entry_at (with_value c i t) j ≡ None
   none-with_value c i t j none =
       entry-with_value c i t j
       ∙ elim (eqb_tells j i) [
-        | inl same ↦ let at : entry_at c i ≡ None = subst (λ n. entry_at c n ≡ None) same.1 none in rw (same.0, at) refl
+        | inl same ↦ let at : entry_at c i ≡ None =
+            subst (λ n. entry_at c n ≡ None) same.1 none in rw (same.0, at) refl
         | inr other ↦ rw other.0 none
       ]
 
   -- a write of a value keeps a content well-formed
-  pub formed-with_value : (c : Content T) (i : ℕ) (t : T) → IsWellFormed c → IsWellFormed (with_value c i t)
+  pub formed-with_value : (c : Content T) (i : ℕ) (t : T) → IsWellFormed c
+      → IsWellFormed (with_value c i t)
   formed-with_value c i t formed =
       let slots = slots-with_value c i t in
       let live = live-with_value c i t in
@@ -212,7 +255,8 @@ module _ {T : Type 0} where
       let counted = formed.counted in
       let fits = formed.fits in
       record {
-        free = rw free (vacant-kept c (with_value c i t) (omega (arith, slots)) (none-with_value c i t) c.free formed.free);
+        free = rw free (vacant-kept c (with_value c i t) (omega (arith, slots))
+            (none-with_value c i t) c.free formed.free);
         counted = omega (arith, slots, live, lists, counted);
         fits = omega (arith, slots, room, fits);
       }

@@ -1,5 +1,6 @@
--- What a copy of an arena is: the same pointers, with the values that a map gives. A source is seen as the list of its live
--- entries, each an index, a generation and a value, in the order of the indexes.
+-- What a copy of an arena is: the same pointers, with the values that a map gives. A source is seen
+-- as the list of its live entries, each an index, a generation and a value, in the order of the
+-- indexes.
 use Rattle.std.specs.Prelude.{◌≡◌, ℕ, ◌+◌, ◌-◌, ◌<◌, Bool, IsTrue, ◌⊎◌, List, [], ◌∷◌, ◌++◌, map, replicate, slice_get, Option, Some, None, unwrap_or, Result, Ok, Err}
 use Rattle.std.specs.Borrow.{Bor}
 use Rattle.std.specs.List.{FoldsTo, last_or}
@@ -18,13 +19,15 @@ module _ {T : Type 0} where
   abbrev pub last_listed : List (ℕ × (ℕ × T)) → ℕ
   last_listed entries = unwrap_or (last_or None (map index_of entries)) 0
 
-  -- the slots from index n on that hold these entries: up to the last of them, and free between them
+  -- the slots from index n on that hold these entries: up to the last of them, and free between
+  -- them
   abbrev pub spread : ℕ → List (ℕ × (ℕ × T)) → List (Option (ℕ × T))
   spread n [] = []
-  spread n (entry ∷ entries) = replicate (entry.0 - n) None ++ Some entry.1 ∷ spread (entry.0 + 1) entries
+  spread n (entry ∷ entries) = replicate (entry.0 - n) None ++ Some entry.1
+      ∷ spread (entry.0 + 1) entries
 
-  -- the content with these entries alone, with this counter if there is one, where the free indexes rise; it has room
-  -- for the last of them
+  -- the content with these entries alone, with this counter if there is one, where the free indexes
+  -- rise; it has room for the last of them
   abbrev pub copied : Content T → Option ℕ → List (ℕ × (ℕ × T)) → Content T
   copied c counter entries =
       record {
@@ -36,11 +39,13 @@ module _ {T : Type 0} where
 
   -- the same of an arena without a counter and without a list of free indexes
   abbrev pub directly_copied : DirectContent T → List (ℕ × (ℕ × T)) → DirectContent T
-  directly_copied d entries = record { slots = spread 1 entries; room = room_with (last_listed entries) d.room }
+  directly_copied d entries
+      = record { slots = spread 1 entries; room = room_with (last_listed entries) d.room }
 
   -- not each of these values is cloned without fail
   abbrev pub MayRefuse : (T → Type 0) → List (ℕ × (ℕ × T)) → Type 0
-  MayRefuse infallible entries = ((k : ℕ) (entry : ℕ × (ℕ × T)) → slice_get entries k ≡ Some entry → infallible (value_of entry)) → ⊥
+  MayRefuse infallible entries = ((k : ℕ) (entry : ℕ × (ℕ × T)) → slice_get entries k ≡ Some entry
+      → infallible (value_of entry)) → ⊥
 
 -- a call of a map: the pointer, the value that was lent to it, and what it gave
 pub record Call (P U T : Type 0) : Type 0 where
@@ -51,22 +56,27 @@ pub record Call (P U T : Type 0) : Type 0 where
 module _ {P U T E F : Type 0} (step : F → P → Bor U → Result T E → F → Type 0) where
   -- these calls were made one after another, and none refused
   abbrev pub Calls : F → List (Call P U T) → F → Type 0
-  Calls f calls last = FoldsTo (λ g call h. step g call.pointer call.lent (Ok call.given) h) f calls last
+  Calls f calls last = FoldsTo (λ g call h. step g call.pointer call.lent (Ok call.given) h)
+      f calls last
 
   -- no call refuses
   abbrev pub NeverRefuses : Type 0
   NeverRefuses = (f : F) (p : P) (u : Bor U) (e : E) (g : F) → step f p u (Err e) g → ⊥
 
-module _ {P U T E F : Type 0} (index generation : P → ℕ) (step : F → P → Bor U → Result T E → F → Type 0) where
-  -- a map was called once at each entry of `old`, in their order, and made the entries of `new`, with the same pointers
-  pub record IsMappedCopy (f : F) (old : List (ℕ × (ℕ × U))) (new : List (ℕ × (ℕ × T))) : Type 0 where
+module _ {P U T E F : Type 0} (index generation : P → ℕ) (step : F → P → Bor U → Result T E → F
+    → Type 0) where
+  -- a map was called once at each entry of `old`, in their order, and made the entries of `new`,
+  -- with the same pointers
+  pub record IsMappedCopy (f : F) (old : List (ℕ × (ℕ × U))) (new : List (ℕ × (ℕ × T)))
+      : Type 0 where
     pub calls : List (Call P U T)
     pub last : F
     pub made : Calls step f calls last
     pub before : map (λ call. listed_under index generation call.pointer call.lent.now) calls ≡ old
     pub after : map (λ call. listed_under index generation call.pointer call.given) calls ≡ new
 
-  -- a map was called once at each of the first entries of `old`, in their order, up to one that it refused
+  -- a map was called once at each of the first entries of `old`, in their order, up to one that it
+  -- refused
   pub record IsRefusedCopy (f : F) (old : List (ℕ × (ℕ × U))) : Type 0 where
     pub calls : List (Call P U T)
     pub refusing : F
@@ -77,22 +87,27 @@ module _ {P U T E F : Type 0} (index generation : P → ℕ) (step : F → P →
     pub rest : List (ℕ × (ℕ × U))
     pub made : Calls step f calls refusing
     pub refused : step refusing pointer lent (Err error) last
-    pub before : map (λ call. listed_under index generation call.pointer call.lent.now) calls ++ listed_under index generation pointer lent.now ∷ rest ≡ old
+    pub before : map (λ call. listed_under index generation call.pointer call.lent.now) calls
+        ++ listed_under index generation pointer lent.now ∷ rest ≡ old
 
-module _ {S T U : Type 0} (entry_of : S → ℕ → Option (ℕ × T)) (live_of : S → ℕ) (counter_of : S → Option ℕ) (room_of : S → Room) where
-  -- as many entries as the source has, with its pointers and its counter, where both have one, and with room for its last
-  -- index
-  pub record IsCopy (source : ℕ → Option (ℕ × U)) (source_live last : ℕ) (source_counter : Option ℕ) (old new : S) : Type 0 where
+module _ {S T U : Type 0} (entry_of : S → ℕ → Option (ℕ × T)) (live_of : S → ℕ)
+    (counter_of : S → Option ℕ) (room_of : S → Room) where
+  -- as many entries as the source has, with its pointers and its counter, where both have one, and
+  -- with room for its last index
+  pub record IsCopy (source : ℕ → Option (ℕ × U)) (source_live last : ℕ) (source_counter : Option ℕ)
+      (old new : S) : Type 0 where
     pub pointers : (j : ℕ) → generation_at (entry_of new) j ≡ generation_at source j
     pub live : live_of new ≡ source_live
     pub counter : counter_of new ≡ option_map (λ own. unwrap_or source_counter own) (counter_of old)
     pub room : room_of new ≡ room_with last (room_of old)
 
-module _ {S T : Type 0} (entry_of : S → ℕ → Option (ℕ × T)) (live_of : S → ℕ) (counter_of : S → Option ℕ) (room_of : S → Room) where
-  -- why no copy was made where no capacity forbids one: the growth to the last index was refused, and all stays; or the map
-  -- refused, and the arena was grown and then cleared
+module _ {S T : Type 0} (entry_of : S → ℕ → Option (ℕ × T)) (live_of : S → ℕ)
+    (counter_of : S → Option ℕ) (room_of : S → Room) where
+  -- why no copy was made where no capacity forbids one: the growth to the last index was refused,
+  -- and all stays; or the map refused, and the arena was grown and then cleared
   abbrev pub IsUnmadeCopy : Bool → Option ℕ → ℕ → (S → S) → Type 0 → S → S → Type 0
   IsUnmadeCopy takes_memory last_generation last emptied refused old new =
       (IsTrue takes_memory × (capacity (room_of old) < last) × (new ≡ old))
-      ⊎ (refused × IsNew entry_of live_of counter_of room_of (option_map (next_generation last_generation) (counter_of old))
+      ⊎ (refused × IsNew entry_of live_of counter_of room_of
+      (option_map (next_generation last_generation) (counter_of old))
       (room_with last (room_of old)) new × (new ≡ emptied old))

@@ -11,8 +11,8 @@ use Rattle.triple_arena.specs.LiveEntries.{live_entries as live_entries_of}
 use Rattle.triple_arena.specs.Compression.{renewed, generation_of}
 use Rattle.triple_arena.specs.Transfer.{filled as filled_of}
 
--- the generation and the value at each index, from index 1 on, or nothing where it is free; and the room: the reserved
--- slots, and the greatest capacity, if there is one
+-- the generation and the value at each index, from index 1 on, or nothing where it is free; and the
+-- room: the reserved slots, and the greatest capacity, if there is one
 pub record DirectContent (T : Type 0) : Type 0 where
   pub slots : List (Option (ℕ × T))
   pub room : Room
@@ -22,7 +22,8 @@ abbrev pub direct_code : {T : Type 0} → Coded T → Coded (DirectContent T)
 direct_code {T} code =
     code_by
     (List (Option (ℕ × T)) × (ℕ × Option ℕ))
-    (coded× (coded_list (coded_option (coded× coded_ℕ code))) (coded× coded_ℕ (coded_option coded_ℕ)))
+    (coded× (coded_list (coded_option (coded× coded_ℕ code)))
+    (coded× coded_ℕ (coded_option coded_ℕ)))
     (λ d. (d.slots, (d.room.reserved, d.room.limit)))
     (λ p. record { slots = p.0; room = record { reserved = p.1.0; limit = p.1.1 } })
     (λ _. refl)
@@ -76,7 +77,8 @@ module _ {T : Type 0} where
 
   -- the content with one more entry, at this index, which is free
   abbrev pub inserted : DirectContent T → ℕ → ℕ → T → DirectContent T
-  inserted d index g t = record d { slots = slice_set (reaching index d.slots) (index - 1) (Some (g, t)) }
+  inserted d index g t = record d
+      { slots = slice_set (reaching index d.slots) (index - 1) (Some (g, t)) }
 
   -- the content with no entry at this index, which is live: its slot stays, and is free
   abbrev pub removed : DirectContent T → ℕ → DirectContent T
@@ -94,12 +96,16 @@ module _ {T : Type 0} where
   abbrev pub with_generation : DirectContent T → ℕ → ℕ → DirectContent T
   with_generation d index g = of_content (with_generation_of (as_content d) index g)
 
-  -- the content with the generation after that of this entry, if there is one, at an index, if it is live
-  abbrev pub with_next_generation : Option ℕ → DirectContent T → ℕ → Option (ℕ × T) → DirectContent T
+  -- the content with the generation after that of this entry, if there is one, at an index, if it
+  -- is live
+  abbrev pub with_next_generation : Option ℕ → DirectContent T → ℕ → Option (ℕ × T)
+      → DirectContent T
   with_next_generation last d index None = d
-  with_next_generation last d index (Some entry) = with_generation d index (next_generation last entry.0)
+  with_next_generation last d index (Some entry)
+      = with_generation d index (next_generation last entry.0)
 
-  -- the content after the pointer to the entry at this index ended: the entry has the generation after its own
+  -- the content after the pointer to the entry at this index ended: the entry has the generation
+  -- after its own
   abbrev pub invalidated : Option ℕ → DirectContent T → ℕ → DirectContent T
   invalidated last d index = with_next_generation last d index (entry_at d index)
 
@@ -107,10 +113,14 @@ module _ {T : Type 0} where
   abbrev pub cleared : DirectContent T → DirectContent T
   cleared d = record d { slots = [] }
 
-  -- the content with these values alone, at the indexes from 1 on, each with its own generation renewed
+  -- the content with these values alone, at the indexes from 1 on, each with its own generation
+  -- renewed
   abbrev pub compressed : Option ℕ → DirectContent T → Bool → List T → DirectContent T
   compressed last d reset values =
-      record d { slots = map Some (zip (map (renewed last reset) (map generation_of (live_entries d))) values) }
+      record d {
+        slots = map Some
+            (zip (map (renewed last reset) (map generation_of (live_entries d))) values);
+      }
 
   -- the greatest live index, or 0 where no index is live
   abbrev pub last_index : DirectContent T → ℕ
@@ -120,8 +130,8 @@ module _ {T : Type 0} where
   abbrev pub without_free_end : DirectContent T → DirectContent T
   without_free_end d = of_content (without_free_end_of (as_content d))
 
-  -- the content with this greatest capacity, or that of the greatest index where it is less: where slots are past it,
-  -- the free slots at the end go
+  -- the content with this greatest capacity, or that of the greatest index where it is less: where
+  -- slots are past it, the free slots at the end go
   abbrev pub with_limit : ℕ → DirectContent T → ℕ → DirectContent T
   with_limit greatest d max = of_content (with_limit_of greatest (as_content d) max)
 
@@ -133,7 +143,8 @@ module _ {T : Type 0} where
   abbrev pub reallocated : DirectContent T → ℕ → DirectContent T
   reallocated d least = in_room d (room_with least d.room)
 
-  -- the content with these values alone, so many, at the indexes from 1 on, each with this generation, in a room for them
+  -- the content with these values alone, so many, at the indexes from 1 on, each with this
+  -- generation, in a room for them
   abbrev pub filled : DirectContent T → ℕ → ℕ → List T → DirectContent T
   filled d n g values = of_content (filled_of (as_content d) n g values)
 

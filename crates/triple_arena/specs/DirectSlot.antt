@@ -1,4 +1,5 @@
--- What a contract sees of a slot of a `DirectArena`: the generation and the value of what it holds, or nothing.
+-- What a contract sees of a slot of a `DirectArena`: the generation and the value of what it holds,
+-- or nothing.
 use Rattle.std.specs.Prelude.{ℕ, Option}
 use Rattle.std.specs.Option.{option_map}
 

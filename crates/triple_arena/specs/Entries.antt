@@ -8,8 +8,8 @@ abbrev pub number_if : Bool → ℕ → Option ℕ
 number_if true n = Some n
 number_if false n = None
 
--- whether the step from this counter starts the generations again, where this is the last one; what has no counter
--- steps none
+-- whether the step from this counter starts the generations again, where this is the last one; what
+-- has no counter steps none
 abbrev pub counter_wraps : Option ℕ → Option ℕ → Bool
 counter_wraps last None = false
 counter_wraps last (Some g) = next_wraps last g
@@ -43,21 +43,25 @@ module _ {T : Type 0} where
 
   -- the entries with another value at an index, if it has one
   abbrev pub with_value_at : (ℕ → Option (ℕ × T)) → ℕ → T → ℕ → Option (ℕ × T)
-  with_value_at entries i t j = if j == i then option_map (λ entry. (entry.0, t)) (entries i) else entries j
+  with_value_at entries i t j = if j == i then option_map (λ entry. (entry.0, t))
+      (entries i) else entries j
 
   -- the entries with another generation at an index, if it has one
   abbrev pub with_generation_at : (ℕ → Option (ℕ × T)) → ℕ → ℕ → ℕ → Option (ℕ × T)
-  with_generation_at entries i g j = if j == i then option_map (λ entry. (g, entry.1)) (entries i) else entries j
+  with_generation_at entries i g j = if j == i then option_map (λ entry. (g, entry.1))
+      (entries i) else entries j
 
   -- the first of two entries with the value of the second
   abbrev pub revalued : Option (ℕ × T) → Option (ℕ × T) → Option (ℕ × T)
   revalued None _ = None
   revalued (Some first) second = option_map (λ other. (first.0, other.1)) second
 
-  -- the entries with the values at two indexes exchanged, each under the generation that stood there
+  -- the entries with the values at two indexes exchanged, each under the generation that stood
+  -- there
   abbrev pub with_values_exchanged : (ℕ → Option (ℕ × T)) → ℕ → ℕ → ℕ → Option (ℕ × T)
   with_values_exchanged entries i j k =
-      if k == i then revalued (entries i) (entries j) else if k == j then revalued (entries j) (entries i) else entries k
+      if k == i then revalued (entries i) (entries j) else if k == j then revalued (entries j)
+      (entries i) else entries k
 
   -- the generation and the value that are listed under an index
   abbrev pub look_up : List (ℕ × (ℕ × T)) → ℕ → Option (ℕ × T)

@@ -1,5 +1,5 @@
--- The list that free slots make, over a plain function from an index to its two neighbors. It has a value if the slot is
--- free.
+-- The list that free slots make, over a plain function from an index to its two neighbors. It has a
+-- value if the slot is free.
 use Rattle.std.specs.Prelude.{◌≡◌, ℕ, ◌==◌, List, [], ◌∷◌, Option, Some, None, if◌then◌else◌}
 
 -- the previous and the next index
@@ -14,12 +14,14 @@ first_or (x ∷ xs) after = Some x
 -- these indexes stand one after another, the first behind `before` and the last in front of `after`
 abbrev pub Stands : (ℕ → Option Ends) → Option ℕ → List ℕ → Option ℕ → Type 0
 Stands ends before [] after = Unit {0}
-Stands ends before (x ∷ xs) after = (ends x ≡ Some (before, first_or xs after)) × Stands ends (Some x) xs after
+Stands ends before (x ∷ xs) after = (ends x ≡ Some (before, first_or xs after))
+    × Stands ends (Some x) xs after
 
 -- the neighbors of an index on a list, if it is there; the first of the list stands behind `before`
 abbrev pub neighbors_behind : Option ℕ → List ℕ → ℕ → Option Ends
 neighbors_behind before [] i = None
-neighbors_behind before (x ∷ xs) i = if x == i then Some (before, first_or xs None) else neighbors_behind (Some x) xs i
+neighbors_behind before (x ∷ xs) i
+    = if x == i then Some (before, first_or xs None) else neighbors_behind (Some x) xs i
 
 abbrev pub neighbors : List ℕ → ℕ → Option Ends
 neighbors l i = neighbors_behind None l i

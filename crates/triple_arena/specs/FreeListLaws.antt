@@ -23,11 +23,13 @@ filter_lacks p (j ∷ l) i lacks = by_test (p j) refl (filter_lacks p l i lacks.
     by_test true e rest = rw e (lacks.0, rest)
     by_test false e rest = rw e rest
 
-filter_passed : (p : ℕ → Bool) (l : List ℕ) (i : ℕ) → list_any (eqb i) (filter p l) ≡ true → p i ≡ true
+filter_passed : (p : ℕ → Bool) (l : List ℕ) (i : ℕ) → list_any (eqb i) (filter p l) ≡ true
+    → p i ≡ true
 filter_passed p [] i listed = absurd (true≢false (sym listed))
 filter_passed p (j ∷ l) i listed = by_test (p j) refl listed (filter_passed p l i)
   where
-    by_test : (b : Bool) → p j ≡ b → list_any (eqb i) (filter p (j ∷ l)) ≡ true → (list_any (eqb i) (filter p l) ≡ true → p i ≡ true) → p i ≡ true
+    by_test : (b : Bool) → p j ≡ b → list_any (eqb i) (filter p (j ∷ l)) ≡ true
+        → (list_any (eqb i) (filter p l) ≡ true → p i ≡ true) → p i ≡ true
     by_test false e found rest = rest (rw e at found)
     by_test true e found rest =
         elim (eqb_tells i j) [
@@ -57,21 +59,49 @@ module _ {T : Type 0} where
     pub live : 0 < n → IsSome (get_or xs (n - 1) None)
 
   ends : (xs : List (Option (ℕ × T))) → (n : ℕ) × Ends xs n
-  ends [] = (0, record { within = omega arith; past = λ k above. refl; live = λ positive. absurd (omega arith) })
+  ends [] = (
+    0,
+    record {
+      within = omega arith;
+      past = λ k above. refl;
+      live = λ positive. absurd (omega arith);
+    },
+  )
   ends (x ∷ xs) = more x (ends xs).0 (ends xs).1
     where
       more : (x : Option (ℕ × T)) (n : ℕ) → Ends xs n → (m : ℕ) × Ends (x ∷ xs) m
-      more None zero e = (0, record { within = omega arith; past = past; live = λ positive. absurd (omega arith) })
+      more None zero e = (
+        0,
+        record {
+          within = omega arith;
+          past = past;
+          live = λ positive. absurd (omega arith);
+        },
+      )
         where
           past : (k : ℕ) → 0 ≤ k → get_or (None ∷ xs) k None ≡ None
           past zero above = refl
           past (suc k) above = e.past k (omega arith)
-      more (Some y) zero e = (1, record { within = omega arith; past = past; live = λ positive. refl })
+      more (Some y) zero e = (
+        1,
+        record {
+          within = omega arith;
+          past = past;
+          live = λ positive. refl;
+        },
+      )
         where
           past : (k : ℕ) → 1 ≤ k → get_or (Some y ∷ xs) k None ≡ None
           past zero above = absurd (omega arith)
           past (suc k) above = e.past k (omega arith)
-      more x (suc n) e = (suc (suc n), record { within = omega (arith, e.within); past = past; live = live })
+      more x (suc n) e = (
+        suc (suc n),
+        record {
+          within = omega (arith, e.within);
+          past = past;
+          live = live;
+        },
+      )
         where
           past : (k : ℕ) → suc (suc n) ≤ k → get_or (x ∷ xs) k None ≡ None
           past zero above = absurd (omega arith)
@@ -86,7 +116,8 @@ module _ {T : Type 0} where
   ends_at : (xs : List (Option (ℕ × T))) (n : ℕ) → Ends xs n → length xs - suffix_len is_none xs ≡ n
   ends_at xs n e =
       let counted =
-      suffix_len_is is_none xs n None e.within (λ k above below. ap is_none (e.past k above)) (λ positive. ap not (e.live positive)) in
+      suffix_len_is is_none xs n None e.within (λ k above below. ap is_none (e.past k above))
+      (λ positive. ap not (e.live positive)) in
       omega (arith, counted, e.within)
 
   -- no index after this one is live, and this one is, unless none is
@@ -97,13 +128,15 @@ module _ {T : Type 0} where
 
   -- the last live index is that
   pub last_index-is : (c : Content T) → IsLastIndex c (last_index c)
-  last_index-is c = subst (IsLastIndex c) (sym (ends_at c.slots (ends c.slots).0 (ends c.slots).1)) (by_ends (ends c.slots).0 (ends c.slots).1)
+  last_index-is c = subst (IsLastIndex c) (sym (ends_at c.slots (ends c.slots).0 (ends c.slots).1))
+      (by_ends (ends c.slots).0 (ends c.slots).1)
     where
       by_ends : (n : ℕ) → Ends c.slots n → IsLastIndex c n
       by_ends n e =
           record {
             within = e.within;
-            past = λ j above. entry_at_slot c j (omega (arith, above)) ∙ e.past (j - 1) (omega (arith, above));
+            past = λ j above. entry_at_slot c j (omega (arith, above)) ∙ e.past (j - 1)
+                (omega (arith, above));
             live = λ positive. rw (entry_at_slot c n positive) (e.live positive);
           }
 
@@ -133,7 +166,8 @@ module _ {T : Type 0} where
   take_past (x ∷ xs) (suc n) (suc k) above = take_past xs n k (omega (arith, above))
 
   -- the entries stay where the free slots at the end go
-  pub entry-without_free_end : (c : Content T) (j : ℕ) → entry_at (without_free_end c) j ≡ entry_at c j
+  pub entry-without_free_end : (c : Content T) (j : ℕ)
+      → entry_at (without_free_end c) j ≡ entry_at c j
   entry-without_free_end c zero = refl
   entry-without_free_end c (suc k) =
       elim (leb_tells (last_index c) k) [
@@ -143,15 +177,18 @@ module _ {T : Type 0} where
         | inr inner ↦ get_or-take (last_index c) c.slots k None (omega (arith, inner.1))
       ]
 
-  none_live : (xs : List (Option (ℕ × T))) → ((k : ℕ) → get_or xs k None ≡ None) → count_by is_some xs ≡ 0
+  none_live : (xs : List (Option (ℕ × T))) → ((k : ℕ) → get_or xs k None ≡ None)
+      → count_by is_some xs ≡ 0
   none_live [] none = refl
   none_live (None ∷ xs) none =
       let rest = none_live xs (λ k. none (suc k)) in
-      let more : count_by is_some (None ∷ xs) ≡ 0 + count_by is_some xs = sum_by-cons (λ o. cond (is_some o) 1 0) None xs in
+      let more : count_by is_some (None ∷ xs) ≡ 0 + count_by is_some xs =
+      sum_by-cons (λ o. cond (is_some o) 1 0) None xs in
       omega (arith, rest, more)
   none_live (Some y ∷ xs) none = absurd (let first = none 0 in cc)
 
-  take_live : (xs : List (Option (ℕ × T))) (n : ℕ) → ((k : ℕ) → n ≤ k → get_or xs k None ≡ None) → count_by is_some (take n xs) ≡ count_by is_some xs
+  take_live : (xs : List (Option (ℕ × T))) (n : ℕ) → ((k : ℕ) → n ≤ k → get_or xs k None ≡ None)
+      → count_by is_some (take n xs) ≡ count_by is_some xs
   take_live xs zero none = sym (none_live xs (λ k. none k (omega arith)))
   take_live [] (suc n) none = refl
   take_live (x ∷ xs) (suc n) none =
@@ -175,30 +212,37 @@ module _ {T : Type 0} where
   pub room-without_free_end : (c : Content T) → (without_free_end c).room ≡ c.room
   room-without_free_end c = refl
 
-  pub free-without_free_end : (c : Content T) → (without_free_end c).free ≡ filter (λ i. leb i (last_index c)) c.free
+  pub free-without_free_end : (c : Content T)
+      → (without_free_end c).free ≡ filter (λ i. leb i (last_index c)) c.free
   free-without_free_end c = refl
 
   -- the vacant ones among slots are as many as are not live
-  pub vacant-counted : (n : ℕ) (xs : List (Option (ℕ × T))) → count_by is_some xs + length (vacant_from n xs) ≡ length xs
+  pub vacant-counted : (n : ℕ) (xs : List (Option (ℕ × T)))
+      → count_by is_some xs + length (vacant_from n xs) ≡ length xs
   vacant-counted n [] = refl
   vacant-counted n (None ∷ xs) =
       let rest = vacant-counted (n + 1) xs in
-      let more : count_by is_some (None ∷ xs) ≡ 0 + count_by is_some xs = sum_by-cons (λ o. cond (is_some o) 1 0) None xs in
+      let more : count_by is_some (None ∷ xs) ≡ 0 + count_by is_some xs =
+      sum_by-cons (λ o. cond (is_some o) 1 0) None xs in
       omega (arith, rest, more)
   vacant-counted n (Some e ∷ xs) =
       let rest = vacant-counted (n + 1) xs in
-      let more : count_by is_some (Some e ∷ xs) ≡ 1 + count_by is_some xs = sum_by-cons (λ o. cond (is_some o) 1 0) (Some e) xs in
+      let more : count_by is_some (Some e ∷ xs) ≡ 1 + count_by is_some xs =
+      sum_by-cons (λ o. cond (is_some o) 1 0) (Some e) xs in
       omega (arith, rest, more)
 
   -- each of them is listed
-  vacant_listed : (n k i : ℕ) (xs : List (Option (ℕ × T))) → i ≡ n + k → k < length xs → get_or xs k None ≡ None
+  vacant_listed : (n k i : ℕ) (xs : List (Option (ℕ × T))) → i ≡ n + k → k < length xs
+      → get_or xs k None ≡ None
       → list_any (eqb i) (vacant_from n xs) ≡ true
   vacant_listed n k i [] at below none = absurd (omega arith)
   vacant_listed n zero i (None ∷ xs) at below none = rw (eq-eqb i n (omega (arith, at))) refl
   vacant_listed n (suc k) i (None ∷ xs) at below none =
-      rw (ne_eqb i n (λ same. omega (arith, at, same))) (vacant_listed (n + 1) k i xs (omega (arith, at)) (omega (arith, below)) none)
+      rw (ne_eqb i n (λ same. omega (arith, at, same)))
+      (vacant_listed (n + 1) k i xs (omega (arith, at)) (omega (arith, below)) none)
   vacant_listed n zero i (Some e ∷ xs) at below none = absurd (cc)
-  vacant_listed n (suc k) i (Some e ∷ xs) at below none = vacant_listed (n + 1) k i xs (omega (arith, at)) (omega (arith, below)) none
+  vacant_listed n (suc k) i (Some e ∷ xs) at below none
+      = vacant_listed (n + 1) k i xs (omega (arith, at)) (omega (arith, below)) none
 
   -- free indexes are distinct, and each is vacant
   distinct_of : (c : Content T) (l : List ℕ) → AllVacant c l → IsDistinct eqb l
@@ -206,7 +250,8 @@ module _ {T : Type 0} where
   distinct_of c [] all = tt
   distinct_of c (i ∷ l) all = (apart_of i l all.1.0, distinct_of c l all.1.1)
 
-  listed_vacant : (c : Content T) (l : List ℕ) (i : ℕ) → AllVacant c l → list_any (eqb i) l ≡ true → IsVacant c i
+  listed_vacant : (c : Content T) (l : List ℕ) (i : ℕ) → AllVacant c l → list_any (eqb i) l ≡ true
+      → IsVacant c i
   listed_vacant c [] i all listed = absurd (true≢false (sym listed))
   listed_vacant c (j ∷ l) i all listed =
       elim (eqb_tells i j) [
@@ -216,7 +261,8 @@ module _ {T : Type 0} where
 
   -- so there are no more of them than of the vacant ones among slots that have all of them
   pub vacant-fit : (c : Content T) (l : List ℕ) (n : ℕ) (xs : List (Option (ℕ × T))) → AllVacant c l
-      → ((i : ℕ) → IsVacant c i → list_any (eqb i) l ≡ true → (n ≤ i) × ((i < n + length xs) × (get_or xs (i - n) None ≡ None)))
+      → ((i : ℕ) → IsVacant c i → list_any (eqb i) l ≡ true → (n ≤ i)
+      × ((i < n + length xs) × (get_or xs (i - n) None ≡ None)))
       → length l ≤ length (vacant_from n xs)
   vacant-fit c l n xs all each =
       length-le_from_is_member nat_eq_equiv l (vacant_from n xs) (distinct_of c l all) (λ i listed.
@@ -224,27 +270,38 @@ module _ {T : Type 0} where
       vacant_listed n (i - n) i xs (omega (arith, e.0)) (omega (arith, e.0, e.1.0)) e.1.1)
 
   -- some of the free indexes, all of which are vacant in another content
-  filter_vacant : (c d : Content T) (p : ℕ → Bool) → ((i : ℕ) → p i ≡ true → IsVacant c i → IsVacant d i) → (l : List ℕ) → AllVacant c l
+  filter_vacant : (c d : Content T) (p : ℕ → Bool)
+      → ((i : ℕ) → p i ≡ true → IsVacant c i → IsVacant d i) → (l : List ℕ) → AllVacant c l
       → AllVacant d (filter p l)
   filter_vacant c d p each [] all = tt
-  filter_vacant c d p each (j ∷ l) all = by_test (p j) refl (filter_lacks p l j all.1.0) (filter_vacant c d p each l all.1.1)
+  filter_vacant c d p each (j ∷ l) all = by_test (p j) refl (filter_lacks p l j all.1.0)
+      (filter_vacant c d p each l all.1.1)
     where
-      by_test : (b : Bool) → p j ≡ b → Lacks (filter p l) j → AllVacant d (filter p l) → AllVacant d (filter p (j ∷ l))
+      by_test : (b : Bool) → p j ≡ b → Lacks (filter p l) j → AllVacant d (filter p l)
+          → AllVacant d (filter p (j ∷ l))
       by_test true e lacks rest = rw e (each j e all.0, (lacks, rest))
       by_test false e lacks rest = rw e rest
 
   -- the free indexes up to the last live one are as many as the slots up to there that are not live
-  end_counted : (c : Content T) → IsWellFormed c → live_count c + length (filter (λ i. leb i (last_index c)) c.free) ≡ last_index c
+  end_counted : (c : Content T) → IsWellFormed c
+      → live_count c + length (filter (λ i. leb i (last_index c)) c.free) ≡ last_index c
   end_counted c formed =
       let n = last_index c in
       let last = last_index-is c in
       let p : ℕ → Bool = λ i. leb i n in
-      let kept = vacant-fit c (filter p c.free) 1 (take n c.slots) (filter_vacant c c p (λ i passes v. v) c.free formed.free) (λ i v listed.
+      let kept = vacant-fit c (filter p c.free) 1 (take n c.slots)
+      (filter_vacant c c p (λ i passes v. v) c.free formed.free) (λ i v listed.
       let below = up_to_of i n (filter_passed p c.free i listed) in
       let positive = v.positive in
       let sizes = slots-without_free_end c in
-      let inner : i - 1 < n = omega (arith, below, positive) in
-      (positive, (omega (arith, below, sizes), get_or-take n c.slots (i - 1) None inner ∙ sym (entry_at_slot c i positive) ∙ v.vacant))) in
+      let inner : i - 1 < n = omega (arith, below, positive) in (
+        positive,
+        (
+          omega (arith, below, sizes),
+          get_or-take n c.slots (i - 1) None inner ∙ sym
+              (entry_at_slot c i positive) ∙ v.vacant,
+        ),
+      )) in
       let gone = vacant-fit c (filter (λ i. not (p i)) c.free) (n + 1) (drop n c.slots)
       (filter_vacant c c (λ i. not (p i)) (λ i passes v. v) c.free formed.free) (λ i v listed.
       let positive = v.positive in
@@ -279,23 +336,28 @@ module _ {T : Type 0} where
       let within = (last_index-is c).within in
       let fits = formed.fits in
       record {
-        free = filter_vacant c (without_free_end c) (λ i. leb i (last_index c)) (λ i passes v. record {
-          positive = v.positive;
-          within = omega (arith, sizes, up_to_of i (last_index c) passes);
-          vacant = entry-without_free_end c i ∙ v.vacant;
-        }) c.free formed.free;
+        free = filter_vacant c (without_free_end c) (λ i. leb i (last_index c))
+            (λ i passes v. record {
+              positive = v.positive;
+              within = omega (arith, sizes, up_to_of i (last_index c) passes);
+              vacant = entry-without_free_end c i ∙ v.vacant;
+            }) c.free formed.free;
         counted = omega (arith, sizes, live, counted);
         fits = omega (arith, sizes, within, fits);
       }
 
-  within_all : (c : Content T) (l : List ℕ) → AllVacant c l → filter (λ i. leb i (length c.slots)) l ≡ l
+  within_all : (c : Content T) (l : List ℕ) → AllVacant c l
+      → filter (λ i. leb i (length c.slots)) l ≡ l
   within_all c [] all = refl
-  within_all c (i ∷ l) all = rw (le-leb i (length c.slots) all.0.within) (ap (λ m. i ∷ m) (within_all c l all.1.1))
+  within_all c (i ∷ l) all = rw (le-leb i (length c.slots) all.0.within)
+      (ap (λ m. i ∷ m) (within_all c l all.1.1))
 
   -- where the last slot is live there is none to go
-  pub no_free_end : (c : Content T) → IsWellFormed c → last_index c ≡ length c.slots → without_free_end c ≡ c
+  pub no_free_end : (c : Content T) → IsWellFormed c → last_index c ≡ length c.slots
+      → without_free_end c ≡ c
   no_free_end c formed last =
-      let slots : take (last_index c) c.slots ≡ c.slots = take_all (last_index c) c.slots (omega (arith, last)) in
+      let slots : take (last_index c) c.slots ≡ c.slots =
+      take_all (last_index c) c.slots (omega (arith, last)) in
       let free : filter (λ i. leb i (last_index c)) c.free ≡ c.free =
       ap (λ n. filter (λ i. leb i n) c.free) last ∙ within_all c c.free formed.free in
       ap (λ xs. record c { slots = xs; free = filter (λ i. leb i (last_index c)) c.free }) slots
@@ -322,19 +384,26 @@ module _ {T : Type 0} where
 
   pub vacant-lacks : (n i : ℕ) (xs : List (Option (ℕ × T))) → i < n → Lacks (vacant_from n xs) i
   vacant-lacks n i [] below = tt
-  vacant-lacks n i (None ∷ xs) below = (λ same. omega (arith, below, same), vacant-lacks (n + 1) i xs (omega (arith, below)))
+  vacant-lacks n i (None ∷ xs) below
+      = (λ same. omega (arith, below, same), vacant-lacks (n + 1) i xs (omega (arith, below)))
   vacant-lacks n i (Some e ∷ xs) below = vacant-lacks (n + 1) i xs (omega (arith, below))
 
-  pub all_vacant_from : (c : Content T) (n : ℕ) (xs : List (Option (ℕ × T))) → 0 < n → n + length xs ≡ 1 + length c.slots
+  pub all_vacant_from : (c : Content T) (n : ℕ) (xs : List (Option (ℕ × T))) → 0 < n
+      → n + length xs ≡ 1 + length c.slots
       → ((k : ℕ) → get_or xs k None ≡ entry_at c (n + k)) → AllVacant c (vacant_from n xs)
   all_vacant_from c n [] positive sizes same = tt
   all_vacant_from c n (None ∷ xs) positive sizes same =
       let here : n + 0 ≡ n = omega arith in (
-        record { positive = positive; within = omega (arith, sizes); vacant = ap (entry_at c) (sym here) ∙ sym (same 0) },
+        record {
+          positive = positive;
+          within = omega (arith, sizes);
+          vacant = ap (entry_at c) (sym here) ∙ sym (same 0);
+        },
         (
           vacant-lacks (n + 1) n xs (omega arith),
           all_vacant_from c (n + 1) xs (omega arith) (omega (arith, sizes)) (λ k.
-              let next : n + suc k ≡ (n + 1) + k = omega arith in same (suc k) ∙ ap (entry_at c) next),
+              let next : n + suc k ≡ (n + 1) + k =
+              omega arith in same (suc k) ∙ ap (entry_at c) next),
         ),
       )
   all_vacant_from c n (Some e ∷ xs) positive sizes same =
@@ -346,7 +415,8 @@ module _ {T : Type 0} where
   formed-canonicalized c formed =
       record {
         free = all_vacant_from (canonicalized c) 1 c.slots (omega arith) refl
-            (λ k. let first : 1 + k ≡ suc k = omega arith in ap (entry_at (canonicalized c)) (sym first));
+            (λ k. let first : 1 + k ≡ suc k =
+            omega arith in ap (entry_at (canonicalized c)) (sym first));
         counted = vacant-counted 1 c.slots;
         fits = formed.fits;
       }

@@ -12,7 +12,8 @@ use Rattle.triple_arena.specs.Content.{Content, entry_at, live_count, arena_capa
 use Rattle.triple_arena.specs.ContentLaws.{entry_at_slot, entry-set, entry-same_slots, vacant-kept, vacant-others}
 
 -- the room that a growth leaves is no smaller
-capacity-grown : (limit : Option ℕ) (n : ℕ) → within limit n ≤ within limit (within limit (max 4 (2 * n)))
+capacity-grown : (limit : Option ℕ) (n : ℕ)
+    → within limit n ≤ within limit (within limit (max 4 (2 * n)))
 capacity-grown None n = omega arith
 capacity-grown (Some limit) n = omega arith
 
@@ -36,17 +37,20 @@ module _ {T : Type 0} where
       by_list [] e all =
           let positive : 0 < length c.slots + 1 = omega arith in
           let back : length c.slots + 1 - 1 ≡ length c.slots = omega arith in
-          rw e (entry_at_slot c (length c.slots + 1) positive ∙ ap (λ n. get_or c.slots n None) back ∙ past c.slots)
+          rw e (entry_at_slot c (length c.slots + 1) positive ∙ ap
+          (λ n. get_or c.slots n None) back ∙ past c.slots)
       by_list (i ∷ rest) e all = rw e all.0.vacant
 
-  push_other : (xs : List (Option (ℕ × T))) (o : Option (ℕ × T)) (k : ℕ) → k ≢ length xs → get_or (xs ++ o ∷ []) k None ≡ get_or xs k None
+  push_other : (xs : List (Option (ℕ × T))) (o : Option (ℕ × T)) (k : ℕ) → k ≢ length xs
+      → get_or (xs ++ o ∷ []) k None ≡ get_or xs k None
   push_other [] o zero differs = absurd (differs refl)
   push_other [] o (suc k) differs = refl
   push_other (x ∷ xs) o zero differs = refl
   push_other (x ∷ xs) o (suc k) differs = push_other xs o k (λ e. differs (omega (arith, e)))
 
   -- an insertion puts the entry at the next index
-  pub entry-inserted : (c : Content T) (t : T) → IsWellFormed c → (j : ℕ) → entry_at (inserted c t) j ≡ with_entry (entry_at c) (next_index c) (c.counter, t) j
+  pub entry-inserted : (c : Content T) (t : T) → IsWellFormed c → (j : ℕ)
+      → entry_at (inserted c t) j ≡ with_entry (entry_at c) (next_index c) (c.counter, t) j
   entry-inserted c t formed j = by_list c.free refl formed.free
     where
       behind : (j : ℕ) (d : Content T) → d.slots ≡ c.slots ++ Some (c.counter, t) ∷ []
@@ -55,28 +59,44 @@ module _ {T : Type 0} where
       behind (suc k) d grown =
           elim (eqb_tells k (length c.slots)) [
             | inl same ↦ rw (grown, eq-eqb (suc k) (length c.slots + 1) (omega (arith, same.1))) (ap
-                (λ n. get_or (c.slots ++ Some (c.counter, t) ∷ []) n None) same.1 ∙ get_or-append_seam c.slots (Some (c.counter, t)) [] None)
-            | inr other ↦ rw (grown, ne_eqb (suc k) (length c.slots + 1) (λ e. other.1 (omega (arith, e)))) (push_other c.slots (Some (c.counter, t)) k other.1)
+                (λ n. get_or (c.slots ++ Some (c.counter, t) ∷ []) n None) same.1 ∙
+                get_or-append_seam c.slots (Some (c.counter, t)) [] None)
+            | inr other ↦ rw (
+              grown,
+              ne_eqb (suc k) (length c.slots + 1)
+                  (λ e. other.1 (omega (arith, e))),
+            ) (push_other c.slots (Some (c.counter, t)) k other.1)
           ]
 
-      by_list : (l : List ℕ) → c.free ≡ l → AllVacant c l → entry_at (inserted c t) j ≡ with_entry (entry_at c) (next_index c) (c.counter, t) j
-      by_list [] e all = rw e (behind j (record c { slots = c.slots ++ Some (c.counter, t) ∷ [] }) refl)
+      by_list : (l : List ℕ) → c.free ≡ l → AllVacant c l
+          → entry_at (inserted c t) j ≡ with_entry (entry_at c) (next_index c) (c.counter, t) j
+      by_list [] e all = rw e
+          (behind j (record c { slots = c.slots ++ Some (c.counter, t) ∷ [] }) refl)
       by_list (i ∷ rest) e all =
           let first = all.0 in
-          rw e (entry-set c (record c { slots = set c.slots (i - 1) (Some (c.counter, t)); free = rest }) i j (Some (c.counter, t)) first.positive
+          rw e (entry-set c (record c {
+            slots = set c.slots (i - 1) (Some (c.counter, t));
+            free = rest;
+          }) i j (Some (c.counter, t)) first.positive
           (omega (arith, first.positive, first.within)) refl)
 
   -- an insertion adds one to what is live
-  pub live-inserted : (c : Content T) (t : T) → IsWellFormed c → live_count (inserted c t) ≡ live_count c + 1
+  pub live-inserted : (c : Content T) (t : T) → IsWellFormed c
+      → live_count (inserted c t) ≡ live_count c + 1
   live-inserted c t formed = by_list c.free refl formed.free
     where
-      by_list : (l : List ℕ) → c.free ≡ l → AllVacant c l → live_count (inserted c t) ≡ live_count c + 1
-      by_list [] e all = rw e (sum_by_push (λ o. cond (is_some o) 1 0) c.slots (Some (c.counter, t)))
+      by_list : (l : List ℕ) → c.free ≡ l → AllVacant c l
+          → live_count (inserted c t) ≡ live_count c + 1
+      by_list [] e all = rw e
+          (sum_by_push (λ o. cond (is_some o) 1 0) c.slots (Some (c.counter, t)))
       by_list (i ∷ rest) e all =
           let first = all.0 in
           let within : i - 1 < length c.slots = omega (arith, first.positive, first.within) in
-          let empty : get_or c.slots (i - 1) None ≡ None = sym (entry_at_slot c i first.positive) ∙ first.vacant in
-          let counted = rw empty at (sum_by-set (λ o. cond (is_some o) 1 0) c.slots (i - 1) (Some (c.counter, t)) None within) in
+          let empty : get_or c.slots (i - 1) None ≡ None =
+          sym (entry_at_slot c i first.positive) ∙ first.vacant in
+          let counted = rw empty at
+          (sum_by-set (λ o. cond (is_some o) 1 0) c.slots (i - 1)
+          (Some (c.counter, t)) None within) in
           rw e (omega (arith, counted))
 
   -- an insertion keeps the room
@@ -104,17 +124,21 @@ module _ {T : Type 0} where
       by_list (i ∷ rest) e = rw e refl
 
   -- the slots reach to the index of the entry then
-  pub slots-inserted : (c : Content T) (t : T) → IsWellFormed c → length (inserted c t).slots ≡ max (length c.slots) (next_index c)
+  pub slots-inserted : (c : Content T) (t : T) → IsWellFormed c
+      → length (inserted c t).slots ≡ max (length c.slots) (next_index c)
   slots-inserted c t formed = by_list c.free refl formed.free
     where
-      by_list : (l : List ℕ) → c.free ≡ l → AllVacant c l → length (inserted c t).slots ≡ max (length c.slots) (next_index c)
-      by_list [] e all = let longer = length_push c.slots (Some (c.counter, t)) in rw e (omega (arith, longer))
+      by_list : (l : List ℕ) → c.free ≡ l → AllVacant c l
+          → length (inserted c t).slots ≡ max (length c.slots) (next_index c)
+      by_list [] e all = let longer =
+          length_push c.slots (Some (c.counter, t)) in rw e (omega (arith, longer))
       by_list (i ∷ rest) e all =
           let same = length-set c.slots (i - 1) (Some (c.counter, t)) in
           rw e (omega (arith, same, all.0.within))
 
   -- an insertion with room keeps a content well-formed
-  pub formed-inserted : (c : Content T) (t : T) → IsWellFormed c → live_count c < arena_capacity c → IsWellFormed (inserted c t)
+  pub formed-inserted : (c : Content T) (t : T) → IsWellFormed c → live_count c < arena_capacity c
+      → IsWellFormed (inserted c t)
   formed-inserted c t formed room = by_list c.free refl formed.free
     where
       by_list : (l : List ℕ) → c.free ≡ l → AllVacant c l → IsWellFormed (inserted c t)
@@ -129,25 +153,32 @@ module _ {T : Type 0} where
             fits = omega (arith, counted, none, longer, room);
           })
       by_list (i ∷ rest) e all =
-          let new : Content T = record c { slots = set c.slots (i - 1) (Some (c.counter, t)); free = rest } in
+          let new : Content T =
+          record c { slots = set c.slots (i - 1) (Some (c.counter, t)); free = rest } in
           let first = all.0 in
           let within : i - 1 < length c.slots = omega (arith, first.positive, first.within) in
           let same = length-set c.slots (i - 1) (Some (c.counter, t)) in
-          let empty : get_or c.slots (i - 1) None ≡ None = sym (entry_at_slot c i first.positive) ∙ first.vacant in
-          let more = rw empty at (sum_by-set (λ o. cond (is_some o) 1 0) c.slots (i - 1) (Some (c.counter, t)) None within) in
+          let empty : get_or c.slots (i - 1) None ≡ None =
+          sym (entry_at_slot c i first.positive) ∙ first.vacant in
+          let more = rw empty at
+          (sum_by-set (λ o. cond (is_some o) 1 0) c.slots (i - 1)
+          (Some (c.counter, t)) None within) in
           let listed = ap length e in
           let counted = formed.counted in
           let fits = formed.fits in
           let others : (j : ℕ) → j ≢ i → entry_at c j ≡ None → entry_at new j ≡ None =
-          λ j differs none. entry-set c new i j (Some (c.counter, t)) first.positive within refl ∙ rw (ne_eqb j i differs) none in
+          λ j differs none. entry-set c new i j (Some (c.counter, t)) first.positive within refl ∙
+          rw (ne_eqb j i differs) none in
           rw e (record {
-            free = vacant-others c new i (λ j differs h. omega (arith, same, h)) others rest all.1.0 all.1.1;
+            free = vacant-others c new i (λ j differs h. omega (arith, same, h)) others rest
+                all.1.0 all.1.1;
             counted = omega (arith, counted, listed, more, same);
             fits = omega (arith, fits, same);
           })
 
   -- greater room keeps a content well formed
-  pub formed-in_room : (c : Content T) (r : Room) → arena_capacity c ≤ capacity r → IsWellFormed c → IsWellFormed (in_room c r)
+  pub formed-in_room : (c : Content T) (r : Room) → arena_capacity c ≤ capacity r → IsWellFormed c
+      → IsWellFormed (in_room c r)
   formed-in_room c r more formed =
       record {
         free = vacant-kept c (in_room c r) (omega arith) (λ j none. none) c.free formed.free;
@@ -156,7 +187,8 @@ module _ {T : Type 0} where
       }
 
   pub formed-grown : (c : Content T) → IsWellFormed c → IsWellFormed (grown_if_full c)
-  formed-grown c formed = formed-in_room c (room_after (live_count c) c.room) (capacity-room_after (live_count c) c.room) formed
+  formed-grown c formed = formed-in_room c (room_after (live_count c) c.room)
+      (capacity-room_after (live_count c) c.room) formed
 
   -- and it changes nothing else
   pub entry-in_room : (c : Content T) (r : Room) (j : ℕ) → entry_at (in_room c r) j ≡ entry_at c j
@@ -166,4 +198,13 @@ module _ {T : Type 0} where
 pub ruleset growths = (formed-grown, formed-in_room, entry-in_room, capacity-room_after)
 
 -- what an insertion changes and keeps
-pub ruleset insertions = (formed-inserted, entry-inserted, live-inserted, slots-inserted, counter-inserted, free-inserted, room-inserted)
+pub ruleset insertions
+    = (
+      formed-inserted,
+      entry-inserted,
+      live-inserted,
+      slots-inserted,
+      counter-inserted,
+      free-inserted,
+      room-inserted,
+    )

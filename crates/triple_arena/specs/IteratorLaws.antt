@@ -1,38 +1,44 @@
--- How a search over the entries of an arena goes on and ends. The entries are those that `iter` gives; of a direct arena,
--- take its slots and room `as_content`.
+-- How a search over the entries of an arena goes on and ends. The entries are those that `iter`
+-- gives; of a direct arena, take its slots and room `as_content`.
 use Rattle.std.proofs.Common.{◌≡◌, ℕ, zero, suc, ◌+◌, ◌-◌, ◌<◌, ◌≤◌, List, [], ◌∷◌, ◌++◌, get_or, append_assoc, append-nil, Bool, true, false, Option, Some, None, refl, sym, ap, subst, ◌∙◌, arith}
 use Rattle.triple_arena.specs.Content.{Content, entry_at}
 use Rattle.triple_arena.specs.Iterators.{IsFirstToPass, SearchFinds, EachFails, HasPassed}
 use Rattle.triple_arena.specs.LiveEntries.{listed_from, live_entries}
 
 module _ {T : Type 0} (answers : T → Bool → Type 0) where
-  one_more_fails : (passed : List (ℕ × (ℕ × T))) (entry : ℕ × (ℕ × T)) → EachFails answers passed → answers entry.1.1 false
+  one_more_fails : (passed : List (ℕ × (ℕ × T))) (entry : ℕ × (ℕ × T)) → EachFails answers passed
+      → answers entry.1.1 false
       → EachFails answers (passed ++ entry ∷ [])
   one_more_fails [] entry failed fails = (fails, tt)
-  one_more_fails (first ∷ passed) entry failed fails = (failed.0, one_more_fails passed entry failed.1 fails)
+  one_more_fails (first ∷ passed) entry failed fails
+      = (failed.0, one_more_fails passed entry failed.1 fails)
 
   -- a search begins with all left
   pub search_begins : (all : List (ℕ × (ℕ × T))) → HasPassed answers all all
   search_begins all = record { passed = []; split = refl; failed = tt }
 
   -- it passes an entry whose value fails the test
-  pub search_passes : (all left rest : List (ℕ × (ℕ × T))) (entry : ℕ × (ℕ × T)) → HasPassed answers all left → left ≡ entry ∷ rest
+  pub search_passes : (all left rest : List (ℕ × (ℕ × T))) (entry : ℕ × (ℕ × T))
+      → HasPassed answers all left → left ≡ entry ∷ rest
       → answers entry.1.1 false → HasPassed answers all rest
   search_passes all left rest entry h next fails =
       record {
         passed = h.passed ++ entry ∷ [];
-        split = h.split ∙ ap (λ l. h.passed ++ l) next ∙ sym (append_assoc h.passed (entry ∷ []) rest);
+        split = h.split ∙ ap (λ l. h.passed ++ l) next ∙ sym
+            (append_assoc h.passed (entry ∷ []) rest);
         failed = one_more_fails h.passed entry h.failed fails;
       }
 
-  -- among slots that have the indexes from this one on: the entry behind those that fail, and those before it
+  -- among slots that have the indexes from this one on: the entry behind those that fail, and those
+  -- before it
   record Stands (n : ℕ) (xs : List (Option (ℕ × T))) (i g : ℕ) (t : T) : Type 0 where
     pub from : n ≤ i
     pub read : get_or xs (i - n) None ≡ Some (g, t)
     pub before : (k h : ℕ) (u : T) → n + k < i → get_or xs k None ≡ Some (h, u) → answers u false
 
   stands : (n : ℕ) (xs : List (Option (ℕ × T))) (passed rest : List (ℕ × (ℕ × T))) (i g : ℕ) (t : T)
-      → listed_from n xs ≡ passed ++ (i, (g, t)) ∷ rest → EachFails answers passed → Stands n xs i g t
+      → listed_from n xs ≡ passed ++ (i, (g, t)) ∷ rest → EachFails answers passed
+      → Stands n xs i g t
   stands n [] [] rest i g t split failed = absurd (cc)
   stands n [] (p ∷ passed) rest i g t split failed = absurd (cc)
   stands n (None ∷ xs) passed rest i g t split failed =
@@ -45,7 +51,8 @@ module _ {T : Type 0} (answers : T → Bool → Type 0) where
         before = earlier behind;
       }
     where
-      earlier : Stands (n + 1) xs i g t → (k h : ℕ) (u : T) → n + k < i → get_or (None ∷ xs) k None ≡ Some (h, u) → answers u false
+      earlier : Stands (n + 1) xs i g t → (k h : ℕ) (u : T) → n + k < i
+          → get_or (None ∷ xs) k None ≡ Some (h, u) → answers u false
       earlier behind zero h u below read = absurd (cc)
       earlier behind (suc k) h u below read = behind.before k h u (omega (arith, below)) read
   stands n (Some e ∷ xs) [] rest i g t split failed =
@@ -70,18 +77,22 @@ module _ {T : Type 0} (answers : T → Bool → Type 0) where
         before = earlier here behind;
       }
     where
-      earlier : (n, e) ≡ p → Stands (n + 1) xs i g t → (k h : ℕ) (u : T) → n + k < i → get_or (Some e ∷ xs) k None ≡ Some (h, u) → answers u false
+      earlier : (n, e) ≡ p → Stands (n + 1) xs i g t → (k h : ℕ) (u : T) → n + k < i
+          → get_or (Some e ∷ xs) k None ≡ Some (h, u) → answers u false
       earlier here behind zero h u below read =
           let entry : e ≡ (h, u) = cc in
-          let same : p.1.1 ≡ u = sym (ap (λ (x : ℕ × (ℕ × T)). x.1.1) here) ∙ ap (λ (x : ℕ × T). x.1) entry in
+          let same : p.1.1 ≡ u =
+          sym (ap (λ (x : ℕ × (ℕ × T)). x.1.1) here) ∙ ap (λ (x : ℕ × T). x.1) entry in
           subst (λ x. answers x false) same failed.0
       earlier here behind (suc k) h u below read = behind.before k h u (omega (arith, below)) read
 
   -- it finds the first entry left, where its value passes the test
-  pub search_finds : (c : Content T) (left rest : List (ℕ × (ℕ × T))) (i g : ℕ) (t : T) → HasPassed answers (live_entries c) left
+  pub search_finds : (c : Content T) (left rest : List (ℕ × (ℕ × T))) (i g : ℕ) (t : T)
+      → HasPassed answers (live_entries c) left
       → left ≡ (i, (g, t)) ∷ rest → answers t true → IsFirstToPass answers (entry_at c) i g
   search_finds c left rest i g t h next passes =
-      let s = stands 1 c.slots h.passed rest i g t (h.split ∙ ap (λ l. h.passed ++ l) next) h.failed in
+      let s = stands 1 c.slots h.passed rest i g t
+      (h.split ∙ ap (λ l. h.passed ++ l) next) h.failed in
       let from = s.from in
       let place : i ≡ suc (i - 1) = omega (arith, from) in
       record {
@@ -91,11 +102,13 @@ module _ {T : Type 0} (answers : T → Bool → Type 0) where
         before = earlier s;
       }
     where
-      earlier : Stands 1 c.slots i g t → (j h : ℕ) (u : T) → j < i → entry_at c j ≡ Some (h, u) → answers u false
+      earlier : Stands 1 c.slots i g t → (j h : ℕ) (u : T) → j < i → entry_at c j ≡ Some (h, u)
+          → answers u false
       earlier s zero h u below read = absurd (cc)
       earlier s (suc k) h u below read = s.before k h u (omega (arith, below)) read
 
-  each_of_all : (n : ℕ) (xs : List (Option (ℕ × T))) → EachFails answers (listed_from n xs) → (k h : ℕ) (u : T)
+  each_of_all : (n : ℕ) (xs : List (Option (ℕ × T))) → EachFails answers (listed_from n xs)
+      → (k h : ℕ) (u : T)
       → get_or xs k None ≡ Some (h, u) → answers u false
   each_of_all n [] failed k h u read = absurd (cc)
   each_of_all n (None ∷ xs) failed zero h u read = absurd (cc)
@@ -107,7 +120,8 @@ module _ {T : Type 0} (answers : T → Bool → Type 0) where
   each_of_all n (Some e ∷ xs) failed (suc k) h u read = each_of_all (n + 1) xs failed.1 k h u read
 
   -- and where none is left, no value passes the test
-  pub search_ends : (c : Content T) (left : List (ℕ × (ℕ × T))) → HasPassed answers (live_entries c) left → left ≡ []
+  pub search_ends : (c : Content T) (left : List (ℕ × (ℕ × T)))
+      → HasPassed answers (live_entries c) left → left ≡ []
       → SearchFinds answers (entry_at c) None
   search_ends c left h none zero g t read = absurd (cc)
   search_ends c left h none (suc k) g t read =

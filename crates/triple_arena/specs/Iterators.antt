@@ -17,12 +17,15 @@ with_part part entry = (entry.0, (entry.1.0, part entry.1.1))
 abbrev pub listed_behind : {T : Type 0} → ℕ → List (Option (ℕ × T)) → List (ℕ × (ℕ × T))
 listed_behind passed slots = listed_from (passed + 1) (drop passed slots)
 
--- slots of which so many were passed: the others hold so many entries, and the indexes are up to the greatest
-pub record IsCursor {E T : Type 0} (shown : E → Option (ℕ × T)) (slots : List E) (passed left greatest : ℕ) : Type 0 where
+-- slots of which so many were passed: the others hold so many entries, and the indexes are up to
+-- the greatest
+pub record IsCursor {E T : Type 0} (shown : E → Option (ℕ × T)) (slots : List E)
+    (passed left greatest : ℕ) : Type 0 where
   pub counted : left ≡ length (listed_behind passed (map shown slots))
   pub indexed : length slots ≤ greatest
 
--- a hint of how many items are left that has the number for both bounds; and so what any hint tells of its bounds
+-- a hint of how many items are left that has the number for both bounds; and so what any hint tells
+-- of its bounds
 pub record IsExact (hint : ℕ × Option ℕ) (n : ℕ) : Type 0 where
   pub bounds : hint ≡ (n, Some n)
   pub lower : IsWithinCount hint.0 (at_most n)
@@ -30,14 +33,16 @@ pub record IsExact (hint : ℕ × Option ℕ) (n : ℕ) : Type 0 where
 
 -- what a test answers at a value
 module _ {T : Type 0} (answers : T → Bool → Type 0) where
-  -- the first entry whose value passes the test: it stands at this index, with this generation, and each before it fails
+  -- the first entry whose value passes the test: it stands at this index, with this generation, and
+  -- each before it fails
   pub record IsFirstToPass (entries : ℕ → Option (ℕ × T)) (i g : ℕ) : Type 0 where
     pub value : T
     pub stands : entries i ≡ Some (g, value)
     pub passes : answers value true
     pub before : (j h : ℕ) (t : T) → j < i → entries j ≡ Some (h, t) → answers t false
 
-  -- the index and the generation of the first entry whose value passes the test, or nothing where each fails
+  -- the index and the generation of the first entry whose value passes the test, or nothing where
+  -- each fails
   abbrev pub SearchFinds : (ℕ → Option (ℕ × T)) → Option (ℕ × ℕ) → Type 0
   SearchFinds entries None = (j h : ℕ) (t : T) → entries j ≡ Some (h, t) → answers t false
   SearchFinds entries (Some p) = IsFirstToPass entries p.0 p.1
@@ -47,7 +52,8 @@ module _ {T : Type 0} (answers : T → Bool → Type 0) where
   EachFails [] = Unit {0}
   EachFails (entry ∷ entries) = answers entry.1.1 false × EachFails entries
 
-  -- a search that has these entries left, of all, where the value of each before them fails the test
+  -- a search that has these entries left, of all, where the value of each before them fails the
+  -- test
   pub record HasPassed (all left : List (ℕ × (ℕ × T))) : Type 0 where
     pub passed : List (ℕ × (ℕ × T))
     pub split : all ≡ passed ++ left

@@ -15,11 +15,17 @@ module _ {T : Type 0} where
   abbrev pub links : List (Slot T) → ℕ → Option ℕ → List ℕ
   links es zero head = []
   links es (suc n) None = []
-  links es (suc n) (Some index) = index ∷ links es n (next_of (slice_index_or es (index - 1) (free None None)))
+  links es (suc n) (Some index) = index
+      ∷ links es n (next_of (slice_index_or es (index - 1) (free None None)))
 
   abbrev pub content_of : List (Slot T) → Room → ℕ → Option ℕ → Content T
   content_of es room counter head =
-      record { slots = map entry_of es; counter = counter; free = links es (length es) head; room = room }
+      record {
+        slots = map entry_of es;
+        counter = counter;
+        free = links es (length es) head;
+        room = room;
+      }
 
   -- the links of the slot at an index, if it is free
   abbrev pub links_at : List (Slot T) → ℕ → Option Ends
@@ -33,10 +39,13 @@ module _ {T : Type 0} where
 
   -- the content without its last slot, which is free
   abbrev pub without_last : Content T → Content T
-  without_last c = record c { slots = take (length c.slots - 1) c.slots; free = filter (λ index. nat_lt index (length c.slots)) c.free }
+  without_last c = record c {
+    slots = take (length c.slots - 1) c.slots;
+    free = filter (λ index. nat_lt index (length c.slots)) c.free;
+  }
 
-  -- `len` counts the live slots, the list from `head` holds every other index, each once, and the slots are
-  -- within the capacity
+  -- `len` counts the live slots, the list from `head` holds every other index, each once, and the
+  -- slots are within the capacity
   pub record IsSound (es : List (Slot T)) (len : ℕ) (head : Option ℕ) (room : Room) : Type 0 where
     pub counted : len ≡ count_by is_some (map entry_of es)
     pub total : len + length (links es (length es) head) ≡ length es

@@ -10,19 +10,23 @@ module _ {P : Type 0} (index generation : P → ℕ) where
   abbrev pub pointer_in : ℕ × (ℕ × P) → ℕ × ℕ
   pointer_in entry = (index (value_of entry), generation (value_of entry))
 
-  -- of the entries `map` each one stands under the pointer of one of the entries `old`, in their order, and holds the
-  -- pointer of the one at its place in `new`
-  pub record IsRecaster {T : Type 0} (old new : List (ℕ × (ℕ × T))) (entries : List (ℕ × (ℕ × P))) : Type 0 where
+  -- of the entries `map` each one stands under the pointer of one of the entries `old`, in their
+  -- order, and holds the pointer of the one at its place in `new`
+  pub record IsRecaster {T : Type 0} (old new : List (ℕ × (ℕ × T))) (entries : List (ℕ × (ℕ × P)))
+      : Type 0 where
     pub from : map pointer_of entries ≡ map pointer_of old
     pub to : map pointer_in entries ≡ map pointer_of new
 
 module _ {P T : Type 0} (index generation : P → ℕ) where
-  -- a map by pointers is one-to-one from the pointers that are valid in `old` to those that are valid in `new`, and each
-  -- finds there what it found
+  -- a map by pointers is one-to-one from the pointers that are valid in `old` to those that are
+  -- valid in `new`, and each finds there what it found
   pub record IsRenaming (old new : Content T) (renaming : DirectContent P) : Type 0 where
     pub renames : (i g : ℕ) → IsSome (get old i g) ↔ IsSome (renamed renaming i g)
-    pub follows : (i g : ℕ) (q : P) → renamed renaming i g ≡ Some q → get new (index q) (generation q) ≡ get old i g
-    pub apart : (i g : ℕ) (q : P) (i' g' : ℕ) (q' : P) → renamed renaming i g ≡ Some q → renamed renaming i' g' ≡ Some q' → index q ≡ index q'
+    pub follows : (i g : ℕ) (q : P) → renamed renaming i g ≡ Some q
+        → get new (index q) (generation q) ≡ get old i g
+    pub apart : (i g : ℕ) (q : P) (i' g' : ℕ) (q' : P) → renamed renaming i g ≡ Some q
+        → renamed renaming i' g' ≡ Some q' → index q ≡ index q'
         → (i ≡ i') × (g ≡ g')
     pub onto : (j h : ℕ) → IsSome (get new j h)
-        → (i : ℕ) × (g : ℕ) × (q : P) × (renamed renaming i g ≡ Some q) × (index q ≡ j) × (generation q ≡ h)
+        → (i : ℕ) × (g : ℕ) × (q : P) × (renamed renaming i g ≡ Some q) × (index q ≡ j)
+        × (generation q ≡ h)

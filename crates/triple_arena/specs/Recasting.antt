@@ -16,7 +16,8 @@ module _ {I T : Type 0} (items : T → List I) where
     slots_recasted [] = []
     slots_recasted (None ∷ slots) = None ∷ slots_recasted slots
     slots_recasted (Some entry ∷ slots) =
-        Some (entry.0, recasted entry.1) ∷ where_ok (recast_answer f (items entry.1)) (slots_recasted slots) slots
+        Some (entry.0, recasted entry.1) ∷ where_ok (recast_answer f (items entry.1))
+        (slots_recasted slots) slots
 
     -- the content with its values recast
     abbrev pub content_recasted : Content T → Content T

@@ -3,8 +3,8 @@ use Rattle.std.specs.Prelude.{ℕ, Option, Some, None, nat_le, if◌then◌else�
 use Rattle.std.specs.Option.{option_map}
 use Rattle.triple_arena.specs.FreeLinks.{Ends}
 
--- a free slot, with the free index before it in the order in which free slots are taken, and the one after it, or an
--- allocated slot with its generation and value
+-- a free slot, with the free index before it in the order in which free slots are taken, and the
+-- one after it, or an allocated slot with its generation and value
 pub data Slot (T : Type 0) : Type 0 where
   free : Option ℕ → Option ℕ → Slot T
   used : ℕ → T → Slot T
@@ -32,7 +32,9 @@ module _ {T : Type 0} where
 
   -- the links of a free slot as indexes of a type with this greatest one
   abbrev pub free_links : ℕ → Slot T → Option Ends
-  free_links greatest slot = option_map (λ (l : Ends). (index_up_to greatest l.0, index_up_to greatest l.1)) (links_of slot)
+  free_links greatest slot
+      = option_map (λ (l : Ends). (index_up_to greatest l.0, index_up_to greatest l.1))
+      (links_of slot)
 
   -- the link to the next one of a free slot
   abbrev pub next_of : Slot T → Option ℕ

@@ -9,15 +9,17 @@ abbrev pub generation_after : Option ℕ → Bool → Option ℕ → ℕ → ℕ
 generation_after last reset (Some given) own = given
 generation_after last reset None own = renewed last reset own
 
--- whether the step of its own generation starts the generations again, where that is the one that it gets
+-- whether the step of its own generation starts the generations again, where that is the one that
+-- it gets
 abbrev pub own_wraps : Option ℕ → Bool → Option ℕ → ℕ → Bool
 own_wraps last reset (Some given) own = false
 own_wraps last reset None own = renewal_wraps last reset own
 
 module _ {P T : Type 0} (index generation : P → ℕ) where
-  -- a map was called once at each live slot of `old`, in their order, and `new` has what it gave, each with the
-  -- generation of its entry renewed
-  pub record Compacts {F : Type 0} (step : F → P → T → P → T → F → Type 0) (f : F) (renew : ℕ → ℕ) (old new : List (Option (ℕ × T))) : Type 0 where
+  -- a map was called once at each live slot of `old`, in their order, and `new` has what it gave,
+  -- each with the generation of its entry renewed
+  pub record Compacts {F : Type 0} (step : F → P → T → P → T → F → Type 0) (f : F) (renew : ℕ → ℕ)
+      (old new : List (Option (ℕ × T))) : Type 0 where
     pub moves : List (Move P T)
     pub last : F
     pub calls : FoldsTo (λ g move h. step g move.from move.value move.to move.given h) f moves last

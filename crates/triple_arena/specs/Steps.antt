@@ -9,12 +9,14 @@ use Rattle.triple_arena.specs.Entries.{generation_at, with_value_at, IsOneOf}
 use Rattle.triple_arena.specs.Transfer.{steps_wrap, IsGivenUp}
 use Rattle.triple_arena.specs.Changes.{IsNew, IsInserted, IsRemoved, IsInvalidated, IsCleared, IsStepped, IsCompressed, IsExchanged, IsReallocated}
 
--- an entry stored at an index under a generation; the entry at an index removed; its pointer ended, and one with this
--- generation given in its place; all entries removed at once; each of them taken out, by a drain or by a transfer from here; the
--- counter stepped alone; the entries moved to the first indexes; the values at two indexes exchanged; a value written; room made;
--- a copy to here given up where its map refused, so that room for it was made and all entries were removed at once; and whatever
--- leaves the generation at each index, and the counter. The last is one step for many calls, since what else they change matters to
--- no pointer: a recast, the free slots put in order or taken from the end, a limit, a place that is let go
+-- an entry stored at an index under a generation; the entry at an index removed; its pointer ended,
+-- and one with this generation given in its place; all entries removed at once; each of them taken
+-- out, by a drain or by a transfer from here; the counter stepped alone; the entries moved to the
+-- first indexes; the values at two indexes exchanged; a value written; room made; a copy to here
+-- given up where its map refused, so that room for it was made and all entries were removed at
+-- once; and whatever leaves the generation at each index, and the counter. The last is one step for
+-- many calls, since what else they change matters to no pointer: a recast, the free slots put in
+-- order or taken from the end, a limit, a place that is let go
 pub data Step (T : Type 0) : Type 0 where
   insert : ℕ → ℕ → T → Step T
   remove : ℕ → Step T
@@ -68,7 +70,8 @@ abbrev pub reached : {S T : Type 0} → S → List (Step T × S) → S
 reached s [] = s
 reached s (moment ∷ later) = reached moment.1 later
 
-module _ {S T : Type 0} (entry_of : S → ℕ → Option (ℕ × T)) (live_of : S → ℕ) (counter_of : S → Option ℕ)
+module _ {S T : Type 0} (entry_of : S → ℕ → Option (ℕ × T)) (live_of : S → ℕ)
+    (counter_of : S → Option ℕ)
     (room_of : S → Room) (listed : S → List (ℕ × (ℕ × T))) (last : Option ℕ) where
   -- what the calls say of a step
   abbrev pub Takes : Step T → S → S → Type 0
@@ -80,19 +83,25 @@ module _ {S T : Type 0} (entry_of : S → ℕ → Option (ℕ × T)) (live_of : 
   Takes clear old new = IsCleared entry_of live_of counter_of room_of last old new
   Takes drain old new = IsGivenUp entry_of live_of counter_of room_of last old new
   Takes inc_generation old new = IsStepped entry_of live_of counter_of room_of last old new
-  Takes compress old new = IsCompressed entry_of live_of counter_of room_of last listed false old new
+  Takes compress old new
+      = IsCompressed entry_of live_of counter_of room_of last listed false old new
   Takes (exchange i j) old new =
-      IsSome (entry_of old i) × IsSome (entry_of old j) × IsExchanged entry_of live_of counter_of room_of i j old new
-  Takes (write i t) old new = ((j : ℕ) → entry_of new j ≡ with_value_at (entry_of old) i t j) × (counter_of new ≡ counter_of old)
+      IsSome (entry_of old i) × IsSome (entry_of old j)
+      × IsExchanged entry_of live_of counter_of room_of i j old new
+  Takes (write i t) old new = ((j : ℕ) → entry_of new j ≡ with_value_at (entry_of old) i t j)
+      × (counter_of new ≡ counter_of old)
   Takes (reallocate n) old new = IsReallocated entry_of live_of counter_of room_of n old new
   Takes (give_up_copy n) old new =
-      IsNew entry_of live_of counter_of room_of (option_map (next_generation last) (counter_of old)) (room_with n (room_of old)) new
-  Takes keep old new = ((j : ℕ) → generation_at (entry_of new) j ≡ generation_at (entry_of old) j) × (counter_of new ≡ counter_of old)
+      IsNew entry_of live_of counter_of room_of (option_map (next_generation last) (counter_of old))
+      (room_with n (room_of old)) new
+  Takes keep old new = ((j : ℕ) → generation_at (entry_of new) j ≡ generation_at (entry_of old) j)
+      × (counter_of new ≡ counter_of old)
 
   -- the steps of a history are taken one after another, and none starts the generations again
   abbrev pub Happens : S → List (Step T × S) → Type 0
   Happens s [] = Unit {0}
   Happens s (moment ∷ later) =
       Takes moment.0 s moment.1
-      × (steps_wrap last (counts moment.0 (live_of s)) (counter_of s) ≡ replicate (counts moment.0 (live_of s)) false)
+      × (steps_wrap last (counts moment.0 (live_of s)) (counter_of s)
+      ≡ replicate (counts moment.0 (live_of s)) false)
       × Happens moment.1 later

@@ -14,20 +14,27 @@ last_is_new (q ∷ l) p new (inl here) = new.0 (at_the_end l q p (sym here))
     at_the_end (x ∷ m) r s same = inr (at_the_end m r s same)
 last_is_new (q ∷ l) p new (inr later) = last_is_new l p new.1 later
 
-pub reached-append : {S T : Type 0} (s : S) (h k : List (Step T × S)) → reached s (h ++ k) ≡ reached (reached s h) k
+pub reached-append : {S T : Type 0} (s : S) (h k : List (Step T × S))
+    → reached s (h ++ k) ≡ reached (reached s h) k
 reached-append s [] k = refl
 reached-append s (moment ∷ h) k = reached-append moment.1 h k
 
 module _ {S T : Type 0} (listed : S → List (ℕ × (ℕ × T))) where
-  pub given-append : (h k : List (Step T × S)) → all_given listed (h ++ k) ≡ all_given listed h ++ all_given listed k
+  pub given-append : (h k : List (Step T × S))
+      → all_given listed (h ++ k) ≡ all_given listed h ++ all_given listed k
   given-append [] k = refl
   given-append (moment ∷ h) k =
       ap (λ l. given listed moment.0 moment.1 ++ l) (given-append h k)
-      ∙ sym (append_assoc (given listed moment.0 moment.1) (all_given listed h) (all_given listed k))
+      ∙ sym (append_assoc (given listed moment.0 moment.1) (all_given listed h)
+      (all_given listed k))
 
-module _ {S T : Type 0} (entry_of : S → ℕ → Option (ℕ × T)) (live_of : S → ℕ) (counter_of : S → Option ℕ)
+module _ {S T : Type 0} (entry_of : S → ℕ → Option (ℕ × T)) (live_of : S → ℕ)
+    (counter_of : S → Option ℕ)
     (room_of : S → Room) (listed : S → List (ℕ × (ℕ × T))) (last : Option ℕ) where
-  pub happens-append : (s : S) (h k : List (Step T × S)) → Happens entry_of live_of counter_of room_of listed last s h
-      → Happens entry_of live_of counter_of room_of listed last (reached s h) k → Happens entry_of live_of counter_of room_of listed last s (h ++ k)
+  pub happens-append : (s : S) (h k : List (Step T × S))
+      → Happens entry_of live_of counter_of room_of listed last s h
+      → Happens entry_of live_of counter_of room_of listed last (reached s h) k
+      → Happens entry_of live_of counter_of room_of listed last s (h ++ k)
   happens-append s [] k first then = then
-  happens-append s (moment ∷ h) k first then = (first.0, first.1, happens-append moment.1 h k first.2 then)
+  happens-append s (moment ∷ h) k first
+      then = (first.0, first.1, happens-append moment.1 h k first.2 then)

@@ -1,6 +1,7 @@
--- What an arena holds that took over the entries of another, and one that they were taken out of, by a transfer or by a drain: the
--- entry at each index, how many are live, how far the slots reach, the counter, the free indexes, the room, and well-formedness.
--- And the values that a transfer's map leaves, by what one call gives.
+-- What an arena holds that took over the entries of another, and one that they were taken out of,
+-- by a transfer or by a drain: the entry at each index, how many are live, how far the slots reach,
+-- the counter, the free indexes, the room, and well-formedness. And the values that a transfer's
+-- map leaves, by what one call gives.
 use Rattle.std.proofs.Common.{◌≡◌, ℕ, ◌+◌, ◌≤◌, List, [], ◌∷◌, map, length, slice_get, Option, None, refl, sym, ap, ◌∙◌, arith}
 use Rattle.std.specs.Fn.{iterate}
 use Rattle.std.specs.List.{FoldsTo}
@@ -25,7 +26,8 @@ room_kept n r fits = rw (le-leb n (capacity r) fits) refl
 
 module _ {T : Type 0} (c : Content T) (n g : ℕ) (values : List T) where
   -- the values stand at the indexes from 1 on, with this generation
-  pub entry-filled : (k : ℕ) → entry_at (filled c n g values) (k + 1) ≡ option_map (λ t. (g, t)) (slice_get values k)
+  pub entry-filled : (k : ℕ)
+      → entry_at (filled c n g values) (k + 1) ≡ option_map (λ t. (g, t)) (slice_get values k)
   entry-filled k = entry-compacted g values (reallocated c n) k
 
   pub live-filled : live_count (filled c n g values) ≡ length values
@@ -43,14 +45,17 @@ module _ {T : Type 0} (c : Content T) (n g : ℕ) (values : List T) where
   pub room-filled : (filled c n g values).room ≡ room_with n c.room
   room-filled = refl
 
-  pub formed-filled : length values ≤ arena_capacity (filled c n g values) → IsWellFormed (filled c n g values)
+  pub formed-filled : length values ≤ arena_capacity (filled c n g values)
+      → IsWellFormed (filled c n g values)
   formed-filled fits =
       let live = live-filled in
       let slots = slots-filled in
       record { free = tt; counted = omega (arith, live, slots); fits = omega (arith, slots, fits) }
 
 module _ {T : Type 0} (d : DirectContent T) (n g : ℕ) (values : List T) where
-  pub entry-directly_filled : (k : ℕ) → direct_entry_at (directly_filled d n g values) (k + 1) ≡ option_map (λ t. (g, t)) (slice_get values k)
+  pub entry-directly_filled : (k : ℕ)
+      → direct_entry_at (directly_filled d n g values) (k + 1)
+      ≡ option_map (λ t. (g, t)) (slice_get values k)
   entry-directly_filled k = entry-filled (as_content d) n g values k
 
   pub live-directly_filled : direct_live_count (directly_filled d n g values) ≡ length values
@@ -62,7 +67,8 @@ module _ {T : Type 0} (d : DirectContent T) (n g : ℕ) (values : List T) where
   pub room-directly_filled : (directly_filled d n g values).room ≡ room_with n d.room
   room-directly_filled = refl
 
-  pub formed-directly_filled : length values ≤ direct_capacity (directly_filled d n g values) → IsDirectlyWellFormed (directly_filled d n g values)
+  pub formed-directly_filled : length values ≤ direct_capacity (directly_filled d n g values)
+      → IsDirectlyWellFormed (directly_filled d n g values)
   formed-directly_filled fits = let slots = slots-directly_filled in omega (arith, slots, fits)
 
 module _ {T : Type 0} (last : Option ℕ) (c : Content T) where
@@ -76,7 +82,8 @@ module _ {T : Type 0} (last : Option ℕ) (c : Content T) where
   pub slots-drained : length (drained last c).slots ≡ 0
   slots-drained = refl
 
-  pub counter-drained : (drained last c).counter ≡ iterate (next_generation last) (live_count c) c.counter
+  pub counter-drained : (drained last c).counter
+      ≡ iterate (next_generation last) (live_count c) c.counter
   counter-drained = refl
 
   pub free-drained : (drained last c).free ≡ []
@@ -91,7 +98,8 @@ module _ {T : Type 0} (last : Option ℕ) (c : Content T) where
 module _ {Q U P T F : Type 0} (old_index old_generation : Q → ℕ) (index generation : P → ℕ)
     (step : F → Q → InvalidationOption U → P → T → F → Type 0) where
   -- the values are those that a function gives of the old pointers and the values
-  pub transferred_by : {f : F} {last counter : Option ℕ} {old : List (ℕ × (ℕ × U))} {new : List (ℕ × (ℕ × T))} (given : ℕ → ℕ → U → T)
+  pub transferred_by : {f : F} {last counter : Option ℕ} {old : List (ℕ × (ℕ × U))}
+      {new : List (ℕ × (ℕ × T))} (given : ℕ → ℕ → U → T)
       → ((h : F) (p : Q) (item : InvalidationOption U) (q : P) (t : T) (k : F) → step h p item q t k
       → t ≡ given (old_index p) (old_generation p) (value_told item))
       → IsTransferred old_index old_generation index generation step f last counter old new
@@ -101,18 +109,29 @@ module _ {Q U P T F : Type 0} (old_index old_generation : Q → ℕ) (index gene
       ∙ by_moves m.moves f m.calls
       ∙ ap (map (λ (e : ℕ × (ℕ × U)). given e.0 e.1.0 e.1.1)) m.before
     where
-      by_moves : (moves : List (Transfer Q U P T)) (h : F) → FoldsTo (λ g move k. step g move.from move.item move.to move.given k) h moves m.last
+      by_moves : (moves : List (Transfer Q U P T)) (h : F)
+          → FoldsTo (λ g move k. step g move.from move.item move.to move.given k) h moves m.last
           → map value_of (map (entry_after old_index old_generation index generation) moves)
-          ≡ map (λ (e : ℕ × (ℕ × U)). given e.0 e.1.0 e.1.1) (map (entry_before old_index old_generation index generation) moves)
+          ≡ map (λ (e : ℕ × (ℕ × U)). given e.0 e.1.0 e.1.1)
+          (map (entry_before old_index old_generation index generation) moves)
       by_moves [] h calls = refl
       by_moves (x ∷ moves) h calls =
           let same = one h x.from x.item x.to x.given calls.0 calls.1 in
           let rest = by_moves moves calls.0 calls.2 in
-          ap (λ t. t ∷ map value_of (map (entry_after old_index old_generation index generation) moves)) same
+          ap (λ t. t ∷ map value_of
+          (map (entry_after old_index old_generation index generation) moves)) same
           ∙ ap (λ l. given (old_index x.from) (old_generation x.from) (value_told x.item) ∷ l) rest
 
 -- what an arena holds that took over the entries of another
-pub ruleset fillings = (formed-filled, entry-filled, live-filled, slots-filled, counter-filled, free-filled, room-filled)
+pub ruleset fillings = (
+  formed-filled,
+  entry-filled,
+  live-filled,
+  slots-filled,
+  counter-filled,
+  free-filled,
+  room-filled,
+)
 
 -- and a direct arena
 pub ruleset direct_fillings = (
@@ -124,4 +143,12 @@ pub ruleset direct_fillings = (
 )
 
 -- what is left where every entry was taken out
-pub ruleset drains = (formed-drained, entry-drained, live-drained, slots-drained, counter-drained, free-drained, room-drained)
+pub ruleset drains = (
+  formed-drained,
+  entry-drained,
+  live-drained,
+  slots-drained,
+  counter-drained,
+  free-drained,
+  room-drained,
+)

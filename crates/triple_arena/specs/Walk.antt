@@ -3,8 +3,8 @@ use Rattle.std.specs.Prelude.{◌≡◌, ℕ, zero, suc, ◌+◌, ◌-◌, ◌<�
 use Rattle.triple_arena.specs.Compression.{pointer_of}
 use Rattle.triple_arena.specs.Entries.{generation_at, IsOneOf}
 
--- the indexes that are left to look at, from the lowest to the highest: from the lowest on, rising, or from the
--- highest on, falling
+-- the indexes that are left to look at, from the lowest to the highest: from the lowest on, rising,
+-- or from the highest on, falling
 pub record Walk : Type 0 where
   pub low : ℕ
   pub high : ℕ
@@ -47,10 +47,12 @@ module _ {T : Type 0} where
   Finds entries w None = (j : ℕ) → IsAhead w j → entries j ≡ None
   Finds entries w (Some p) = IsFirstLive entries w p.0 p.1
 
-  -- a step over these entries gives the first live index ahead and passes it, or gives nothing and ends the walk
+  -- a step over these entries gives the first live index ahead and passes it, or gives nothing and
+  -- ends the walk
   abbrev pub Steps : (ℕ → Option (ℕ × T)) → Walk → Option (ℕ × ℕ) → Walk → Type 0
   Steps entries before None after = Finds entries before None × IsOver after
-  Steps entries before (Some p) after = IsFirstLive entries before p.0 p.1 × (after ≡ past before p.0)
+  Steps entries before (Some p) after = IsFirstLive entries before p.0 p.1
+      × (after ≡ past before p.0)
 
 -- what so many steps give of the items to come: one each, and then nothing
 abbrev pub given_by : {X : Type 0} → ℕ → List X → List (Option X)
@@ -61,13 +63,16 @@ given_by (suc n) (x ∷ items) = Some x ∷ given_by n items
 -- of these pointers, each comes before all those behind it, falling or rising
 abbrev pub GoInOrder : Bool → List (ℕ × ℕ) → Type 0
 GoInOrder falls [] = Unit {0}
-GoInOrder falls (p ∷ later) = ((q : ℕ × ℕ) → IsOneOf later q → ComesBefore falls p.0 q.0) × GoInOrder falls later
+GoInOrder falls (p ∷ later) = ((q : ℕ × ℕ) → IsOneOf later q → ComesBefore falls p.0 q.0)
+    × GoInOrder falls later
 
 module _ {T : Type 0} where
   -- the pointers of the listed entries at the indexes that are left to look at, rising
   abbrev pub pointers_within : Walk → List (ℕ × (ℕ × T)) → List (ℕ × ℕ)
-  pointers_within w listed = map pointer_of (filter (λ entry. nat_le w.low entry.0 && nat_le entry.0 w.high) listed)
+  pointers_within w listed
+      = map pointer_of (filter (λ entry. nat_le w.low entry.0 && nat_le entry.0 w.high) listed)
 
   -- the same in the order in which the walk goes
   abbrev pub pointers_ahead : Walk → List (ℕ × (ℕ × T)) → List (ℕ × ℕ)
-  pointers_ahead w listed = if w.falls then reverse (pointers_within w listed) else pointers_within w listed
+  pointers_ahead w listed
+      = if w.falls then reverse (pointers_within w listed) else pointers_within w listed

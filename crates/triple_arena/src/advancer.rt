@@ -13,11 +13,11 @@ use std::num::NonZeroUsize;
 use triple_arena_ptr::{Advancer, AllocError, PtrCore, PtrInxCore};
 use unreached::unreached;
 
-/// Gives the pointers to the entries of an arena, one a call, by rising or by falling index. The arena is free
-/// between the calls.
+/// Gives the pointers to the entries of an arena, one a call, by rising or by falling index. The
+/// arena is free between the calls.
 ///
-/// A call gives the pointer at the first index that is live then, of those that no call has passed. Once there is
-/// none, no call gives one.
+/// A call gives the pointer at the first index that is live then, of those that no call has passed.
+/// Once there is none, no call gives one.
 #[derive(Drop)]
 pub struct PtrAdvancer<P: PtrCore> {
     // The indexes that are left are those after `start`, up to `end`.
@@ -35,7 +35,8 @@ impl<P: PtrCore> Model for PtrAdvancer<P> {
 
     ghost view = { λ a. record { low = a.start + 1; high = a.end; falls = a.rev } };
 
-    ghost inverse = { λ w. record { start = w.low - 1; end = w.high; rev = w.falls; pointers = record {} } };
+    ghost inverse = { λ w. record
+        { start = w.low - 1; end = w.high; rev = w.falls; pointers = record {} } };
 }
 
 impl<P: PtrCore> Clone for PtrAdvancer<P> {
@@ -93,7 +94,7 @@ impl<P: PtrCore> PtrAdvancer<P> {
         PtrAdvancer::over(start, end, false)
     }
 
-    // Passes what a step gave, or ends where it gave nothing.
+    // Passes what a step gave, or ends if it gave nothing.
     fn pass(&mut self, given: Option<P>)
         requires { IfSome given (λ p. P.index p < 2 ^ 64) }
         ensures passed { IfSome given (λ p. self.new ≡ past self.old (P.index p)) }
@@ -167,7 +168,8 @@ pub(crate) trait LivePointers<P: PtrCore, T> {
     final fn first_of_all(&self) -> Option<P>
         ensures live { IfSome result (λ p. generation_at (entry_at (content self.now)) (P.index p)
             ≡ Some (P.generation p)) }
-        ensures first { IfSome result (λ p. (j : ℕ) → j < P.index p → entry_at (content self.now) j ≡ None) }
+        ensures first { IfSome result (λ p. (j : ℕ) → j < P.index p
+            → entry_at (content self.now) j ≡ None) }
         ensures none { IfNone result ((j : ℕ) → entry_at (content self.now) j ≡ None) }
     {
         self.first_live(0, self.slots_len())
@@ -177,13 +179,14 @@ pub(crate) trait LivePointers<P: PtrCore, T> {
     final fn last_of_all(&self) -> Option<P>
         ensures live { IfSome result (λ p. generation_at (entry_at (content self.now)) (P.index p)
             ≡ Some (P.generation p)) }
-        ensures last { IfSome result (λ p. (j : ℕ) → P.index p < j → entry_at (content self.now) j ≡ None) }
+        ensures last { IfSome result (λ p. (j : ℕ) → P.index p < j
+            → entry_at (content self.now) j ≡ None) }
         ensures none { IfNone result ((j : ℕ) → entry_at (content self.now) j ≡ None) }
     {
         self.last_live(0, self.slots_len())
     }
 
-    // The greatest live index, or 0 where no index is live.
+    // The greatest live index, or 0 if no index is live.
     final fn last_index(&self) -> usize
         ensures { result ≡ last_index_of (content self.now) }
     {

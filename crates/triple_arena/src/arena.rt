@@ -47,9 +47,10 @@ use unreached::unreached;
 
 /// A generational arena, which keeps its slots in the stack `S`.
 ///
-/// Each value that is inserted gets a pointer of type `P`: an index of a slot, and the generation of the arena's
-/// counter. Each removal steps the counter. If generations are counted, a pointer finds its own value or nothing, until
-/// they start again or a call sets, resets or copies the counter.
+/// Each value that is inserted gets a pointer of type `P`: an index of a slot, and the generation
+/// of the arena's counter. Each removal steps the counter. If generations are counted, a pointer
+/// finds its own value or nothing, until they start again or a call sets, resets or copies the
+/// counter.
 #[derive(Drop)]
 pub struct Arena<P: PtrCore, T: Drop, S: ArenaSlots<P, T>> {
     slots: S,
@@ -156,7 +157,7 @@ impl<P: PtrCore, T: Drop, S: ArenaSlots<P, T>> Arena<P, T, S> {
         self.slots.len()
     }
 
-    /// The stack that the slots are kept in. `free_links` of a slot answers the neighbors of its
+    /// The stack that the slots are kept in. `free_links` of a slot returns the neighbors of its
     /// index on the list of the free indexes, which stand in the order in which insertions take
     /// them.
     pub fn backing(&self) -> &S

@@ -44,7 +44,7 @@ pub trait ArenaTrait<P: PtrCore, T: Drop> {
     // The reserved slots and the greatest capacity.
     ghost room: { Self → Room };
 
-    // Whether arenas of this type take memory. Where none does, no call answers `AllocError`.
+    // Whether arenas of this type take memory. If none does, no call returns `AllocError`.
     ghost takes_memory: { Bool };
 
     // The room of an arena that is made for so many entries.
@@ -59,8 +59,8 @@ pub trait ArenaTrait<P: PtrCore, T: Drop> {
     // The arena with another value at an index, if it is live.
     ghost with_value: { Self → ℕ → T → Self };
 
-    // What an arena becomes without the entry at an index. It is a relation, since nothing says which of its trees an
-    // ordered arena has then.
+    // What an arena becomes without the entry at an index. It is a relation, since nothing says
+    // which of its trees an ordered arena has then.
     ghost is_removed: { Self → ℕ → Self → Type 0 };
 
     // The arena with the entry at an index under the stepped counter, and without any entry.
@@ -68,11 +68,13 @@ pub trait ArenaTrait<P: PtrCore, T: Drop> {
 
     ghost cleared: { Self → Self };
 
-    // The arena without an entry and without a slot, its counter, where it has one, stepped once for each entry.
+    // The arena without an entry and without a slot, its counter, if it has one, stepped once for
+    // each entry.
     ghost drained: { Self → Self };
 
-    // What an arena becomes whose live entries go to the first indexes, with these values and with the generations
-    // renewed. It is a relation, since an arena whose slots hold pointers' indexes has no word for the new ones.
+    // What an arena becomes whose live entries go to the first indexes, with these values and with
+    // the generations renewed. It is a relation, since an arena whose slots hold pointers' indexes
+    // has no word for the new ones.
     ghost is_compressed: { Self → Bool → List T → Self → Type 0 };
 
     // What holds of each arena that a call leaves.
@@ -91,8 +93,8 @@ pub trait ArenaTrait<P: PtrCore, T: Drop> {
         ensures exact { result ≡ empty (room_at 0) }
         ensures formed { is_formed result };
 
-    /// An empty arena with room for `min` entries. It answers `BeyondMaxCapacity` where no arena of this type has so
-    /// much, and `AllocError` where the memory was refused.
+    /// An empty arena with room for `min` entries. It returns `BeyondMaxCapacity` if no arena of
+    /// this type has so much, and `AllocError` if the memory was refused.
     fn with_min_capacity(alloc: Self::Alloc, min: usize) -> Result<Self, ReallocationError>
         ensures empty { IfOk result (λ a. IsNew entry_at live_count counter room
             (number_if has_counter (second_generation P.Gen.last)) (room_at min) a) }
@@ -100,7 +102,7 @@ pub trait ArenaTrait<P: PtrCore, T: Drop> {
         ensures formed { IfOk result (λ a. is_formed a) }
         ensures fits { IfOk result (λ a. min ≤ capacity_of (room a)) }
 
-        // No memory is asked for where a new arena has the room already.
+        // No memory is asked for if a new arena has the room already.
         ensures succeeds { min ≤ capacity_of (room_at 0) → IsOk result }
         ensures beyond { IsErrOf result ReallocationError.BeyondMaxCapacity
             ↔ IsBeyond (room_at min).limit min }
@@ -119,9 +121,9 @@ pub trait ArenaTrait<P: PtrCore, T: Drop> {
     fn max_capacity(&self) -> Option<usize>
         ensures { result ≡ (room self.now).limit };
 
-    /// Makes room for `min` entries, by a growth to exactly that where there is less. It answers `BeyondMaxCapacity`
-    /// where `min` is past the greatest capacity, and `AllocError` where the memory was refused. An error leaves the
-    /// arena as it was, its capacity too.
+    /// Makes room for `min` entries, by a growth to exactly that if there is less. It returns
+    /// `BeyondMaxCapacity` if `min` is past the greatest capacity, and `AllocError` if the memory
+    /// was refused. An error leaves the arena as it was, its capacity too.
     fn reallocate_min_capacity(&mut self, min: usize) -> Result<(), ReallocationError>
         ensures reallocated { OnOk result (IsReallocated entry_at live_count counter room min
             self.old self.new) }
@@ -159,22 +161,22 @@ pub trait ArenaTrait<P: PtrCore, T: Drop> {
         ensures value { option_map (λ e. e.1) (entry_at self.old (P.Inx.number i))
             ≡ Some result.now };
 
-    /// The pointer to the entry with the least index, or `None` where no index is live.
+    /// The pointer to the entry with the least index, or `None` if no index is live.
     fn find_first_inx_ptr(&self) -> Option<P>
         ensures live { IfSome result (λ p. generation_at (entry_at self.now) (P.index p)
             ≡ Some (P.generation p)) }
         ensures first { IfSome result (λ p. (j : ℕ) → j < P.index p → entry_at self.now j ≡ None) }
         ensures none { IfNone result ((j : ℕ) → entry_at self.now j ≡ None) };
 
-    /// The pointer to the entry with the greatest index, or `None` where no index is live.
+    /// The pointer to the entry with the greatest index, or `None` if no index is live.
     fn find_last_inx_ptr(&self) -> Option<P>
         ensures live { IfSome result (λ p. generation_at (entry_at self.now) (P.index p)
             ≡ Some (P.generation p)) }
         ensures last { IfSome result (λ p. (j : ℕ) → P.index p < j → entry_at self.now j ≡ None) }
         ensures none { IfNone result ((j : ℕ) → entry_at self.now j ≡ None) };
 
-    /// What gives the pointers to the entries by rising index. It goes to an index that is not below the last one
-    /// that is live now.
+    /// What gives the pointers to the entries by rising index. It goes to an index that is not
+    /// below the last one that is live now.
     fn advancer(&self) -> Self::PtrAdvancer
         ensures rises { (walk result).falls ≡ false }
         ensures low { (walk result).low ≡ 1 }
@@ -189,8 +191,8 @@ pub trait ArenaTrait<P: PtrCore, T: Drop> {
         ensures falling_from { rev ≡ true
             → (walk result).high ≡ min (P.Inx.number i) (2 ^ 64 - 1) };
 
-    /// Removes the entry at an index, and steps the counter, where there is one. It answers `InvalidPtr`, and changes
-    /// nothing, where the index is not live.
+    /// Removes the entry at an index, and steps the counter, if there is one. It returns
+    /// `InvalidPtr`, and changes nothing, if the index is not live.
     fn remove_inx(&mut self, i: P::Inx) -> InvalidationResult<(P::Gen, T)>
         ensures value { option_map (λ a. (P.Gen.number (value_of a).0, (value_of a).1))
             (answer_of result) ≡ entry_at self.old (P.Inx.number i) }
@@ -202,10 +204,10 @@ pub trait ArenaTrait<P: PtrCore, T: Drop> {
         ensures formed { is_formed self.new }
         ensures invalid { IfNone (answer_of result) (self.new ≡ self.old) };
 
-    /// Ends `p` and gives the entry another pointer, with the stepped generation, so that `p` finds nothing where
-    /// generations are counted. Where they are not the pointer is equal to `p`. It answers `InvalidPtr`, and changes
-    /// nothing, where `p` points to no entry. The step is the counter's, or that of the entry's own generation in an
-    /// arena without a counter.
+    /// Ends `p` and gives the entry another pointer, with the stepped generation, so that `p` finds
+    /// nothing if generations are counted. If they are not, the pointer is equal to `p`. It returns
+    /// `InvalidPtr`, and changes nothing, if `p` points to no entry. The step is the counter's, or
+    /// that of the entry's own generation in an arena without a counter.
     fn invalidate(&mut self, p: P) -> InvalidationResult<P>
         ensures variant { IsSome (answer_of result)
             ↔ IsSome (value_if (P.generation p) (entry_at self.old (P.index p))) }
@@ -224,8 +226,8 @@ pub trait ArenaTrait<P: PtrCore, T: Drop> {
         ensures formed { is_formed self.new }
         ensures invalid { IfNone (answer_of result) (self.new ≡ self.old) };
 
-    /// Removes every entry and every slot, and steps the counter, where there is one, once, also where there was no
-    /// entry.
+    /// Removes every entry and every slot, and steps the counter, if there is one, once, also if
+    /// there was no entry.
     fn clear(&mut self) -> InvalidationOption<()>
         ensures overflow { overflowed result ≡ counter_wraps P.Gen.last (counter self.old) }
         ensures cleared { IsCleared entry_at live_count counter room P.Gen.last
@@ -233,19 +235,20 @@ pub trait ArenaTrait<P: PtrCore, T: Drop> {
         ensures exact { self.new ≡ cleared self.old }
         ensures formed { is_formed self.new };
 
-    /// Removes every entry, each by a step of the counter, where there is one, and every slot: what a drain leaves.
+    /// Removes every entry, each by a step of the counter, if there is one, and every slot: what a
+    /// drain leaves.
     fn take_all(&mut self)
         ensures exact { self.new ≡ drained self.old }
         ensures formed { is_formed self.new };
 
-    /// Moves the live entries, in the order of their indexes, to the indexes from 1 on, and gives each what `map` makes
-    /// of its value. `map` is called once for each, in that order, with the old pointer, the value and the new
-    /// pointer. No memory is taken.
+    /// Moves the live entries, in the order of their indexes, to the indexes from 1 on, and gives
+    /// each what `map` makes of its value. `map` is called once for each, in that order, with the
+    /// old pointer, the value and the new pointer. No memory is taken.
     ///
-    /// With `reset` the generations start again at the second one, and the answer is `Success`; an old pointer may then
-    /// find an entry that it was not given for. Else the counter steps once, every entry gets the stepped generation,
-    /// and the answer is `GenerationOverflow` where that step started the generations again. An arena without a
-    /// counter steps each entry's own generation.
+    /// With `reset` the generations start again at the second one, and the answer is `Success`; an
+    /// old pointer may then find an entry that it was not given for. Else the counter steps once,
+    /// every entry gets the stepped generation, and the answer is `GenerationOverflow` if that step
+    /// started the generations again. An arena without a counter steps each entry's own generation.
     fn compress_with<F: FnMut(P, T, P) -> T>(
         &mut self,
         reset: bool,
@@ -268,7 +271,8 @@ pub trait ArenaTrait<P: PtrCore, T: Drop> {
     ghost none_at_zero: { (s : Self) → entry_at s 0 ≡ None };
 
     // What a step of an advancer gives and leaves.
-    ghost advances: { (before : Self.PtrAdvancer) (s : Self) (given : Option P) (after : Self.PtrAdvancer)
+    ghost advances: { (before : Self.PtrAdvancer) (s : Self) (given : Option P)
+        (after : Self.PtrAdvancer)
         → Self.PtrAdvancer.advance_gives before s given after
         → Steps (entry_at s) (walk before) (option_map (λ p. (P.index p, P.generation p)) given)
         (walk after) };
@@ -285,7 +289,8 @@ pub trait ArenaTrait<P: PtrCore, T: Drop> {
     ghost entry_with_value: { (s : Self) (i : ℕ) (t : T) (j : ℕ)
         → entry_at (with_value s i t) j ≡ with_value_at (entry_at s) i t j };
 
-    ghost live_with_value: { (s : Self) (i : ℕ) (t : T) → live_count (with_value s i t) ≡ live_count s };
+    ghost live_with_value: { (s : Self) (i : ℕ) (t : T)
+        → live_count (with_value s i t) ≡ live_count s };
 
     ghost counter_with_value: { (s : Self) (i : ℕ) (t : T)
         → counter (with_value s i t) ≡ counter s };
@@ -295,8 +300,9 @@ pub trait ArenaTrait<P: PtrCore, T: Drop> {
     // What a drain leaves in the end is the arena given up, whatever was removed before.
     ghost drains: { LeavesGivenUp entry_at live_count counter room P.Gen.last drained };
 
-    /// Takes each entry out, in the order of the indexes. Once the iterator is dropped, the arena has no entry and no
-    /// slot, its counter, where it has one, has stepped once for each entry that it had, and its room is as it was.
+    /// Takes each entry out, in the order of the indexes. Once the iterator is dropped, the arena
+    /// has no entry and no slot, its counter, if it has one, has stepped once for each entry that
+    /// it had, and its room is as it was.
     final fn drain(&mut self) -> Drain<'_, P, T, Self>
         ensures arena { drain_arena result ≡ self.old }
         ensures same_reference { drain_lender result ≡ self.entry.ghost_name }
@@ -356,7 +362,7 @@ pub trait ArenaTrait<P: PtrCore, T: Drop> {
     }
 
     /// Removes the value that `p` points to, and steps the counter, if there is one. If `p` points
-    /// to none, it answers `InvalidPtr` and changes nothing.
+    /// to none, it returns `InvalidPtr` and changes nothing.
     #[inline(always)]
     final fn remove(&mut self, p: P) -> InvalidationResult<T>
         ensures value { option_map value_of (answer_of result)

@@ -8,8 +8,8 @@ use std::iter::FusedIterator;
 use std::marker::Model;
 use triple_arena_ptr::{Advancer, PtrCore};
 
-/// The pointers and the values of an arena, by value, in the order of the indexes, seen as the list of the entries that
-/// are left. Dropped, it drops those.
+/// The pointers and the values of an arena, by value, in the order of the indexes, seen as the list
+/// of the entries that are left. Dropped, it drops those.
 #[derive(Drop)]
 pub struct CapacityDrain<P: PtrCore, T: Drop, A: ArenaTrait<P, T> + Drop> {
     arena: A,
@@ -40,7 +40,8 @@ impl<P: PtrCore, T: Drop, A: ArenaTrait<P, T> + Drop> CapacityDrain<P, T, A> {
 impl<P: PtrCore, T: Drop, A: ArenaTrait<P, T> + Drop> Iterator for CapacityDrain<P, T, A> {
     type Item = (P, T);
 
-    ghost next_gives = { YieldsFirstBy (λ e. (P.index e.0, (P.generation e.0, e.1))) (λ left. left) };
+    ghost next_gives = { YieldsFirstBy (λ e. (P.index e.0, (P.generation e.0, e.1)))
+        (λ left. left) };
 
     ghost remaining = { item_count (λ left. left) };
 

@@ -27,20 +27,23 @@ pub trait ArenaCloneSource<P: PtrCore, U: Drop>: ArenaTrait<P, U> {
 
 /// The arenas that become a copy of another one.
 pub trait ArenaCloneFromWith<P: PtrCore, T: Drop>: ArenaTrait<P, T> {
-    // The arena with these entries alone, with this counter where both have one, and with room for the last of them.
+    // The arena with these entries alone, with this counter if both have one, and with room for the
+    // last of them.
     ghost copied: { Self → Option ℕ → List (ℕ × (ℕ × T)) → Self };
 
-    /// Makes this arena a copy of `source`: with its pointers, each with what `map` makes of the value there, and with
-    /// its counter where both have one. `map` is called once for each entry, in the order of the indexes, with the
-    /// pointer and the value. What the arena held is dropped, and the smallest free index is the next one to be taken.
-    /// A pointer of what it held before may find a copied entry.
+    /// Makes this arena a copy of `source`: with its pointers, each with what `map` makes of the
+    /// value there, and with its counter if both have one. `map` is called once for each entry, in
+    /// the order of the indexes, with the pointer and the value. What the arena held is dropped,
+    /// and the smallest free index is the next one to be taken. A pointer of what it held before
+    /// may find a copied entry.
     ///
-    /// No memory is taken where the last live index of `source` is within the capacity, which then stays. Else the
-    /// arena first grows to exactly that index. It answers `BeyondMaxCapacity` where that is past the greatest
-    /// capacity, and `AllocError` where the memory was refused; the arena is then as it was, and `map` was not called.
+    /// No memory is taken if the last live index of `source` is within the capacity, which then
+    /// stays. Else the arena first grows to exactly that index. It returns `BeyondMaxCapacity` if
+    /// that is past the greatest capacity, and `AllocError` if the memory was refused; the arena is
+    /// then as it was, and `map` was not called.
     ///
-    /// It also answers `AllocError` where `map` refused, and calls it no more. The arena then has room for the copy, no
-    /// entry, and the counter that `clear` leaves.
+    /// It also returns `AllocError` if `map` refused, and calls it no more. The arena then has room
+    /// for the copy, no entry, and the counter that `clear` leaves.
     fn clone_from_with<U, A, F>(&mut self, source: &A, map: F) -> Result<(), ReallocationError>
     where
         U: Drop,
@@ -54,7 +57,8 @@ pub trait ArenaCloneFromWith<P: PtrCore, T: Drop>: ArenaTrait<P, T> {
             (last_listed (A.live_entries source.now)) (A.counter source.now) self.old self.new) }
         ensures exact { OnOk result (self.new
             ≡ copied self.old (A.counter source.now) (Self.live_entries self.new)) }
-        ensures succeeds { last_listed (A.live_entries source.now) ≤ capacity_of (Self.room self.old)
+        ensures succeeds { last_listed (A.live_entries source.now)
+            ≤ capacity_of (Self.room self.old)
             → NeverRefuses F.step → IsOk result }
         ensures beyond { IsErrOf result ReallocationError.BeyondMaxCapacity
             ↔ IsBeyond (Self.room self.old).limit (last_listed (A.live_entries source.now)) }
@@ -86,7 +90,8 @@ pub(crate) fn up_to_last<P: PtrCore, U, E: LentEntry<P, U>>(slots: &[E]) -> &[E]
     left
 }
 
-// Appends a copy of each of these slots, with what `map` makes of the values, and says how many are allocated.
+// Appends a copy of each of these slots, with what `map` makes of the values, and says how many are
+// allocated.
 pub(crate) fn append_copies<P, T, U, L, E, S, F>(
     slots: &mut S,
     source: &[E],

@@ -26,8 +26,8 @@ use triple_arena_stack::{
     NonZeroInxArray, NonZeroInxBoxedSlice, NonZeroInxLimitedVec, NonZeroInxVec,
 };
 
-/// An arena without a counter and without a list of free indexes, which keeps its slots in the stack `S`. The caller
-/// gives each entry its whole pointer.
+/// An arena without a counter and without a list of free indexes, which keeps its slots in the
+/// stack `S`. The caller gives each entry its whole pointer.
 ///
 /// It serves as a mirror of another arena, or as a map from its pointers.
 #[derive(Drop)]

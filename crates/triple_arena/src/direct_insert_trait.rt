@@ -25,8 +25,9 @@ pub trait ArenaDirectInsertTrait<P: PtrCore, T: Drop>: ArenaTrait<P, T> {
     // The arena as its entries see it.
     ghost content: { Self → DirectContent T };
 
-    /// A place for an entry under `p`. It answers `NotWithinCapacity` where the index is past the capacity, and else
-    /// `ExistingElementAtIndex` where an entry is there, of whatever generation. An error leaves the arena as it is.
+    /// A place for an entry under `p`. It returns `NotWithinCapacity` if the index is past the
+    /// capacity, and else `ExistingElementAtIndex` if an entry is there, of whatever generation. An
+    /// error leaves the arena as it is.
     fn direct_insert_within_capacity(
         &mut self,
         p: P,

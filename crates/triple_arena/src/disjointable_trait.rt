@@ -11,8 +11,8 @@ pub trait DisjointableArenaTrait<P: PtrCore, T: Drop>: ArenaTrait<P, T> {
     // The arena with the values at two indexes exchanged, if both are live.
     ghost exchanged: { Self → ℕ → ℕ → Self };
 
-    /// Exchanges the values at two indexes that are live. Each index keeps its generation, so each pointer stays
-    /// valid. Where the indexes are one, nothing changes. It takes no memory.
+    /// Exchanges the values at two indexes that are live. Each index keeps its generation, so each
+    /// pointer stays valid. If the indexes are one, nothing changes. It takes no memory.
     fn swap_inx(&mut self, i: P::Inx, j: P::Inx)
         requires i_is_live { IsSome (Self.entry_at self.old (P.Inx.number i)) }
         requires j_is_live { IsSome (Self.entry_at self.old (P.Inx.number j)) }
@@ -21,7 +21,7 @@ pub trait DisjointableArenaTrait<P: PtrCore, T: Drop>: ArenaTrait<P, T> {
         ensures exact { self.new ≡ exchanged self.old (P.Inx.number i) (P.Inx.number j) }
         ensures formed { Self.is_formed self.new };
 
-    /// Exchanges the values that `p` and `q` point to, as `swap_inx` does. It answers
+    /// Exchanges the values that `p` and `q` point to, as `swap_inx` does. It returns
     /// `IndexOutOfBounds` if one of them points to none, and else `OverlappingIndices` if they are
     /// one. Either leaves the arena as it was.
     final fn swap(&mut self, p: P, q: P) -> Result<(), GetDisjointMutError>

@@ -8,11 +8,12 @@ use crate::ArenaTrait;
 use std::iter::FusedIterator;
 use triple_arena_ptr::{Advancer, InvalidationOption, InvalidationResult, PtrCore};
 
-/// Takes the entries out of an arena, in the order of the indexes, and gives their pointers and values.
+/// Takes the entries out of an arena, in the order of the indexes, and gives their pointers and
+/// values.
 ///
-/// Each item is one removal: the counter steps, where there is one, and the item is `GenerationOverflow` where that step
-/// started the generations again. Dropped, at whatever item, it takes those that are left in the same way, and leaves no
-/// slot.
+/// Each item is one removal: the counter steps, if there is one, and the item is
+/// `GenerationOverflow` if that step started the generations again. Dropped, at whatever item, it
+/// takes those that are left in the same way, and leaves no slot.
 ///
 /// A caller is told nothing of what it leaves if the values hold references.
 pub struct Drain<'a, P: PtrCore, T: Drop, A: ArenaTrait<P, T>> {
@@ -35,7 +36,8 @@ impl<'a, P: PtrCore, T: Drop, A: ArenaTrait<P, T>> Iterator for Drain<'a, P, T, 
 
     ghost can_next = { DrainCanStep A.entry_at A.walk };
 
-    ghost next_gives = { DrainSteps A.entry_at A.walk A.counter A.live_entries A.is_removed A.drained
+    ghost next_gives = { DrainSteps A.entry_at A.walk A.counter A.live_entries
+        A.is_removed A.drained
         P.Gen.last P.index P.generation };
 
     ghost remaining = { item_count (drain_rest A.counter A.live_entries P.Gen.last) };
@@ -54,9 +56,12 @@ impl<'a, P: PtrCore, T: Drop, A: ArenaTrait<P, T>> Iterator for Drain<'a, P, T, 
     }
 
     fn size_hint(&self) -> (usize, Option<usize>)
-        ensures lower { IsWithinCount result.0 (item_count (drain_rest A.counter A.live_entries P.Gen.last) self.now) }
-        ensures upper { IfSome result.1 (UpTo (item_count (drain_rest A.counter A.live_entries P.Gen.last) self.now)) }
-        ensures exact { result ≡ (A.live_count (drain_arena self.now), Some (A.live_count (drain_arena self.now))) }
+        ensures lower { IsWithinCount result.0
+            (item_count (drain_rest A.counter A.live_entries P.Gen.last) self.now) }
+        ensures upper { IfSome result.1
+            (UpTo (item_count (drain_rest A.counter A.live_entries P.Gen.last) self.now)) }
+        ensures exact { result
+            ≡ (A.live_count (drain_arena self.now), Some (A.live_count (drain_arena self.now))) }
     {
         let len = self.arena.len();
         (len, Some(len))

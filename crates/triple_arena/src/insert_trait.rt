@@ -18,8 +18,8 @@ pub trait ArenaInsertTrait<P: PtrCore, T: Drop>: ArenaTrait<P, T> {
     // The arena with room for one entry more.
     ghost grown_if_full: { Self → Self };
 
-    /// Stores `t` where there is room. Else it answers `NotWithinCapacityError`, the arena stays as it is, and `t` is
-    /// dropped.
+    /// Stores `t` if there is room. Else it returns `NotWithinCapacityError`, the arena stays as it
+    /// is, and `t` is dropped.
     fn insert_within_capacity(&mut self, t: T) -> Result<P, NotWithinCapacityError>
         ensures variant { IsOk result
             ↔ (Self.live_count self.old < capacity_of (Self.room self.old)) }
@@ -30,11 +30,11 @@ pub trait ArenaInsertTrait<P: PtrCore, T: Drop>: ArenaTrait<P, T> {
         ensures formed { Self.is_formed self.new }
         ensures err { OnErr result (self.new ≡ self.old) };
 
-    /// Stores `t`. Where there is no room the arena grows: to room for 4 at first, then for the double, and never
-    /// past its greatest capacity.
+    /// Stores `t`. If there is no room, the arena grows: to room for 4 at first, then for the
+    /// double, and never past its greatest capacity.
     ///
-    /// It answers `BeyondMaxCapacity` where as many entries are live as the greatest capacity, and `AllocError` where
-    /// the memory was refused. The arena is then as it was, and `t` is dropped.
+    /// It returns `BeyondMaxCapacity` if as many entries are live as the greatest capacity, and
+    /// `AllocError` if the memory was refused. The arena is then as it was, and `t` is dropped.
     fn insert_reallocating(&mut self, t: T) -> Result<P, ReallocationError>
         ensures inserted { IfOk result (λ p. IsInserted Self.entry_at Self.live_count Self.counter
             (next_index self.old) (P.index p) (P.generation p) t self.old self.new) }

@@ -42,8 +42,8 @@ impl<P: PtrCore, T> LentEntry<P, T> for DirectSlot<P, T> {
     }
 }
 
-/// The pointers and the values of the live entries, in the order of the indexes, seen as the list of the entries that
-/// are left. Of each value it gives the part that `M` shows.
+/// The pointers and the values of the live entries, in the order of the indexes, seen as the list
+/// of the entries that are left. Of each value it gives the part that `M` shows.
 #[derive(Drop)]
 pub struct Iter<'a, P: PtrCore, V, T, E: LentEntry<P, V>, M: Part<V, T>> {
     slots: &'a [E],
@@ -61,9 +61,11 @@ impl<'a, P: PtrCore, V, T, E: LentEntry<P, V>, M: Part<V, T>> Model for Iter<'a,
 
     ghost Value = { List (ℕ × (ℕ × T)) };
 
-    ghost view = { λ it. map (with_part M.part) (listed_behind it.passed (map E.shown it.slots.now)) };
+    ghost view = { λ it. map (with_part M.part)
+        (listed_behind it.passed (map E.shown it.slots.now)) };
 
-    ghost invariant = { λ it. IsCursor E.shown it.slots.now it.passed it.left (max_index_of P.Inx.greatest) };
+    ghost invariant = { λ it. IsCursor E.shown it.slots.now it.passed it.left
+        (max_index_of P.Inx.greatest) };
 }
 
 impl<'a, P: PtrCore, T, E: LentEntry<P, T>> Iter<'a, P, T, T, E, Whole> {
@@ -113,7 +115,8 @@ impl<'a, P: PtrCore, V, T, E: LentEntry<P, V>, M: Part<V, T>> Iter<'a, P, V, T, 
 impl<'a, P: PtrCore, V, T, E: LentEntry<P, V>, M: Part<V, T>> Iterator for Iter<'a, P, V, T, E, M> {
     type Item = (P, &'a T);
 
-    ghost next_gives = { YieldsFirstBy (λ e. (P.index e.0, (P.generation e.0, e.1.now))) (λ left. left) };
+    ghost next_gives = { YieldsFirstBy (λ e. (P.index e.0, (P.generation e.0, e.1.now)))
+        (λ left. left) };
 
     ghost remaining = { item_count (λ left. left) };
 
@@ -148,7 +151,8 @@ impl<'a, P: PtrCore, V, T, E: LentEntry<P, V>, M: Part<V, T>> ExactSizeIterator
 impl<'a, P: PtrCore, V, T, E: LentEntry<P, V>, M: Part<V, T>> FusedIterator
     for Iter<'a, P, V, T, E, M> {}
 
-/// The pointers to the live entries, in the order of the indexes, seen as the list of those that are left.
+/// The pointers to the live entries, in the order of the indexes, seen as the list of those that
+/// are left.
 #[derive(Drop)]
 pub struct Ptrs<'a, P: PtrCore, T, E: LentEntry<P, T>> {
     entries: Iter<'a, P, T, T, E, Whole>,
@@ -192,8 +196,8 @@ impl<'a, P: PtrCore, T, E: LentEntry<P, T>> ExactSizeIterator for Ptrs<'a, P, T,
 
 impl<'a, P: PtrCore, T, E: LentEntry<P, T>> FusedIterator for Ptrs<'a, P, T, E> {}
 
-/// The values of the live entries, in the order of the indexes, seen as the list of those that are left. Of each it gives
-/// the part that `M` shows.
+/// The values of the live entries, in the order of the indexes, seen as the list of those that are
+/// left. Of each it gives the part that `M` shows.
 #[derive(Drop)]
 pub struct Vals<'a, P: PtrCore, V, T, E: LentEntry<P, V>, M: Part<V, T>> {
     entries: Iter<'a, P, V, T, E, M>,

@@ -1,10 +1,11 @@
-//! What follows from the calls of an arena for those who keep pointers, and for those who go over them.
+//! What follows from the calls of an arena for those who keep pointers, and for those who go over
+//! them.
 //!
-//! `specs/Steps.antt` has the words for the first: a history is a list of steps, each with the arena that it left, and
-//! what a step changes is what the calls' contracts say.
+//! `specs/Steps.antt` has the words for the first: a history is a list of steps, each with the
+//! arena that it left, and what a step changes is what the calls' contracts say.
 //!
-//! Where generations are counted (`P::Gen` is no `()`), and as long as no step of the counter starts them again and
-//! nobody sets, resets or copies it, a pointer never comes to mean another entry.
+//! If generations are counted (`P::Gen` is no `()`), and as long as no step of the counter starts
+//! them again and nobody sets, resets or copies it, a pointer never comes to mean another entry.
 //!
 //! `specs/Walk.antt` has them for the second.
 ghost use Rattle.std.specs.Prelude.{◌≡◌, ◌≤◌, ◌↔◌, ℕ, List, length, map as list_map, Option, Some, IsSome, false};
@@ -25,8 +26,8 @@ ghost use Rattle.triple_arena.specs.Recaster.{IsRecaster, IsRenaming};
 use crate::ArenaTrait;
 use triple_arena_ptr::PtrCore;
 
-/// From a new arena on, each pointer that an insertion, an `invalidate` or a compression gives is one that no earlier
-/// step gave.
+/// From a new arena on, each pointer that an insertion, an `invalidate` or a compression gives is
+/// one that no earlier step gave.
 pub fn pointers_are_given_once<P: PtrCore, T: Drop, A: ArenaTrait<P, T>>()
     ensures { (greatest : ℕ) (made : A) (history : List (Step T × A)) → P.Gen.last ≡ Some greatest
         → IsNew A.entry_at A.live_count A.counter A.room (Some 2) (A.room made) made
@@ -36,17 +37,22 @@ pub fn pointers_are_given_once<P: PtrCore, T: Drop, A: ArenaTrait<P, T>>()
 
 /// A pointer that was given and has ended finds nothing ever after.
 pub fn ended_pointers_find_nothing<P: PtrCore, T: Drop, A: ArenaTrait<P, T>>()
-    ensures { (greatest : ℕ) (made : A) (before after : List (Step T × A)) (p : ℕ × ℕ) → P.Gen.last ≡ Some greatest
+    ensures { (greatest : ℕ) (made : A) (before after : List (Step T × A)) (p : ℕ × ℕ)
+        → P.Gen.last ≡ Some greatest
         → IsNew A.entry_at A.live_count A.counter A.room (Some 2) (A.room made) made
         → Happens A.entry_at A.live_count A.counter A.room A.live_entries P.Gen.last made before
-        → Happens A.entry_at A.live_count A.counter A.room A.live_entries P.Gen.last (reached made before) after
-        → IsOneOf (all_given A.live_entries before) p → (Finds A.entry_at (reached made before) p → ⊥)
+        → Happens A.entry_at A.live_count A.counter A.room A.live_entries P.Gen.last
+        (reached made before) after
+        → IsOneOf (all_given A.live_entries before) p
+        → (Finds A.entry_at (reached made before) p → ⊥)
         → Finds A.entry_at (reached (reached made before) after) p → ⊥ }
 {}
 
-/// A pointer with the first generation, as `invalid()` has, finds nothing after any history of a new arena's calls.
+/// A pointer with the first generation, as `invalid()` has, finds nothing after any history of a
+/// new arena's calls.
 pub fn invalid_pointers_find_nothing<P: PtrCore, T: Drop, A: ArenaTrait<P, T>>()
-    ensures { (greatest : ℕ) (made : A) (history : List (Step T × A)) (index : ℕ) → P.Gen.last ≡ Some greatest
+    ensures { (greatest : ℕ) (made : A) (history : List (Step T × A)) (index : ℕ)
+        → P.Gen.last ≡ Some greatest
         → IsNew A.entry_at A.live_count A.counter A.room (Some 2) (A.room made) made
         → Happens A.entry_at A.live_count A.counter A.room A.live_entries P.Gen.last made history
         → Finds A.entry_at (reached made history) (index, 1) → ⊥ }
@@ -58,8 +64,9 @@ pub fn writes_are_steps<P: PtrCore, T: Drop, A: ArenaTrait<P, T>>()
         A.live_entries P.Gen.last (write index value) arena (A.with_value arena index value) }
 {}
 
-/// What is done to an `Arena` and leaves each pointer is a step of a history too: a recast, the free slots put in order
-/// or taken from the end, a limit that is set, and the growth for a place that is let go.
+/// What is done to an `Arena` and leaves each pointer is a step of a history too: a recast, the
+/// free slots put in order or taken from the end, a limit that is set, and the growth for a place
+/// that is let go.
 pub fn what_keeps_pointers_is_a_step<I, P: PtrCore, T: Drop>()
     ensures recast { (items : T → List I) (image : I → Option I) (recasted : T → T)
         (arena : Content T) → Takes entry_at live_count some_counter (λ c. c.room) live_entries
@@ -74,8 +81,8 @@ pub fn what_keeps_pointers_is_a_step<I, P: PtrCore, T: Drop>()
         live_entries P.Gen.last keep arena (grown_if_full arena) }
 {}
 
-/// What a drain of an `Arena` leaves, however far it went, is a step of a history, and so is what a transfer from here
-/// leaves; and what is left of a copy to here whose map refused.
+/// What a drain of an `Arena` leaves, however far it went, is a step of a history, and so is what a
+/// transfer from here leaves; and what is left of a copy to here whose map refused.
 pub fn what_takes_all_is_a_step<P: PtrCore, T: Drop>()
     ensures drain { (arena : Content T) → Takes entry_at live_count some_counter (λ c. c.room)
         live_entries P.Gen.last drain arena (drained P.Gen.last arena) }
@@ -84,9 +91,10 @@ pub fn what_takes_all_is_a_step<P: PtrCore, T: Drop>()
         (cleared P.Gen.last (reallocated arena n)) }
 {}
 
-/// Over an arena that stays as it is, an advancer gives the pointers ahead of it in turn, one a call, and then nothing.
-/// They are the pointers of the live entries from its start on, each once, by rising index, or by falling index
-/// where it falls. What `advancer` answers has all of them ahead.
+/// Over an arena that stays as it is, an advancer gives the pointers ahead of it in turn, one a
+/// call, and then nothing. They are the pointers of the live entries from its start on, each once,
+/// by rising index, or by falling index where it falls. What `advancer` returns has all of them
+/// ahead.
 pub fn advancers_give_each_entry_once<P: PtrCore, T: Drop, A: ArenaTrait<P, T>>()
     ensures given { (arena : A) (advancer left : A.PtrAdvancer) (given : List (Option P))
         → FoldsTo (λ before p after. A.PtrAdvancer.advance_gives before arena p after)
@@ -103,12 +111,13 @@ pub fn advancers_give_each_entry_once<P: PtrCore, T: Drop, A: ArenaTrait<P, T>>(
         → pointers_ahead walk (A.live_entries arena) ≡ list_map pointer_of (A.live_entries arena) }
 {}
 
-/// The map that `compress_recaster` answers is one-to-one and onto: each pointer that was valid, and no other, has a
-/// new name, two have two, and the new names are the pointers that are valid afterwards. Each finds what its pointer
-/// found.
+/// The map that `compress_recaster` returns is one-to-one and onto: each pointer that was valid,
+/// and no other, has a new name, two have two, and the new names are the pointers that are valid
+/// afterwards. Each finds what its pointer found.
 pub fn recasters_rename_one_to_one<P: PtrCore, T: Drop>()
     ensures { (before after : Content T) (map : DirectContent P)
-        → IsRecaster P.index P.generation (live_entries before) (live_entries after) (live_entries_of map)
+        → IsRecaster P.index P.generation (live_entries before) (live_entries after)
+        (live_entries_of map)
         → live_values after ≡ live_values before → IsCompact (live_entries after)
         → IsRenaming P.index P.generation before after map }
 {}

@@ -1,11 +1,11 @@
-//! A generational arena: values in slots, found by pointers of an index and a generation. A port of the arena of the
-//! Rust crate `triple_arena`.
+//! A generational arena: values in slots, found by pointers of an index and a generation. A port of
+//! the arena of the Rust crate `triple_arena`.
 //!
-//! `Arena<P, T, S>` is over a pointer type `P` and keeps its slots in a stack `S`; it gives the pointers. To a
-//! `DirectArena<P, T, S>` the caller gives them. What arenas do stands in traits, which generic code asks for:
-//! `ArenaTrait`, `ArenaInsertTrait`, `ArenaDirectInsertTrait`, `DisjointableArenaTrait`, `ArenaCloneFromWith` of copies
-//! (from an `ArenaCloneSource`), and `ArenaTransferTrait` of entries moved from another arena (an
-//! `ArenaTransferSource`).
+//! `Arena<P, T, S>` is over a pointer type `P` and keeps its slots in a stack `S`; it gives the
+//! pointers. To a `DirectArena<P, T, S>` the caller gives them. What arenas do stands in traits,
+//! which generic code asks for: `ArenaTrait`, `ArenaInsertTrait`, `ArenaDirectInsertTrait`,
+//! `DisjointableArenaTrait`, `ArenaCloneFromWith` of copies (from an `ArenaCloneSource`), and
+//! `ArenaTransferTrait` of entries moved from another arena (an `ArenaTransferSource`).
 //!
 //! ```rust
 //! use std::alloc::Global;
@@ -21,23 +21,26 @@
 //! }
 //! ```
 //!
-//! Contracts speak of an arena's `Content` (`specs/Content.antt`): the generation and the value at each index, the
-//! counter, the free indexes in the order in which they are taken, and the room; and of a direct arena's
-//! `DirectContent`. What a call leaves is said once, in the trait: by a record of `specs/Changes.antt` for any arena
-//! (`IsInserted`, `IsRemoved`, ..), whose fields callers use as they are, and by the exact state (`inserted`,
-//! `cleared`, ..), which an arena gives as a function of its content; of a removal by a relation, `is_removed`.
+//! Contracts speak of an arena's `Content` (`specs/Content.antt`): the generation and the value at
+//! each index, the counter, the free indexes in the order in which they are taken, and the room;
+//! and of a direct arena's `DirectContent`. What a call leaves is said once, in the trait: by a
+//! record of `specs/Changes.antt` for any arena (`IsInserted`, `IsRemoved`, ..), whose fields
+//! callers use as they are, and by the exact state (`inserted`, `cleared`, ..), which an arena
+//! gives as a function of its content; of a removal by a relation, `is_removed`.
 //!
-//! A struct over an arena takes `IsWellFormed` into its invariant: each call that changes an arena ensures it of what
-//! it leaves, and `len` of the arena as it is. Only `recast` and `set_max_capacity`, whose clauses stand below the
-//! arenas, leave it to the laws `formed-recasted` and `formed-with_limit`. What is lent for writing ends as
-//! `with_value`, and the rules `writes` (`specs/ContentLaws.antt`), named on a function as
-//! `#[tactic(auto, using(triple_arena::specs::ContentLaws::writes))]`, say what that changes and keeps.
-//! `specs/CompressionLaws.antt` says what follows from the calls of a compression's map. Where the pointer type is a
-//! concrete one, a clause writes `⟦<P0 as PtrCore>⟧.index p` for what is `P.index p` at a type parameter.
+//! A struct over an arena takes `IsWellFormed` into its invariant: each call that changes an arena
+//! ensures it of what it leaves, and `len` of the arena as it is. Only `recast` and
+//! `set_max_capacity`, whose clauses stand below the arenas, leave it to the laws `formed-recasted`
+//! and `formed-with_limit`. What is lent for writing ends as `with_value`, and the rules `writes`
+//! (`specs/ContentLaws.antt`), named on a function as
+//! `#[tactic(auto, using(triple_arena::specs::ContentLaws::writes))]`, say what that changes and
+//! keeps. `specs/CompressionLaws.antt` says what follows from the calls of a compression's map. If
+//! the pointer type is a concrete one, a clause writes `⟦<P0 as PtrCore>⟧.index p` for what is
+//! `P.index p` at a type parameter.
 #![tactic(auto)]
 
-// A private function's clause `no_more` asks nothing. It stands where a `requires` would be alone, whose answers take
-// far longer to state.
+// A private function's clause `no_more` asks nothing. It stands where a `requires` would be alone,
+// whose answers take far longer to state.
 
 mod advancer;
 mod answers;

@@ -9,7 +9,8 @@ pub trait ArenaSlots<P: PtrCore, T: Drop>: NonZeroInxGenericStack<Item = ArenaSl
 impl<P: PtrCore, T: Drop, S: NonZeroInxGenericStack<Item = ArenaSlot<P, T>> + Drop> ArenaSlots<P, T>
     for S {}
 
-/// A stack of the slots of a `DirectArena`: the bound on a stack in one word. Every such stack has it.
+/// A stack of the slots of a `DirectArena`: the bound on a stack in one word. Every such stack has
+/// it.
 pub trait DirectSlots<P: PtrCore, T: Drop>: NonZeroInxGenericStack<Item = DirectSlot<P, T>>
     + Drop {}
 

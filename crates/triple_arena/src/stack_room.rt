@@ -34,7 +34,7 @@ pub(crate) fn limit_over<P: PtrCore, X: Drop, S: NonZeroInxGenericStack<Item = X
     }
 }
 
-// Makes room for `min` entries, by a growth to exactly that where there is less.
+// Makes room for `min` entries, by a growth to exactly that if there is less.
 pub(crate) fn reallocate_over<P: PtrCore, X: Drop, S: NonZeroInxGenericStack<Item = X>>(
     slots: &mut S,
     min: usize,

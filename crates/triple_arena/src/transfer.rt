@@ -22,11 +22,12 @@ use triple_arena_stack::NonZeroInxGenericStack;
 
 /// An arena whose entries `transfer_reallocating` of another arena takes.
 pub trait ArenaTransferSource<Q: PtrCore, U: Drop>: ArenaTrait<Q, U> {
-    // The arena without an entry and a slot, its counter, where it has one, stepped once for each entry.
+    // The arena without an entry and a slot, its counter, if it has one, stepped once for each
+    // entry.
     ghost given_up: { Self → Self };
 
-    /// Appends what `map` makes of each entry to `slots`, which have room for all, in the order of the indexes, and
-    /// leaves no entry and no slot.
+    /// Appends what `map` makes of each entry to `slots`, which have room for all, in the order of
+    /// the indexes, and leaves no entry and no slot.
     fn give_up<
         P: PtrCore,
         T: Drop,
@@ -52,23 +53,26 @@ pub trait ArenaTransferSource<Q: PtrCore, U: Drop>: ArenaTrait<Q, U> {
 
 /// The arenas that take over the entries of another arena.
 pub trait ArenaTransferTrait<P: PtrCore, T: Drop>: ArenaTrait<P, T> {
-    // The arena with these values alone, so many, at the indexes from 1 on, with this generation, in a room for them.
+    // The arena with these values alone, so many, at the indexes from 1 on, with this generation,
+    // in a room for them.
     ghost filled: { Self → ℕ → ℕ → List T → Self };
 
-    /// Drops what the arena holds, and moves the entries of `source` to the indexes from 1 on, in the order of their
-    /// indexes there. Each gets `new_generation` and what `map` makes of its value; an arena with a counter has
-    /// `new_generation` there too, and no free index.
+    /// Drops what the arena holds, and moves the entries of `source` to the indexes from 1 on, in
+    /// the order of their indexes there. Each gets `new_generation` and what `map` makes of its
+    /// value; an arena with a counter has `new_generation` there too, and no free index.
     ///
-    /// `map` is called once for each entry, in that order, with the pointer that it had in `source`, the value, and the
-    /// pointer that it gets. `source` is left with no entry and no slot in the room that it had, and its counter, where
-    /// it has one, is stepped once for each entry, as if they were removed one after another: where that step started
-    /// the generations again, `map` gets the value as a `GenerationOverflow`.
+    /// `map` is called once for each entry, in that order, with the pointer that it had in
+    /// `source`, the value, and the pointer that it gets. `source` is left with no entry and no
+    /// slot in the room that it had, and its counter, if it has one, is stepped once for each
+    /// entry, as if they were removed one after another: if that step started the generations
+    /// again, `map` gets the value as a `GenerationOverflow`.
     ///
-    /// A pointer of what this arena held before may find an entry that came in, if `new_generation` is its generation.
+    /// A pointer of what this arena held before may find an entry that came in, if `new_generation`
+    /// is its generation.
     ///
-    /// Memory is taken only where `source` has more entries than fit: then the arena first grows to exactly so many. It
-    /// answers `BeyondMaxCapacity` where they are more than the greatest capacity, and `AllocError` where the memory
-    /// was refused. An error leaves both arenas as they were.
+    /// Memory is taken only if `source` has more entries than fit: then the arena first grows to
+    /// exactly so many. It returns `BeyondMaxCapacity` if they are more than the greatest capacity,
+    /// and `AllocError` if the memory was refused. An error leaves both arenas as they were.
     fn transfer_reallocating<Q: PtrCore, U: Drop, Source: ArenaTransferSource<Q, U>, F>(
         &mut self,
         new_generation: P::Gen,
@@ -93,7 +97,7 @@ pub trait ArenaTransferTrait<P: PtrCore, T: Drop>: ArenaTrait<P, T> {
         ensures formed { Self.is_formed self.new }
         ensures source_formed { Source.is_formed source.new }
 
-        // No memory is asked for where the entries fit.
+        // No memory is asked for if the entries fit.
         ensures succeeds { Source.live_count source.old ≤ capacity_of (Self.room self.old)
             → IsOk result }
         ensures beyond { IsErrOf result ReallocationError.BeyondMaxCapacity
@@ -103,7 +107,7 @@ pub trait ArenaTransferTrait<P: PtrCore, T: Drop>: ArenaTrait<P, T> {
         ensures source_err { OnErr result (source.new ≡ source.old) };
 }
 
-// A value as its removal answers it, and the counter after that, where there is one.
+// A value as its removal answers it, and the counter after that, if there is one.
 fn removal<G: PtrGenCore, U>(counter: Option<G>, value: U) -> (Option<G>, InvalidationOption<U>)
     ensures value { value_of result.1 ≡ value }
     ensures wraps { overflowed result.1 ≡ counter_wraps G.last (option_map G.number counter) }
@@ -134,8 +138,9 @@ fn append_entry<
     let _ = slots.push_within_capacity(L::holding(generation, value));
 }
 
-// Takes each entry out of `from` in turn, steps the counter, where there is one, and appends to `to`, which is empty
-// and has room for all, what `map` makes of the value, with the given generation. It answers the counter.
+// Takes each entry out of `from` in turn, steps the counter, if there is one, and appends to `to`,
+// which is empty and has room for all, what `map` makes of the value, with the given generation. It
+// returns the counter.
 pub(crate) fn move_entries<Q, U, K, R, P, T, L, S, F>(
     from: &mut R,
     mut counter: Option<Q::Gen>,
@@ -165,7 +170,8 @@ where
         (list_map L.entry (S.items to.new)) }
     ensures counter { option_map Q.Gen.number result
         ≡ option_map (iterate (next_generation Q.Gen.last)
-        (count_by is_some (list_map K.entry (R.items from.old)))) (option_map Q.Gen.number counter) }
+        (count_by is_some (list_map K.entry (R.items from.old))))
+        (option_map Q.Gen.number counter) }
     ensures emptied { R.items from.new ≡ [] }
     ensures from_room { R.room from.new ≡ R.room from.old }
     ensures room { S.room to.new ≡ S.room to.old }

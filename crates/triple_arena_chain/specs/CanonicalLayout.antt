@@ -69,15 +69,18 @@ module _ {I T : Type 0} (number : I → ℕ) where
     pub laid_out : IsLaidOut (ends_in number new) (length old.slots)
     pub stays : (n : ℕ) → IsLaidOut (ends_in number old) n → (i : ℕ) → to i ≡ i
 
-  -- each chain is one run of the indexes from 1 on, with its values and with the generation renewed; no index is free. Where
-  -- that was so before, no index changes
-  pub record IsCanonical (last : Option ℕ) (reset : Bool) (old new : Content (IndexLink I T)) : Type 0 where
+  -- each chain is one run of the indexes from 1 on, with its values and with the generation
+  -- renewed; no index is free. Where that was so before, no index changes
+  pub record IsCanonical (last : Option ℕ) (reset : Bool) (old new : Content (IndexLink I T))
+      : Type 0 where
     pub to : ℕ → ℕ
     pub renamed : FollowsRenaming to (ends_in number old) (ends_in number new)
     pub values : (i : ℕ) → IsSome (ends_in number old i)
-        → values_in new (to i) ≡ option_map (λ e. (renewed last reset old.counter, e.1)) (values_in old i)
+        → values_in new (to i) ≡ option_map (λ e. (renewed last reset old.counter, e.1))
+        (values_in old i)
     pub laid_out : IsLaidOut (ends_in number new) (live_count old)
-    pub stays : IsLaidOut (ends_in number old) (live_count old) → (i : ℕ) → IsSome (ends_in number old i) → to i ≡ i
+    pub stays : IsLaidOut (ends_in number old) (live_count old) → (i : ℕ)
+        → IsSome (ends_in number old i) → to i ≡ i
     pub live : live_count new ≡ live_count old
     pub slots : length new.slots ≡ live_count old
     pub free : new.free ≡ []

@@ -6,7 +6,8 @@ use Rattle.triple_arena_chain.specs.ListLaws.{chain_where}
 use Rattle.triple_arena_chain.specs.Lists.{Chain, AreAllChainsOf}
 
 -- interlinks that are the same have the same layout
-pub laid_same : (e e' : ℕ → Option Ends) (n : ℕ) → ((i : ℕ) → e' i ≡ e i) → IsLaidOut e n → IsLaidOut e' n
+pub laid_same : (e e' : ℕ → Option Ends) (n : ℕ) → ((i : ℕ) → e' i ≡ e i) → IsLaidOut e n
+    → IsLaidOut e' n
 laid_same e e' n same laid =
     record {
       chains = laid.chains;

@@ -1,4 +1,5 @@
--- A canonical transfer: each chain at successive indexes, in the order of the least indexes that the chains had.
+-- A canonical transfer: each chain at successive indexes, in the order of the least indexes that
+-- the chains had.
 use Rattle.std.specs.Prelude.{◌≡◌, ℕ, ◌<◌, List, [], ◌∷◌, Option, map, length}
 use Rattle.std.specs.List.{range_with_len}
 use Rattle.triple_arena_ptr.specs.declared.invalidation.InvalidationOption.{InvalidationOption}
@@ -15,7 +16,8 @@ use Rattle.triple_arena_chain.specs.Renaming.{FollowsRenaming}
 -- each chain has an index below all those of the chains behind it
 abbrev pub AreRising : List Chain → Type 0
 AreRising [] = Unit {0}
-AreRising (c ∷ cs) = ((least : ℕ) × On (members c) least × ((k : ℕ) → On (all_members cs) k → least < k)) × AreRising cs
+AreRising (c ∷ cs) = ((least : ℕ) × On (members c) least
+    × ((k : ℕ) → On (all_members cs) k → least < k)) × AreRising cs
 
 -- these are the chains of the interlinks, in the order of their least indexes
 pub record AreInOrder (ends : ℕ → Option Ends) (cs : List Chain) : Type 0 where
@@ -23,8 +25,10 @@ pub record AreInOrder (ends : ℕ → Option Ends) (cs : List Chain) : Type 0 wh
   pub rising : AreRising cs
 
 module _ {J I U T : Type 0} (old_number : J → ℕ) (number : I → ℕ) where
-  -- chain after chain was moved, with the values in this order, to the indexes from 1 on, and no index is free
-  pub record IsMovedAlong (order : List (ℕ × (ℕ × U))) (old : Content (IndexLink J U)) (new : Content (IndexLink I T)) : Type 0 where
+  -- chain after chain was moved, with the values in this order, to the indexes from 1 on, and no
+  -- index is free
+  pub record IsMovedAlong (order : List (ℕ × (ℕ × U))) (old : Content (IndexLink J U))
+      (new : Content (IndexLink I T)) : Type 0 where
     pub chains : List Chain
     pub in_order : AreInOrder (ends_in old_number old) chains
     pub along : order ≡ links_along (values_in old) (all_members chains)
@@ -34,10 +38,14 @@ module _ {J I U T : Type 0} (old_number : J → ℕ) (number : I → ℕ) where
     pub slots : length new.slots ≡ live_count old
     pub free : new.free ≡ []
 
-module _ {Q U P T J I F : Type 0} (old_index old_generation : Q → ℕ) (index generation : P → ℕ) (old_number : J → ℕ) (number : I → ℕ)
+module _ {Q U P T J I F : Type 0} (old_index old_generation : Q → ℕ) (index generation : P → ℕ)
+    (old_number : J → ℕ) (number : I → ℕ)
     (step : F → Q → InvalidationOption U → P → T → F → Type 0) where
-  -- a map was called once at each link, chain after chain, and what it gave stands in chains as before
-  pub record IsMovedInOrder (f : F) (last : Option ℕ) (old : Content (IndexLink J U)) (new : Content (IndexLink I T)) : Type 0 where
+  -- a map was called once at each link, chain after chain, and what it gave stands in chains as
+  -- before
+  pub record IsMovedInOrder (f : F) (last : Option ℕ) (old : Content (IndexLink J U))
+      (new : Content (IndexLink I T)) : Type 0 where
     pub order : List (ℕ × (ℕ × U))
     pub laid : IsMovedAlong old_number number order old new
-    pub moved : IsTransferred old_index old_generation index generation step f last (some_counter old) order (listed_values new)
+    pub moved : IsTransferred old_index old_generation index generation step f last
+        (some_counter old) order (listed_values new)

@@ -11,11 +11,13 @@ IsAgreed-same e f same agreed =
       backward = λ p q h. ap next_in (same p) ∙ agreed.backward p q (sym (ap prev_in (same q)) ∙ h);
     }
 
-pub first_or-append : (xs ys : List ℕ) (a : Option ℕ) → first_or (xs ++ ys) a ≡ first_or xs (first_or ys a)
+pub first_or-append : (xs ys : List ℕ) (a : Option ℕ)
+    → first_or (xs ++ ys) a ≡ first_or xs (first_or ys a)
 first_or-append [] ys a = refl
 first_or-append (x ∷ xs) ys a = refl
 
-pub last_or-append : (b : Option ℕ) (xs ys : List ℕ) → last_or b (xs ++ ys) ≡ last_or (last_or b xs) ys
+pub last_or-append : (b : Option ℕ) (xs ys : List ℕ)
+    → last_or b (xs ++ ys) ≡ last_or (last_or b xs) ys
 last_or-append b [] ys = refl
 last_or-append b (x ∷ xs) ys = last_or-append (Some x) xs ys
 
@@ -43,7 +45,11 @@ off_or_on (x ∷ xs) i =
       | inr differs ↦
           elim (off_or_on xs i) [
             | inl off ↦ inl (differs.1, off)
-            | inr on ↦ inr (record { front = x ∷ on.front; back = on.back; is = ap (λ ys. x ∷ ys) on.is })
+            | inr on ↦ inr (record {
+              front = x ∷ on.front;
+              back = on.back;
+              is = ap (λ ys. x ∷ ys) on.is;
+            })
           ]
     ]
 
@@ -56,15 +62,23 @@ Off-taken [] ys x i off = off.1
 Off-taken (y ∷ xs) ys x i off = (off.0, Off-taken xs ys x i off.1)
 
 -- an index of a list that is taken out of it leaves the others apart, and is off them
-pub Apart-taken : (xs ys : List ℕ) (x : ℕ) → Apart (xs ++ x ∷ ys) → Apart (xs ++ ys) × Off (xs ++ ys) x
+pub Apart-taken : (xs ys : List ℕ) (x : ℕ) → Apart (xs ++ x ∷ ys) → Apart (xs ++ ys)
+    × Off (xs ++ ys) x
 Apart-taken [] ys x apart = (apart.1, apart.0)
 Apart-taken (y ∷ xs) ys x apart =
-    let rest = Apart-taken xs ys x apart.1 in
-    ((Off-taken xs ys x y apart.0, rest.0), ((λ same. Off-not_on xs ys y (subst (λ z. Off (xs ++ z ∷ ys) y) (sym same) apart.0)), rest.1))
+    let rest = Apart-taken xs ys x apart.1 in (
+      (Off-taken xs ys x y apart.0, rest.0),
+      ((λ same. Off-not_on xs ys y (subst (λ z. Off (xs ++ z ∷ ys) y) (sym same) apart.0)), rest.1),
+    )
 
 pub Apart-last : (xs : List ℕ) (y : ℕ) → Apart xs → Off xs y → Apart (xs ++ y ∷ [])
 Apart-last [] y apart off = (tt, tt)
-Apart-last (x ∷ xs) y apart off = (Off-append xs (y ∷ []) x apart.0 ((λ same. off.0 (sym same)), tt), Apart-last xs y apart.1 off.1)
+Apart-last (x ∷ xs) y apart off
+    = (
+      Off-append xs (y ∷ []) x apart.0 ((λ same. off.0 (sym same)), tt),
+      Apart-last xs y
+          apart.1 off.1,
+    )
 
 -- each index of a list is less than this number
 abbrev pub Below : ℕ → List ℕ → Type 0
@@ -93,7 +107,8 @@ few (suc n) xs apart below =
           let parts = on.is in
           let taken = Apart-taken on.front on.back n (subst Apart parts apart) in
           let left = Below-taken (suc n) on.front on.back n (subst (Below (suc n)) parts below) in
-          let less = few n (on.front ++ on.back) taken.0 (Below-less n (on.front ++ on.back) taken.1 left) in
+          let less = few n (on.front ++ on.back) taken.0
+          (Below-less n (on.front ++ on.back) taken.1 left) in
           let whole = ap length parts in
           let long = length-append on.front (n ∷ on.back) in
           let short = length-append on.front on.back in
@@ -103,9 +118,11 @@ few (suc n) xs apart below =
 -- no index stands on both of two lists whose indexes are apart together
 pub Apart-both : (xs ys : List ℕ) (z : ℕ) → Apart (xs ++ ys) → On xs z → On ys z → ⊥
 Apart-both xs ys z apart first second =
-    let split : xs ++ ys ≡ first.front ++ z ∷ (first.back ++ ys) = ap (λ l. l ++ ys) first.is ∙ append_assoc first.front (z ∷ first.back) ys in
+    let split : xs ++ ys ≡ first.front ++ z ∷ (first.back ++ ys) =
+    ap (λ l. l ++ ys) first.is ∙ append_assoc first.front (z ∷ first.back) ys in
     let off = (Apart-taken first.front (first.back ++ ys) z (subst Apart split apart)).1 in
-    let behind : Off ys z = Off-back first.back ys z (Off-back first.front (first.back ++ ys) z off) in
+    let behind : Off ys z =
+    Off-back first.back ys z (Off-back first.front (first.back ++ ys) z off) in
     Off-not_on second.front second.back z (subst (λ l. Off l z) second.is behind)
 
 -- a list that begins with an index has a last one, which is on it
@@ -117,7 +134,8 @@ pub On-cons : (x z : ℕ) (xs : List ℕ) → On xs z → On (x ∷ xs) z
 On-cons x z xs on = record { front = x ∷ on.front; back = on.back; is = ap (λ l. x ∷ l) on.is }
 
 pub last_on : (x : ℕ) (xs : List ℕ) (z : ℕ) → last_or (Some x) xs ≡ Some z → On (x ∷ xs) z
-last_on x [] z is = let same : x ≡ z = cc in record { front = []; back = []; is = ap (λ y. y ∷ []) same }
+last_on x [] z is = let same : x ≡ z =
+    cc in record { front = []; back = []; is = ap (λ y. y ∷ []) same }
 last_on x (y ∷ ys) z is = On-cons x z (y ∷ ys) (last_on y ys z is)
 
 live_by_prev : (o : Option Ends) (p : ℕ) → prev_in o ≡ Some p → o ≡ Some (Some p, next_in o)
@@ -139,20 +157,26 @@ off_later x y zs (w ∷ front) back is off =
     (Off-back front (y ∷ back) x (subst (λ l. Off l x) same off)).1
 
 module _ (e : ℕ → Option Ends) where
-  pub Stands-append : (b a : Option ℕ) (xs ys : List ℕ) → Stands e b xs (first_or ys a) → Stands e (last_or b xs) ys a → Stands e b (xs ++ ys) a
+  pub Stands-append : (b a : Option ℕ) (xs ys : List ℕ) → Stands e b xs (first_or ys a)
+      → Stands e (last_or b xs) ys a → Stands e b (xs ++ ys) a
   Stands-append b a [] ys s t = t
-  Stands-append b a (x ∷ xs) ys s t = (rw (first_or-append xs ys a) s.0, Stands-append (Some x) a xs ys s.1 t)
+  Stands-append b a (x ∷ xs) ys s t
+      = (rw (first_or-append xs ys a) s.0, Stands-append (Some x) a xs ys s.1 t)
 
-  pub Stands-front : (b a : Option ℕ) (xs ys : List ℕ) → Stands e b (xs ++ ys) a → Stands e b xs (first_or ys a)
+  pub Stands-front : (b a : Option ℕ) (xs ys : List ℕ) → Stands e b (xs ++ ys) a
+      → Stands e b xs (first_or ys a)
   Stands-front b a [] ys s = tt
-  Stands-front b a (x ∷ xs) ys s = (rw (← first_or-append xs ys a) s.0, Stands-front (Some x) a xs ys s.1)
+  Stands-front b a (x ∷ xs) ys s
+      = (rw (← first_or-append xs ys a) s.0, Stands-front (Some x) a xs ys s.1)
 
-  pub Stands-back : (b a : Option ℕ) (xs ys : List ℕ) → Stands e b (xs ++ ys) a → Stands e (last_or b xs) ys a
+  pub Stands-back : (b a : Option ℕ) (xs ys : List ℕ) → Stands e b (xs ++ ys) a
+      → Stands e (last_or b xs) ys a
   Stands-back b a [] ys s = s
   Stands-back b a (x ∷ xs) ys s = Stands-back (Some x) a xs ys s.1
 
   -- the next of the last of a list is what follows the list
-  pub next_of_last : (b a : Option ℕ) (x : ℕ) (xs : List ℕ) (z : ℕ) → last_or (Some x) xs ≡ Some z → Stands e b (x ∷ xs) a → next_at e z ≡ a
+  pub next_of_last : (b a : Option ℕ) (x : ℕ) (xs : List ℕ) (z : ℕ) → last_or (Some x) xs ≡ Some z
+      → Stands e b (x ∷ xs) a → next_at e z ≡ a
   next_of_last b a x [] z is s = let same : x ≡ z = cc in ap (next_at e) (sym same) ∙ ap next_in s.0
   next_of_last b a x (y ∷ ys) z is s = next_of_last (Some x) a y ys z is s.1
 
@@ -166,80 +190,105 @@ module _ (e : ℕ → Option Ends) where
 
     -- from an index on: to an end, or back to it
     data Onward (b : Option ℕ) (i : ℕ) : Type 0 where
-      to_end : (ys : List ℕ) → Stands e b (i ∷ ys) None → Apart (i ∷ ys) → Below n (i ∷ ys) → Onward b i
+      to_end : (ys : List ℕ) → Stands e b (i ∷ ys) None → Apart (i ∷ ys) → Below n (i ∷ ys)
+          → Onward b i
       around : (ys : List ℕ) → Stands e b (i ∷ ys) (Some i) → Apart (i ∷ ys) → Onward b i
 
-    onward : (fuel : ℕ) (b : Option ℕ) (i : ℕ) (ys : List ℕ) (a : Option ℕ) → length (i ∷ ys) + fuel ≡ n + 1 → Stands e b (i ∷ ys) a
+    onward : (fuel : ℕ) (b : Option ℕ) (i : ℕ) (ys : List ℕ) (a : Option ℕ)
+        → length (i ∷ ys) + fuel ≡ n + 1 → Stands e b (i ∷ ys) a
         → Apart (i ∷ ys) → Below n (i ∷ ys) → Onward b i
     onward fuel b i ys None long s apart all = to_end ys s apart all
-    onward zero b i ys (Some y) long s apart all = let less = few n (i ∷ ys) apart all in absurd (omega (arith, less, long))
+    onward zero b i ys (Some y) long s apart all = let less =
+        few n (i ∷ ys) apart all in absurd (omega (arith, less, long))
     onward (suc fuel) b i ys (Some y) long s apart all =
         let z = last_is i ys in
-        let into : prev_at e y ≡ Some z.0 = agreed.forward z.0 y (next_of_last b (Some y) i ys z.0 z.1 s) in
+        let into : prev_at e y ≡ Some z.0 =
+        agreed.forward z.0 y (next_of_last b (Some y) i ys z.0 z.1 s) in
         let here : e y ≡ Some (Some z.0, next_at e y) = live_by_prev (e y) z.0 into in
         elim (eqb_tells i y) [
           | inl same ↦ around ys (subst (λ w. Stands e b (i ∷ ys) (Some w)) (sym same.1) s) apart
           | inr differs ↦
               elim (off_or_on ys y) [
                 | inl off ↦
-                    let tail : Stands e (last_or b (i ∷ ys)) (y ∷ []) (next_at e y) = (here ∙ ap (λ w. Some (w, next_at e y)) (sym z.1), tt) in
+                    let tail : Stands e (last_or b (i ∷ ys)) (y ∷ []) (next_at e y) =
+                    (here ∙ ap (λ w. Some (w, next_at e y)) (sym z.1), tt) in
                     let grown = length-append ys (y ∷ []) in
-                    onward fuel b i (ys ++ y ∷ []) (next_at e y) (omega (arith, long, grown)) (Stands-append b (next_at e y) (i ∷ ys) (y ∷ []) s tail)
+                    onward fuel b i (ys ++ y ∷ []) (next_at e y) (omega (arith, long, grown))
+                    (Stands-append b (next_at e y) (i ∷ ys) (y ∷ []) s tail)
                     (Apart-last (i ∷ ys) y apart (differs.1, off))
                     (Below-last (i ∷ ys) y all (below y (Some z.0, next_at e y) here))
                 | inr on ↦
                     let parts : i ∷ ys ≡ (i ∷ on.front) ++ y ∷ on.back = ap (λ l. i ∷ l) on.is in
-                    let s' : Stands e b ((i ∷ on.front) ++ y ∷ on.back) (Some y) = subst (λ l. Stands e b l (Some y)) parts s in
+                    let s' : Stands e b ((i ∷ on.front) ++ y ∷ on.back) (Some y) =
+                    subst (λ l. Stands e b l (Some y)) parts s in
                     let at_y = (Stands-back b (Some y) (i ∷ on.front) (y ∷ on.back) s').0 in
                     let w = last_is i on.front in
                     let before : prev_at e y ≡ Some w.0 = ap prev_in at_y ∙ w.1 in
                     let both : Some w.0 ≡ Some z.0 = sym before ∙ into in
                     let same : w.0 ≡ z.0 = cc in
                     let z_last : last_or (Some y) on.back ≡ Some z.0 =
-                    sym (last_or-append (Some i) on.front (y ∷ on.back)) ∙ ap (last_or (Some i)) (sym on.is) ∙ z.1 in
+                    sym (last_or-append (Some i) on.front (y ∷ on.back)) ∙ ap (last_or (Some i))
+                    (sym on.is) ∙ z.1 in
                     absurd
-                    (Apart-both (i ∷ on.front) (y ∷ on.back) z.0 (subst Apart parts apart) (subst (On (i ∷ on.front)) same (last_on i on.front w.0 w.1))
+                    (Apart-both (i ∷ on.front) (y ∷ on.back) z.0 (subst Apart parts apart)
+                    (subst (On (i ∷ on.front)) same (last_on i on.front w.0 w.1))
                     (last_on y on.back z.0 z_last))
               ]
         ]
 
-    backward : (fuel : ℕ) (i : ℕ) (ys xs : List ℕ) (b : Option ℕ) → length (xs ++ i ∷ ys) + fuel ≡ n + 1 → Stands e b (xs ++ i ∷ ys) None
+    backward : (fuel : ℕ) (i : ℕ) (ys xs : List ℕ) (b : Option ℕ)
+        → length (xs ++ i ∷ ys) + fuel ≡ n + 1 → Stands e b (xs ++ i ∷ ys) None
         → Apart (xs ++ i ∷ ys) → Below n (xs ++ i ∷ ys) → Standing e i
     backward fuel i ys xs None long s apart all = linear xs ys s
-    backward zero i ys xs (Some y) long s apart all = let less = few n (xs ++ i ∷ ys) apart all in absurd (omega (arith, less, long))
+    backward zero i ys xs (Some y) long s apart all = let less =
+        few n (xs ++ i ∷ ys) apart all in absurd (omega (arith, less, long))
     backward (suc fuel) i ys xs (Some y) long s apart all =
-        by_first (λ b here off. backward fuel i ys (y ∷ xs) b (omega (arith, long)) (here, s) (off, apart)
+        by_first (λ b here off. backward fuel i ys (y ∷ xs) b (omega (arith, long)) (here, s)
+        (off, apart)
         (below y (b, first_or (xs ++ i ∷ ys) None) here, all))
         (xs ++ i ∷ ys) refl
       where
-        by_first : ((b : Option ℕ) → e y ≡ Some (b, first_or (xs ++ i ∷ ys) None) → Off (xs ++ i ∷ ys) y → Standing e i)
+        by_first : ((b : Option ℕ) → e y ≡ Some (b, first_or (xs ++ i ∷ ys) None)
+            → Off (xs ++ i ∷ ys) y → Standing e i)
             → (zs : List ℕ) → xs ++ i ∷ ys ≡ zs → Standing e i
-        by_first on_from [] none = absurd (let long' = ap length none in let sizes = length-append xs (i ∷ ys) in omega (arith, long', sizes))
+        by_first on_from [] none
+            = absurd (let long' = ap length none in let sizes =
+            length-append xs (i ∷ ys) in omega (arith, long', sizes))
         by_first on_from (x ∷ zs) is =
             let t : Stands e (Some y) (x ∷ zs) None = subst (λ l. Stands e (Some y) l None) is s in
             let out : next_at e y ≡ Some x = agreed.backward y x (ap prev_in t.0) in
             let here : e y ≡ Some (prev_at e y, Some x) = live_by_next (e y) x out in
-            let first : Some x ≡ first_or (xs ++ i ∷ ys) None = ap (λ l. first_or l None) (sym is) in
+            let first : Some x ≡ first_or (xs ++ i ∷ ys) None =
+            ap (λ l. first_or l None) (sym is) in
             elim (off_or_on (xs ++ i ∷ ys) y) [
               | inl off ↦ on_from (prev_at e y) (here ∙ ap (λ w. Some (prev_at e y, w)) first) off
               | inr on ↦
-                  let at_y = (Stands-back (Some y) None on.front (y ∷ on.back) (subst (λ l. Stands e (Some y) l None) on.is s)).0 in
+                  let at_y = (Stands-back (Some y) None on.front (y ∷ on.back)
+                  (subst (λ l. Stands e (Some y) l None) on.is s)).0 in
                   let then : first_or on.back None ≡ Some x = sym (ap next_in at_y) ∙ out in
                   let once : Off zs x = (subst Apart is apart).0 in
-                  absurd (not_first x on.back then (off_later x y zs on.front on.back (sym is ∙ on.is) once))
+                  absurd (not_first x on.back
+                  then (off_later x y zs on.front on.back (sym is ∙ on.is) once))
             ]
 
-    around_stands : (b : Option ℕ) (i : ℕ) (ys : List ℕ) → b ≡ prev_at e i → Stands e b (i ∷ ys) (Some i) → Apart (i ∷ ys) → Standing e i
+    around_stands : (b : Option ℕ) (i : ℕ) (ys : List ℕ) → b ≡ prev_at e i
+        → Stands e b (i ∷ ys) (Some i) → Apart (i ∷ ys) → Standing e i
     around_stands b i ys is s apart =
         let z = last_is i ys in
-        let into : prev_at e i ≡ Some z.0 = agreed.forward z.0 i (next_of_last b (Some i) i ys z.0 z.1 s) in
-        ring ys (record { stands = subst (λ o. Stands e o (i ∷ ys) (Some i)) (is ∙ into ∙ sym z.1) s; apart = apart })
+        let into : prev_at e i ≡ Some z.0 =
+        agreed.forward z.0 i (next_of_last b (Some i) i ys z.0 z.1 s) in
+        ring ys (record {
+          stands = subst (λ o. Stands e o (i ∷ ys) (Some i))
+              (is ∙ into ∙ sym z.1) s;
+          apart = apart;
+        })
 
     -- each live index stands in a chain
     pub stands : (i : ℕ) → IsSome (e i) → Standing e i
     stands i some =
         let is : e i ≡ Some (prev_at e i, next_at e i) = of_live (e i) some in
-        by_onward (onward n (prev_at e i) i [] (next_at e i) (omega arith) (is, tt) (tt, tt) (bounded i some, tt))
+        by_onward (onward n (prev_at e i) i [] (next_at e i) (omega arith) (is, tt) (tt, tt)
+        (bounded i some, tt))
       where
         of_live : (o : Option Ends) → IsSome o → o ≡ Some (prev_in o, next_in o)
         of_live None h = absurd (let no : false ≡ true = h in cc)
@@ -248,5 +297,6 @@ module _ (e : ℕ → Option Ends) where
         by_onward : Onward (prev_at e i) i → Standing e i
         by_onward (to_end ys s apart all) =
             let less = few n (i ∷ ys) apart all in
-            backward (n + 1 - length (i ∷ ys)) i ys [] (prev_at e i) (omega (arith, less)) s apart all
+            backward (n + 1 - length (i ∷ ys)) i ys [] (prev_at e i)
+            (omega (arith, less)) s apart all
         by_onward (around ys s apart) = around_stands (prev_at e i) i ys refl s apart

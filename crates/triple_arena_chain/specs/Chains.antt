@@ -1,5 +1,5 @@
--- The chains that interlinks make, over a plain function from an index to its two neighbors, which has a value where the index
--- is live.
+-- The chains that interlinks make, over a plain function from an index to its two neighbors, which
+-- has a value where the index is live.
 use Rattle.std.specs.Prelude.{◌≡◌, ◌≢◌, ℕ, ◌==◌, List, [], ◌∷◌, ◌++◌, Option, Some, None, if◌then◌else◌, IsSome, ◌⊎◌}
 use Rattle.triple_arena_chain.specs.declared.place.Place.{Place}
 use Rattle.triple_arena_chain.specs.declared.place.Place.TheVariants.{Between, OwnRing}
@@ -42,7 +42,8 @@ last_or before (x ∷ xs) = last_or (Some x) xs
 -- these indexes stand one after another, the first behind `before` and the last in front of `after`
 abbrev pub Stands : (ℕ → Option Ends) → Option ℕ → List ℕ → Option ℕ → Type 0
 Stands ends before [] after = Unit {0}
-Stands ends before (x ∷ xs) after = (ends x ≡ Some (before, first_or xs after)) × Stands ends (Some x) xs after
+Stands ends before (x ∷ xs) after = (ends x ≡ Some (before, first_or xs after))
+    × Stands ends (Some x) xs after
 
 -- an index is not on a list
 abbrev pub Off : List ℕ → ℕ → Type 0
@@ -120,13 +121,16 @@ added ends n v i = if i == n then Some v else ends i
 
 -- `p` and `q` have exchanged their nexts `s` and `t`
 abbrev pub exchanged : (ℕ → Option Ends) → ℕ → ℕ → ℕ → ℕ → ℕ → Option Ends
-exchanged ends p q s t = with_prev (with_prev (with_next (with_next ends p (Some t)) q (Some s)) t (Some p)) s (Some q)
+exchanged ends p q s t
+    = with_prev (with_prev (with_next (with_next ends p (Some t)) q (Some s)) t (Some p)) s (Some q)
 
--- where one more index may stand: behind the first of these, if any, and before the second, if any. They are valid, and
--- neither has another neighbor on that side
+-- where one more index may stand: behind the first of these, if any, and before the second, if any.
+-- They are valid, and neither has another neighbor on that side
 pub record IsGap (ends : ℕ → Option Ends) (gap : Ends) : Type 0 where
-  pub before : (p : ℕ) → gap.0 ≡ Some p → IsSome (ends p) × ((next_at ends p ≡ None) ⊎ (next_at ends p ≡ gap.1))
-  pub after : (q : ℕ) → gap.1 ≡ Some q → IsSome (ends q) × ((prev_at ends q ≡ None) ⊎ (prev_at ends q ≡ gap.0))
+  pub before : (p : ℕ) → gap.0 ≡ Some p → IsSome (ends p)
+      × ((next_at ends p ≡ None) ⊎ (next_at ends p ≡ gap.1))
+  pub after : (q : ℕ) → gap.1 ≡ Some q → IsSome (ends q)
+      × ((prev_at ends q ≡ None) ⊎ (prev_at ends q ≡ gap.0))
 
 -- the interlinks with one more index in a gap
 abbrev pub placed : (ℕ → Option Ends) → ℕ → Ends → ℕ → Option Ends

@@ -31,14 +31,16 @@ pub record IsChainGone (walk : List ℕ) (old new : ℕ → Option Ends) : Type 
   -- no chain has one of them
   pub gone : (c : Chain) (k : ℕ) → IsChainOf new c → On walk k → Off (members c) k
   -- each chain that had none of them is as it was
-  pub others : (c : Chain) → IsChainOf old c → ((k : ℕ) → On (members c) k → Off walk k) → IsChainOf new c
+  pub others : (c : Chain) → IsChainOf old c → ((k : ℕ) → On (members c) k → Off walk k)
+      → IsChainOf new c
 
 -- an index, but not this one
 abbrev pub but_not : ℕ → Option ℕ → Option ℕ
 but_not i None = None
 but_not i (Some j) = if j == i then None else Some j
 
--- where a walk goes from an index with these neighbors, once it was taken out: to its next, or else to its previous one
+-- where a walk goes from an index with these neighbors, once it was taken out: to its next, or else
+-- to its previous one
 abbrev pub next_or_prev : ℕ → Ends → Option ℕ
 next_or_prev i own = but_not i (option_or own.1 own.0)
 
@@ -54,7 +56,8 @@ module _ {T : Type 0} where
   removed_all last c (i ∷ is) = removed_all last (removed last c i) is
 
 module _ {I T : Type 0} (number : I → ℕ) (last : Option ℕ) where
-  -- the links at these indexes are gone, each by a removal in turn; all others stay with their interlinks
+  -- the links at these indexes are gone, each by a removal in turn; all others stay with their
+  -- interlinks
   pub record IsDrained (walk : List ℕ) (old new : Content (IndexLink I T)) : Type 0 where
     pub ends : (k : ℕ) → ends_in number new k ≡ dropped_all (ends_in number old) walk k
     pub lists : IsChainGone walk (ends_in number old) (ends_in number new)
@@ -67,23 +70,28 @@ module _ {I T : Type 0} (number : I → ℕ) (last : Option ℕ) where
 
   -- the links of the walk from this index, if there is one to start at, are gone
   abbrev pub IsRestDrained : Option ℕ → Content (IndexLink I T) → Content (IndexLink I T) → Type 0
-  IsRestDrained at old new = (walk : List ℕ) → IsWalk (ends_in number old) at walk → IsDrained walk old new
+  IsRestDrained at old new = (walk : List ℕ) → IsWalk (ends_in number old) at walk
+      → IsDrained walk old new
 
 module _ {P I T : Type 0} (number : I → ℕ) (last : Option ℕ) (index generation : P → ℕ) where
-  -- an item is the removal of the link at this index, and whether its step started the generations again; the walk that
-  -- began there goes on from the next one
-  pub record IsStep (i : ℕ) (item : InvalidationOption (P × IndexLink I T)) (next : Option ℕ) (old new : Content (IndexLink I T)) : Type 0 where
+  -- an item is the removal of the link at this index, and whether its step started the generations
+  -- again; the walk that began there goes on from the next one
+  pub record IsStep (i : ℕ) (item : InvalidationOption (P × IndexLink I T)) (next : Option ℕ)
+      (old new : Content (IndexLink I T)) : Type 0 where
     pub index_is : index (value_of item).0 ≡ i
     pub entry : Some (generation (value_of item).0, (value_of item).1) ≡ entry_at old i
     pub overflow : overflowed item ≡ next_wraps last old.counter
     pub taken : IsTakenOut number last i old new
-    pub goes_on : (walk : List ℕ) → IsWalk (ends_in number old) (Some i) walk → (rest : List ℕ) × (walk ≡ i ∷ rest) × IsWalk (ends_in number new) next rest
-    pub leaves : (left : Content (IndexLink I T)) → IsRestDrained number last next new left → IsRestDrained number last (Some i) old left
+    pub goes_on : (walk : List ℕ) → IsWalk (ends_in number old) (Some i) walk → (rest : List ℕ)
+        × (walk ≡ i ∷ rest) × IsWalk (ends_in number new) next rest
+    pub leaves : (left : Content (IndexLink I T)) → IsRestDrained number last next new left
+        → IsRestDrained number last (Some i) old left
 
 module _ {P I T : Type 0} (index : P → ℕ) where
   -- the indexes of these items
   abbrev pub indexes_of : List (InvalidationOption (P × IndexLink I T)) → List ℕ
-  indexes_of items = map (λ (item : InvalidationOption (P × IndexLink I T)). index (value_of item).0) items
+  indexes_of items = map
+      (λ (item : InvalidationOption (P × IndexLink I T)). index (value_of item).0) items
 
 module _ {P T S Inx Gen Word Alloc : Type 0} where
   -- the links as the drain has them
@@ -109,31 +117,41 @@ module _ {P T S Inx Gen Word Alloc : Type 0} where
 
     module _ (last : Option ℕ) where
       -- what the drain leaves once it is dropped: the links that are still to come are gone
-      abbrev pub DrainLeaves : ChainDrain P T S Inx Gen Word Alloc → Content (IndexLink Inx T) → Type 0
+      abbrev pub DrainLeaves : ChainDrain P T S Inx Gen Word Alloc
+          → Content (IndexLink Inx T) → Type 0
       DrainLeaves d left = IsRestDrained number last (drain_at d) (drain_chains d) left
 
       -- both borrow the same arena, and what the later one leaves the earlier one leaves
-      abbrev pub DrainKeeps : ChainDrain P T S Inx Gen Word Alloc → ChainDrain P T S Inx Gen Word Alloc → Type 0
+      abbrev pub DrainKeeps : ChainDrain P T S Inx Gen Word Alloc
+          → ChainDrain P T S Inx Gen Word Alloc → Type 0
       DrainKeeps old new = (drain_lender new ≡ drain_lender old)
           × ((left : Content (IndexLink Inx T)) → DrainLeaves new left → DrainLeaves old left)
 
       module _ (index generation : P → ℕ) where
         -- the first removal of those that are still to come, or nothing where there is none
-        abbrev pub DrainGives : ChainDrain P T S Inx Gen Word Alloc → Option (InvalidationOption (P × IndexLink Inx T)) → ChainDrain P T S Inx Gen Word Alloc → Type 0
+        abbrev pub DrainGives : ChainDrain P T S Inx Gen Word Alloc
+            → Option (InvalidationOption (P × IndexLink Inx T))
+            → ChainDrain P T S Inx Gen Word Alloc → Type 0
         DrainGives old None new = (drain_at old ≡ None) × (drain_chains new ≡ drain_chains old)
         DrainGives old (Some item) new = (i : ℕ) × (drain_at old ≡ Some i)
-            × IsStep number last index generation i item (drain_at new) (drain_chains old) (drain_chains new)
+            × IsStep number last index generation i item (drain_at new) (drain_chains old)
+            (drain_chains new)
 
-        abbrev pub DrainSteps : ChainDrain P T S Inx Gen Word Alloc → Option (InvalidationOption (P × IndexLink Inx T)) → ChainDrain P T S Inx Gen Word Alloc → Type 0
+        abbrev pub DrainSteps : ChainDrain P T S Inx Gen Word Alloc
+            → Option (InvalidationOption (P × IndexLink Inx T))
+            → ChainDrain P T S Inx Gen Word Alloc → Type 0
         DrainSteps old item new = DrainGives old item new × DrainKeeps old new × DrainCanStep new
 
         -- each state that steps lead to keeps what the first one keeps
         abbrev pub DrainKeepsAlong : ChainDrain P T S Inx Gen Word Alloc → Type 0
-        DrainKeepsAlong first = (items : List (InvalidationOption (P × IndexLink Inx T))) (later : ChainDrain P T S Inx Gen Word Alloc)
+        DrainKeepsAlong first = (items : List (InvalidationOption (P × IndexLink Inx T)))
+            (later : ChainDrain P T S Inx Gen Word Alloc)
             → Yields DrainSteps first items later → DrainKeeps first later
 
-        -- the items are the walk in order: what is left at each state that steps lead to follows them
+        -- the items are the walk in order: what is left at each state that steps lead to follows
+        -- them
         abbrev pub DrainGoesAlong : ChainDrain P T S Inx Gen Word Alloc → Type 0
-        DrainGoesAlong first = (items : List (InvalidationOption (P × IndexLink Inx T))) (later : ChainDrain P T S Inx Gen Word Alloc)
+        DrainGoesAlong first = (items : List (InvalidationOption (P × IndexLink Inx T)))
+            (later : ChainDrain P T S Inx Gen Word Alloc)
             → Yields DrainSteps first items later → (walk : List ℕ) → IsLeft first walk
             → (rest : List ℕ) × (walk ≡ indexes_of index items ++ rest) × IsLeft later rest

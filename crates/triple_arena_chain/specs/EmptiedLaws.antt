@@ -10,10 +10,21 @@ use Rattle.triple_arena_chain.specs.Links.{valued, values_in}
 use Rattle.triple_arena_chain.specs.Values.{room_in}
 
 module _ {I T : Type 0} (last : Option ℕ) where
-  pub drained-gives_up : (c : Content (IndexLink I T)) → IsGivenUp values_in live_count some_counter room_in last c (drained last c)
-  drained-gives_up c = record { entries = λ j. ap (option_map valued) (entry-drained last c j); live = refl; counter = refl; room = refl }
+  pub drained-gives_up : (c : Content (IndexLink I T))
+      → IsGivenUp values_in live_count some_counter room_in last c (drained last c)
+  drained-gives_up c = record {
+    entries = λ j. ap (option_map valued) (entry-drained last c j);
+    live = refl;
+    counter = refl;
+    room = refl;
+  }
 
 module _ (I T : Type 0) (last : Option ℕ) where
-  pub drained-leaves : LeavesGivenUp {S = Content (IndexLink I T)} {T = T} values_in live_count some_counter room_in last (drained last)
+  pub drained-leaves : LeavesGivenUp {S = Content (IndexLink I T)}
+      {T = T} values_in live_count some_counter room_in last (drained last)
   unfolding LeavesGivenUp
-  drained-leaves = (drained-gives_up last, λ old new i removed. drained-same last old new removed.live removed.counter removed.room)
+  drained-leaves = (
+    drained-gives_up last,
+    λ old new i removed. drained-same last old new
+        removed.live removed.counter removed.room,
+  )

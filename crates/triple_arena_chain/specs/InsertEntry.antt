@@ -12,15 +12,17 @@ use Rattle.triple_arena_chain.specs.Chains.{IsPlace}
 use Rattle.triple_arena_chain.specs.Kinds.{place_by}
 use Rattle.triple_arena_chain.specs.Links.{ends_in}
 
--- which error comes where a link is to stand at the place that is asked for, if there is one, among so many links within this
--- capacity, and when none does
-pub record IsLinkAnswer {A : Type 0} (asked : Option (Place ℕ)) (len capacity : ℕ) (result : Result A ChainInsertionError) : Type 0 where
+-- which error comes where a link is to stand at the place that is asked for, if there is one, among
+-- so many links within this capacity, and when none does
+pub record IsLinkAnswer {A : Type 0} (asked : Option (Place ℕ)) (len capacity : ℕ)
+    (result : Result A ChainInsertionError) : Type 0 where
   pub failed : IsErrOf result FailedLinkRequirement ↔ (asked ≡ None)
   pub succeeds : IsOk result ↔ (IsSome asked × (len < capacity))
   pub full : IsErrOf result NotWithinCapacity ↔ (IsSome asked × (capacity ≤ len))
 
 -- the same where the arena grows in this room
-pub record IsLinkRefusal {A : Type 0} (asked : Option (Place ℕ)) (takes_memory : Bool) (len : ℕ) (room : Room) (result : Result A ChainInsertionError) : Type 0 where
+pub record IsLinkRefusal {A : Type 0} (asked : Option (Place ℕ)) (takes_memory : Bool) (len : ℕ)
+    (room : Room) (result : Result A ChainInsertionError) : Type 0 where
   pub failed : IsErrOf result FailedLinkRequirement ↔ (asked ≡ None)
   pub succeeds : IsSome asked → len < capacity room → IsOk result
   pub beyond : IsErrOf result BeyondMaxCapacity ↔ (IsSome asked × (room.limit ≡ Some len))
@@ -29,7 +31,8 @@ pub record IsLinkRefusal {A : Type 0} (asked : Option (Place ℕ)) (takes_memory
 
 module _ {P T S Inx Gen Word Alloc : Type 0} where
   -- the links as the entry holds them
-  abbrev pub entry_chains : ChainArenaInsertEntry P T S Inx Gen Word Alloc → Content (IndexLink Inx T)
+  abbrev pub entry_chains : ChainArenaInsertEntry P T S Inx Gen Word Alloc
+      → Content (IndexLink Inx T)
   entry_chains e = e.chains.now
 
   -- the ghost name of the reference to the links
@@ -41,7 +44,8 @@ module _ {P T S Inx Gen Word Alloc : Type 0} where
   entry_place number e = place_by number e.place
 
   -- there is room, a link may stand at the place, and the pointer is the next one
-  pub record IsReady (number : Inx → ℕ) (index generation : P → ℕ) (e : ChainArenaInsertEntry P T S Inx Gen Word Alloc) : Type 0 where
+  pub record IsReady (number : Inx → ℕ) (index generation : P → ℕ)
+      (e : ChainArenaInsertEntry P T S Inx Gen Word Alloc) : Type 0 where
     pub room : live_count (entry_chains e) < arena_capacity (entry_chains e)
     pub place : IsPlace (ends_in number (entry_chains e)) (entry_place number e)
     pub has_index : index e.ptr ≡ next_index (entry_chains e)

@@ -18,8 +18,8 @@ module _ {L : Type 0} where
 abbrev pub backwards_at : Option ℕ → ChainWalk
 backwards_at at = record { start = 0; at = at; back = true }
 
--- a walk over links that stay: where it began as long as it goes on, and the index that comes next. It turns late: if none
--- comes next, then the one before the start does
+-- a walk over links that stay: where it began as long as it goes on, and the index that comes next.
+-- It turns late: if none comes next, then the one before the start does
 abbrev pub lent_walk : (ℕ → Option Ends) → Option ℕ → Option ℕ → ChainWalk
 lent_walk ends None at = backwards_at at
 lent_walk ends (Some start) None = backwards_at (prev_at ends start)

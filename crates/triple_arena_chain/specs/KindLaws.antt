@@ -13,130 +13,180 @@ use Rattle.triple_arena_chain.specs.declared.place.Place.{Place}
 use Rattle.triple_arena_chain.specs.declared.place.Place.TheVariants.{Between}
 
 -- the places that are asked for, where the links are as they have to be
-end_place : (i : ℕ) (o : Option Ends) → IsSome (at_end i o) → at_end i o ≡ Some (Between (Some i) None)
+end_place : (i : ℕ) (o : Option Ends) → IsSome (at_end i o)
+    → at_end i o ≡ Some (Between (Some i) None)
 end_place i None there = absurd (true≢false (sym there))
 end_place i (Some v) there = by v.1 there
   where
-    by : (n : Option ℕ) → IsSome (at_end i (Some (v.0, n))) → at_end i (Some (v.0, n)) ≡ Some (Between (Some i) None)
+    by : (n : Option ℕ) → IsSome (at_end i (Some (v.0, n)))
+        → at_end i (Some (v.0, n)) ≡ Some (Between (Some i) None)
     by None some = refl
     by (Some n) some = absurd (true≢false (sym some))
 
-start_place : (i : ℕ) (o : Option Ends) → IsSome (at_start i o) → at_start i o ≡ Some (Between None (Some i))
+start_place : (i : ℕ) (o : Option Ends) → IsSome (at_start i o)
+    → at_start i o ≡ Some (Between None (Some i))
 start_place i None there = absurd (true≢false (sym there))
 start_place i (Some v) there = by v.0 there
   where
-    by : (n : Option ℕ) → IsSome (at_start i (Some (n, v.1))) → at_start i (Some (n, v.1)) ≡ Some (Between None (Some i))
+    by : (n : Option ℕ) → IsSome (at_start i (Some (n, v.1)))
+        → at_start i (Some (n, v.1)) ≡ Some (Between None (Some i))
     by None some = refl
     by (Some n) some = absurd (true≢false (sym some))
 
-interlink_place : (i j : ℕ) (o o' : Option Ends) → IsSome (at_interlink i j o o') → at_interlink i j o o' ≡ Some (Between (Some i) (Some j))
+interlink_place : (i j : ℕ) (o o' : Option Ends) → IsSome (at_interlink i j o o')
+    → at_interlink i j o o' ≡ Some (Between (Some i) (Some j))
 interlink_place i j None o' there = absurd (true≢false (sym there))
 interlink_place i j (Some v) None there = absurd (true≢false (sym there))
 interlink_place i j (Some v) (Some w) there = by v.1 there
   where
-    by : (n : Option ℕ) → IsSome (at_interlink i j (Some (v.0, n)) (Some w)) → at_interlink i j (Some (v.0, n)) (Some w) ≡ Some (Between (Some i) (Some j))
+    by : (n : Option ℕ) → IsSome (at_interlink i j (Some (v.0, n)) (Some w))
+        → at_interlink i j (Some (v.0, n)) (Some w) ≡ Some (Between (Some i) (Some j))
     by None some = absurd (true≢false (sym some))
     by (Some n) some =
-        elim (eqb_tells n j) [ inl same ↦ rw same.0 refl | inr differs ↦ absurd (let no : false ≡ true = rw differs.0 at some in cc) ]
+        elim (eqb_tells n j) [
+          | inl same ↦ rw same.0 refl
+          | inr differs ↦ absurd (let no : false ≡ true = rw differs.0 at some in cc)
+        ]
 
-bridge_place : (i j : ℕ) (o o' : Option Ends) → IsSome (at_bridge i j o o') → at_bridge i j o o' ≡ Some (Between (Some i) (Some j))
+bridge_place : (i j : ℕ) (o o' : Option Ends) → IsSome (at_bridge i j o o')
+    → at_bridge i j o o' ≡ Some (Between (Some i) (Some j))
 bridge_place i j None o' there = absurd (true≢false (sym there))
 bridge_place i j (Some v) None there = absurd (true≢false (sym there))
 bridge_place i j (Some v) (Some w) there = by v.1 w.0 there
   where
-    by : (n m : Option ℕ) → IsSome (at_bridge i j (Some (v.0, n)) (Some (m, w.1))) → at_bridge i j (Some (v.0, n)) (Some (m, w.1)) ≡ Some (Between (Some i) (Some j))
+    by : (n m : Option ℕ) → IsSome (at_bridge i j (Some (v.0, n)) (Some (m, w.1)))
+        → at_bridge i j (Some (v.0, n)) (Some (m, w.1)) ≡ Some (Between (Some i) (Some j))
     by None None some = refl
     by None (Some m) some = absurd (true≢false (sym some))
     by (Some n) m some = absurd (true≢false (sym some))
 
 module _ {I T : Type 0} (number : I → ℕ) where
   -- what a pointer finds is what is at its index
-  pub found : (c : Content (IndexLink I T)) (i g : ℕ) (v : Ends) → ends_found number c i g ≡ Some v → ends_in number c i ≡ Some v
+  pub found : (c : Content (IndexLink I T)) (i g : ℕ) (v : Ends) → ends_found number c i g ≡ Some v
+      → ends_in number c i ≡ Some v
   found c i g v h = by (entry_at c i) refl h
     where
-      by : (o : Option (ℕ × IndexLink I T)) → entry_at c i ≡ o → option_map (link_ends number) (value_if g o) ≡ Some v → ends_in number c i ≡ Some v
+      by : (o : Option (ℕ × IndexLink I T)) → entry_at c i ≡ o
+          → option_map (link_ends number) (value_if g o) ≡ Some v → ends_in number c i ≡ Some v
       by None at is = absurd (let no : None ≡ Some v = is in cc)
       by (Some e) at is =
           elim (eqb_tells e.0 g) [
-            | inl same ↦ rw at (let it : Some (link_ends number e.1) ≡ Some v = rw same.0 at is in it)
+            | inl same ↦ rw at (let it : Some (link_ends number e.1) ≡ Some v =
+                rw same.0 at is in it)
             | inr differs ↦ absurd (let no : None ≡ Some v = rw differs.0 at is in cc)
           ]
 
 module _ {P I T : Type 0} (index generation : P → ℕ) (number : I → ℕ) where
   -- an insertion directly after a link
-  pub put-next_to : (c d : Content (IndexLink I T)) (p : P) (i g : ℕ) (t : T) → IsSome (place_among index generation number c (NextTo p))
-      → IfSome (place_among index generation number c (NextTo p)) (λ place. IsPlaced number place i g t c d)
-      → IsPutIn (Some (index p), next_at (ends_in number c) (index p)) i (ends_in number c) (ends_in number d)
-  put-next_to c d p i g t there placed = by (ends_found number c (index p) (generation p)) (λ v is. found number c (index p) (generation p) v is) there placed
+  pub put-next_to : (c d : Content (IndexLink I T)) (p : P) (i g : ℕ) (t : T)
+      → IsSome (place_among index generation number c (NextTo p))
+      → IfSome (place_among index generation number c (NextTo p))
+      (λ place. IsPlaced number place i g t c d)
+      → IsPutIn (Some (index p), next_at (ends_in number c) (index p)) i (ends_in number c)
+      (ends_in number d)
+  put-next_to c d p i g t there placed = by (ends_found number c (index p) (generation p))
+      (λ v is. found number c (index p) (generation p) v is) there placed
     where
-      by : (o : Option Ends) → ((v : Ends) → o ≡ Some v → ends_in number c (index p) ≡ Some v) → IsSome (after_link (index p) o)
+      by : (o : Option Ends) → ((v : Ends) → o ≡ Some v → ends_in number c (index p) ≡ Some v)
+          → IsSome (after_link (index p) o)
           → IfSome (after_link (index p) o) (λ place. IsPlaced number place i g t c d)
-          → IsPutIn (Some (index p), next_at (ends_in number c) (index p)) i (ends_in number c) (ends_in number d)
+          → IsPutIn (Some (index p), next_at (ends_in number c) (index p)) i (ends_in number c)
+          (ends_in number d)
       by None at there placed = absurd (true≢false (sym there))
       by (Some v) at there placed =
-          subst (λ o. IsPutIn (Some (index p), o) i (ends_in number c) (ends_in number d)) (sym (ap next_in (at v refl))) placed.lists
+          subst (λ o. IsPutIn (Some (index p), o) i (ends_in number c) (ends_in number d))
+          (sym (ap next_in (at v refl))) placed.lists
 
-  at_place : (c d : Content (IndexLink I T)) (i g : ℕ) (t : T) (o : Option (Place ℕ)) (place : Place ℕ) → o ≡ Some place
+  at_place : (c d : Content (IndexLink I T)) (i g : ℕ) (t : T) (o : Option (Place ℕ))
+      (place : Place ℕ) → o ≡ Some place
       → IfSome o (λ place. IsPlaced number place i g t c d) → IsPlaced number place i g t c d
   at_place c d i g t o place is placed =
-      let there : IfSome (Some place) (λ place. IsPlaced number place i g t c d) = subst (λ x. IfSome x (λ place. IsPlaced number place i g t c d)) is placed in there
+      let there : IfSome (Some place) (λ place. IsPlaced number place i g t c d) =
+      subst (λ x. IfSome x (λ place. IsPlaced number place i g t c d)) is placed in there
 
   -- a link for itself
-  pub put-disconnected : (c d : Content (IndexLink I T)) (i g : ℕ) (t : T) → IsSome (place_among index generation number c Disconnected)
-      → IfSome (place_among index generation number c Disconnected) (λ place. IsPlaced number place i g t c d)
+  pub put-disconnected : (c d : Content (IndexLink I T)) (i g : ℕ) (t : T)
+      → IsSome (place_among index generation number c Disconnected)
+      → IfSome (place_among index generation number c Disconnected)
+      (λ place. IsPlaced number place i g t c d)
       → IsPutIn (None, None) i (ends_in number c) (ends_in number d)
   put-disconnected c d i g t there placed =
       placed.lists
 
   -- a ring of one
-  pub put-own_ring : (c d : Content (IndexLink I T)) (i g : ℕ) (t : T) → IsSome (place_among index generation number c SingleLinkCyclic)
-      → IfSome (place_among index generation number c SingleLinkCyclic) (λ place. IsPlaced number place i g t c d)
+  pub put-own_ring : (c d : Content (IndexLink I T)) (i g : ℕ) (t : T)
+      → IsSome (place_among index generation number c SingleLinkCyclic)
+      → IfSome (place_among index generation number c SingleLinkCyclic)
+      (λ place. IsPlaced number place i g t c d)
       → IsOwnRing i (ends_in number c) (ends_in number d)
   put-own_ring c d i g t there placed =
       placed.lists
 
   -- an insertion behind the end of a chain
-  pub put-chain_end : (c d : Content (IndexLink I T)) (p : P) (i g : ℕ) (t : T) → IsSome (place_among index generation number c (ChainEnd p))
-      → IfSome (place_among index generation number c (ChainEnd p)) (λ place. IsPlaced number place i g t c d)
+  pub put-chain_end : (c d : Content (IndexLink I T)) (p : P) (i g : ℕ) (t : T)
+      → IsSome (place_among index generation number c (ChainEnd p))
+      → IfSome (place_among index generation number c (ChainEnd p))
+      (λ place. IsPlaced number place i g t c d)
       → IsPutIn (Some (index p), None) i (ends_in number c) (ends_in number d)
   put-chain_end c d p i g t there placed =
-      (at_place c d i g t (at_end (index p) (ends_found number c (index p) (generation p))) (Between (Some (index p)) None)
+      (at_place c d i g t (at_end (index p) (ends_found number c (index p) (generation p)))
+      (Between (Some (index p)) None)
       (end_place (index p) (ends_found number c (index p) (generation p)) there) placed).lists
 
   -- in front of its start
-  pub put-chain_start : (c d : Content (IndexLink I T)) (p : P) (i g : ℕ) (t : T) → IsSome (place_among index generation number c (ChainStart p))
-      → IfSome (place_among index generation number c (ChainStart p)) (λ place. IsPlaced number place i g t c d)
+  pub put-chain_start : (c d : Content (IndexLink I T)) (p : P) (i g : ℕ) (t : T)
+      → IsSome (place_among index generation number c (ChainStart p))
+      → IfSome (place_among index generation number c (ChainStart p))
+      (λ place. IsPlaced number place i g t c d)
       → IsPutIn (None, Some (index p)) i (ends_in number c) (ends_in number d)
   put-chain_start c d p i g t there placed =
-      (at_place c d i g t (at_start (index p) (ends_found number c (index p) (generation p))) (Between None (Some (index p)))
+      (at_place c d i g t (at_start (index p) (ends_found number c (index p) (generation p)))
+      (Between None (Some (index p)))
       (start_place (index p) (ends_found number c (index p) (generation p)) there) placed).lists
 
   -- between a link and its next
-  pub put-at_interlink : (c d : Content (IndexLink I T)) (p q : P) (i g : ℕ) (t : T) → IsSome (place_among index generation number c (AtInterlink p q))
-      → IfSome (place_among index generation number c (AtInterlink p q)) (λ place. IsPlaced number place i g t c d)
+  pub put-at_interlink : (c d : Content (IndexLink I T)) (p q : P) (i g : ℕ) (t : T)
+      → IsSome (place_among index generation number c (AtInterlink p q))
+      → IfSome (place_among index generation number c (AtInterlink p q))
+      (λ place. IsPlaced number place i g t c d)
       → IsPutIn (Some (index p), Some (index q)) i (ends_in number c) (ends_in number d)
   put-at_interlink c d p q i g t there placed =
-      (at_place c d i g t (at_interlink (index p) (index q) (ends_found number c (index p) (generation p)) (ends_found number c (index q) (generation q)))
-      (Between (Some (index p)) (Some (index q))) (interlink_place (index p) (index q) (ends_found number c (index p) (generation p)) (ends_found number c (index q) (generation q)) there)
+      (at_place c d i g t (at_interlink (index p) (index q)
+      (ends_found number c (index p) (generation p)) (ends_found number c (index q) (generation q)))
+      (Between (Some (index p)) (Some (index q)))
+      (interlink_place (index p) (index q) (ends_found number c (index p) (generation p))
+      (ends_found number c (index q) (generation q)) there)
       placed).lists
 
   -- between an end and a start
-  pub put-bridge : (c d : Content (IndexLink I T)) (p q : P) (i g : ℕ) (t : T) → IsSome (place_among index generation number c (Bridge p q))
-      → IfSome (place_among index generation number c (Bridge p q)) (λ place. IsPlaced number place i g t c d)
+  pub put-bridge : (c d : Content (IndexLink I T)) (p q : P) (i g : ℕ) (t : T)
+      → IsSome (place_among index generation number c (Bridge p q))
+      → IfSome (place_among index generation number c (Bridge p q))
+      (λ place. IsPlaced number place i g t c d)
       → IsPutIn (Some (index p), Some (index q)) i (ends_in number c) (ends_in number d)
   put-bridge c d p q i g t there placed =
-      (at_place c d i g t (at_bridge (index p) (index q) (ends_found number c (index p) (generation p)) (ends_found number c (index q) (generation q)))
-      (Between (Some (index p)) (Some (index q))) (bridge_place (index p) (index q) (ends_found number c (index p) (generation p)) (ends_found number c (index q) (generation q)) there) placed).lists
+      (at_place c d i g t (at_bridge (index p) (index q)
+      (ends_found number c (index p) (generation p)) (ends_found number c (index q) (generation q)))
+      (Between (Some (index p)) (Some (index q)))
+      (bridge_place (index p) (index q) (ends_found number c (index p) (generation p))
+      (ends_found number c (index q) (generation q)) there) placed).lists
 
   -- directly before a link
-  pub put-prev_to : (c d : Content (IndexLink I T)) (p : P) (i g : ℕ) (t : T) → IsSome (place_among index generation number c (PrevTo p))
-      → IfSome (place_among index generation number c (PrevTo p)) (λ place. IsPlaced number place i g t c d)
-      → IsPutIn (prev_at (ends_in number c) (index p), Some (index p)) i (ends_in number c) (ends_in number d)
-  put-prev_to c d p i g t there placed = by (ends_found number c (index p) (generation p)) (λ v is. found number c (index p) (generation p) v is) there placed
+  pub put-prev_to : (c d : Content (IndexLink I T)) (p : P) (i g : ℕ) (t : T)
+      → IsSome (place_among index generation number c (PrevTo p))
+      → IfSome (place_among index generation number c (PrevTo p))
+      (λ place. IsPlaced number place i g t c d)
+      → IsPutIn (prev_at (ends_in number c) (index p), Some (index p)) i (ends_in number c)
+      (ends_in number d)
+  put-prev_to c d p i g t there placed = by (ends_found number c (index p) (generation p))
+      (λ v is. found number c (index p) (generation p) v is) there placed
     where
-      by : (o : Option Ends) → ((v : Ends) → o ≡ Some v → ends_in number c (index p) ≡ Some v) → IsSome (before_link (index p) o)
+      by : (o : Option Ends) → ((v : Ends) → o ≡ Some v → ends_in number c (index p) ≡ Some v)
+          → IsSome (before_link (index p) o)
           → IfSome (before_link (index p) o) (λ place. IsPlaced number place i g t c d)
-          → IsPutIn (prev_at (ends_in number c) (index p), Some (index p)) i (ends_in number c) (ends_in number d)
+          → IsPutIn (prev_at (ends_in number c) (index p), Some (index p)) i (ends_in number c)
+          (ends_in number d)
       by None at there placed = absurd (true≢false (sym there))
       by (Some v) at there placed =
-          subst (λ o. IsPutIn (o, Some (index p)) i (ends_in number c) (ends_in number d)) (sym (ap prev_in (at v refl))) placed.lists
+          subst (λ o. IsPutIn (o, Some (index p)) i (ends_in number c) (ends_in number d))
+          (sym (ap prev_in (at v refl))) placed.lists

@@ -64,9 +64,10 @@ at_bridge i j (Some first) (Some second) = by_ends first.1 second.0
     by_ends None (Some _) = None
     by_ends (Some _) _ = None
 
-module _ {P I : Type 0} (index : P → ℕ) (number : I → ℕ) (ends_of : P → Option Ends) (ends_at : ℕ → Option Ends) where
-  -- the place that a kind asks for, or nothing where the links are not as it requires: by the ends of what a pointer
-  -- finds, and by those of what is at an index
+module _ {P I : Type 0} (index : P → ℕ) (number : I → ℕ) (ends_of : P → Option Ends)
+    (ends_at : ℕ → Option Ends) where
+  -- the place that a kind asks for, or nothing where the links are not as it requires: by the ends
+  -- of what a pointer finds, and by those of what is at an index
   abbrev pub place_of : InsertKind P I → Option (Place ℕ)
   place_of Disconnected = Some (Between None None)
   place_of SingleLinkCyclic = Some OwnRing
@@ -79,6 +80,8 @@ module _ {P I : Type 0} (index : P → ℕ) (number : I → ℕ) (ends_of : P �
   place_of (PrevTo p) = before_link (index p) (ends_of p)
   place_of (PrevToInx i) = before_link (number i) (ends_at (number i))
   place_of (AtInterlink p q) = at_interlink (index p) (index q) (ends_of p) (ends_of q)
-  place_of (AtInterlinkInx i j) = at_interlink (number i) (number j) (ends_at (number i)) (ends_at (number j))
+  place_of (AtInterlinkInx i j) = at_interlink (number i) (number j) (ends_at (number i))
+      (ends_at (number j))
   place_of (Bridge p q) = at_bridge (index p) (index q) (ends_of p) (ends_of q)
-  place_of (BridgeInx i j) = at_bridge (number i) (number j) (ends_at (number i)) (ends_at (number j))
+  place_of (BridgeInx i j) = at_bridge (number i) (number j) (ends_at (number i))
+      (ends_at (number j))

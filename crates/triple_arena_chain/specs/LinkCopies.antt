@@ -9,11 +9,14 @@ use Rattle.triple_arena.specs.Entries.{look_up}
 use Rattle.triple_arena_chain.specs.Chains.{Ends}
 use Rattle.triple_arena_chain.specs.Links.{prev_next_of}
 
-module _ {S T U : Type 0} (entry_of : S → ℕ → Option (ℕ × T)) (live_of : S → ℕ) (counter_of : S → Option ℕ) (room_of : S → Room)
+module _ {S T U : Type 0} (entry_of : S → ℕ → Option (ℕ × T)) (live_of : S → ℕ)
+    (counter_of : S → Option ℕ) (room_of : S → Room)
     (copied_of : S → Option ℕ → List (ℕ × (ℕ × T)) → S) (entries_of : S → List (ℕ × (ℕ × T))) where
   -- a copy, and exactly which
-  pub record IsCopyMade (source : ℕ → Option (ℕ × U)) (source_live last : ℕ) (source_counter : Option ℕ) (old new : S) : Type 0 where
-    pub copy : IsCopy entry_of live_of counter_of room_of source source_live last source_counter old new
+  pub record IsCopyMade (source : ℕ → Option (ℕ × U)) (source_live last : ℕ)
+      (source_counter : Option ℕ) (old new : S) : Type 0 where
+    pub copy : IsCopy entry_of live_of counter_of room_of source source_live last
+        source_counter old new
     pub exact : new ≡ copied_of old source_counter (entries_of new)
 
 -- at links of any type, of which these are the indexes of the neighbors
@@ -23,11 +26,13 @@ module _ {I L : Type 0} (neighbors : L → Option I × Option I) where
   HasEndsOf old new = (new.0 ≡ old.0) × (prev_next_of new.1.1 ≡ neighbors old.1.1)
 
   -- each link has the index and the interlinks of the one that it is a copy of
-  abbrev pub IsLinkedCopy : {T : Type 0} → List (ℕ × (ℕ × L)) → List (ℕ × (ℕ × IndexLink I T)) → Type 0
+  abbrev pub IsLinkedCopy : {T : Type 0} → List (ℕ × (ℕ × L))
+      → List (ℕ × (ℕ × IndexLink I T)) → Type 0
   IsLinkedCopy old new = AllZip HasEndsOf old new
 
   -- the interlinks at an index, among listed links
   abbrev pub listed_ends : (I → ℕ) → List (ℕ × (ℕ × L)) → ℕ → Option Ends
   listed_ends number links i =
-      option_map (λ (e : ℕ × L). (option_map number (neighbors e.1).0, option_map number (neighbors e.1).1))
+      option_map (λ (e : ℕ × L).
+      (option_map number (neighbors e.1).0, option_map number (neighbors e.1).1))
       (look_up links i)

@@ -29,12 +29,15 @@ module _ {I T : Type 0} where
   changed_ends number f entry = link_ends number (f entry.1)
 
   -- a write of a link changes the entry at its index alone
-  pub entry-with_link : (c : Content (IndexLink I T)) (i : ℕ) (f : IndexLink I T → IndexLink I T) (k : ℕ)
-      → entry_at (with_link c i f) k ≡ (if k == i then option_map (changed f) (entry_at c i) else entry_at c k)
+  pub entry-with_link : (c : Content (IndexLink I T)) (i : ℕ)
+      (f : IndexLink I T → IndexLink I T) (k : ℕ)
+      → entry_at (with_link c i f) k
+      ≡ (if k == i then option_map (changed f) (entry_at c i) else entry_at c k)
   entry-with_link c i f k = by_entry (entry_at c i) refl
     where
       by_entry : (o : Option (ℕ × IndexLink I T)) → entry_at c i ≡ o
-          → entry_at (with_link c i f) k ≡ (if k == i then option_map (changed f) (entry_at c i) else entry_at c k)
+          → entry_at (with_link c i f) k
+          ≡ (if k == i then option_map (changed f) (entry_at c i) else entry_at c k)
       by_entry None is =
           ap (λ d. entry_at d k) (ap (with_link_of c i f) is)
           ∙ elim (eqb_tells k i) [
@@ -49,12 +52,14 @@ module _ {I T : Type 0} where
             | inr other ↦ rw other.0 refl
           ]
 
-  pub kept-with_link : (c : Content (IndexLink I T)) (i : ℕ) (f : IndexLink I T → IndexLink I T) → IsKept c (with_link c i f)
+  pub kept-with_link : (c : Content (IndexLink I T)) (i : ℕ) (f : IndexLink I T → IndexLink I T)
+      → IsKept c (with_link c i f)
   kept-with_link c i f = by_entry (entry_at c i) refl
     where
       by_entry : (o : Option (ℕ × IndexLink I T)) → entry_at c i ≡ o → IsKept c (with_link c i f)
       by_entry None is =
-          subst (IsKept c) (sym (ap (with_link_of c i f) is)) (record { live = refl; slots = refl; free = refl; counter = refl; room = refl })
+          subst (IsKept c) (sym (ap (with_link_of c i f) is))
+          (record { live = refl; slots = refl; free = refl; counter = refl; room = refl })
       by_entry (Some e) is =
           subst (IsKept c) (sym (ap (with_link_of c i f) is))
           (record {
@@ -65,15 +70,19 @@ module _ {I T : Type 0} where
             room = room-with_value c i (f e.1);
           })
 
-  pub formed-with_link : (c : Content (IndexLink I T)) (i : ℕ) (f : IndexLink I T → IndexLink I T) → IsWellFormed c → IsWellFormed (with_link c i f)
+  pub formed-with_link : (c : Content (IndexLink I T)) (i : ℕ) (f : IndexLink I T → IndexLink I T)
+      → IsWellFormed c → IsWellFormed (with_link c i f)
   formed-with_link c i f formed = by_entry (entry_at c i) refl
     where
-      by_entry : (o : Option (ℕ × IndexLink I T)) → entry_at c i ≡ o → IsWellFormed (with_link c i f)
+      by_entry : (o : Option (ℕ × IndexLink I T)) → entry_at c i ≡ o
+          → IsWellFormed (with_link c i f)
       by_entry None is = subst IsWellFormed (sym (ap (with_link_of c i f) is)) formed
-      by_entry (Some e) is = subst IsWellFormed (sym (ap (with_link_of c i f) is)) (formed-with_value c i (f e.1) formed)
+      by_entry (Some e) is = subst IsWellFormed (sym (ap (with_link_of c i f) is))
+          (formed-with_value c i (f e.1) formed)
 
   -- a write that leaves the values of links leaves the values
-  values-with_link : (c : Content (IndexLink I T)) (i : ℕ) (f : IndexLink I T → IndexLink I T) → ((l : IndexLink I T) → (f l).t ≡ l.t)
+  values-with_link : (c : Content (IndexLink I T)) (i : ℕ) (f : IndexLink I T → IndexLink I T)
+      → ((l : IndexLink I T) → (f l).t ≡ l.t)
       → (k : ℕ) → values_in (with_link c i f) k ≡ values_in c k
   values-with_link c i f same k =
       ap (option_map valued) (entry-with_link c i f k)
@@ -82,7 +91,8 @@ module _ {I T : Type 0} where
         | inr other ↦ rw other.0 refl
       ]
     where
-      by_entry : (o : Option (ℕ × IndexLink I T)) → option_map valued (option_map (changed f) o) ≡ option_map valued o
+      by_entry : (o : Option (ℕ × IndexLink I T))
+          → option_map valued (option_map (changed f) o) ≡ option_map valued o
       by_entry None = refl
       by_entry (Some e) = ap (λ t. Some (e.0, t)) (same e.1)
 
@@ -97,45 +107,53 @@ module _ {I T : Type 0} (number : I → ℕ) where
         | inr other ↦ rw other.0 refl
       ]
     where
-      by_entry : (o : Option (ℕ × IndexLink I T)) → option_map (entry_ends number) (option_map (changed f) o)
+      by_entry : (o : Option (ℕ × IndexLink I T))
+          → option_map (entry_ends number) (option_map (changed f) o)
           ≡ option_map (changed_ends number f) o
       by_entry None = refl
       by_entry (Some e) = refl
 
   -- another next of a link
   pub ends-with_next_of : (c : Content (IndexLink I T)) (at next : Option I) (k : ℕ)
-      → ends_in number (with_next_of number c at next) k ≡ with_next_if (ends_in number c) (option_map number at) (option_map number next) k
+      → ends_in number (with_next_of number c at next) k
+      ≡ with_next_if (ends_in number c) (option_map number at) (option_map number next) k
   ends-with_next_of c None next k = refl
   ends-with_next_of c (Some i) next k =
       ends-with_link c (number i) (λ link. record link { next = next }) k
       ∙ elim (eqb_tells k (number i)) [
-        | inl at ↦ rw at.0 (by_entry (entry_at c (number i)) ∙ ap (λ n. renext (option_map number next) (ends_in number c n)) (sym at.1))
+        | inl at ↦ rw at.0 (by_entry (entry_at c (number i)) ∙ ap
+            (λ n. renext (option_map number next) (ends_in number c n)) (sym at.1))
         | inr other ↦ rw other.0 refl
       ]
     where
-      by_entry : (o : Option (ℕ × IndexLink I T)) → option_map (changed_ends number (λ link. record link { next = next })) o
+      by_entry : (o : Option (ℕ × IndexLink I T))
+          → option_map (changed_ends number (λ link. record link { next = next })) o
           ≡ renext (option_map number next) (option_map (entry_ends number) o)
       by_entry None = refl
       by_entry (Some e) = refl
 
   -- another previous one of a link
   pub ends-with_prev_of : (c : Content (IndexLink I T)) (at prev : Option I) (k : ℕ)
-      → ends_in number (with_prev_of number c at prev) k ≡ with_prev_if (ends_in number c) (option_map number at) (option_map number prev) k
+      → ends_in number (with_prev_of number c at prev) k
+      ≡ with_prev_if (ends_in number c) (option_map number at) (option_map number prev) k
   ends-with_prev_of c None prev k = refl
   ends-with_prev_of c (Some i) prev k =
       ends-with_link c (number i) (λ link. record link { prev = prev }) k
       ∙ elim (eqb_tells k (number i)) [
-        | inl at ↦ rw at.0 (by_entry (entry_at c (number i)) ∙ ap (λ n. reprev (option_map number prev) (ends_in number c n)) (sym at.1))
+        | inl at ↦ rw at.0 (by_entry (entry_at c (number i)) ∙ ap
+            (λ n. reprev (option_map number prev) (ends_in number c n)) (sym at.1))
         | inr other ↦ rw other.0 refl
       ]
     where
-      by_entry : (o : Option (ℕ × IndexLink I T)) → option_map (changed_ends number (λ link. record link { prev = prev })) o
+      by_entry : (o : Option (ℕ × IndexLink I T))
+          → option_map (changed_ends number (λ link. record link { prev = prev })) o
           ≡ reprev (option_map number prev) (option_map (entry_ends number) o)
       by_entry None = refl
       by_entry (Some e) = refl
 
   -- what was live is live
-  pub live-with_link : (c : Content (IndexLink I T)) (i : ℕ) (f : IndexLink I T → IndexLink I T) (k : ℕ) → IsSome (entry_at c k)
+  pub live-with_link : (c : Content (IndexLink I T)) (i : ℕ) (f : IndexLink I T → IndexLink I T)
+      (k : ℕ) → IsSome (entry_at c k)
       → IsSome (entry_at (with_link c i f) k)
   live-with_link c i f k some =
       ap is_some (entry-with_link c i f k)
@@ -144,16 +162,20 @@ module _ {I T : Type 0} (number : I → ℕ) where
         | inr other ↦ rw other.0 some
       ]
     where
-      by_entry : (o : Option (ℕ × IndexLink I T)) → IsSome o → is_some (option_map (changed f) o) ≡ true
+      by_entry : (o : Option (ℕ × IndexLink I T)) → IsSome o
+          → is_some (option_map (changed f) o) ≡ true
       by_entry None h = h
       by_entry (Some e) h = refl
 
-  pub live-with_next_of : (c : Content (IndexLink I T)) (at next : Option I) (k : ℕ) → IsSome (entry_at c k)
+  pub live-with_next_of : (c : Content (IndexLink I T)) (at next : Option I) (k : ℕ)
+      → IsSome (entry_at c k)
       → IsSome (entry_at (with_next_of number c at next) k)
   live-with_next_of c None next k some = some
-  live-with_next_of c (Some i) next k some = live-with_link c (number i) (λ link. record link { next = next }) k some
+  live-with_next_of c (Some i) next k some
+      = live-with_link c (number i) (λ link. record link { next = next }) k some
 
-  pub neighbor-with_next_of : (c : Content (IndexLink I T)) (at next other : Option I) → IfSome other (λ i. IsSome (entry_at c (number i)))
+  pub neighbor-with_next_of : (c : Content (IndexLink I T)) (at next other : Option I)
+      → IfSome other (λ i. IsSome (entry_at c (number i)))
       → IfSome other (λ i. IsSome (entry_at (with_next_of number c at next) (number i)))
   neighbor-with_next_of c at next None live = tt
   neighbor-with_next_of c at next (Some j) live = live-with_next_of c at next (number j) live
@@ -161,32 +183,45 @@ module _ {I T : Type 0} (number : I → ℕ) where
   kept-same : (c : Content (IndexLink I T)) → IsKept c c
   kept-same c = record { live = refl; slots = refl; free = refl; counter = refl; room = refl }
 
-  pub values-with_next_of : (c : Content (IndexLink I T)) (at next : Option I) (k : ℕ) → values_in (with_next_of number c at next) k ≡ values_in c k
+  pub values-with_next_of : (c : Content (IndexLink I T)) (at next : Option I) (k : ℕ)
+      → values_in (with_next_of number c at next) k ≡ values_in c k
   values-with_next_of c None next k = refl
-  values-with_next_of c (Some i) next k = values-with_link c (number i) (λ link. record link { next = next }) (λ l. refl) k
+  values-with_next_of c (Some i) next k
+      = values-with_link c (number i) (λ link. record link { next = next }) (λ l. refl) k
 
-  pub values-with_prev_of : (c : Content (IndexLink I T)) (at prev : Option I) (k : ℕ) → values_in (with_prev_of number c at prev) k ≡ values_in c k
+  pub values-with_prev_of : (c : Content (IndexLink I T)) (at prev : Option I) (k : ℕ)
+      → values_in (with_prev_of number c at prev) k ≡ values_in c k
   values-with_prev_of c None prev k = refl
-  values-with_prev_of c (Some i) prev k = values-with_link c (number i) (λ link. record link { prev = prev }) (λ l. refl) k
+  values-with_prev_of c (Some i) prev k
+      = values-with_link c (number i) (λ link. record link { prev = prev }) (λ l. refl) k
 
-  pub kept-with_next_of : (c : Content (IndexLink I T)) (at next : Option I) → IsKept c (with_next_of number c at next)
+  pub kept-with_next_of : (c : Content (IndexLink I T)) (at next : Option I)
+      → IsKept c (with_next_of number c at next)
   kept-with_next_of c None next = kept-same c
-  kept-with_next_of c (Some i) next = kept-with_link c (number i) (λ link. record link { next = next })
+  kept-with_next_of c (Some i) next
+      = kept-with_link c (number i) (λ link. record link { next = next })
 
-  pub kept-with_prev_of : (c : Content (IndexLink I T)) (at prev : Option I) → IsKept c (with_prev_of number c at prev)
+  pub kept-with_prev_of : (c : Content (IndexLink I T)) (at prev : Option I)
+      → IsKept c (with_prev_of number c at prev)
   kept-with_prev_of c None prev = kept-same c
-  kept-with_prev_of c (Some i) prev = kept-with_link c (number i) (λ link. record link { prev = prev })
+  kept-with_prev_of c (Some i) prev
+      = kept-with_link c (number i) (λ link. record link { prev = prev })
 
-  pub formed-with_next_of : (c : Content (IndexLink I T)) (at next : Option I) → IsWellFormed c → IsWellFormed (with_next_of number c at next)
+  pub formed-with_next_of : (c : Content (IndexLink I T)) (at next : Option I) → IsWellFormed c
+      → IsWellFormed (with_next_of number c at next)
   formed-with_next_of c None next formed = formed
-  formed-with_next_of c (Some i) next formed = formed-with_link c (number i) (λ link. record link { next = next }) formed
+  formed-with_next_of c (Some i) next formed
+      = formed-with_link c (number i) (λ link. record link { next = next }) formed
 
-  pub formed-with_prev_of : (c : Content (IndexLink I T)) (at prev : Option I) → IsWellFormed c → IsWellFormed (with_prev_of number c at prev)
+  pub formed-with_prev_of : (c : Content (IndexLink I T)) (at prev : Option I) → IsWellFormed c
+      → IsWellFormed (with_prev_of number c at prev)
   formed-with_prev_of c None prev formed = formed
-  formed-with_prev_of c (Some i) prev formed = formed-with_link c (number i) (λ link. record link { prev = prev }) formed
+  formed-with_prev_of c (Some i) prev formed
+      = formed-with_link c (number i) (λ link. record link { prev = prev }) formed
 
   -- another value in a link leaves the interlinks
-  pub ends-with_value_in : (c : Content (IndexLink I T)) (i : ℕ) (t : T) (k : ℕ) → ends_in number (with_value_in c i t) k ≡ ends_in number c k
+  pub ends-with_value_in : (c : Content (IndexLink I T)) (i : ℕ) (t : T) (k : ℕ)
+      → ends_in number (with_value_in c i t) k ≡ ends_in number c k
   ends-with_value_in c i t k =
       ends-with_link c i (λ link. record link { t = t }) k
       ∙ elim (eqb_tells k i) [
@@ -205,37 +240,52 @@ module _ {I T : Type 0} where
         | inr other ↦ rw other.0 refl
       ]
     where
-      by_entry : (o : Option (ℕ × IndexLink I T)) → option_map valued (option_map (changed (λ link. record link { t = t })) o)
+      by_entry : (o : Option (ℕ × IndexLink I T))
+          → option_map valued (option_map (changed (λ link. record link { t = t })) o)
           ≡ option_map (λ (e : ℕ × T). (let v : ℕ × T = (e.0, t) in v)) (option_map valued o)
       by_entry None = refl
       by_entry (Some e) = refl
 
-  pub kept-with_value_in : (c : Content (IndexLink I T)) (i : ℕ) (t : T) → IsKept c (with_value_in c i t)
+  pub kept-with_value_in : (c : Content (IndexLink I T)) (i : ℕ) (t : T)
+      → IsKept c (with_value_in c i t)
   kept-with_value_in c i t = kept-with_link c i (λ link. record link { t = t })
 
-  pub live-with_value_in : (c : Content (IndexLink I T)) (i : ℕ) (t : T) → live_count (with_value_in c i t) ≡ live_count c
+  pub live-with_value_in : (c : Content (IndexLink I T)) (i : ℕ) (t : T)
+      → live_count (with_value_in c i t) ≡ live_count c
   live-with_value_in c i t = (kept-with_value_in c i t).live
 
-  pub counter-with_value_in : (c : Content (IndexLink I T)) (i : ℕ) (t : T) → some_counter (with_value_in c i t) ≡ some_counter c
+  pub counter-with_value_in : (c : Content (IndexLink I T)) (i : ℕ) (t : T)
+      → some_counter (with_value_in c i t) ≡ some_counter c
   counter-with_value_in c i t = ap Some (kept-with_value_in c i t).counter
 
-  pub room-with_value_in : (c : Content (IndexLink I T)) (i : ℕ) (t : T) → (with_value_in c i t).room ≡ c.room
+  pub room-with_value_in : (c : Content (IndexLink I T)) (i : ℕ) (t : T)
+      → (with_value_in c i t).room ≡ c.room
   room-with_value_in c i t = (kept-with_value_in c i t).room
 
-  pub formed-with_value_in : (c : Content (IndexLink I T)) (i : ℕ) (t : T) → IsWellFormed c → IsWellFormed (with_value_in c i t)
+  pub formed-with_value_in : (c : Content (IndexLink I T)) (i : ℕ) (t : T) → IsWellFormed c
+      → IsWellFormed (with_value_in c i t)
   formed-with_value_in c i t formed = formed-with_link c i (λ link. record link { t = t }) formed
 
 module _ {I T : Type 0} (number : I → ℕ) where
   -- the interlinks agree as before
-  pub chained-with_value_in : (c : Content (IndexLink I T)) (i : ℕ) (w : T) → IsChained number c → IsChained number (with_value_in c i w)
+  pub chained-with_value_in : (c : Content (IndexLink I T)) (i : ℕ) (w : T) → IsChained number c
+      → IsChained number (with_value_in c i w)
   chained-with_value_in c i w chained =
       record {
         formed = formed-with_value_in c i w chained.formed;
-        agreed = IsAgreed-same (ends_in number c) (ends_in number (with_value_in c i w)) (ends-with_value_in number c i w) chained.agreed;
+        agreed = IsAgreed-same (ends_in number c) (ends_in number (with_value_in c i w))
+            (ends-with_value_in number c i w) chained.agreed;
       }
 
 -- what a write of a value changes and keeps
-pub ruleset link_writes = (chained-with_value_in, formed-with_value_in, values-with_value_in, ends-with_value_in, kept-with_value_in)
+pub ruleset link_writes
+    = (
+      chained-with_value_in,
+      formed-with_value_in,
+      values-with_value_in,
+      ends-with_value_in,
+      kept-with_value_in,
+    )
 
 -- what is live stays live where an interlink is written
 pub ruleset live_links = (neighbor-with_next_of)

@@ -1,4 +1,5 @@
--- The links of a chain arena: what their interlinks are, what their values are, and what a write of either leaves.
+-- The links of a chain arena: what their interlinks are, what their values are, and what a write of
+-- either leaves.
 use Rattle.std.specs.Prelude.{◌≡◌, ℕ, ◌+◌, max, length, drop, Option, Some, None, IsSome, IfSome}
 use Rattle.std.specs.Option.{option_map}
 use Rattle.triple_arena.specs.Content.{Content, entry_at, get, live_count, next_index, with_value, removed, IsWellFormed}
@@ -26,19 +27,22 @@ module _ {I T : Type 0} where
   values_in c i = option_map valued (entry_at c i)
 
   -- the link of this entry, if there is one, as a function leaves it, at its index
-  abbrev pub with_link_of : Content (IndexLink I T) → ℕ → (IndexLink I T → IndexLink I T) → Option (ℕ × IndexLink I T) → Content (IndexLink I T)
+  abbrev pub with_link_of : Content (IndexLink I T) → ℕ → (IndexLink I T → IndexLink I T)
+      → Option (ℕ × IndexLink I T) → Content (IndexLink I T)
   with_link_of c i change None = c
   with_link_of c i change (Some entry) = with_value c i (change entry.1)
 
   -- the link at an index as this function leaves it, if there is one
-  abbrev pub with_link : Content (IndexLink I T) → ℕ → (IndexLink I T → IndexLink I T) → Content (IndexLink I T)
+  abbrev pub with_link : Content (IndexLink I T) → ℕ → (IndexLink I T → IndexLink I T)
+      → Content (IndexLink I T)
   with_link c i change = with_link_of c i change (entry_at c i)
 
   -- the links with another value at an index, if there is one
   abbrev pub with_value_in : Content (IndexLink I T) → ℕ → T → Content (IndexLink I T)
   with_value_in c i t = with_link c i (λ link. record link { t = t })
 
-  -- as many indexes are live, the same are free, and the counter, the number of slots and the room are the same
+  -- as many indexes are live, the same are free, and the counter, the number of slots and the room
+  -- are the same
   pub record IsKept (old new : Content (IndexLink I T)) : Type 0 where
     pub live : live_count new ≡ live_count old
     pub slots : length new.slots ≡ length old.slots
@@ -84,20 +88,24 @@ module _ {I T : Type 0} (number : I → ℕ) where
 
   -- the neighbors at this place are live
   abbrev pub AreNeighborsLive : Content (IndexLink I T) → Place I → Type 0
-  AreNeighborsLive c (Between before after) = IfSome before (λ i. IsSome (entry_at c (number i))) × IfSome after (λ i. IsSome (entry_at c (number i)))
+  AreNeighborsLive c (Between before after) = IfSome before (λ i. IsSome (entry_at c (number i)))
+      × IfSome after (λ i. IsSome (entry_at c (number i)))
   AreNeighborsLive c OwnRing = Unit {0}
 
   -- the neighbors at this place name what is at `i`
   abbrev pub joined_to : Content (IndexLink I T) → Place I → I → Content (IndexLink I T)
-  joined_to c (Between before after) i = with_prev_of (with_next_of c before (Some i)) after (Some i)
+  joined_to c (Between before after) i
+      = with_prev_of (with_next_of c before (Some i)) after (Some i)
   joined_to c OwnRing i = c
 
   -- the neighbors of a link name one another over it
   abbrev pub bridged_over : Content (IndexLink I T) → IndexLink I T → Content (IndexLink I T)
   bridged_over c link = with_prev_of (with_next_of c link.prev link.next) link.next link.prev
 
-  -- the links without this one at an index, if there is one, whose neighbors are joined; the counter steps
-  abbrev pub link_removed_of : Option ℕ → Content (IndexLink I T) → ℕ → Option (ℕ × IndexLink I T) → Content (IndexLink I T)
+  -- the links without this one at an index, if there is one, whose neighbors are joined; the
+  -- counter steps
+  abbrev pub link_removed_of : Option ℕ → Content (IndexLink I T) → ℕ → Option (ℕ × IndexLink I T)
+      → Content (IndexLink I T)
   link_removed_of last c i None = c
   link_removed_of last c i (Some entry) = removed last (bridged_over c entry.1) i
 
@@ -106,7 +114,8 @@ module _ {I T : Type 0} (number : I → ℕ) where
   link_removed last c i = link_removed_of last c i (entry_at c i)
 
   -- one link more at this place, under the next index and the counter; all others stay
-  pub record IsPlaced (place : Place ℕ) (i g : ℕ) (t : T) (old new : Content (IndexLink I T)) : Type 0 where
+  pub record IsPlaced (place : Place ℕ) (i g : ℕ) (t : T) (old new : Content (IndexLink I T))
+      : Type 0 where
     pub index : i ≡ next_index old
     pub generation : g ≡ old.counter
     pub vacant : entry_at old i ≡ None
@@ -119,12 +128,14 @@ module _ {I T : Type 0} (number : I → ℕ) where
     pub slots : length new.slots ≡ max (length old.slots) (next_index old)
 
   -- these interlinks, and all else as it was
-  pub record IsRelinked (wanted : ℕ → Option Ends) (old new : Content (IndexLink I T)) : Type 0 where
+  pub record IsRelinked (wanted : ℕ → Option Ends) (old new : Content (IndexLink I T))
+      : Type 0 where
     pub ends : (k : ℕ) → ends_in new k ≡ wanted k
     pub values : (k : ℕ) → values_in new k ≡ values_in old k
     pub kept : IsKept old new
 
-  -- the link at this index is gone, and its neighbors are joined; all others stay, and the counter steps
+  -- the link at this index is gone, and its neighbors are joined; all others stay, and the counter
+  -- steps
   pub record IsTakenOut (last : Option ℕ) (i : ℕ) (old new : Content (IndexLink I T)) : Type 0 where
     pub ends : (k : ℕ) → ends_in new k ≡ taken_out (ends_in old) i k
     pub lists : IsTaken i (ends_in old) (ends_in new)
@@ -138,4 +149,5 @@ module _ {I T : Type 0} (number : I → ℕ) where
 module _ {P I T : Type 0} (index generation : P → ℕ) (number : I → ℕ) where
   -- the place that a kind asks for among these links, or nothing where they are not as it requires
   abbrev pub place_among : Content (IndexLink I T) → InsertKind P I → Option (Place ℕ)
-  place_among c kind = place_of index number (λ p. ends_found number c (index p) (generation p)) (ends_in number c) kind
+  place_among c kind = place_of index number (λ p. ends_found number c (index p) (generation p))
+      (ends_in number c) kind

@@ -1,5 +1,5 @@
--- Indexes that are renamed, with the interlinks and the chains, and the renaming of the live indexes to the first ones, in the
--- order that they have.
+-- Indexes that are renamed, with the interlinks and the chains, and the renaming of the live
+-- indexes to the first ones, in the order that they have.
 use Rattle.std.specs.Prelude.{◌≡◌, ℕ, zero, suc, ◌+◌, List, map, slice_get, Bool, Option, Some, None, length, is_some, IsSome, if◌then◌else◌, []}
 use Rattle.std.specs.Option.{option_map}
 use Rattle.triple_arena.specs.Compression.{renewed}
@@ -58,11 +58,14 @@ module _ {I T : Type 0} where
   IsLeftInPlace old new = (new.1.1.prev ≡ old.1.1.prev) × (new.1.1.next ≡ old.1.1.next)
 
 module _ {I T : Type 0} (number : I → ℕ) where
-  -- the links stand at the indexes from 1 on, in the order that they had, with these values and with the generation renewed;
-  -- the interlinks follow them, and no index is free
-  pub record IsCompacted (last : Option ℕ) (reset : Bool) (given : List T) (old new : Content (IndexLink I T)) : Type 0 where
-    pub renamed : FollowsRenaming (new_index (ends_in number old)) (ends_in number old) (ends_in number new)
-    pub values : (k : ℕ) → values_in new (k + 1) ≡ option_map (λ t. (renewed last reset old.counter, t)) (slice_get given k)
+  -- the links stand at the indexes from 1 on, in the order that they had, with these values and
+  -- with the generation renewed; the interlinks follow them, and no index is free
+  pub record IsCompacted (last : Option ℕ) (reset : Bool) (given : List T)
+      (old new : Content (IndexLink I T)) : Type 0 where
+    pub renamed : FollowsRenaming (new_index (ends_in number old)) (ends_in number old)
+        (ends_in number new)
+    pub values : (k : ℕ) → values_in new (k + 1)
+        ≡ option_map (λ t. (renewed last reset old.counter, t)) (slice_get given k)
     pub slots : length new.slots ≡ live_count old
     pub free : new.free ≡ []
     pub counter : new.counter ≡ renewed last reset old.counter

@@ -13,7 +13,9 @@ module _ {I T : Type 0} where
   value_in c i = option_map (λ e. e.1) (values_in c i)
 
 module _ {I T : Type 0} (number : I → ℕ) where
-  -- what was this list stands at the successive indexes from this one on, in its order, with its values
-  pub record IsRunFrom (first : ℕ) (list : List ℕ) (old new : Content (IndexLink I T)) : Type 0 where
+  -- what was this list stands at the successive indexes from this one on, in its order, with its
+  -- values
+  pub record IsRunFrom (first : ℕ) (list : List ℕ) (old new : Content (IndexLink I T))
+      : Type 0 where
     pub linear : IsLinear (ends_in number new) (range_with_len first (length list))
     pub values : map (value_in new) (range_with_len first (length list)) ≡ map (value_in old) list

@@ -1,5 +1,5 @@
--- What leaves the interlinks, and with them every chain: another counter or room, another generation at an index, another limit, and
--- a recast of the values.
+-- What leaves the interlinks, and with them every chain: another counter or room, another
+-- generation at an index, another limit, and a recast of the values.
 use Rattle.std.proofs.Common.{◌≡◌, ℕ, zero, suc, List, [], ◌∷◌, get_or, Option, Some, None, Result, Ok, Err, option_map, inl, inr, refl, sym, ap, ◌∙◌}
 use Rattle.std.proofs.lemmas.Bool.Decides.{eqb_tells}
 use Rattle.triple_arena_ptr.specs.Recast.{recast_answer, where_ok}
@@ -16,11 +16,13 @@ use Rattle.triple_arena_chain.specs.Links.{entry_ends, ends_in}
 
 module _ {I T : Type 0} (number : I → ℕ) where
   -- the same slots: another counter, another room, other free indexes
-  pub ends-same_slots : (c d : Content (IndexLink I T)) → d.slots ≡ c.slots → (k : ℕ) → ends_in number d k ≡ ends_in number c k
+  pub ends-same_slots : (c d : Content (IndexLink I T)) → d.slots ≡ c.slots → (k : ℕ)
+      → ends_in number d k ≡ ends_in number c k
   ends-same_slots c d same k = ap (option_map (entry_ends number)) (entry-same_slots d c same k)
 
   -- another generation at an index
-  pub ends-regenerated : (c d : Content (IndexLink I T)) (i g : ℕ) → ((j : ℕ) → entry_at d j ≡ with_generation_at (entry_at c) i g j)
+  pub ends-regenerated : (c d : Content (IndexLink I T)) (i g : ℕ)
+      → ((j : ℕ) → entry_at d j ≡ with_generation_at (entry_at c) i g j)
       → (k : ℕ) → ends_in number d k ≡ ends_in number c k
   ends-regenerated c d i g at k =
       ap (option_map (entry_ends number)) (at k)
@@ -29,40 +31,52 @@ module _ {I T : Type 0} (number : I → ℕ) where
         | inr other ↦ rw other.0 refl
       ]
     where
-      by_entry : (o : Option (ℕ × IndexLink I T)) → option_map (entry_ends number) (option_map (λ (e : ℕ × IndexLink I T). (let v : ℕ × IndexLink I T = (g, e.1) in v)) o)
+      by_entry : (o : Option (ℕ × IndexLink I T))
+          → option_map (entry_ends number)
+          (option_map (λ (e : ℕ × IndexLink I T). (let v : ℕ × IndexLink I T = (g, e.1) in v)) o)
           ≡ option_map (entry_ends number) o
       by_entry None = refl
       by_entry (Some e) = refl
 
   -- a pointer that ended
-  pub ends-invalidated : (last : Option ℕ) (c : Content (IndexLink I T)) (i k : ℕ) → ends_in number (invalidated last c i) k ≡ ends_in number c k
-  ends-invalidated last c i k = ends-regenerated c (invalidated last c i) i (next_generation last c.counter) (entry-invalidated last c i) k
+  pub ends-invalidated : (last : Option ℕ) (c : Content (IndexLink I T)) (i k : ℕ)
+      → ends_in number (invalidated last c i) k ≡ ends_in number c k
+  ends-invalidated last c i k = ends-regenerated c (invalidated last c i) i
+      (next_generation last c.counter) (entry-invalidated last c i) k
 
   -- another limit
-  pub ends-with_limit : (greatest : ℕ) (c : Content (IndexLink I T)) (max k : ℕ) → ends_in number (with_limit greatest c max) k ≡ ends_in number c k
-  ends-with_limit greatest c max k = ap (option_map (entry_ends number)) (entry-with_limit greatest c max k)
+  pub ends-with_limit : (greatest : ℕ) (c : Content (IndexLink I T)) (max k : ℕ)
+      → ends_in number (with_limit greatest c max) k ≡ ends_in number c k
+  ends-with_limit greatest c max k
+      = ap (option_map (entry_ends number)) (entry-with_limit greatest c max k)
 
   module _ {N : Type 0} (items : T → List N) (f : N → Option N) (recasted : T → T) where
     part : (r : Result (Unit {0}) N) (slots : List (Option (ℕ × IndexLink I T))) (k : ℕ)
-        → option_map (entry_ends number) (get_or (slots_recasted (link_items items) f (link_recasted recasted) slots) k None)
+        → option_map (entry_ends number)
+        (get_or (slots_recasted (link_items items) f (link_recasted recasted) slots) k None)
         ≡ option_map (entry_ends number) (get_or slots k None)
-        → option_map (entry_ends number) (get_or (where_ok r (slots_recasted (link_items items) f (link_recasted recasted) slots) slots) k None)
+        → option_map (entry_ends number)
+        (get_or (where_ok r (slots_recasted (link_items items) f (link_recasted recasted) slots)
+        slots) k None)
         ≡ option_map (entry_ends number) (get_or slots k None)
     part (Ok _) slots k same = same
     part (Err _) slots k same = refl
 
     slots_linked : (slots : List (Option (ℕ × IndexLink I T))) (k : ℕ)
-        → option_map (entry_ends number) (get_or (slots_recasted (link_items items) f (link_recasted recasted) slots) k None)
+        → option_map (entry_ends number)
+        (get_or (slots_recasted (link_items items) f (link_recasted recasted) slots) k None)
         ≡ option_map (entry_ends number) (get_or slots k None)
     slots_linked [] k = refl
     slots_linked (None ∷ slots) zero = refl
     slots_linked (None ∷ slots) (suc k) = slots_linked slots k
     slots_linked (Some entry ∷ slots) zero = refl
-    slots_linked (Some entry ∷ slots) (suc k) = part (recast_answer f (items entry.1.t)) slots k (slots_linked slots k)
+    slots_linked (Some entry ∷ slots) (suc k) = part (recast_answer f (items entry.1.t)) slots k
+        (slots_linked slots k)
 
     -- values recast
     pub ends-content_recasted : (c : Content (IndexLink I T)) (k : ℕ)
-        → ends_in number (content_recasted (link_items items) f (link_recasted recasted) c) k ≡ ends_in number c k
+        → ends_in number (content_recasted (link_items items) f (link_recasted recasted) c) k
+        ≡ ends_in number c k
     ends-content_recasted c zero = refl
     ends-content_recasted c (suc k) = slots_linked c.slots k
 

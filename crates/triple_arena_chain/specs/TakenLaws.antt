@@ -21,13 +21,18 @@ over_other i k other differs = rw (ne_eqb k i differs) refl
 
 over_same : (i : ℕ) (o : Option ℕ) → over i o o ≡ o
 over_same i None = refl
-over_same i (Some k) = elim (eqb_tells k i) [ inl same ↦ rw same.0 refl | inr differs ↦ rw differs.0 refl ]
+over_same i (Some k) = elim (eqb_tells k i) [
+  | inl same ↦ rw same.0 refl
+  | inr differs ↦ rw differs.0 refl
+]
 
-over_first : (i : ℕ) (other a : Option ℕ) (xs : List ℕ) → Off xs i → over i other (first_or xs a) ≡ first_or xs (over i other a)
+over_first : (i : ℕ) (other a : Option ℕ) (xs : List ℕ) → Off xs i
+    → over i other (first_or xs a) ≡ first_or xs (over i other a)
 over_first i other a [] off = refl
 over_first i other a (x ∷ xs) off = over_other i x other off.0
 
-module _ (e : ℕ → Option Ends) (agreed : IsAgreed e) (i : ℕ) (b n : Option ℕ) (at : e i ≡ Some (b, n)) where
+module _ (e : ℕ → Option Ends) (agreed : IsAgreed e) (i : ℕ) (b n : Option ℕ)
+    (at : e i ≡ Some (b, n)) where
   pub taken_is : (k : ℕ) → taken_out e i k ≡ dropped (bridged e b n) i k
   taken_is k = ap (λ o. taken_from e i o k) at
 
@@ -38,57 +43,77 @@ module _ (e : ℕ → Option Ends) (agreed : IsAgreed e) (i : ℕ) (b n : Option
       kept None is differs = refl
       kept (Some k) is differs = over_other i k n (λ same. differs (ap Some same))
 
-      by : (o : Option ℕ) → prev_at e i ≡ o → (w : Option ℕ) → v.1 ≡ w → with_next_if e o n x ≡ Some (v.0, over i n v.1)
+      by : (o : Option ℕ) → prev_at e i ≡ o → (w : Option ℕ) → v.1 ≡ w
+          → with_next_if e o n x ≡ Some (v.0, over i n v.1)
       by None is w next =
-          let off : w ≢ Some i = λ same. let no : None ≡ Some x = sym is ∙ agreed.forward x i (ap next_in found ∙ next ∙ same) in absurd (cc) in
+          let off : w ≢ Some i = λ same. let no : None ≡ Some x =
+          sym is ∙ agreed.forward x i (ap next_in found ∙ next ∙ same) in absurd (cc) in
           found ∙ ap (λ o. Some (v.0, o)) (next ∙ sym (kept w next off) ∙ ap (over i n) (sym next))
       by (Some j) is w next =
           elim (eqb_tells x j) [
             | inl same ↦
                 let out : next_at e x ≡ Some i = agreed.backward x i (is ∙ ap Some (sym same.1)) in
-                rw (same.0, found) (ap (λ o. Some (v.0, o)) (sym (ap (over i n) (sym (ap next_in found) ∙ out) ∙ over_self i n)))
+                rw (same.0, found) (ap (λ o. Some (v.0, o))
+                (sym (ap (over i n) (sym (ap next_in found) ∙ out) ∙ over_self i n)))
             | inr differs ↦
-                let off : w ≢ Some i = λ here. let both : Some j ≡ Some x = sym is ∙ agreed.forward x i (ap next_in found ∙ next ∙ here) in differs.1 (cc) in
-                rw (differs.0, found) (ap (λ o. Some (v.0, o)) (next ∙ sym (kept w next off) ∙ ap (over i n) (sym next)))
+                let off : w ≢ Some i = λ here. let both : Some j ≡ Some x =
+                sym is ∙ agreed.forward x i
+                (ap next_in found ∙ next ∙ here) in differs.1 (cc) in
+                rw (differs.0, found)
+                (ap (λ o. Some (v.0, o))
+                (next ∙ sym (kept w next off) ∙ ap (over i n) (sym next)))
           ]
 
-  after_prev : (x : ℕ) (v : Ends) (w : Option ℕ) → e x ≡ Some v → with_next_if e b n x ≡ Some (v.0, w) → bridged e b n x ≡ Some (over i b v.0, w)
+  after_prev : (x : ℕ) (v : Ends) (w : Option ℕ) → e x ≡ Some v
+      → with_next_if e b n x ≡ Some (v.0, w) → bridged e b n x ≡ Some (over i b v.0, w)
   after_prev x v w found one = by n (ap next_in at) v.0 refl one
     where
       kept : (u : Option ℕ) → (u ≢ Some i) → over i b u ≡ u
       kept None differs = refl
       kept (Some k) differs = over_other i k b (λ same. differs (ap Some same))
 
-      by : (o : Option ℕ) → next_at e i ≡ o → (u : Option ℕ) → v.0 ≡ u → with_next_if e b n x ≡ Some (v.0, w)
+      by : (o : Option ℕ) → next_at e i ≡ o → (u : Option ℕ) → v.0 ≡ u
+          → with_next_if e b n x ≡ Some (v.0, w)
           → with_prev_if (with_next_if e b n) o b x ≡ Some (over i b v.0, w)
       by None is u prev one =
-          let off : u ≢ Some i = λ same. let no : None ≡ Some x = sym is ∙ agreed.backward i x (ap prev_in found ∙ prev ∙ same) in absurd (cc) in
+          let off : u ≢ Some i = λ same. let no : None ≡ Some x =
+          sym is ∙ agreed.backward i x (ap prev_in found ∙ prev ∙ same) in absurd (cc) in
           one ∙ ap (λ o. Some (o, w)) (prev ∙ sym (kept u off) ∙ ap (over i b) (sym prev))
       by (Some j) is u prev one =
           elim (eqb_tells x j) [
             | inl same ↦
                 let into : prev_at e x ≡ Some i = agreed.forward i x (is ∙ ap Some (sym same.1)) in
-                rw (same.0, one) (ap (λ o. Some (o, w)) (sym (ap (over i b) (sym (ap prev_in found) ∙ into) ∙ over_self i b)))
+                rw (same.0, one) (ap (λ o. Some (o, w))
+                (sym (ap (over i b) (sym (ap prev_in found) ∙ into) ∙ over_self i b)))
             | inr differs ↦
-                let off : u ≢ Some i = λ here. let both : Some j ≡ Some x = sym is ∙ agreed.backward i x (ap prev_in found ∙ prev ∙ here) in differs.1 (cc) in
-                rw (differs.0, one) (ap (λ o. Some (o, w)) (prev ∙ sym (kept u off) ∙ ap (over i b) (sym prev)))
+                let off : u ≢ Some i = λ here. let both : Some j ≡ Some x =
+                sym is ∙ agreed.backward i x
+                (ap prev_in found ∙ prev ∙ here) in differs.1 (cc) in
+                rw (differs.0, one) (ap (λ o. Some (o, w))
+                (prev ∙ sym (kept u off) ∙ ap (over i b) (sym prev)))
           ]
 
   -- an index that stays has the neighbors of the one that goes in its place
-  pub taken_at : (x : ℕ) (v : Ends) → e x ≡ Some v → x ≢ i → taken_out e i x ≡ Some (over i b v.0, over i n v.1)
-  taken_at x v found differs = taken_is x ∙ rw (ne_eqb x i differs) (after_prev x v (over i n v.1) found (after_next x v found))
+  pub taken_at : (x : ℕ) (v : Ends) → e x ≡ Some v → x ≢ i
+      → taken_out e i x ≡ Some (over i b v.0, over i n v.1)
+  taken_at x v found differs
+      = taken_is x ∙ rw (ne_eqb x i differs)
+      (after_prev x v (over i n v.1) found (after_next x v found))
 
   -- a list without the index that goes
-  pub Stands-over : (o a : Option ℕ) (xs : List ℕ) → Off xs i → Stands e o xs a → Stands (taken_out e i) (over i b o) xs (over i n a)
+  pub Stands-over : (o a : Option ℕ) (xs : List ℕ) → Off xs i → Stands e o xs a
+      → Stands (taken_out e i) (over i b o) xs (over i n a)
   Stands-over o a [] off s = tt
   Stands-over o a (x ∷ xs) off s =
       let rest = Stands-over (Some x) a xs off.1 s.1 in (
-        taken_at x (o, first_or xs a) s.0 off.0 ∙ ap (λ w. Some (over i b o, w)) (over_first i n a xs off.1),
+        taken_at x (o, first_or xs a) s.0 off.0 ∙ ap (λ w. Some (over i b o, w))
+            (over_first i n a xs off.1),
         subst (λ w. Stands (taken_out e i) w xs (over i n a)) (over_other i x b off.0) rest,
       )
 
   -- a linear chain without it
-  pub linear_taken : (xs ys : List ℕ) → IsLinear e (xs ++ i ∷ ys) → IsLinear (taken_out e i) (xs ++ ys)
+  pub linear_taken : (xs ys : List ℕ) → IsLinear e (xs ++ i ∷ ys)
+      → IsLinear (taken_out e i) (xs ++ ys)
   linear_taken xs ys s =
       let off = Apart-split xs ys i (linear_apart e None (xs ++ i ∷ ys) s) in
       let front = Stands-front e None None xs (i ∷ ys) s in
@@ -96,8 +121,12 @@ module _ (e : ℕ → Option Ends) (agreed : IsAgreed e) (i : ℕ) (b n : Option
       let n_is : n ≡ first_or ys None = sym (ap next_in at) ∙ ap next_in back.0 in
       let b_is : b ≡ last_or None xs = sym (ap prev_in at) ∙ ap prev_in back.0 in
       let e' = taken_out e i in
-      let first : Stands e' None xs (first_or ys None) = subst (λ w. Stands e' None xs w) (over_self i n ∙ n_is) (Stands-over None (Some i) xs off.0 front) in
-      let second : Stands e' (last_or None xs) ys None = subst (λ w. Stands e' w ys None) (over_self i b ∙ b_is) (Stands-over (Some i) None ys off.1 back.1) in
+      let first : Stands e' None xs (first_or ys None) =
+      subst (λ w. Stands e' None xs w) (over_self i n ∙ n_is)
+      (Stands-over None (Some i) xs off.0 front) in
+      let second : Stands e' (last_or None xs) ys None =
+      subst (λ w. Stands e' w ys None) (over_self i b ∙ b_is)
+      (Stands-over (Some i) None ys off.1 back.1) in
       Stands-append e' None None xs ys first second
 
   -- a ring without it
@@ -110,19 +139,23 @@ module _ (e : ℕ → Option Ends) (agreed : IsAgreed e) (i : ℕ) (b n : Option
       record {
         stands =
             subst (λ w. Stands e' (last_or (Some y) ys) (y ∷ ys) w) (over_self i n ∙ n_is)
-            (subst (λ w. Stands e' w (y ∷ ys) (over i n (Some i))) (over_self i b ∙ b_is) (Stands-over (Some i) (Some i) (y ∷ ys) off r.stands.1));
+            (subst (λ w. Stands e' w (y ∷ ys) (over i n (Some i))) (over_self i b ∙ b_is)
+            (Stands-over (Some i) (Some i) (y ∷ ys) off r.stands.1));
         apart = r.apart.1;
       }
 
   -- what is off the chain stays as it is
-  pub untouched : (k : ℕ) → k ≢ i → ((j : ℕ) → b ≡ Some j → j ≢ k) → ((j : ℕ) → n ≡ Some j → j ≢ k) → taken_out e i k ≡ e k
-  untouched k differs off_b off_n = taken_is k ∙ rw (ne_eqb k i differs) (by_next n off_n ∙ by_prev b off_b)
+  pub untouched : (k : ℕ) → k ≢ i → ((j : ℕ) → b ≡ Some j → j ≢ k) → ((j : ℕ) → n ≡ Some j → j ≢ k)
+      → taken_out e i k ≡ e k
+  untouched k differs off_b off_n
+      = taken_is k ∙ rw (ne_eqb k i differs) (by_next n off_n ∙ by_prev b off_b)
     where
       by_prev : (o : Option ℕ) → ((j : ℕ) → o ≡ Some j → j ≢ k) → with_next_if e o n k ≡ e k
       by_prev None off = refl
       by_prev (Some j) off = rw (ne_eqb k j (λ same. off j refl (sym same))) refl
 
-      by_next : (o : Option ℕ) → ((j : ℕ) → o ≡ Some j → j ≢ k) → with_prev_if (with_next_if e b n) o b k ≡ with_next_if e b n k
+      by_next : (o : Option ℕ) → ((j : ℕ) → o ≡ Some j → j ≢ k)
+          → with_prev_if (with_next_if e b n) o b k ≡ with_next_if e b n k
       by_next None off = refl
       by_next (Some j) off = rw (ne_eqb k j (λ same. off j refl (sym same))) refl
 
@@ -130,7 +163,8 @@ module _ (e : ℕ → Option Ends) (agreed : IsAgreed e) (i : ℕ) (b n : Option
     pub is_taken : IsTaken i e new
     is_taken =
         record {
-          from_linear = λ before after s. Stands-where (taken_out e i) new None None (before ++ after) (λ k on. same k) (linear_taken before after s);
+          from_linear = λ before after s. Stands-where (taken_out e i) new None None
+              (before ++ after) (λ k on. same k) (linear_taken before after s);
           from_ring = λ rest r. from_ring rest r;
           gone = same i ∙ taken_is i ∙ rw (eq-eqb i i refl) refl;
           others = λ c chain off.
@@ -139,9 +173,11 @@ module _ (e : ℕ → Option Ends) (agreed : IsAgreed e) (i : ℕ) (b n : Option
               same k
               ∙ untouched k (on_differs (members c) i k on off)
               (λ j is_b at_k. on_differs (members c) i i
-              (holds_next e c k i chain on (ap (next_at e) (sym at_k) ∙ agreed.backward j i (ap prev_in at ∙ is_b))) off refl)
+              (holds_next e c k i chain on
+              (ap (next_at e) (sym at_k) ∙ agreed.backward j i (ap prev_in at ∙ is_b))) off refl)
               (λ j is_n at_k. on_differs (members c) i i
-              (holds_prev e c k i chain on (ap (prev_at e) (sym at_k) ∙ agreed.forward i j (ap next_in at ∙ is_n))) off refl))
+              (holds_prev e c k i chain on
+              (ap (prev_at e) (sym at_k) ∙ agreed.forward i j (ap next_in at ∙ is_n))) off refl))
               chain;
         }
       where
@@ -150,6 +186,7 @@ module _ (e : ℕ → Option Ends) (agreed : IsAgreed e) (i : ℕ) (b n : Option
         from_ring (y ∷ ys) r =
             let taken = ring_taken y ys r in
             record {
-              stands = Stands-where (taken_out e i) new (last_or (Some y) ys) (Some y) (y ∷ ys) (λ k on. same k) taken.stands;
+              stands = Stands-where (taken_out e i) new (last_or (Some y) ys) (Some y) (y ∷ ys)
+                  (λ k on. same k) taken.stands;
               apart = taken.apart;
             }

@@ -17,5 +17,7 @@ module _ {I T : Type 0} where
   ptr_to number c (Some i) = pointer_at (entry_at c) (number i)
 
   -- a pointer, if there is one, points to a live link
-  abbrev pub IsLivePtr : {P : Type 0} → (P → ℕ) → (P → ℕ) → Content (IndexLink I T) → Option P → Type 0
-  IsLivePtr index generation c p = IfSome p (λ q. generation_at (values_in c) (index q) ≡ Some (generation q))
+  abbrev pub IsLivePtr : {P : Type 0} → (P → ℕ) → (P → ℕ) → Content (IndexLink I T)
+      → Option P → Type 0
+  IsLivePtr index generation c p
+      = IfSome p (λ q. generation_at (values_in c) (index q) ≡ Some (generation q))

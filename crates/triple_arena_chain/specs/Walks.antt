@@ -12,9 +12,11 @@ pub record ChainWalk : Type 0 where
   pub at : Option ℕ
   pub back : Bool
 
--- the walk from an index: to the end of its chain, or once round a ring, then backwards from the index before it
+-- the walk from an index: to the end of its chain, or once round a ring, then backwards from the
+-- index before it
 pub data IsWalkFrom (ends : ℕ → Option Ends) (i : ℕ) (walk : List ℕ) : Type 0 where
-  along : (before after : List ℕ) → IsLinear ends (before ++ i ∷ after) → walk ≡ i ∷ (after ++ reverse before) → IsWalkFrom ends i walk
+  along : (before after : List ℕ) → IsLinear ends (before ++ i ∷ after)
+      → walk ≡ i ∷ (after ++ reverse before) → IsWalkFrom ends i walk
   around : (after : List ℕ) → IsRing ends (i ∷ after) → walk ≡ i ∷ after → IsWalkFrom ends i walk
 
 -- a walk that begins at an index
@@ -27,14 +29,20 @@ left_to None = Some []
 left_to (Some i) = None
 
 module _ (ends : ℕ → Option Ends) where
-  -- forwards it goes to the next one, unless it began there; after an end it goes backwards from where it began
+  -- forwards it goes to the next one, unless it began there; after an end it goes backwards from
+  -- where it began
   abbrev pub forwards : ChainWalk → Option ℕ → ChainWalk
   forwards w None = record { start = w.start; at = prev_at ends w.start; back = true }
-  forwards w (Some next) = record { start = w.start; at = if next == w.start then None else Some next; back = w.back }
+  forwards w (Some next)
+      = record { start = w.start; at = if next == w.start then None else Some next; back = w.back }
 
   -- the walk after it gave an index
   abbrev pub past_index : ChainWalk → ℕ → ChainWalk
-  past_index w i = if w.back then record { start = w.start; at = prev_at ends i; back = true } else forwards w (next_at ends i)
+  past_index w i = if w.back then record {
+    start = w.start;
+    at = prev_at ends i;
+    back = true;
+  } else forwards w (next_at ends i)
 
   -- these indexes are left to a walk along interlinks that stay
   abbrev pub Leaves : ChainWalk → List ℕ → Type 0
@@ -62,13 +70,18 @@ module _ (ends : ℕ → Option Ends) where
     pub left : Leaves w walk
     pub steps : steps_of most w ≡ walk
 
-  -- a step gives the pointer at the index where the walk is, and goes on from there. Where that is not live the walk ends
-  abbrev pub ChainSteps : {T : Type 0} → (ℕ → Option (ℕ × T)) → ChainWalk → Option (ℕ × ℕ) → ChainWalk → Type 0
-  ChainSteps entries before None after = IfSome before.at (λ i. entries i ≡ None) × (after.at ≡ None)
-  ChainSteps entries before (Some p) after = (before.at ≡ Some p.0) × ((generation_at entries p.0 ≡ Some p.1) × (after ≡ past_index before p.0))
+  -- a step gives the pointer at the index where the walk is, and goes on from there. Where that is
+  -- not live the walk ends
+  abbrev pub ChainSteps : {T : Type 0} → (ℕ → Option (ℕ × T)) → ChainWalk → Option (ℕ × ℕ)
+      → ChainWalk → Type 0
+  ChainSteps entries before None after = IfSome before.at (λ i. entries i ≡ None)
+      × (after.at ≡ None)
+  ChainSteps entries before (Some p) after = (before.at ≡ Some p.0)
+      × ((generation_at entries p.0 ≡ Some p.1) × (after ≡ past_index before p.0))
 
 module _ {I T : Type 0} (number : I → ℕ) where
-  -- the indexes that are left to a walk over links that stay: a loop over them is measured by their number
+  -- the indexes that are left to a walk over links that stay: a loop over them is measured by their
+  -- number
   abbrev pub left_over : Content (IndexLink I T) → ChainWalk → List ℕ
   left_over c w = steps_of (ends_in number c) (length c.slots + 1) w
 

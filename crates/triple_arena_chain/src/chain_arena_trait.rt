@@ -21,8 +21,8 @@ use crate::{Link, LinkInsertKind, LinkNoGen};
 use triple_arena::{Advancer, ArenaTrait, InvalidationResult, PtrCore};
 use triple_arena_ptr::ChainInsertionError;
 
-/// The arenas whose entries are links in chains: each link is in one list or ring, once. What is said of a call is said of the
-/// links, and of the lists that they stand in.
+/// The arenas whose entries are links in chains: each link is in one list or ring, once. What is
+/// said of a call is said of the links, and of the lists that they stand in.
 ///
 /// `ArenaTrait` has the calls on the values of the links.
 pub trait ChainArenaTrait<P: PtrCore, T: Drop>: ArenaTrait<P, T> {
@@ -48,48 +48,56 @@ pub trait ChainArenaTrait<P: PtrCore, T: Drop>: ArenaTrait<P, T> {
     fn get_link(&self, p: P) -> Option<Link<P, &T>>
         ensures value { option_map (λ l. l.t.now) result
             ≡ value_if (P.generation p) (values_in (links self.now) (P.index p)) }
-        ensures interlinks { option_map (λ l. (option_map P.index l.prev, option_map P.index l.next)) result
+        ensures interlinks { option_map
+            (λ l. (option_map P.index l.prev, option_map P.index l.next)) result
             ≡ ends_found P.Inx.number (links self.now) (P.index p) (P.generation p) }
         ensures live { IfSome result (λ l. IsLivePtr P.index P.generation (links self.now) l.prev
             × IsLivePtr P.index P.generation (links self.now) l.next) };
 
-    /// Whether `q` is the next of `p`, where both are valid.
+    /// Whether `q` is the next of `p`, if both are valid.
     fn are_neighbors(&self, p: P, q: P) -> bool
         ensures { IsTrue result
-            ↔ ((next_in (ends_found P.Inx.number (links self.now) (P.index p) (P.generation p)) ≡ Some (P.index q))
+            ↔ ((next_in (ends_found P.Inx.number (links self.now) (P.index p) (P.generation p))
+            ≡ Some (P.index q))
             × IsSome (get (links self.now) (P.index q) (P.generation q))) };
 
     /// Whether the link at `j` is the next of the one at `i`.
     fn are_neighbors_inx(&self, i: P::Inx, j: P::Inx) -> bool
         ensures { IsTrue result
-            ↔ (next_at (ends_in P.Inx.number (links self.now)) (P.Inx.number i) ≡ Some (P.Inx.number j)) };
+            ↔ (next_at (ends_in P.Inx.number (links self.now)) (P.Inx.number i)
+            ≡ Some (P.Inx.number j)) };
 
     /// Whether the links are as the kind requires.
     fn meets(&self, kind: &LinkInsertKind<P>) -> bool
         ensures { IsTrue result
             ↔ IsSome (place_among P.index P.generation P.Inx.number (links self.now) kind.now) };
 
-    /// A walk along the chain of the link that `p` points to, from there on, or `None` where `p` is not valid. It gives the
-    /// pointers, one a call, to the links from that one on to the end and then backwards from the link before it, or once
-    /// round a ring. The links are free between the calls; [`ChainPtrAdvancer`](crate::chain_iterators::ChainPtrAdvancer) says what
-    /// changes between them do.
+    /// A walk along the chain of the link that `p` points to, from there on, or `None` if `p` is
+    /// not valid. It gives the pointers, one a call, to the links from that one on to the end and
+    /// then backwards from the link before it, or once round a ring. The links are free between the
+    /// calls; [`ChainPtrAdvancer`](crate::chain_iterators::ChainPtrAdvancer) says what changes
+    /// between them do.
     fn advancer_chain(&self, p: P) -> Option<Self::ChainAdvancer>
-        ensures variant { IsSome result ↔ IsSome (get (links self.now) (P.index p) (P.generation p)) }
+        ensures variant { IsSome result
+            ↔ IsSome (get (links self.now) (P.index p) (P.generation p)) }
         ensures from { IfSome result (λ a. chain_walk a ≡ walk_from (P.index p)) }
         ensures along { IfSome result (λ a. IsWalkAlong (ends_in P.Inx.number (links self.now))
             (length (links self.now).slots + 1) (chain_walk a) (P.index p)) };
 
-    /// What `insert_within_capacity` does, with the kind lent: an implementation cannot take it by value today.
+    /// What `insert_within_capacity` does, with the kind lent: an implementation cannot take it by
+    /// value today.
     fn insert_lent_within_capacity(
         &mut self,
         kind: &LinkInsertKind<P>,
         t: T,
     ) -> Result<P, ChainInsertionError>
-        ensures answer { IsLinkAnswer (place_among P.index P.generation P.Inx.number (links self.old) kind.now)
+        ensures answer { IsLinkAnswer
+            (place_among P.index P.generation P.Inx.number (links self.old) kind.now)
             (live_count (links self.old)) (arena_capacity (links self.old)) result }
         ensures placed { IfOk result
             (λ p. IfSome (place_among P.index P.generation P.Inx.number (links self.old) kind.now)
-            (λ place. IsPlaced P.Inx.number place (P.index p) (P.generation p) t (links self.old) (links self.new))) }
+            (λ place. IsPlaced P.Inx.number place (P.index p) (P.generation p) t (links self.old)
+            (links self.new))) }
         ensures formed { IsChained P.Inx.number (links self.new) }
         ensures room { (links self.new).room ≡ (links self.old).room }
         ensures err { OnErr result (self.new ≡ self.old) };
@@ -100,66 +108,79 @@ pub trait ChainArenaTrait<P: PtrCore, T: Drop>: ArenaTrait<P, T> {
         kind: &LinkInsertKind<P>,
         t: T,
     ) -> Result<P, ChainInsertionError>
-        ensures refusal { IsLinkRefusal (place_among P.index P.generation P.Inx.number (links self.old) kind.now)
+        ensures refusal { IsLinkRefusal
+            (place_among P.index P.generation P.Inx.number (links self.old) kind.now)
             Self.takes_memory (live_count (links self.old)) (links self.old).room result }
         ensures placed { IfOk result
             (λ p. IfSome (place_among P.index P.generation P.Inx.number (links self.old) kind.now)
-            (λ place. IsPlaced P.Inx.number place (P.index p) (P.generation p) t (links self.old) (links self.new))) }
+            (λ place. IsPlaced P.Inx.number place (P.index p) (P.generation p) t (links self.old)
+            (links self.new))) }
         ensures formed { IsChained P.Inx.number (links self.new) }
         ensures room { OnOk result ((links self.new).room
             ≡ room_after (live_count (links self.old)) (links self.old).room) }
         ensures err { OnErr result (self.new ≡ self.old) };
 
-    /// Makes `q` the next of `p`, where `p` is valid without a next and `q` is valid without a previous link. Else it
-    /// answers `None` and changes nothing. The end and the start of one linear chain make a ring, also where `p` is
-    /// `q`.
+    /// Makes `q` the next of `p`, if `p` is valid without a next and `q` is valid without a
+    /// previous link. Else it returns `None` and changes nothing. The end and the start of one
+    /// linear chain make a ring, also if `p` is `q`.
     fn connect(&mut self, p: P, q: P) -> Option<()>
         ensures variant { IsSome result
             ↔ IsSome (place_among P.index P.generation P.Inx.number (links self.old) (Bridge p q)) }
         ensures relinked { OnSome result (IsRelinked P.Inx.number
-            (linked (ends_in P.Inx.number (links self.old)) (P.index p) (P.index q)) (links self.old) (links self.new)) }
+            (linked (ends_in P.Inx.number (links self.old)) (P.index p) (P.index q))
+            (links self.old) (links self.new)) }
         ensures lists { OnSome result (IsAppended (P.index p) (P.index q)
             (ends_in P.Inx.number (links self.old)) (ends_in P.Inx.number (links self.new))) }
         ensures formed { IsChained P.Inx.number (links self.new) }
         ensures none { IfNone result (self.new ≡ self.old) };
 
-    /// Parts `p` from its next. It answers `None`, and changes nothing, where `p` is invalid or has no next.
+    /// Parts `p` from its next. It returns `None`, and changes nothing, if `p` is invalid or has no
+    /// next.
     fn break_next(&mut self, p: P) -> Option<()>
         ensures variant { IsSome result
-            ↔ IsSome (next_in (ends_found P.Inx.number (links self.old) (P.index p) (P.generation p))) }
+            ↔ IsSome (next_in (ends_found P.Inx.number (links self.old) (P.index p)
+            (P.generation p))) }
         ensures relinked { OnSome result ((q : ℕ)
             → next_at (ends_in P.Inx.number (links self.old)) (P.index p) ≡ Some q
-            → IsRelinked P.Inx.number (unlinked (ends_in P.Inx.number (links self.old)) (P.index p) q)
+            → IsRelinked P.Inx.number
+            (unlinked (ends_in P.Inx.number (links self.old)) (P.index p) q)
             (links self.old) (links self.new)) }
         ensures lists { OnSome result ((q : ℕ)
             → next_at (ends_in P.Inx.number (links self.old)) (P.index p) ≡ Some q
-            → IsSplit (P.index p) q (ends_in P.Inx.number (links self.old)) (ends_in P.Inx.number (links self.new))) }
+            → IsSplit (P.index p) q (ends_in P.Inx.number (links self.old))
+            (ends_in P.Inx.number (links self.new))) }
         ensures formed { IsChained P.Inx.number (links self.new) }
         ensures none { IfNone result (self.new ≡ self.old) };
 
-    /// Parts `p` from its previous link. It answers `None`, and changes nothing, where `p` is invalid or has none.
+    /// Parts `p` from its previous link. It returns `None`, and changes nothing, if `p` is invalid
+    /// or has none.
     fn break_prev(&mut self, p: P) -> Option<()>
         ensures variant { IsSome result
-            ↔ IsSome (prev_in (ends_found P.Inx.number (links self.old) (P.index p) (P.generation p))) }
+            ↔ IsSome (prev_in (ends_found P.Inx.number (links self.old) (P.index p)
+            (P.generation p))) }
         ensures relinked { OnSome result ((q : ℕ)
             → prev_at (ends_in P.Inx.number (links self.old)) (P.index p) ≡ Some q
-            → IsRelinked P.Inx.number (unlinked (ends_in P.Inx.number (links self.old)) q (P.index p))
+            → IsRelinked P.Inx.number
+            (unlinked (ends_in P.Inx.number (links self.old)) q (P.index p))
             (links self.old) (links self.new)) }
         ensures lists { OnSome result ((q : ℕ)
             → prev_at (ends_in P.Inx.number (links self.old)) (P.index p) ≡ Some q
-            → IsSplit q (P.index p) (ends_in P.Inx.number (links self.old)) (ends_in P.Inx.number (links self.new))) }
+            → IsSplit q (P.index p) (ends_in P.Inx.number (links self.old))
+            (ends_in P.Inx.number (links self.new))) }
         ensures formed { IsChained P.Inx.number (links self.new) }
         ensures none { IfNone result (self.new ≡ self.old) };
 
-    /// Gives `p` the next of `q`, and `q` that of `p`. It answers `None`, and changes nothing, where one of them is
-    /// invalid or has no next.
+    /// Gives `p` the next of `q`, and `q` that of `p`. It returns `None`, and changes nothing, if
+    /// one of them is invalid or has no next.
     ///
-    /// Two links of one ring make two rings of it, and two links of two rings one. Where `q` is the next of `p`, it
-    /// becomes a ring of one. Where `p` is `q` nothing changes.
+    /// Two links of one ring make two rings of it, and two links of two rings one. If `q` is the
+    /// next of `p`, it becomes a ring of one. If `p` is `q`, nothing changes.
     fn exchange_next(&mut self, p: P, q: P) -> Option<()>
         ensures variant { IsSome result
-            ↔ (IsSome (next_in (ends_found P.Inx.number (links self.old) (P.index p) (P.generation p)))
-            × IsSome (next_in (ends_found P.Inx.number (links self.old) (P.index q) (P.generation q)))) }
+            ↔ (IsSome (next_in (ends_found P.Inx.number (links self.old) (P.index p)
+            (P.generation p)))
+            × IsSome (next_in (ends_found P.Inx.number (links self.old) (P.index q)
+            (P.generation q)))) }
         ensures relinked { OnSome result ((s t : ℕ)
             → next_at (ends_in P.Inx.number (links self.old)) (P.index p) ≡ Some s
             → next_at (ends_in P.Inx.number (links self.old)) (P.index q) ≡ Some t
@@ -171,8 +192,9 @@ pub trait ChainArenaTrait<P: PtrCore, T: Drop>: ArenaTrait<P, T> {
         ensures formed { IsChained P.Inx.number (links self.new) }
         ensures none { IfNone result (self.new ≡ self.old) };
 
-    /// Removes the link that `p` points to, joins its neighbors, and steps the counter. The link is given back with the
-    /// interlinks that it had. It answers `InvalidPtr`, and changes nothing, where `p` points to none.
+    /// Removes the link that `p` points to, joins its neighbors, and steps the counter. The link is
+    /// given back with the interlinks that it had. It returns `InvalidPtr`, and changes nothing, if
+    /// `p` points to none.
     fn remove_link_no_gen(&mut self, p: P) -> InvalidationResult<LinkNoGen<P, T>>
         ensures value { option_map value_of (answer_of result)
             ≡ get (links self.old) (P.index p) (P.generation p) }
@@ -185,8 +207,8 @@ pub trait ChainArenaTrait<P: PtrCore, T: Drop>: ArenaTrait<P, T> {
         ensures formed { IsChained P.Inx.number (links self.new) }
         ensures invalid { IfNone (answer_of result) (self.new ≡ self.old) };
 
-    /// Removes the link at an index in the same way. It answers `InvalidPtr`, and changes nothing, where the index is not
-    /// live.
+    /// Removes the link at an index in the same way. It returns `InvalidPtr`, and changes nothing,
+    /// if the index is not live.
     fn remove_inx_link_no_gen(&mut self, i: P::Inx) -> InvalidationResult<(P::Gen, LinkNoGen<P, T>)>
         ensures value { option_map (λ a. (P.Gen.number (value_of a).0, (value_of a).1))
             (answer_of result) ≡ entry_at (links self.old) (P.Inx.number i) }
@@ -217,9 +239,11 @@ pub trait ChainArenaTrait<P: PtrCore, T: Drop>: ArenaTrait<P, T> {
         (option_map (λ p. (P.index p, P.generation p)) given) (chain_walk after) };
 
     // The links that the calls of `ArenaTrait` leave.
-    ghost links_empty: { (room : Room) → links (Self.empty room) ≡ empty (second_generation P.Gen.last) room };
+    ghost links_empty: { (room : Room)
+        → links (Self.empty room) ≡ empty (second_generation P.Gen.last) room };
 
-    ghost links_reallocated: { (s : Self) (n : ℕ) → links (Self.reallocated s n) ≡ reallocated (links s) n };
+    ghost links_reallocated: { (s : Self) (n : ℕ)
+        → links (Self.reallocated s n) ≡ reallocated (links s) n };
 
     ghost links_with_value: { (s : Self) (i : ℕ) (t : T)
         → links (Self.with_value s i t) ≡ with_value_in (links s) i t };
@@ -236,20 +260,23 @@ pub trait ChainArenaTrait<P: PtrCore, T: Drop>: ArenaTrait<P, T> {
         → Self.is_compressed s reset values new
         → IsCompacted P.Inx.number P.Gen.last reset values (links s) (links new) };
 
-    /// Stores `t` in a link where the kind says, if there is room. It answers `FailedLinkRequirement` where the links
-    /// are not as the kind requires, and else `NotWithinCapacity` where there is no room. The links stay as they are
-    /// then, and `t` is dropped.
+    /// Stores `t` in a link where the kind says, if there is room. It returns
+    /// `FailedLinkRequirement` if the links are not as the kind requires, and else
+    /// `NotWithinCapacity` if there is no room. The links stay as they are then, and `t` is
+    /// dropped.
     #[inline(always)]
     final fn insert_within_capacity(
         &mut self,
         kind: LinkInsertKind<P>,
         t: T,
     ) -> Result<P, ChainInsertionError>
-        ensures answer { IsLinkAnswer (place_among P.index P.generation P.Inx.number (links self.old) kind)
+        ensures answer { IsLinkAnswer
+            (place_among P.index P.generation P.Inx.number (links self.old) kind)
             (live_count (links self.old)) (arena_capacity (links self.old)) result }
         ensures placed { IfOk result
             (λ p. IfSome (place_among P.index P.generation P.Inx.number (links self.old) kind)
-            (λ place. IsPlaced P.Inx.number place (P.index p) (P.generation p) t (links self.old) (links self.new))) }
+            (λ place. IsPlaced P.Inx.number place (P.index p) (P.generation p) t (links self.old)
+            (links self.new))) }
         ensures formed { IsChained P.Inx.number (links self.new) }
         ensures room { (links self.new).room ≡ (links self.old).room }
         ensures err { OnErr result (self.new ≡ self.old) }
@@ -257,23 +284,25 @@ pub trait ChainArenaTrait<P: PtrCore, T: Drop>: ArenaTrait<P, T> {
         self.insert_lent_within_capacity(&kind, t)
     }
 
-    /// Stores `t` in a link where the kind says. Where there is no room the arena grows: to room for 4 at first, then
-    /// for the double, and never past its greatest capacity.
+    /// Stores `t` in a link where the kind says. If there is no room, the arena grows: to room for
+    /// 4 at first, then for the double, and never past its greatest capacity.
     ///
-    /// It answers `FailedLinkRequirement` where the links are not as the kind requires, and else `BeyondMaxCapacity`
-    /// where as many links are live as the greatest capacity, and `AllocError` where the memory was refused. The links
-    /// and the room stay as they are then, and `t` is dropped.
+    /// It returns `FailedLinkRequirement` if the links are not as the kind requires, and else
+    /// `BeyondMaxCapacity` if as many links are live as the greatest capacity, and `AllocError` if
+    /// the memory was refused. The links and the room stay as they are then, and `t` is dropped.
     #[inline(always)]
     final fn insert_reallocating(
         &mut self,
         kind: LinkInsertKind<P>,
         t: T,
     ) -> Result<P, ChainInsertionError>
-        ensures refusal { IsLinkRefusal (place_among P.index P.generation P.Inx.number (links self.old) kind)
+        ensures refusal { IsLinkRefusal
+            (place_among P.index P.generation P.Inx.number (links self.old) kind)
             Self.takes_memory (live_count (links self.old)) (links self.old).room result }
         ensures placed { IfOk result
             (λ p. IfSome (place_among P.index P.generation P.Inx.number (links self.old) kind)
-            (λ place. IsPlaced P.Inx.number place (P.index p) (P.generation p) t (links self.old) (links self.new))) }
+            (λ place. IsPlaced P.Inx.number place (P.index p) (P.generation p) t (links self.old)
+            (links self.new))) }
         ensures formed { IsChained P.Inx.number (links self.new) }
         ensures room { OnOk result ((links self.new).room
             ≡ room_after (live_count (links self.old)) (links self.old).room) }
@@ -282,15 +311,17 @@ pub trait ChainArenaTrait<P: PtrCore, T: Drop>: ArenaTrait<P, T> {
         self.insert_lent_reallocating(&kind, t)
     }
 
-    /// The same as `insert_reallocating`, where the links are as the kind requires.
+    /// The same as `insert_reallocating`, if the links are as the kind requires.
     #[inline(always)]
     final fn insert(&mut self, kind: LinkInsertKind<P>, t: T) -> Result<P, ChainInsertionError>
         requires { IsSome (place_among P.index P.generation P.Inx.number (links self.old) kind) }
-        ensures refusal { IsLinkRefusal (place_among P.index P.generation P.Inx.number (links self.old) kind)
+        ensures refusal { IsLinkRefusal
+            (place_among P.index P.generation P.Inx.number (links self.old) kind)
             Self.takes_memory (live_count (links self.old)) (links self.old).room result }
         ensures placed { IfOk result
             (λ p. IfSome (place_among P.index P.generation P.Inx.number (links self.old) kind)
-            (λ place. IsPlaced P.Inx.number place (P.index p) (P.generation p) t (links self.old) (links self.new))) }
+            (λ place. IsPlaced P.Inx.number place (P.index p) (P.generation p) t (links self.old)
+            (links self.new))) }
         ensures formed { IsChained P.Inx.number (links self.new) }
         ensures room { OnOk result ((links self.new).room
             ≡ room_after (live_count (links self.old)) (links self.old).room) }

@@ -1,8 +1,8 @@
 //! Where an insertion puts its link.
 use triple_arena_ptr::PtrCore;
 
-/// Where an insertion puts its link, by pointers of the type `P` or by indexes of the type `I`, whose generation is not
-/// looked at.
+/// Where an insertion puts its link, by pointers of the type `P` or by indexes of the type `I`,
+/// whose generation is not looked at.
 #[derive(Clone, Copy, Debug, PartialEq, Eq, PartialOrd, Ord, Hash)]
 pub enum InsertKind<P, I> {
     /// In a linear chain of its own.
@@ -29,8 +29,8 @@ pub enum InsertKind<P, I> {
     AtInterlink(P, P),
     /// The same by the indexes.
     AtInterlinkInx(I, I),
-    /// Between a link that has no next and one that has no previous one. Between the end and the start of one linear
-    /// chain it makes a ring.
+    /// Between a link that has no next and one that has no previous one. Between the end and the
+    /// start of one linear chain it makes a ring.
     Bridge(P, P),
     /// The same by the indexes.
     BridgeInx(I, I),

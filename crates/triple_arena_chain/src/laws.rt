@@ -20,7 +20,8 @@ pub fn links_stand_in_one_chain<P: PtrCore, T>()
         → IsSome (ends_in P.Inx.number c i) → IsInOneChain (ends_in P.Inx.number c) i }
 {}
 
-/// The links stand in chains, of which each live index is in one, once. A ring is written from its least index.
+/// The links stand in chains, of which each live index is in one, once. A ring is written from its
+/// least index.
 pub fn links_make_chains<P: PtrCore, T>()
     ensures { (c : Content (IndexLink P.Inx T)) → IsChained P.Inx.number c
         → (chains : List Chain) × AreChains (ends_in P.Inx.number c) chains }
@@ -28,20 +29,24 @@ pub fn links_make_chains<P: PtrCore, T>()
 
 /// Two chains that share an index have the same indexes, and two that are linear are one.
 pub fn chains_that_share_are_one()
-    ensures members { (ends : ℕ → Option Ends) (c d : Chain) (k j : ℕ) → IsChainOf ends c → IsChainOf ends d
+    ensures members { (ends : ℕ → Option Ends) (c d : Chain) (k j : ℕ) → IsChainOf ends c
+        → IsChainOf ends d
         → On (members c) k → On (members d) k → On (members d) j → On (members c) j }
-    ensures linear { (ends : ℕ → Option Ends) (xs ys : List ℕ) (k : ℕ) → IsLinear ends xs → IsLinear ends ys
+    ensures linear { (ends : ℕ → Option Ends) (xs ys : List ℕ) (k : ℕ) → IsLinear ends xs
+        → IsLinear ends ys
         → On xs k → On ys k → xs ≡ ys }
 {}
 
 /// The chains have one order by their least indexes.
 pub fn chains_have_one_order()
-    ensures { (ends : ℕ → Option Ends) (cs ds : List Chain) → AreInOrder ends cs → AreInOrder ends ds → cs ≡ ds }
+    ensures { (ends : ℕ → Option Ends) (cs ds : List Chain) → AreInOrder ends cs
+        → AreInOrder ends ds → cs ≡ ds }
 {}
 
 /// A ring may be read from any of its indexes on.
 pub fn rings_turn()
-    ensures { (ends : ℕ → Option Ends) (xs : List ℕ) (y : ℕ) (ys : List ℕ) → IsRing ends (xs ++ y ∷ ys)
+    ensures { (ends : ℕ → Option Ends) (xs : List ℕ) (y : ℕ) (ys : List ℕ)
+        → IsRing ends (xs ++ y ∷ ys)
         → IsRing ends (y ∷ ys ++ xs) }
 {}
 
@@ -55,8 +60,10 @@ pub fn links_begin_one_walk<P: PtrCore, T>()
 
 /// A walk gives each link of its chain, and no other, once.
 pub fn walks_give_each_link_once()
-    ensures once { (ends : ℕ → Option Ends) (i : ℕ) (walk : List ℕ) → IsWalkFrom ends i walk → Apart walk }
-    ensures whole { (ends : ℕ → Option Ends) (i : ℕ) (walk : List ℕ) (c : Chain) → IsWalkFrom ends i walk
+    ensures once { (ends : ℕ → Option Ends) (i : ℕ) (walk : List ℕ) → IsWalkFrom ends i walk
+        → Apart walk }
+    ensures whole { (ends : ℕ → Option Ends) (i : ℕ) (walk : List ℕ) (c : Chain)
+        → IsWalkFrom ends i walk
         → IsChainOf ends c → On (members c) i → (k : ℕ) → On walk k ↔ On (members c) k }
 {}
 
@@ -66,8 +73,8 @@ pub fn walks_of_a_ring_are_rotations()
         → IsWalkFrom ends i (i ∷ next ∷ rest) × IsWalkFrom ends next (next ∷ rest ++ i ∷ []) }
 {}
 
-/// A `connect` that answers `Some`, and then `break_next` of its first, which answers `Some` too, restores all interlinks,
-/// and leaves all else as it was.
+/// A `connect` that returns `Some`, and then `break_next` of its first, which returns `Some` too,
+/// restores all interlinks, and leaves all else as it was.
 pub fn break_next_takes_connect_back<P: PtrCore, T>()
     ensures answers { (before between : Content (IndexLink P.Inx T)) (p q : P)
         → IsSome (place_among P.index P.generation P.Inx.number before (Bridge p q))
@@ -84,8 +91,8 @@ pub fn break_next_takes_connect_back<P: PtrCore, T>()
         → IsRelinked P.Inx.number (ends_in P.Inx.number before) before after }
 {}
 
-/// A `break_next` that answers `Some`, and then `connect` of the two links, restores all interlinks, and leaves all else as
-/// it was.
+/// A `break_next` that returns `Some`, and then `connect` of the two links, restores all
+/// interlinks, and leaves all else as it was.
 pub fn connect_takes_break_next_back<P: PtrCore, T>()
     ensures { (before between after : Content (IndexLink P.Inx T)) (p q : ℕ)
         → IsChained P.Inx.number before → next_at (ends_in P.Inx.number before) p ≡ Some q
@@ -94,8 +101,8 @@ pub fn connect_takes_break_next_back<P: PtrCore, T>()
         → IsRelinked P.Inx.number (ends_in P.Inx.number before) before after }
 {}
 
-/// `exchange_next` twice with the same pointers, where the first answers `Some`, answers `Some` again, restores all
-/// interlinks, and leaves all else as it was.
+/// `exchange_next` twice with the same pointers, of which the first returns `Some`, returns `Some`
+/// again, restores all interlinks, and leaves all else as it was.
 pub fn exchange_next_takes_itself_back<P: PtrCore, T>()
     ensures answers { (before between : Content (IndexLink P.Inx T)) (p q : P) (s t : ℕ)
         → IsSome (next_in (ends_found P.Inx.number before (P.index p) (P.generation p)))
@@ -116,7 +123,8 @@ pub fn exchange_next_takes_itself_back<P: PtrCore, T>()
         → IsRelinked P.Inx.number (ends_in P.Inx.number before) before after }
 {}
 
-/// An insertion directly after or before a link, and then the removal of what it put in, restores all interlinks and values.
+/// An insertion directly after or before a link, and then the removal of what it put in, restores
+/// all interlinks and values.
 pub fn removals_take_insertions_back<P: PtrCore, T>()
     ensures after { (before between after : Content (IndexLink P.Inx T)) (p : P) (i g : ℕ) (t : T)
         → IsChained P.Inx.number before → IsChained P.Inx.number between

@@ -1,5 +1,5 @@
-//! Lists and rings in an arena: links that name the links before and after them. A port of the chain arena of the Rust
-//! crate `triple_arena`.
+//! Lists and rings in an arena: links that name the links before and after them. A port of the
+//! chain arena of the Rust crate `triple_arena`.
 //!
 //! A chain is a list of indexes, linear or a ring, and each live index stands in exactly one, once.
 //!
@@ -23,8 +23,8 @@
 //! ```
 #![tactic(auto)]
 
-// A private function's clause `no_more` asks nothing. It stands where a `requires` would be alone, whose answers take
-// far longer to state.
+// A private function's clause `no_more` asks nothing. It stands where a `requires` would be alone,
+// whose answers take far longer to state.
 
 mod chain_arena;
 mod chain_arena_trait;

@@ -21,7 +21,7 @@ pub type LinkNoGen<P, T> = IndexLink<
 >;
 
 impl<I: PtrInxCore<Word = W>, W: Copy, T> IndexLink<OptionalInx<I, W>, T> {
-    /// A link between the links at these two indexes, where there are any.
+    /// A link between the links at these two indexes, if there are any.
     pub fn new(prev_next: (Option<I>, Option<I>), t: T) -> Self
         ensures prev { result.prev ≡ prev_next.0 }
         ensures next { result.next ≡ prev_next.1 }

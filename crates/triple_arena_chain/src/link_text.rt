@@ -1,4 +1,5 @@
-//! The text of links: the neighbors in parentheses, `-` where there is none, and the value, as `(-, 2) hello`.
+//! The text of links: the neighbors in parentheses, `-` if there is none, and the value, as
+//! `(-, 2) hello`.
 ghost use Rattle.std.specs.Prelude.{Some};
 ghost use Rattle.triple_arena_ptr.specs.Hexadecimal.{hexadecimal};
 ghost use Rattle.triple_arena_chain.specs.LinkText.{neighbor_text, index_link_text, link_text};

@@ -102,7 +102,8 @@ pub(crate) fn inside<I: PtrInxCore>(
     }
 }
 
-// Between two links with these ends, if they are there, the first has no next and the second no previous one.
+// Between two links with these ends, if they are there, the first has no next and the second no
+// previous one.
 pub(crate) fn bridging<I: PtrInxCore>(
     i: I,
     j: I,

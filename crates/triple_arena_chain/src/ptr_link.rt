@@ -25,7 +25,7 @@ fn inx_of<P: PtrCore>(p: Option<P>) -> Option<P::Inx>
 }
 
 impl<P: PtrCore, T> Link<P, T> {
-    /// A link between the links that these two point to, where there are any.
+    /// A link between the links that these two point to, if there are any.
     pub fn new(prev_next: (Option<P>, Option<P>), t: T) -> Self
         ensures prev { result.prev ≡ prev_next.0 }
         ensures next { result.next ≡ prev_next.1 }

@@ -2,7 +2,8 @@
 use crate::LinkNoGen;
 use triple_arena::{ArenaSlot, NonZeroInxGenericStack, PtrCore};
 
-/// A stack of the slots of a `ChainArena`: the bound on a stack in one word. Every such stack has it.
+/// A stack of the slots of a `ChainArena`: the bound on a stack in one word. Every such stack has
+/// it.
 pub trait ChainSlots<P: PtrCore, T: Drop>: NonZeroInxGenericStack<
     Item = ArenaSlot<P, LinkNoGen<P, T>>,
 >

@@ -13,7 +13,8 @@ left_by Less before after = before
 left_by Equal before after = []
 left_by Greater before after = after
 
--- each index that is asked stands in what the answers before it leave of the list, and the last answer leaves nothing
+-- each index that is asked stands in what the answers before it leave of the list, and the last
+-- answer leaves nothing
 abbrev pub IsWay : List (ℕ × Ordering) → List ℕ → Type 0
 IsWay [] left = left ≡ []
 IsWay (a ∷ asked) left = (on : On left a.0) × IsWay asked (left_by a.1 on.front on.back)
@@ -24,14 +25,18 @@ pub record Question (P T : Type 0) : Type 0 where
   pub lent : Bor T
   pub answer : Ordering
 
-module _ {P T F : Type 0} (index generation : P → ℕ) (step : F → P → Bor T → Ordering → F → Type 0) where
-  -- a closure was asked at entries, which stand on a way through the list, once a tick. The result is the last of these
-  -- entries with its answer
-  pub record IsAsked (entry : ℕ → Option (ℕ × T)) (order : List ℕ) (f : F) (result : Option (P × Ordering)) (old_ticks new_ticks : ℕ) : Type 0 where
+module _ {P T F : Type 0} (index generation : P → ℕ) (step : F → P → Bor T → Ordering → F
+    → Type 0) where
+  -- a closure was asked at entries, which stand on a way through the list, once a tick. The result
+  -- is the last of these entries with its answer
+  pub record IsAsked (entry : ℕ → Option (ℕ × T)) (order : List ℕ) (f : F)
+      (result : Option (P × Ordering)) (old_ticks new_ticks : ℕ) : Type 0 where
     pub questions : List (Question P T)
     pub last : F
     pub made : FoldsTo (λ g q h. step g q.pointer q.lent q.answer h) f questions last
-    pub entries : AllByRecursion (λ (q : Question P T). entry (index q.pointer) ≡ Some (generation q.pointer, q.lent.now)) questions
+    pub entries : AllByRecursion
+        (λ (q : Question P T). entry (index q.pointer)
+        ≡ Some (generation q.pointer, q.lent.now)) questions
     pub way : IsWay (map (λ (q : Question P T). (index q.pointer, q.answer)) questions) order
     pub ends : result ≡ last_or None (map (λ (q : Question P T). (q.pointer, q.answer)) questions)
     pub ticks : new_ticks ≡ old_ticks + length questions
@@ -43,7 +48,8 @@ module _ {P T F : Type 0} (index generation : P → ℕ) (step : F → P → Bor
 
   -- from the state f on, the answers hang on the pointer and the item alone
   abbrev pub AnswersBy : F → (ℕ → ℕ × T → Ordering) → Type 0
-  AnswersBy f side = (g : F) → Reaches f g → (p : P) (t : Bor T) (d : Ordering) (h : F) → step g p t d h
+  AnswersBy f side = (g : F) → Reaches f g → (p : P) (t : Bor T) (d : Ordering) (h : F)
+      → step g p t d h
       → d ≡ side (index p) (generation p, t.now)
 
 -- the pointer to the entry that ended the questions

@@ -42,21 +42,28 @@ record Cut (w : List ℕ) (before after : Option ℕ) (asked : List (ℕ × Orde
   pub last : last_or before low ≡ last_greater before asked
   pub first : first_or high after ≡ last_less after asked
 
-cut_by : (asked : List (ℕ × Ordering)) (w : List ℕ) (before after : Option ℕ) → IsWay asked w → AllByRecursion (λ (a : ℕ × Ordering). a.1 ≢ Equal) asked → Cut w before after asked
-cut_by [] w before after way all = record { low = []; high = []; is = way; last = refl; first = refl }
+cut_by : (asked : List (ℕ × Ordering)) (w : List ℕ) (before after : Option ℕ) → IsWay asked w
+    → AllByRecursion (λ (a : ℕ × Ordering). a.1 ≢ Equal) asked → Cut w before after asked
+cut_by [] w before after way all
+    = record { low = []; high = []; is = way; last = refl; first = refl }
 cut_by (a ∷ asked) w before after way all =
-    turn a.1 refl (λ u. cut_by asked way.0.front before (Some a.0) (subst (λ d. IsWay asked (left_by d way.0.front way.0.back)) u way.1) all.1)
-    (λ u. cut_by asked way.0.back (Some a.0) after (subst (λ d. IsWay asked (left_by d way.0.front way.0.back)) u way.1) all.1)
+    turn a.1 refl (λ u. cut_by asked way.0.front before (Some a.0)
+    (subst (λ d. IsWay asked (left_by d way.0.front way.0.back)) u way.1) all.1)
+    (λ u. cut_by asked way.0.back (Some a.0) after
+    (subst (λ d. IsWay asked (left_by d way.0.front way.0.back)) u way.1) all.1)
   where
-    turn : (d : Ordering) → a.1 ≡ d → (a.1 ≡ Less → Cut way.0.front before (Some a.0) asked) → (a.1 ≡ Greater → Cut way.0.back (Some a.0) after asked) → Cut w before after (a ∷ asked)
+    turn : (d : Ordering) → a.1 ≡ d → (a.1 ≡ Less → Cut way.0.front before (Some a.0) asked)
+        → (a.1 ≡ Greater → Cut way.0.back (Some a.0) after asked) → Cut w before after (a ∷ asked)
     turn Less u to_left to_right =
         let c = to_left u in
         record {
           low = c.low;
           high = c.high ++ a.0 ∷ way.0.back;
-          is = way.0.is ∙ ap (λ l. l ++ a.0 ∷ way.0.back) c.is ∙ append_assoc c.low c.high (a.0 ∷ way.0.back);
+          is = way.0.is ∙ ap (λ l. l ++ a.0 ∷ way.0.back) c.is ∙ append_assoc c.low c.high
+              (a.0 ∷ way.0.back);
           last = c.last ∙ ap (λ d. last_greater (lower_by d before a.0) asked) (sym u);
-          first = first_or-append c.high (a.0 ∷ way.0.back) after ∙ c.first ∙ ap (λ d. last_less (upper_by d after a.0) asked) (sym u);
+          first = first_or-append c.high (a.0 ∷ way.0.back) after ∙ c.first ∙ ap
+              (λ d. last_less (upper_by d after a.0) asked) (sym u);
         }
     turn Equal u to_left to_right = absurd (all.0 u)
     turn Greater u to_left to_right =
@@ -64,20 +71,26 @@ cut_by (a ∷ asked) w before after way all =
         record {
           low = way.0.front ++ a.0 ∷ c.low;
           high = c.high;
-          is = way.0.is ∙ ap (λ l. way.0.front ++ a.0 ∷ l) c.is ∙ sym (append_assoc way.0.front (a.0 ∷ c.low) c.high);
-          last = last_or-append before way.0.front (a.0 ∷ c.low) ∙ c.last ∙ ap (λ d. last_greater (lower_by d before a.0) asked) (sym u);
+          is = way.0.is ∙ ap (λ l. way.0.front ++ a.0 ∷ l) c.is ∙ sym
+              (append_assoc way.0.front (a.0 ∷ c.low) c.high);
+          last = last_or-append before way.0.front (a.0 ∷ c.low) ∙ c.last ∙ ap
+              (λ d. last_greater (lower_by d before a.0) asked) (sym u);
           first = c.first ∙ ap (λ d. last_less (upper_by d after a.0) asked) (sym u);
         }
 
--- where no answer was Equal, the last index that answered Greater and the last that answered Less are neighbors, as far as
--- there are any
-pub way_ends : (asked : List (ℕ × Ordering)) (w : List ℕ) → IsWay asked w → AllByRecursion (λ (a : ℕ × Ordering). a.1 ≢ Equal) asked → IsCutAt w (last_greater None asked) (last_less None asked)
+-- where no answer was Equal, the last index that answered Greater and the last that answered Less
+-- are neighbors, as far as there are any
+pub way_ends : (asked : List (ℕ × Ordering)) (w : List ℕ) → IsWay asked w
+    → AllByRecursion (λ (a : ℕ × Ordering). a.1 ≢ Equal) asked
+    → IsCutAt w (last_greater None asked) (last_less None asked)
 way_ends asked w way all =
     let c = cut_by asked w None None way all in
     record { low = c.low; high = c.high; is = c.is; last = c.last; first = c.first }
 
-module _ {P T F : Type 0} (index generation : P → ℕ) (step : F → P → Bor T → Ordering → F → Type 0) where
-  -- what each question keeps holds of each state that is reached, as that a closure captured this key
+module _ {P T F : Type 0} (index generation : P → ℕ) (step : F → P → Bor T → Ordering → F
+    → Type 0) where
+  -- what each question keeps holds of each state that is reached, as that a closure captured this
+  -- key
   pub reached_kept : (K : F → Type 0)
       → ((g : F) (p : P) (t : Bor T) (d : Ordering) (h : F) → K g → step g p t d h → K h)
       → (f g : F) → K f → Reaches index generation step f g → K g
@@ -99,7 +112,8 @@ module _ {P T F : Type 0} (index generation : P → ℕ) (step : F → P → Bor
       (tells g p t d h (keeps f g at reached) s).1
 
   -- and so do the answers behind a question
-  pub answers_behind : (side : ℕ → ℕ × T → Ordering) (f : F) (p : P) (t : Bor T) (d : Ordering) (h : F)
+  pub answers_behind : (side : ℕ → ℕ × T → Ordering) (f : F) (p : P) (t : Bor T)
+      (d : Ordering) (h : F)
       → step f p t d h → AnswersBy index generation step f side
       → AnswersBy index generation step h side
   answers_behind side f p t d h s by g reached =

@@ -1,4 +1,5 @@
--- The canonical transfer of an ordered arena: the entries at the indexes from 1 on, in the order of the list, and the tree written anew.
+-- The canonical transfer of an ordered arena: the entries at the indexes from 1 on, in the order of
+-- the list, and the tree written anew.
 use Rattle.std.specs.Prelude.{◌≡◌, ℕ, [], Option, length}
 use Rattle.std.specs.List.{range_with_len}
 use Rattle.triple_arena_ptr.specs.declared.invalidation.InvalidationOption.{InvalidationOption}
@@ -7,12 +8,15 @@ use Rattle.rank_tree.specs.Halving.{IsHalvingOf}
 use Rattle.triple_arena_ord.specs.Indexed.{indexed}
 use Rattle.triple_arena_ord.specs.Ordered.{Ordered, size_in, counter_in, tree_in, order_in, ordered_entries}
 
-module _ {Q U P T J I F : Type 0} (old_index old_generation : Q → ℕ) (index generation : P → ℕ) (old_number : J → ℕ) (number : I → ℕ)
+module _ {Q U P T J I F : Type 0} (old_index old_generation : Q → ℕ) (index generation : P → ℕ)
+    (old_number : J → ℕ) (number : I → ℕ)
     (step : F → Q → InvalidationOption U → P → T → F → Type 0) where
-  -- a map was called once at each entry, along the list, and what it gave stands at the indexes from 1 on, which are the new list;
-  -- the tree is the halving tree of it, and no index is free
-  pub record IsTransferredInOrder (f : F) (last : Option ℕ) (old : Ordered J U) (new : Ordered I T) : Type 0 where
-    pub moved : IsTransferred old_index old_generation index generation step f last (counter_in old) (ordered_entries old_number old) (indexed new)
+  -- a map was called once at each entry, along the list, and what it gave stands at the indexes
+  -- from 1 on, which are the new list; the tree is the halving tree of it, and no index is free
+  pub record IsTransferredInOrder (f : F) (last : Option ℕ) (old : Ordered J U) (new : Ordered I T)
+      : Type 0 where
+    pub moved : IsTransferred old_index old_generation index generation step f last (counter_in old)
+        (ordered_entries old_number old) (indexed new)
     pub order : order_in number new ≡ range_with_len 1 (size_in old)
     pub tree : IsHalvingOf (range_with_len 1 (size_in old)) (tree_in number new)
     pub slots : length new.chains.slots ≡ size_in old

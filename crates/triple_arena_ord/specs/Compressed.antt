@@ -1,5 +1,5 @@
--- Compression: the entries at the first indexes, in the order of the indexes that they had, the list renamed with them, and the tree
--- written anew.
+-- Compression: the entries at the first indexes, in the order of the indexes that they had, the
+-- list renamed with them, and the tree written anew.
 use Rattle.std.specs.Prelude.{◌≡◌, ℕ, ◌+◌, Bool, [], List, Option, Some, None, length, map, slice_get}
 use Rattle.std.specs.Option.{option_map}
 use Rattle.triple_arena.specs.Compression.{renewed}
@@ -13,11 +13,15 @@ end_noted end None i = Some i
 end_noted end (Some _) i = end
 
 module _ {I T : Type 0} (number : I → ℕ) where
-  -- the items stand at the indexes from 1 on, in the order of the indexes that they had, with the generation renewed; the list is
-  -- the one that was under the new indexes, the tree is the halving tree of it, and no index is free
-  pub record IsCompressedInOrder (last : Option ℕ) (reset : Bool) (given : List T) (old new : Ordered I T) : Type 0 where
+  -- the items stand at the indexes from 1 on, in the order of the indexes that they had, with the
+  -- generation renewed; the list is the one that was under the new indexes, the tree is the halving
+  -- tree of it, and no index is free
+  pub record IsCompressedInOrder (last : Option ℕ) (reset : Bool) (given : List T)
+      (old new : Ordered I T) : Type 0 where
     pub order : order_in number new ≡ map (new_index (entry_in old)) (order_in number old)
-    pub entries : (k : ℕ) → entry_in new (k + 1) ≡ option_map (λ t. (renewed last reset old.chains.counter, t)) (slice_get given k)
+    pub entries : (k : ℕ)
+        → entry_in new (k + 1) ≡ option_map (λ t. (renewed last reset old.chains.counter, t))
+        (slice_get given k)
     pub tree : IsHalvingOf (order_in number new) (tree_in number new)
     pub size : size_in new ≡ size_in old
     pub slots : length new.chains.slots ≡ size_in old

@@ -21,17 +21,24 @@ module _ {I T : Type 0} where
   abbrev pub last_inx : Ordered I T → ℕ
   last_inx o = last_listed (live_entries o.chains)
 
-  -- the entries, the counter and the tree of another arena in place of these, with room for its last index
+  -- the entries, the counter and the tree of another arena in place of these, with room for its
+  -- last index
   abbrev pub copied_into : Content (IndexLink I (IndexNode I T)) → Ordered I T → Ordered I T
-  copied_into c source = record { chains = copied c (counter_in source) (live_entries source.chains); root = source.root }
+  copied_into c source = record {
+    chains = copied c (counter_in source)
+        (live_entries source.chains);
+    root = source.root;
+  }
 
   -- with at least this capacity, no entry, and the next counter
   abbrev pub emptied_to : Option ℕ → ℕ → Ordered I T → Ordered I T
   emptied_to last least o = cleared_in last (record o { chains = reallocated o.chains least })
 
 module _ {I T : Type 0} (number : I → ℕ) where
-  -- links became a clone of a source: the root is the same, and each index has the same entry and the same node
-  pub record IsClone (c : Content (IndexLink I (IndexNode I T))) (source new : Ordered I T) : Type 0 where
+  -- links became a clone of a source: the root is the same, and each index has the same entry and
+  -- the same node
+  pub record IsClone (c : Content (IndexLink I (IndexNode I T))) (source new : Ordered I T)
+      : Type 0 where
     pub exact : new ≡ copied_into c source
     pub entries : (k : ℕ) → entry_in new k ≡ entry_in source k
     pub knots : (k : ℕ) → knots_in number new.chains k ≡ knots_in number source.chains k

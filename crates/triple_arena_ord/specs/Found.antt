@@ -13,13 +13,16 @@ module _ {I T P : Type 0} (index generation : P → ℕ) where
     pub way : f (index p) ≡ d
 
   -- an entry that ends the search; in a list that is parted, exactly where there is one
-  pub record IsFound (f : ℕ → Ordering) (parted : Type 0) (result : Option P) (o : Ordered I T) : Type 0 where
+  pub record IsFound (f : ℕ → Ordering) (parted : Type 0) (result : Option P) (o : Ordered I T)
+      : Type 0 where
     pub some : (p : P) → result ≡ Some p → Answers f o p Equal
     pub none : parted → result ≡ None → (i : ℕ) → IsSome (entry_in o i) → f i ≢ Equal
 
-  -- an entry and the way there, exactly where there are entries; in a list that is parted, one that ends the search, or a
-  -- neighbor of the gap
-  pub record IsSimilar (number : I → ℕ) (f : ℕ → Ordering) (parted : Type 0) (result : Option (P × Ordering)) (o : Ordered I T) : Type 0 where
+  -- an entry and the way there, exactly where there are entries; in a list that is parted, one that
+  -- ends the search, or a neighbor of the gap
+  pub record IsSimilar (number : I → ℕ) (f : ℕ → Ordering) (parted : Type 0)
+      (result : Option (P × Ordering)) (o : Ordered I T) : Type 0 where
     pub none : (result ≡ None) ↔ (size_in o ≡ 0)
     pub some : (p : P) (d : Ordering) → result ≡ Some (p, d) → Answers f o p d
-    pub places : parted → (p : P) (d : Ordering) → result ≡ Some (p, d) → Places f (order_in number o) (index p) d
+    pub places : parted → (p : P) (d : Ordering) → result ≡ Some (p, d)
+        → Places f (order_in number o) (index p) d

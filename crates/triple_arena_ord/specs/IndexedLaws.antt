@@ -13,7 +13,8 @@ use Rattle.triple_arena_ord.specs.Node.{itemed}
 use Rattle.triple_arena_ord.specs.Ordered.{Ordered, entry_in, size_in}
 
 module _ {I T : Type 0} where
-  look_up-items : (nodes : List (ℕ × (ℕ × IndexNode I T))) (i : ℕ) → look_up (map listed_item nodes) i ≡ option_map itemed (look_up nodes i)
+  look_up-items : (nodes : List (ℕ × (ℕ × IndexNode I T))) (i : ℕ)
+      → look_up (map listed_item nodes) i ≡ option_map itemed (look_up nodes i)
   look_up-items [] i = refl
   look_up-items (e ∷ nodes) i =
       elim (eqb_tells e.0 i) [
@@ -21,16 +22,19 @@ module _ {I T : Type 0} where
         | inr other ↦ rw other.0 (look_up-items nodes i)
       ]
 
-  indexes_same : (nodes : List (ℕ × (ℕ × IndexNode I T))) → map index_of (map listed_item nodes) ≡ map index_of nodes
+  indexes_same : (nodes : List (ℕ × (ℕ × IndexNode I T)))
+      → map index_of (map listed_item nodes) ≡ map index_of nodes
   indexes_same [] = refl
   indexes_same (e ∷ nodes) = ap (λ l. e.0 ∷ l) (indexes_same nodes)
 
   -- the entry at each index is the one that is listed under it
   pub entry-indexed : (o : Ordered I T) (i : ℕ) → entry_in o i ≡ look_up (indexed o) i
-  entry-indexed o i = ap (option_map itemed) (value-listed o.chains i) ∙ sym (look_up-items (listed_values o.chains) i)
+  entry-indexed o i = ap (option_map itemed) (value-listed o.chains i) ∙ sym
+      (look_up-items (listed_values o.chains) i)
 
   pub indexed-increase : (o : Ordered I T) → IsStrictlyIncreasing (map index_of (indexed o))
-  indexed-increase o = subst IsStrictlyIncreasing (sym (indexes_same (listed_values o.chains))) (listed_values-increase o.chains)
+  indexed-increase o = subst IsStrictlyIncreasing (sym (indexes_same (listed_values o.chains)))
+      (listed_values-increase o.chains)
 
   -- so many entries are listed as are live
   pub indexed-length : (o : Ordered I T) → length (indexed o) ≡ size_in o

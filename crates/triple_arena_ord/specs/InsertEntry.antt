@@ -25,11 +25,14 @@ kind_at {P} (Some place) p = by place.1
     by Greater = New p
 
 -- the pointer is that of the entry at this place, or of a new one, for which there is room
-pub record IsReadyAt {I T : Type 0} (place : Option (ℕ × Ordering)) (i g : ℕ) (o : Ordered I T) : Type 0 where
+pub record IsReadyAt {I T : Type 0} (place : Option (ℕ × Ordering)) (i g : ℕ) (o : Ordered I T)
+    : Type 0 where
   pub live : IfSome place (λ a. IsSome (entry_in o a.0))
   pub empty : place ≡ None → size_in o ≡ 0
-  pub replacing : Replaces place → (place ≡ Some (i, Equal)) × (generation_at (entry_in o) i ≡ Some g)
-  pub new : (Replaces place → ⊥) → (size_in o < arena_capacity o.chains) × ((i ≡ next_index o.chains) × (g ≡ o.chains.counter))
+  pub replacing : Replaces place → (place ≡ Some (i, Equal))
+      × (generation_at (entry_in o) i ≡ Some g)
+  pub new : (Replaces place → ⊥) → (size_in o < arena_capacity o.chains)
+      × ((i ≡ next_index o.chains) × (g ≡ o.chains.counter))
 
 module _ {P T S Inx Gen Word Alloc : Type 0} where
   -- the arena as the entry holds it
@@ -41,19 +44,25 @@ module _ {P T S Inx Gen Word Alloc : Type 0} where
   entry_lender e = e.arena.ghost_name
 
   -- the place of the item
-  abbrev pub entry_place : (Inx → ℕ) → SimpleOrdArenaInsertEntry P T S Inx Gen Word Alloc → Option (ℕ × Ordering)
+  abbrev pub entry_place : (Inx → ℕ) → SimpleOrdArenaInsertEntry P T S Inx Gen Word Alloc
+      → Option (ℕ × Ordering)
   entry_place number e = option_map (λ a. (number a.0, a.1)) e.place
 
   -- the insertion can be made
-  abbrev pub IsReady : (Inx → ℕ) → (P → ℕ) → (P → ℕ) → SimpleOrdArenaInsertEntry P T S Inx Gen Word Alloc → Type 0
-  IsReady number index generation e = IsReadyAt (entry_place number e) (index e.ptr) (generation e.ptr) (entry_arena e)
+  abbrev pub IsReady : (Inx → ℕ) → (P → ℕ) → (P → ℕ)
+      → SimpleOrdArenaInsertEntry P T S Inx Gen Word Alloc → Type 0
+  IsReady number index generation e = IsReadyAt (entry_place number e) (index e.ptr)
+      (generation e.ptr) (entry_arena e)
 
--- what is answered where an entry is asked for: whether the kind's requirement fails, and else a place that it asks for, and
--- what the room says, if a new entry is needed there
-pub record IsOrdAnswer {A : Type 0} (meets : Type 0) (is_place : Option (ℕ × Ordering) → Type 0) (place_of : A → Option (ℕ × Ordering))
-    (allows : Option OrdInsertionError → Type 0) (result : Result A OrdInsertionError) : Type 0 where
+-- what is answered where an entry is asked for: whether the kind's requirement fails, and else a
+-- place that it asks for, and what the room says, if a new entry is needed there
+pub record IsOrdAnswer {A : Type 0} (meets : Type 0) (is_place : Option (ℕ × Ordering) → Type 0)
+    (place_of : A → Option (ℕ × Ordering))
+    (allows : Option OrdInsertionError → Type 0) (result : Result A OrdInsertionError)
+    : Type 0 where
   pub failed : (result ≡ Err FailedOrdRequirement) ↔ (meets → ⊥)
   pub place : (a : A) → result ≡ Ok a → is_place (place_of a)
   pub fits : (a : A) → result ≡ Ok a → (Replaces (place_of a) → ⊥) → allows None
   pub refused : (error : OrdInsertionError) → result ≡ Err error → error ≢ FailedOrdRequirement
-      → (place : Option (ℕ × Ordering)) × is_place place × (Replaces place → ⊥) × allows (Some error)
+      → (place : Option (ℕ × Ordering)) × is_place place × (Replaces place → ⊥)
+      × allows (Some error)

@@ -16,7 +16,8 @@ use Rattle.triple_arena_ord.specs.Node.{knots_in, items_in}
 use Rattle.rank_tree.specs.Search.{AllIn}
 use Rattle.triple_arena_ord.specs.Ordered.{Ordered, IsAscending, StandsBeside, order_in, entry_in, size_in, asked_at}
 
--- one more index stands where a search ended: before or after the index that was asked last, or alone
+-- one more index stands where a search ended: before or after the index that was asked last, or
+-- alone
 abbrev pub StandsAt : Option (ℕ × Ordering) → List ℕ → List ℕ → ℕ → Type 0
 StandsAt None old new n = (old ≡ []) × (new ≡ n ∷ [])
 StandsAt (Some place) old new n = by place.1
@@ -39,7 +40,8 @@ pub record IsSamePlace (w : List ℕ) (one other : Option (ℕ × Ordering)) : T
   pub none : one ≡ None → other ≡ None
 
 -- a result with the pointer to the entry
-abbrev pub under : {P T : Type 0} → P → Result (Option T) OrdInsertionError → Result (P × Option T) OrdInsertionError
+abbrev pub under : {P T : Type 0} → P → Result (Option T) OrdInsertionError
+    → Result (P × Option T) OrdInsertionError
 under p (Ok replaced) = Ok (p, replaced)
 under p (Err error) = Err error
 
@@ -81,7 +83,8 @@ room_for (Some place) len room = by place.1
 
 module _ {I T : Type 0} (number : I → ℕ) where
   -- the node at an index has another item, and all else is as it was
-  pub record IsRenewed (i g : ℕ) (t u : T) (old new : Content (IndexLink I (IndexNode I T))) : Type 0 where
+  pub record IsRenewed (i g : ℕ) (t u : T) (old new : Content (IndexLink I (IndexNode I T)))
+      : Type 0 where
     pub was : items_in old i ≡ Some (g, u)
     pub items : (k : ℕ) → items_in new k ≡ with_entry (items_in old) i (g, t) k
     pub knots : (k : ℕ) → knots_in number new k ≡ knots_in number old k
@@ -108,34 +111,46 @@ module _ {I T : Type 0} (number : I → ℕ) where
     pub slots : length new.chains.slots ≡ max (length old.chains.slots) (next_index old.chains)
 
   -- `allows` is what the room says: None lets a new entry in, an error does not
-  module _ {P : Type 0} (index generation : P → ℕ) (allows : Option OrdInsertionError → Type 0) where
+  module _ {P : Type 0} (index generation : P → ℕ) (allows : Option OrdInsertionError
+      → Type 0) where
     -- an insertion where a search ended, whose last answer tells whether an item is replaced
-    pub record IsInsertedAt (place : Option (ℕ × Ordering)) (t : T) (result : Result (P × Option T) OrdInsertionError) (old new : Ordered I T) : Type 0 where
-      pub replaced : (p : P) (u : T) → result ≡ Ok (p, Some u) → (place ≡ Some (index p, Equal)) × IsReplaced (index p) (generation p) t u old new
+    pub record IsInsertedAt (place : Option (ℕ × Ordering)) (t : T)
+        (result : Result (P × Option T) OrdInsertionError) (old new : Ordered I T) : Type 0 where
+      pub replaced : (p : P) (u : T) → result ≡ Ok (p, Some u) → (place ≡ Some (index p, Equal))
+          × IsReplaced (index p) (generation p) t u old new
       pub added : (p : P) → result ≡ Ok (p, None)
-          → StandsAt place (order_in number old) (order_in number new) (index p) × IsAdded (index p) (generation p) t old new
+          → StandsAt place (order_in number old) (order_in number new) (index p)
+          × IsAdded (index p) (generation p) t old new
       pub fits : (p : P) → result ≡ Ok (p, None) → allows None
-      pub refused : (error : OrdInsertionError) → result ≡ Err error → (Replaces place → ⊥) × allows (Some error)
+      pub refused : (error : OrdInsertionError) → result ≡ Err error → (Replaces place → ⊥)
+          × allows (Some error)
       pub same : (error : OrdInsertionError) → result ≡ Err error → new ≡ old
 
   module _ {K : Type 0} (cmp : K → K → Ordering) (key : T → K) where
-    -- one more index in the list: where the keys ascend, all before it have lesser keys and all after it greater ones
+    -- one more index in the list: where the keys ascend, all before it have lesser keys and all
+    -- after it greater ones
     pub record IsPlacedByKey (k : K) (i : ℕ) (old new : Ordered I T) : Type 0 where
       pub before : List ℕ
       pub after : List ℕ
       pub was : order_in number old ≡ before ++ after
       pub is : order_in number new ≡ before ++ i ∷ after
-      pub greater : IsAscending number cmp key old → AllIn (λ j. asked_at cmp key k old j ≡ Greater) before
+      pub greater : IsAscending number cmp key old
+          → AllIn (λ j. asked_at cmp key k old j ≡ Greater) before
       pub less : IsAscending number cmp key old → AllIn (λ j. asked_at cmp key k old j ≡ Less) after
 
-    module _ {P : Type 0} (index generation : P → ℕ) (allows : Option OrdInsertionError → Type 0) where
-      -- an insertion by key: an item with an equal key is replaced, whether or not there is room; else there is one more entry,
-      -- where the room allows it
-      pub record IsKeyInserted (t : T) (result : Result (P × Option T) OrdInsertionError) (old new : Ordered I T) : Type 0 where
-        pub replaced : (p : P) (u : T) → result ≡ Ok (p, Some u) → (cmp (key t) (key u) ≡ Equal) × IsReplaced (index p) (generation p) t u old new
-        pub added : (p : P) → result ≡ Ok (p, None) → IsPlacedByKey (key t) (index p) old new × IsAdded (index p) (generation p) t old new
+    module _ {P : Type 0} (index generation : P → ℕ) (allows : Option OrdInsertionError
+        → Type 0) where
+      -- an insertion by key: an item with an equal key is replaced, whether or not there is room;
+      -- else there is one more entry, where the room allows it
+      pub record IsKeyInserted (t : T) (result : Result (P × Option T) OrdInsertionError)
+          (old new : Ordered I T) : Type 0 where
+        pub replaced : (p : P) (u : T) → result ≡ Ok (p, Some u) → (cmp (key t) (key u) ≡ Equal)
+            × IsReplaced (index p) (generation p) t u old new
+        pub added : (p : P) → result ≡ Ok (p, None) → IsPlacedByKey (key t) (index p) old new
+            × IsAdded (index p) (generation p) t old new
         pub fits : (p : P) → result ≡ Ok (p, None) → allows None
         pub refused : (error : OrdInsertionError) → result ≡ Err error → allows (Some error)
         pub same : (error : OrdInsertionError) → result ≡ Err error → new ≡ old
-        pub absent : (error : OrdInsertionError) → result ≡ Err error → IsAscending number cmp key old
+        pub absent : (error : OrdInsertionError) → result ≡ Err error
+            → IsAscending number cmp key old
             → (i : ℕ) → option_map (λ e. cmp (key t) (key e.1)) (entry_in old i) ≢ Some Equal

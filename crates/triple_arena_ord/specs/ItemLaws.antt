@@ -18,17 +18,22 @@ module _ {I T : Type 0} where
   with_node_item t link = record link { t = record link.t { t = t } }
 
   -- the item is what it was written
-  pub entry-with_item : (o : Ordered I T) (i : ℕ) (t : T) (k : ℕ) → entry_in (with_item o i t) k ≡ with_value_at (entry_in o) i t k
+  pub entry-with_item : (o : Ordered I T) (i : ℕ) (t : T) (k : ℕ)
+      → entry_in (with_item o i t) k ≡ with_value_at (entry_in o) i t k
   entry-with_item o i t k =
-      ap (λ e. option_map itemed (option_map valued e)) (entry-with_link o.chains i (with_node_item t) k)
+      ap (λ e. option_map itemed (option_map valued e))
+      (entry-with_link o.chains i (with_node_item t) k)
       ∙ elim (eqb_tells k i) [
         | inl at ↦ rw at.0 (by_entry (entry_at o.chains i))
         | inr other ↦ rw other.0 refl
       ]
     where
       by_entry : (e : Option (ℕ × IndexLink I (IndexNode I T)))
-          → option_map itemed (option_map valued (option_map (λ (l : ℕ × IndexLink I (IndexNode I T)). (let v : ℕ × IndexLink I (IndexNode I T) = (l.0, with_node_item t l.1) in v)) e))
-          ≡ option_map (λ (l : ℕ × T). (let v : ℕ × T = (l.0, t) in v)) (option_map itemed (option_map valued e))
+          → option_map itemed (option_map valued
+          (option_map (λ (l : ℕ × IndexLink I (IndexNode I T)).
+          (let v : ℕ × IndexLink I (IndexNode I T) = (l.0, with_node_item t l.1) in v)) e))
+          ≡ option_map (λ (l : ℕ × T). (let v : ℕ × T = (l.0, t) in v))
+          (option_map itemed (option_map valued e))
       by_entry None = refl
       by_entry (Some e) = refl
 
@@ -38,7 +43,8 @@ module _ {I T : Type 0} where
   pub size-with_item : (o : Ordered I T) (i : ℕ) (t : T) → size_in (with_item o i t) ≡ size_in o
   size-with_item o i t = (kept-with_item o i t).live
 
-  pub counter-with_item : (o : Ordered I T) (i : ℕ) (t : T) → counter_in (with_item o i t) ≡ counter_in o
+  pub counter-with_item : (o : Ordered I T) (i : ℕ) (t : T)
+      → counter_in (with_item o i t) ≡ counter_in o
   counter-with_item o i t = ap Some (kept-with_item o i t).counter
 
   pub room-with_item : (o : Ordered I T) (i : ℕ) (t : T) → room_in (with_item o i t) ≡ room_in o

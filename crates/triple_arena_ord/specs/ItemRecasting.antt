@@ -23,7 +23,12 @@ node_recasted recasted node = record node { t = recasted node.t }
 module _ {N I T : Type 0} (items : T → List N) (f : N → Option N) (recasted : T → T) where
   -- the items recast, up to the first that holds what has no image
   abbrev pub recasted_in : Ordered I T → Ordered I T
-  recasted_in o = record o { chains = content_recasted (link_items (node_items items)) f (link_recasted (node_recasted recasted)) o.chains }
+  recasted_in o = record o {
+    chains = content_recasted (link_items (node_items items)) f
+        (link_recasted (node_recasted recasted)) o.chains;
+  }
 
-  pub items-recasted_in : ((t : T) → items (recasted t) ≡ renamed f (items t)) → (o : Ordered I T) → items_of items (recasted_in o) ≡ renamed f (items_of items o)
-  items-recasted_in each o = items-recasted (link_items (node_items items)) f (link_recasted (node_recasted recasted)) (λ link. each link.t.t) o.chains
+  pub items-recasted_in : ((t : T) → items (recasted t) ≡ renamed f (items t)) → (o : Ordered I T)
+      → items_of items (recasted_in o) ≡ renamed f (items_of items o)
+  items-recasted_in each o = items-recasted (link_items (node_items items)) f
+      (link_recasted (node_recasted recasted)) (λ link. each link.t.t) o.chains

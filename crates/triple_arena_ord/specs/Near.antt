@@ -7,7 +7,8 @@ use Rattle.rank_tree.specs.Search.{AllIn, IsParted, Places}
 use Rattle.triple_arena_ord.specs.Ordered.{asked_of}
 
 -- how a key compares with that of the entry at an index
-abbrev pub asked_in : {K T : Type 0} → (K → K → Ordering) → (T → K) → K → (ℕ → Option (ℕ × T)) → ℕ → Ordering
+abbrev pub asked_in : {K T : Type 0} → (K → K → Ordering) → (T → K) → K → (ℕ → Option (ℕ × T))
+    → ℕ → Ordering
 asked_in cmp key k entry i = asked_of cmp key k (entry i)
 
 -- two indexes stand in the list less than so many places apart
@@ -39,14 +40,15 @@ pub record IsGapNear (num : ℕ) (f : ℕ → Ordering) (w : List ℕ) (i : ℕ)
 abbrev pub IsAtHand : ℕ → (ℕ → Ordering) → List ℕ → ℕ → Type 0
 IsAtHand num f w i = IsEndNear num f w i ⊎ IsGapNear num f w i
 
--- an index of the list and the way there; in a list that is parted it ends the search, or is a neighbor of the gap
+-- an index of the list and the way there; in a list that is parted it ends the search, or is a
+-- neighbor of the gap
 pub record IsStop (f : ℕ → Ordering) (w : List ℕ) (i : ℕ) (d : Ordering) : Type 0 where
   pub on : On w i
   pub way : f i ≡ d
   pub places : IsParted f w → Places f w i d
 
--- where a walk goes from an index with this answer, after it went this way, if at all. It goes on in one direction, up to
--- the gap, an end of the list, or an index that ends the search
+-- where a walk goes from an index with this answer, after it went this way, if at all. It goes on
+-- in one direction, up to the gap, an end of the list, or an index that ends the search
 abbrev pub onward : Ordering → Ordering → Ends → Option ℕ
 onward Less Less ends = ends.0
 onward Less Equal ends = None
@@ -75,18 +77,20 @@ beyond Less front back = reverse front
 beyond Equal front back = []
 beyond Greater front back = back
 
--- the indexes that a walk comes to from one in a list, itself the first: on the side to which that answers, up to one that
--- answers otherwise or to an end of the list
+-- the indexes that a walk comes to from one in a list, itself the first: on the side to which that
+-- answers, up to one that answers otherwise or to an end of the list
 abbrev pub path_from : (ℕ → Ordering) → {w : List ℕ} {i : ℕ} → On w i → List ℕ
 path_from f {w} {i} on = up_to f (f i) (i ∷ beyond (f i) on.front on.back)
 
--- a walk along these indexes compares once at each, at most `num` times. It ends at the last, or nowhere where there are more
+-- a walk along these indexes compares once at each, at most `num` times. It ends at the last, or
+-- nowhere where there are more
 abbrev pub IsWalked : (num : ℕ) → (path : List ℕ) → Option ℕ → (old new : ℕ) → Type 0
 IsWalked num path None old new = (num < length path) × (new ≡ old + num)
-IsWalked num path (Some i) old new = (last_or None path ≡ Some i) × (length path ≤ num) × (new ≡ old + length path)
+IsWalked num path (Some i) old new = (last_or None path ≡ Some i) × (length path ≤ num)
+    × (new ≡ old + length path)
 
--- how often a search compares that walks along these indexes first: once at each, or where there are more `num` times and as
--- often as from the root
+-- how often a search compares that walks along these indexes first: once at each, or where there
+-- are more `num` times and as often as from the root
 pub record IsPlaceCounted (num down : ℕ) (path : List ℕ) (old new : ℕ) : Type 0 where
   pub ended : length path ≤ num → new ≡ old + length path
   pub passed : num < length path → new ≡ old + (num + down)
@@ -97,8 +101,9 @@ pub record HasEnd (f : ℕ → Ordering) (is : List ℕ) : Type 0 where
   pub on : On is at
   pub equal : f at ≡ Equal
 
--- how often a search compares that looks along these indexes for an equal key first: once at each, at most `num` times, and as
--- often as from the root where none of them has one
-pub record IsKeyCounted (num down : ℕ) (f : ℕ → Ordering) (path : List ℕ) (old new : ℕ) : Type 0 where
+-- how often a search compares that looks along these indexes for an equal key first: once at each,
+-- at most `num` times, and as often as from the root where none of them has one
+pub record IsKeyCounted (num down : ℕ) (f : ℕ → Ordering) (path : List ℕ) (old new : ℕ)
+    : Type 0 where
   pub ended : HasEnd f (take num path) → new ≡ old + length (take num path)
   pub passed : (HasEnd f (take num path) → ⊥) → new ≡ old + (length (take num path) + down)

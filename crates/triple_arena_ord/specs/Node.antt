@@ -54,4 +54,9 @@ module _ {I T : Type 0} where
 
   -- all but the knots
   unfoldable pub rest : Content (IndexLink I (IndexNode I T)) → Content (IndexLink I T)
-  rest c = record { slots = map (option_map bare) c.slots; counter = c.counter; free = c.free; room = c.room }
+  rest c = record {
+    slots = map (option_map bare) c.slots;
+    counter = c.counter;
+    free = c.free;
+    room = c.room;
+  }

@@ -25,9 +25,12 @@ steps_made None = 0
 steps_made (Some item) = 1
 
 module _ {P I T : Type 0} (number : I → ℕ) (last : Option ℕ) (index generation : P → ℕ) where
-  -- an item is the removal of the first entry of the list, and whether its step started the generations again
+  -- an item is the removal of the first entry of the list, and whether its step started the
+  -- generations again
   pub record IsFirstTaken (item : InvalidationOption (P × T)) (old new : Ordered I T) : Type 0 where
-    pub first : ordered_entries number old ≡ (index (value_of item).0, (generation (value_of item).0, (value_of item).1)) ∷ ordered_entries number new
+    pub first : ordered_entries number old
+        ≡ (index (value_of item).0, (generation (value_of item).0, (value_of item).1))
+        ∷ ordered_entries number new
     pub overflow : overflowed item ≡ next_wraps last old.chains.counter
     pub removed : IsEntryRemoved number last (index (value_of item).0) old new
 
@@ -58,15 +61,21 @@ module _ {P T S Inx Gen Word Alloc : Type 0} where
     module _ (number : Inx → ℕ) where
       -- the removals that are still to come
       abbrev pub drain_rest : OrderedDrain P T S Inx Gen Word Alloc → List ((ℕ × (ℕ × T)) × Bool)
-      drain_rest d = removals last (counter_in (drain_arena d)) (ordered_entries number (drain_arena d))
+      drain_rest d = removals last (counter_in (drain_arena d))
+          (ordered_entries number (drain_arena d))
 
       module _ (index generation : P → ℕ) where
-        -- a step gives the first removal that is still to come, which it has made, or nothing where there is none
-        abbrev pub DrainSteps : OrderedDrain P T S Inx Gen Word Alloc → Option (InvalidationOption (P × T)) → OrderedDrain P T S Inx Gen Word Alloc → Type 0
-        DrainSteps old item new = YieldsFirstBy (removal_of index generation) drain_rest old item new × IsOn (steps_made item) old new
+        -- a step gives the first removal that is still to come, which it has made, or nothing where
+        -- there is none
+        abbrev pub DrainSteps : OrderedDrain P T S Inx Gen Word Alloc
+            → Option (InvalidationOption (P × T)) → OrderedDrain P T S Inx Gen Word Alloc → Type 0
+        DrainSteps old item new
+            = YieldsFirstBy (removal_of index generation) drain_rest old item new
+            × IsOn (steps_made item) old new
             × TakesFirst number last index generation item (drain_arena old) (drain_arena new)
 
         -- each state that steps lead to is on by as many as the items that they gave
         abbrev pub DrainKeepsAlong : OrderedDrain P T S Inx Gen Word Alloc → Type 0
-        DrainKeepsAlong first = (items : List (InvalidationOption (P × T))) (later : OrderedDrain P T S Inx Gen Word Alloc)
+        DrainKeepsAlong first = (items : List (InvalidationOption (P × T)))
+            (later : OrderedDrain P T S Inx Gen Word Alloc)
             → Yields DrainSteps first items later → IsOn (length items) first later

@@ -49,7 +49,8 @@ module _ {I T : Type 0} where
       pub none : (result ≡ None) ↔ (size_in o ≡ 0)
 
   module _ (number : I → ℕ) where
-    -- the indexes that are left to a walk over an arena that stays: a loop over them is measured by their number
+    -- the indexes that are left to a walk over an arena that stays: a loop over them is measured by
+    -- their number
     abbrev pub left_over : Ordered I T → OrderedWalk → List ℕ
     left_over o w = from_where (along w.back (order_in number o)) w.at
 

@@ -1,5 +1,5 @@
--- Where a kind of insertion puts its item: alone (None), directly before (Less) or after (Greater) an index, or in its entry
--- (Equal).
+-- Where a kind of insertion puts its item: alone (None), directly before (Less) or after (Greater)
+-- an index, or in its entry (Equal).
 use Rattle.std.specs.Prelude.{◌≡◌, ◌↔◌, ℕ, Option, Some, None, IsSome}
 use Rattle.std.specs.Borrow.{Bor}
 use Rattle.std.specs.declared.cmp.Ordering.{Ordering}
@@ -30,8 +30,8 @@ module _ {I T : Type 0} (number : I → ℕ) where
   Meets (Manual i direction) o = IsSome (entry_in o (number i))
 
   module _ {K : Type 0} (cmp : K → K → Ordering) (key : T → K) where
-    -- the entry with an equal key, or a place beside one; where the keys ascend, that after all lesser keys and before all
-    -- greater ones
+    -- the entry with an equal key, or a place beside one; where the keys ascend, that after all
+    -- lesser keys and before all greater ones
     pub record IsPlaceByKey (k : K) (o : Ordered I T) (place : Option (ℕ × Ordering)) : Type 0 where
       pub none : (place ≡ None) ↔ (size_in o ≡ 0)
       pub live : (i : ℕ) (d : Ordering) → place ≡ Some (i, d) → IsSome (entry_in o i)
@@ -40,7 +40,8 @@ module _ {I T : Type 0} (number : I → ℕ) where
           → Places (asked_at cmp key k o) (order_in number o) i d
 
     -- the same, but directly before an entry with an equal key
-    pub record IsPlaceBeforeEqual (k : K) (o : Ordered I T) (place : Option (ℕ × Ordering)) : Type 0 where
+    pub record IsPlaceBeforeEqual (k : K) (o : Ordered I T) (place : Option (ℕ × Ordering))
+        : Type 0 where
       pub found : Option (ℕ × Ordering)
       pub by_key : IsPlaceByKey k o found
       pub is : place ≡ before_equal found

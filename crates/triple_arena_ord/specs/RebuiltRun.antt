@@ -11,7 +11,8 @@ abbrev pub middle : ℕ → ℕ → Option ℕ
 middle before zero = None
 middle before (suc n) = Some (before + suc n / 2 + 1)
 
--- the nodes at so many indexes behind others were written as a halving tree under a parent, and no other node
+-- the nodes at so many indexes behind others were written as a halving tree under a parent, and no
+-- other node
 pub record IsRunBuilt (k : ℕ) (parent : Option ℕ) (before count : ℕ) (n m : Store) : Type 0 where
   pub tree : Tree
   pub is_walk : walk tree ≡ range_with_len (before + 1) count

@@ -26,9 +26,11 @@ pub record IsUprooted {I T : Type 0} (number : I → ℕ) (old new : Ordered I T
   pub was : order_in number old ≡ before ++ h ∷ after
   pub restored : Restored (knots_in number new.chains) new.root (before ++ after)
 
--- one entry less: the list is without its index, every other pointer finds the item that it found, the counter steps, and the
--- slot is popped where it is the last one, and else is the next one to be taken
-pub record IsEntryRemoved {I T : Type 0} (number : I → ℕ) (last : Option ℕ) (h : ℕ) (old new : Ordered I T) : Type 0 where
+-- one entry less: the list is without its index, every other pointer finds the item that it found,
+-- the counter steps, and the slot is popped where it is the last one, and else is the next one to
+-- be taken
+pub record IsEntryRemoved {I T : Type 0} (number : I → ℕ) (last : Option ℕ) (h : ℕ)
+    (old new : Ordered I T) : Type 0 where
   pub order : Loses (order_in number old) (order_in number new) h
   pub entries : (k : ℕ) → entry_in new k ≡ without (entry_in old) h k
   pub size : size_in new + 1 ≡ size_in old

@@ -1,4 +1,5 @@
--- What exactly an ordered arena is after the calls that leave its list as it is, and after those that leave no entry.
+-- What exactly an ordered arena is after the calls that leave its list as it is, and after those
+-- that leave no entry.
 use Rattle.std.specs.Prelude.{ℕ, Option, None}
 use Rattle.triple_arena.specs.Content.{cleared, empty, invalidated, reallocated, stepped, with_counter}
 use Rattle.triple_arena.specs.Drains.{drained}
@@ -17,7 +18,8 @@ module _ {I T : Type 0} where
 
   -- with another item at an index, if there is one
   abbrev pub with_item : Ordered I T → ℕ → T → Ordered I T
-  with_item o i t = record o { chains = with_link o.chains i (λ link. record link { t = record link.t { t = t } }) }
+  with_item o i t = record o
+      { chains = with_link o.chains i (λ link. record link { t = record link.t { t = t } }) }
 
   -- with the next counter, and the entry at an index under it, whose pointer ended
   abbrev pub invalidated_in : Option ℕ → Ordered I T → ℕ → Ordered I T

@@ -22,7 +22,8 @@ where
     A: Links<P, T>,
     requires live { IsSome (entry_at (A.links arena.now) (P.Inx.number i)) }
     requires no_more { ⊤ }
-    ensures { option_map (λ e. e.1) (entry_at (A.links arena.now) (P.Inx.number i)) ≡ Some result.now }
+    ensures { option_map (λ e. e.1) (entry_at (A.links arena.now) (P.Inx.number i))
+        ≡ Some result.now }
 {
     match arena.link_entry(i) {
         Some((_, link)) => link,
@@ -30,7 +31,8 @@ where
     }
 }
 
-/// Whether no key is greater than the next one, along a list with this first index and at most `most` indexes.
+/// Whether no key is greater than the next one, along a list with this first index and at most
+/// `most` indexes.
 pub(crate) fn ascends<P, T, A>(arena: &A, first: P::Inx, most: usize) -> bool
 where
     P: PtrCore,
@@ -38,8 +40,10 @@ where
     A: Links<P, T>,
     requires { (w : List ℕ) × IsLinear (ends_in P.Inx.number (A.links arena.now)) w
         × (first_or w None ≡ Some (P.Inx.number first)) × (length w ≤ most) }
-    ensures { (w : List ℕ) → IsLinear (ends_in P.Inx.number (A.links arena.now)) w → first_or w None ≡ Some (P.Inx.number first)
-        → length w ≤ most → IsTrue result ↔ AscendsAlong T.Key.cmp T.key_of (items_in (A.links arena.now)) w }
+    ensures { (w : List ℕ) → IsLinear (ends_in P.Inx.number (A.links arena.now)) w
+        → first_or w None ≡ Some (P.Inx.number first)
+        → length w ≤ most → IsTrue result
+        ↔ AscendsAlong T.Key.cmp T.key_of (items_in (A.links arena.now)) w }
 {
     let mut link = link_at::<P, T, A>(arena, first);
     'along: for _done in 1..most {

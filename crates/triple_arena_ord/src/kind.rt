@@ -5,8 +5,8 @@ ghost use Rattle.triple_arena_ord.specs.Kinds.{ptr_of};
 use std::cmp::Ordering;
 use triple_arena::PtrCore;
 
-/// Where an insertion puts its item: by a key of the type `K`, or by an index of the type `I`, whose generation is not looked
-/// at.
+/// Where an insertion puts its item: by a key of the type `K`, or by an index of the type `I`,
+/// whose generation is not looked at.
 #[derive(Clone, Copy, Debug, PartialEq, Eq)]
 pub enum InsertKind<I, K> {
     /// In an arena without an entry.
@@ -15,12 +15,14 @@ pub enum InsertKind<I, K> {
     Normal(K),
     /// Directly before the entry with an equal key that is found; else where the key belongs.
     Nonhereditary(K),
-    /// As `Normal`, with a search that goes along the list from `p_init` for at most `num` comparisons first.
+    /// As `Normal`, with a search that goes along the list from `p_init` for at most `num`
+    /// comparisons first.
     Linear { p_init: I, num: usize, k: K },
-    /// As `Nonhereditary`, with a search that goes along the list from `p_init` for at most `num` comparisons first.
+    /// As `Nonhereditary`, with a search that goes along the list from `p_init` for at most `num`
+    /// comparisons first.
     NonhereditaryLinear { p_init: I, num: usize, k: K },
-    /// At an entry, whatever the keys are: `Equal` replaces it, `Less` puts the item directly before it, `Greater` directly
-    /// after it.
+    /// At an entry, whatever the keys are: `Equal` replaces it, `Less` puts the item directly
+    /// before it, `Greater` directly after it.
     Manual { p_target: I, direction: Ordering },
 }
 

@@ -31,10 +31,12 @@ pub fn entries_stand_in_the_list<P: PtrCore, T>()
 
 /// The list has as many entries as are live.
 pub fn the_list_has_as_many_entries_as_are_live<P: PtrCore, T>()
-    ensures { (o : Ordered P.Inx T) → IsOrdered P.Inx.number o → length (ordered_entries P.Inx.number o) ≡ size_in o }
+    ensures { (o : Ordered P.Inx T) → IsOrdered P.Inx.number o
+        → length (ordered_entries P.Inx.number o) ≡ size_in o }
 {}
 
-/// No path in the tree has more nodes than the rank r of the root, and among n entries, where there is one, `2^(r+1) <= (n+1)^2`.
+/// No path in the tree has more nodes than the rank r of the root, and among n entries, if there is
+/// one, `2^(r+1) <= (n+1)^2`.
 pub fn paths_are_short<P: PtrCore, T>()
     ensures high { (o : Ordered P.Inx T) → IsOrdered P.Inx.number o
         → height (tree_in P.Inx.number o) ≤ rank_of (tree_in P.Inx.number o) }
@@ -42,35 +44,47 @@ pub fn paths_are_short<P: PtrCore, T>()
         → 2 ^ (rank_of (tree_in P.Inx.number o) + 1) ≤ (size_in o + 1) * (size_in o + 1) }
 {}
 
-/// Where the keys ascend, none before an entry is greater than its key, and none after it less.
+/// If the keys ascend, none before an entry is greater than its key, and none after it less.
 pub fn keys_ascend_along_the_list<P: PtrCore, T: SimpleOrdItem>()
-    ensures before { (o : Ordered P.Inx T) (front back : List ℕ) (i : ℕ) (entry : ℕ × T) → IsOrdered P.Inx.number o
-        → IsAscending P.Inx.number T.Key.cmp T.key_of o → order_in P.Inx.number o ≡ front ++ i ∷ back
+    ensures before { (o : Ordered P.Inx T) (front back : List ℕ) (i : ℕ) (entry : ℕ × T)
+        → IsOrdered P.Inx.number o
+        → IsAscending P.Inx.number T.Key.cmp T.key_of o
+        → order_in P.Inx.number o ≡ front ++ i ∷ back
         → entry_in o i ≡ Some entry
         → AllIn (λ j. asked_at T.Key.cmp T.key_of (T.key_of entry.1) o j ≢ Way.Less) front }
-    ensures after { (o : Ordered P.Inx T) (front back : List ℕ) (i : ℕ) (entry : ℕ × T) → IsOrdered P.Inx.number o
-        → IsAscending P.Inx.number T.Key.cmp T.key_of o → order_in P.Inx.number o ≡ front ++ i ∷ back
+    ensures after { (o : Ordered P.Inx T) (front back : List ℕ) (i : ℕ) (entry : ℕ × T)
+        → IsOrdered P.Inx.number o
+        → IsAscending P.Inx.number T.Key.cmp T.key_of o
+        → order_in P.Inx.number o ≡ front ++ i ∷ back
         → entry_in o i ≡ Some entry
         → AllIn (λ j. asked_at T.Key.cmp T.key_of (T.key_of entry.1) o j ≢ Way.Greater) back }
 {}
 
-/// A list whose keys ascend still does where the list and the keys stay, and where an item is replaced by one with an equal key.
+/// A list whose keys ascend still does if the list and the keys stay, and if an item is replaced by
+/// one with an equal key.
 pub fn keys_that_stay_ascend<P: PtrCore, T: SimpleOrdItem>()
-    ensures same { (old new : Ordered P.Inx T) → order_in P.Inx.number new ≡ order_in P.Inx.number old
-        → ((i : ℕ) → option_map (λ e. T.key_of e.1) (entry_in new i) ≡ option_map (λ e. T.key_of e.1) (entry_in old i))
-        → IsAscending P.Inx.number T.Key.cmp T.key_of old → IsAscending P.Inx.number T.Key.cmp T.key_of new }
-    ensures replaced { (i g : ℕ) (t u : T) (old new : Ordered P.Inx T) → IsReplaced P.Inx.number i g t u old new
+    ensures same { (old new : Ordered P.Inx T)
+        → order_in P.Inx.number new ≡ order_in P.Inx.number old
+        → ((i : ℕ) → option_map (λ e. T.key_of e.1) (entry_in new i)
+        ≡ option_map (λ e. T.key_of e.1) (entry_in old i))
+        → IsAscending P.Inx.number T.Key.cmp T.key_of old
+        → IsAscending P.Inx.number T.Key.cmp T.key_of new }
+    ensures replaced { (i g : ℕ) (t u : T) (old new : Ordered P.Inx T)
+        → IsReplaced P.Inx.number i g t u old new
         → T.Key.cmp (T.key_of t) (T.key_of u) ≡ Way.Equal
-        → IsAscending P.Inx.number T.Key.cmp T.key_of old → IsAscending P.Inx.number T.Key.cmp T.key_of new }
+        → IsAscending P.Inx.number T.Key.cmp T.key_of old
+        → IsAscending P.Inx.number T.Key.cmp T.key_of new }
 {}
 
 /// A list whose keys ascend still does after a removal.
 pub fn removals_keep_keys_ascending<P: PtrCore, T: SimpleOrdItem>()
-    ensures { (last : Option ℕ) (i : ℕ) (old new : Ordered P.Inx T) → IsEntryRemoved P.Inx.number last i old new
-        → IsAscending P.Inx.number T.Key.cmp T.key_of old → IsAscending P.Inx.number T.Key.cmp T.key_of new }
+    ensures { (last : Option ℕ) (i : ℕ) (old new : Ordered P.Inx T)
+        → IsEntryRemoved P.Inx.number last i old new
+        → IsAscending P.Inx.number T.Key.cmp T.key_of old
+        → IsAscending P.Inx.number T.Key.cmp T.key_of new }
 {}
 
-/// Where an invalidation ended a pointer, the list stays.
+/// If an invalidation ended a pointer, the list stays.
 pub fn invalidations_keep_the_list<P: PtrCore, T>()
     ensures { (last : Option ℕ) (o : Ordered P.Inx T) (i : ℕ)
         → order_in P.Inx.number (invalidated_in last o i) ≡ order_in P.Inx.number o }
@@ -78,13 +92,15 @@ pub fn invalidations_keep_the_list<P: PtrCore, T>()
 
 /// Whatever is written in place of an item, the list, the tree and all else stay.
 pub fn writes_keep_the_list<P: PtrCore, T>()
-    ensures replaced { (o : Ordered P.Inx T) (i g : ℕ) (t u : T) → IsOrdered P.Inx.number o → entry_in o i ≡ Some (g, u)
+    ensures replaced { (o : Ordered P.Inx T) (i g : ℕ) (t u : T) → IsOrdered P.Inx.number o
+        → entry_in o i ≡ Some (g, u)
         → IsReplaced P.Inx.number i g t u o (with_item o i t) }
-    ensures ordered { (o : Ordered P.Inx T) (i : ℕ) (t : T) → IsOrdered P.Inx.number o → IsSome (entry_in o i)
+    ensures ordered { (o : Ordered P.Inx T) (i : ℕ) (t : T) → IsOrdered P.Inx.number o
+        → IsSome (entry_in o i)
         → IsOrdered P.Inx.number (with_item o i t) }
 {}
 
-/// Where what the items hold is recast, the list and the tree stay.
+/// If what the items hold is recast, the list and the tree stay.
 pub fn recasts_keep_the_list<N, P: PtrCore, T: Recast<N>>()
     ensures ordered { (f : N → Option N) (o : Ordered P.Inx T) → IsOrdered P.Inx.number o
         → IsOrdered P.Inx.number (recasted_in T.items f (T.recasted f) o) }
@@ -92,33 +108,41 @@ pub fn recasts_keep_the_list<N, P: PtrCore, T: Recast<N>>()
         → tree_in P.Inx.number (recasted_in T.items f (T.recasted f) o) ≡ tree_in P.Inx.number o }
 {}
 
-/// Where a limit is set, the list and the tree stay.
+/// If a limit is set, the list and the tree stay.
 pub fn limits_keep_the_list<P: PtrCore, T>()
     ensures ordered { (o : Ordered P.Inx T) (max : ℕ) → IsOrdered P.Inx.number o
         → IsOrdered P.Inx.number (record o { chains = with_limit P.Inx.greatest o.chains max }) }
     ensures tree { (o : Ordered P.Inx T) (max : ℕ) → IsOrdered P.Inx.number o
-        → tree_in P.Inx.number (record o { chains = with_limit P.Inx.greatest o.chains max }) ≡ tree_in P.Inx.number o }
+        → tree_in P.Inx.number (record o { chains = with_limit P.Inx.greatest o.chains max })
+        ≡ tree_in P.Inx.number o }
 {}
 
-/// A list whose keys ascend still does after an insertion at the place that was found for the item's key, and after one that goes
-/// directly before an entry with an equal key there.
+/// A list whose keys ascend still does after an insertion at the place that was found for the
+/// item's key, and after one that goes directly before an entry with an equal key there.
 pub fn insertions_keep_keys_ascending<P: PtrCore, T: SimpleOrdItem>()
-    ensures by_key { (place : Option (ℕ × Way)) (t : T) (result : Result (P × Option T) Refused) (old new : Ordered P.Inx T)
+    ensures by_key { (place : Option (ℕ × Way)) (t : T) (result : Result (P × Option T) Refused)
+        (old new : Ordered P.Inx T)
         → (growth : Option Bool) → IsOrdered P.Inx.number old → IsOrdered P.Inx.number new
         → IsPlaceByKey P.Inx.number T.Key.cmp T.key_of (T.key_of t) old place
-        → IsInsertedAt P.Inx.number P.index P.generation (either_room growth (size_in old) old.chains.room) place t result old new
-        → IsAscending P.Inx.number T.Key.cmp T.key_of old → IsAscending P.Inx.number T.Key.cmp T.key_of new }
-    ensures before_equal { (place : Option (ℕ × Way)) (t : T) (result : Result (P × Option T) Refused) (old new : Ordered P.Inx T)
+        → IsInsertedAt P.Inx.number P.index P.generation
+        (either_room growth (size_in old) old.chains.room) place t result old new
+        → IsAscending P.Inx.number T.Key.cmp T.key_of old
+        → IsAscending P.Inx.number T.Key.cmp T.key_of new }
+    ensures before_equal { (place : Option (ℕ × Way)) (t : T)
+        (result : Result (P × Option T) Refused) (old new : Ordered P.Inx T)
         → (growth : Option Bool) → IsOrdered P.Inx.number old → IsOrdered P.Inx.number new
         → IsPlaceBeforeEqual P.Inx.number T.Key.cmp T.key_of (T.key_of t) old place
-        → IsInsertedAt P.Inx.number P.index P.generation (either_room growth (size_in old) old.chains.room) place t result old new
-        → IsAscending P.Inx.number T.Key.cmp T.key_of old → IsAscending P.Inx.number T.Key.cmp T.key_of new }
+        → IsInsertedAt P.Inx.number P.index P.generation
+        (either_room growth (size_in old) old.chains.room) place t result old new
+        → IsAscending P.Inx.number T.Key.cmp T.key_of old
+        → IsAscending P.Inx.number T.Key.cmp T.key_of new }
 {}
 
-/// Where no answer of a closure that a search asks is `Equal`, the last entry that answered `Greater` and the last that answered
-/// `Less` are neighbors in the list, as far as there are any.
+/// If no answer of a closure that a search asks is `Equal`, the last entry that answered `Greater`
+/// and the last that answered `Less` are neighbors in the list, as far as there are any.
 pub fn questions_end_at_the_gap()
-    ensures { (asked : List (ℕ × Way)) (w : List ℕ) → IsWay asked w → AllByRecursion (λ (a : ℕ × Way). a.1 ≢ Way.Equal) asked
+    ensures { (asked : List (ℕ × Way)) (w : List ℕ) → IsWay asked w
+        → AllByRecursion (λ (a : ℕ × Way). a.1 ≢ Way.Equal) asked
         → IsCutAt w (last_greater None asked) (last_less None asked) }
 {}
 

@@ -25,13 +25,20 @@ pub(crate) fn insert_leaf<P: PtrCore, T: Drop, S: OrdSlots<P, T>>(
     side: Side,
     t: T,
 ) -> P
-    requires ordered { IsOrdered P.Inx.number (record { chains = chains.old; root = option_map P.Inx.number root.old }) }
+    requires ordered { IsOrdered P.Inx.number
+        (record { chains = chains.old; root = option_map P.Inx.number root.old }) }
     requires room { live_count chains.old < arena_capacity chains.old }
     requires lives { IsSome (knots_in P.Inx.number chains.old (P.Inx.number holder)) }
-    requires free { option_map (λ v. child_of side v) (knots_in P.Inx.number chains.old (P.Inx.number holder)) ≡ Some None }
-    ensures ordered { IsOrdered P.Inx.number (record { chains = chains.new; root = option_map P.Inx.number root.new }) }
-    ensures order { StandsBeside side (order_in P.Inx.number (record { chains = chains.old; root = option_map P.Inx.number root.old }))
-        (order_in P.Inx.number (record { chains = chains.new; root = option_map P.Inx.number root.new })) (P.Inx.number holder) (P.index result) }
+    requires free { option_map (λ v. child_of side v)
+        (knots_in P.Inx.number chains.old (P.Inx.number holder)) ≡ Some None }
+    ensures ordered { IsOrdered P.Inx.number
+        (record { chains = chains.new; root = option_map P.Inx.number root.new }) }
+    ensures order { StandsBeside side
+        (order_in P.Inx.number
+        (record { chains = chains.old; root = option_map P.Inx.number root.old }))
+        (order_in P.Inx.number
+        (record { chains = chains.new; root = option_map P.Inx.number root.new }))
+        (P.Inx.number holder) (P.index result) }
     ensures added { IsAdded P.Inx.number (P.index result) (P.generation result) t
         (record { chains = chains.old; root = option_map P.Inx.number root.old })
         (record { chains = chains.new; root = option_map P.Inx.number root.new }) }
@@ -57,9 +64,11 @@ pub(crate) fn neighbors_beside<P: PtrCore, T: Drop, S: OrdSlots<P, T>>(
     side: Side,
 ) -> (Option<P::Inx>, Option<P::Inx>)
     requires { IsSome (knots_in P.Inx.number chains.now (P.Inx.number holder)) }
-    ensures prev { option_map (λ e. prev_for P.Inx.number side e.1 (P.Inx.number holder)) (entry_at chains.now (P.Inx.number holder))
+    ensures prev { option_map (λ e. prev_for P.Inx.number side e.1 (P.Inx.number holder))
+        (entry_at chains.now (P.Inx.number holder))
         ≡ Some (option_map P.Inx.number result.0) }
-    ensures next { option_map (λ e. next_for P.Inx.number side e.1 (P.Inx.number holder)) (entry_at chains.now (P.Inx.number holder))
+    ensures next { option_map (λ e. next_for P.Inx.number side e.1 (P.Inx.number holder))
+        (entry_at chains.now (P.Inx.number holder))
         ≡ Some (option_map P.Inx.number result.1) }
 {
     match chains.get_inx_link_no_gen(holder) {
@@ -71,21 +80,27 @@ pub(crate) fn neighbors_beside<P: PtrCore, T: Drop, S: OrdSlots<P, T>>(
     }
 }
 
-// These neighbors, told to be a gap of the list. So what an insertion there requires is found by search.
+// These neighbors, told to be a gap of the list. So what an insertion there requires is found by
+// search.
 fn gap_beside<P: PtrCore, T: Drop, S: OrdSlots<P, T>>(
     chains: &ChainArena<P, SimpleOrdArenaNode<P, T>, S>,
     root: Option<P::Inx>,
     holder: P::Inx,
     side: Side,
 ) -> (Option<P::Inx>, Option<P::Inx>)
-    requires ordered { IsOrdered P.Inx.number (record { chains = chains.now; root = option_map P.Inx.number root }) }
+    requires ordered { IsOrdered P.Inx.number
+        (record { chains = chains.now; root = option_map P.Inx.number root }) }
     requires lives { IsSome (knots_in P.Inx.number chains.now (P.Inx.number holder)) }
-    requires free { option_map (λ v. child_of side v) (knots_in P.Inx.number chains.now (P.Inx.number holder)) ≡ Some None }
-    ensures prev { option_map (λ e. prev_for P.Inx.number side e.1 (P.Inx.number holder)) (entry_at chains.now (P.Inx.number holder))
+    requires free { option_map (λ v. child_of side v)
+        (knots_in P.Inx.number chains.now (P.Inx.number holder)) ≡ Some None }
+    ensures prev { option_map (λ e. prev_for P.Inx.number side e.1 (P.Inx.number holder))
+        (entry_at chains.now (P.Inx.number holder))
         ≡ Some (option_map P.Inx.number result.0) }
-    ensures next { option_map (λ e. next_for P.Inx.number side e.1 (P.Inx.number holder)) (entry_at chains.now (P.Inx.number holder))
+    ensures next { option_map (λ e. next_for P.Inx.number side e.1 (P.Inx.number holder))
+        (entry_at chains.now (P.Inx.number holder))
         ≡ Some (option_map P.Inx.number result.1) }
-    ensures gap { IsGap (ends_in P.Inx.number chains.now) (ends_by P.Inx.number (result.0, result.1)) }
+    ensures gap { IsGap (ends_in P.Inx.number chains.now)
+        (ends_by P.Inx.number (result.0, result.1)) }
 {
     neighbors_beside(chains, holder, side)
 }

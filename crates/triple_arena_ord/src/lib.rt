@@ -1,5 +1,5 @@
-//! One ordered list of items in an arena, whose links are also the nodes of a rank balanced search tree. A port of the ordered
-//! arena of the Rust crate `triple_arena`.
+//! One ordered list of items in an arena, whose links are also the nodes of a rank balanced search
+//! tree. A port of the ordered arena of the Rust crate `triple_arena`.
 //!
 //! ```rust
 //! use std::alloc::Global;
@@ -18,8 +18,8 @@
 //! ```
 #![tactic(auto)]
 
-// A private function's clause `no_more` asks nothing. It stands where a `requires` would be alone, whose answers take
-// far longer to state.
+// A private function's clause `no_more` asks nothing. It stands where a `requires` would be alone,
+// whose answers take far longer to state.
 
 mod ascends;
 mod asks;

@@ -1,5 +1,5 @@
-//! The links of a list, which is all that a search along it asks of an arena. So little is known where such a search is proved,
-//! and a known arena meets little where it is called.
+//! The links of a list, which is all that a search along it asks of an arena. So little is known
+//! where such a search is proved, and a known arena meets little where it is called.
 ghost use Rattle.std.specs.Prelude.{◌≡◌};
 ghost use Rattle.std.specs.Option.{option_map};
 ghost use Rattle.triple_arena.specs.Content.{Content, entry_at};
@@ -16,7 +16,8 @@ pub(crate) trait Links<P: PtrCore, T> {
 
     /// The generation and the link at an index, if it is live.
     fn link_entry(&self, i: P::Inx) -> Option<(P::Gen, &LinkNoGen<P, SimpleOrdArenaNode<P, T>>)>
-        ensures { option_map (λ e. (P.Gen.number e.0, e.1.now)) result ≡ entry_at (links self.now) (P.Inx.number i) };
+        ensures { option_map (λ e. (P.Gen.number e.0, e.1.now)) result
+            ≡ entry_at (links self.now) (P.Inx.number i) };
 }
 
 impl<P: PtrCore, T: Drop, S: OrdSlots<P, T>> Links<P, T>

@@ -15,7 +15,8 @@ use triple_arena_chain::IndexLink;
 use triple_arena_ptr::{OptionalInx, Probes};
 use unreached::unreached;
 
-// Where a search along the list goes from a link that answered so, after it went `way`: nowhere, where it ends.
+// Where a search along the list goes from a link that answered so, after it went `way`: nowhere, if
+// it ends.
 fn onward<I: PtrInxCore<Word = W>, W: Copy, N>(
     link: &IndexLink<OptionalInx<I, W>, N>,
     way: Ordering,
@@ -36,8 +37,9 @@ fn onward<I: PtrInxCore<Word = W>, W: Copy, N>(
     }
 }
 
-/// Goes along the list from an index that stands there, for at most `num` comparisons, up to an equal key, to where the key
-/// belongs, or to an end of the list, and says what the key compared as there.
+/// Goes along the list from an index that stands there, for at most `num` comparisons, up to an
+/// equal key, to where the key belongs, or to an end of the list, and says what the key compared as
+/// there.
 pub(crate) fn walk_from<P, T, A>(
     arena: &A,
     start: P::Inx,
@@ -49,16 +51,24 @@ where
     P: PtrCore,
     T: SimpleOrdItem + Drop,
     A: Links<P, T>,
-    requires place { (w : List ℕ) × IsLinear (ends_in P.Inx.number (A.links arena.now)) w × On w (P.Inx.number start) }
+    requires place { (w : List ℕ) × IsLinear (ends_in P.Inx.number (A.links arena.now)) w
+        × On w (P.Inx.number start) }
     requires no_more { ⊤ }
-    ensures stops { (w : List ℕ) → IsLinear (ends_in P.Inx.number (A.links arena.now)) w → On w (P.Inx.number start)
-        → IfSome result (λ a. IsStop (asked_in T.Key.cmp T.key_of k.now (items_in (A.links arena.now))) w (P.Inx.number a.0) a.1) }
-    ensures near { (w : List ℕ) → IsLinear (ends_in P.Inx.number (A.links arena.now)) w → On w (P.Inx.number start)
+    ensures stops { (w : List ℕ) → IsLinear (ends_in P.Inx.number (A.links arena.now)) w
+        → On w (P.Inx.number start)
+        → IfSome result (λ a. IsStop
+        (asked_in T.Key.cmp T.key_of k.now (items_in (A.links arena.now))) w
+        (P.Inx.number a.0) a.1) }
+    ensures near { (w : List ℕ) → IsLinear (ends_in P.Inx.number (A.links arena.now)) w
+        → On w (P.Inx.number start)
         → IsParted (asked_in T.Key.cmp T.key_of k.now (items_in (A.links arena.now))) w
-        → IsAtHand num (asked_in T.Key.cmp T.key_of k.now (items_in (A.links arena.now))) w (P.Inx.number start)
+        → IsAtHand num (asked_in T.Key.cmp T.key_of k.now (items_in (A.links arena.now))) w
+        (P.Inx.number start)
         → result ≢ None }
-    ensures walked { (w : List ℕ) → IsLinear (ends_in P.Inx.number (A.links arena.now)) w → (on : On w (P.Inx.number start))
-        → IsWalked num (path_from (asked_in T.Key.cmp T.key_of k.now (items_in (A.links arena.now))) on)
+    ensures walked { (w : List ℕ) → IsLinear (ends_in P.Inx.number (A.links arena.now)) w
+        → (on : On w (P.Inx.number start))
+        → IsWalked num (path_from
+        (asked_in T.Key.cmp T.key_of k.now (items_in (A.links arena.now))) on)
         (option_map (λ a. P.Inx.number a.0) result) probes.old probes.new }
     ensures rises { probes.old ≤ probes.new }
     ensures ticks { probes.new ≤ probes.old + num }

@@ -53,8 +53,8 @@ use triple_arena::{
 };
 use triple_arena_chain::{ChainArena, LinkNoGen};
 
-/// Items in one list, each with a pointer, and a search tree over them. An insertion that searches puts an item where its key
-/// belongs.
+/// Items in one list, each with a pointer, and a search tree over them. An insertion that searches
+/// puts an item where its key belongs.
 #[derive(Drop)]
 pub struct SimpleOrdArena<P: PtrCore, T: Drop, S: OrdSlots<P, T>> {
     pub(crate) chains: ChainArena<P, SimpleOrdArenaNode<P, T>, S>,
@@ -101,14 +101,19 @@ impl<P: PtrCore, T: Drop, S: OrdSlots<P, T>> Model for SimpleOrdArena<P, T, S> {
 
     ghost view = { λ a. record { chains = a.chains; root = option_map P.Inx.number a.root } };
 
-    ghost invariant = { λ a. IsOrdered P.Inx.number (record { chains = a.chains; root = option_map P.Inx.number a.root })
-        × (option_map P.Inx.number a.first ≡ first_or (order_in P.Inx.number (record { chains = a.chains; root = option_map P.Inx.number a.root })) None)
-        × (option_map P.Inx.number a.last ≡ last_or None (order_in P.Inx.number (record { chains = a.chains; root = option_map P.Inx.number a.root }))) };
+    ghost invariant = { λ a. IsOrdered P.Inx.number
+        (record { chains = a.chains; root = option_map P.Inx.number a.root })
+        × (option_map P.Inx.number a.first
+        ≡ first_or (order_in P.Inx.number
+        (record { chains = a.chains; root = option_map P.Inx.number a.root })) None)
+        × (option_map P.Inx.number a.last
+        ≡ last_or None (order_in P.Inx.number
+        (record { chains = a.chains; root = option_map P.Inx.number a.root }))) };
 }
 
 impl<P: PtrCore, T: Drop, S: OrdSlots<P, T>> SimpleOrdArena<P, T, S> {
-    // A new entry directly before or after that of `holder`, which has no child on this side. It is inlined, since the side is
-    // known at each call.
+    // A new entry directly before or after that of `holder`, which has no child on this side. It is
+    // inlined, since the side is known at each call.
     #[inline(always)]
     pub(crate) fn insert_beside(
         &mut self,
@@ -117,11 +122,16 @@ impl<P: PtrCore, T: Drop, S: OrdSlots<P, T>> SimpleOrdArena<P, T, S> {
         t: T,
     ) -> Result<P, NotWithinCapacityError>
         requires lives { IsSome (knots_in P.Inx.number self.old.chains (P.Inx.number holder)) }
-        requires free { option_map (λ v. child_of side v) (knots_in P.Inx.number self.old.chains (P.Inx.number holder)) ≡ Some None }
-        ensures variant { IsOk result ↔ (live_count self.old.chains < arena_capacity self.old.chains) }
-        ensures order { IfOk result (λ p. StandsBeside side (order_in P.Inx.number self.old) (order_in P.Inx.number self.new)
+        requires free { option_map (λ v. child_of side v)
+            (knots_in P.Inx.number self.old.chains (P.Inx.number holder)) ≡ Some None }
+        ensures variant { IsOk result
+            ↔ (live_count self.old.chains < arena_capacity self.old.chains) }
+        ensures order { IfOk result
+            (λ p. StandsBeside side (order_in P.Inx.number self.old)
+            (order_in P.Inx.number self.new)
             (P.Inx.number holder) (P.index p)) }
-        ensures added { IfOk result (λ p. IsAdded P.Inx.number (P.index p) (P.generation p) t self.old self.new) }
+        ensures added { IfOk result
+            (λ p. IsAdded P.Inx.number (P.index p) (P.generation p) t self.old self.new) }
         ensures counter { self.new.chains.counter ≡ self.old.chains.counter }
         ensures room { self.new.chains.room ≡ self.old.chains.room }
         ensures ordered { IsOrdered P.Inx.number self.new }
@@ -133,7 +143,7 @@ impl<P: PtrCore, T: Drop, S: OrdSlots<P, T>> SimpleOrdArena<P, T, S> {
         Ok(self.put_beside(holder, side, t))
     }
 
-    // The same, where there is room.
+    // The same, if there is room.
     #[inline(always)]
     pub(crate) fn put_beside(&mut self, holder: P::Inx, side: Side, t: T) -> P
         requires lives { IsSome (knots_in P.Inx.number self.old.chains (P.Inx.number holder)) }
@@ -155,12 +165,14 @@ impl<P: PtrCore, T: Drop, S: OrdSlots<P, T>> SimpleOrdArena<P, T, S> {
         p
     }
 
-    // The first entry, where there is none.
+    // The first entry, if there is none.
     pub(crate) fn insert_first(&mut self, t: T) -> Result<P, NotWithinCapacityError>
         requires { self.old.root ≡ None }
-        ensures variant { IsOk result ↔ (live_count self.old.chains < arena_capacity self.old.chains) }
+        ensures variant { IsOk result
+            ↔ (live_count self.old.chains < arena_capacity self.old.chains) }
         ensures order { IfOk result (λ p. order_in P.Inx.number self.new ≡ P.index p ∷ []) }
-        ensures added { IfOk result (λ p. IsAdded P.Inx.number (P.index p) (P.generation p) t self.old self.new) }
+        ensures added { IfOk result
+            (λ p. IsAdded P.Inx.number (P.index p) (P.generation p) t self.old self.new) }
         ensures counter { self.new.chains.counter ≡ self.old.chains.counter }
         ensures room { self.new.chains.room ≡ self.old.chains.room }
         ensures ordered { IsOrdered P.Inx.number self.new }

@@ -7,8 +7,8 @@ use crate::SimpleOrdItem;
 use std::fmt;
 use triple_arena::{Recast, Recaster};
 
-/// An item with a key `k`, by which it is ordered in an arena, and a value `v`. There is no call that lends the key for
-/// writing, so that no key of a stored item is changed by mistake.
+/// An item with a key `k`, by which it is ordered in an arena, and a value `v`. There is no call
+/// that lends the key for writing, so that no key of a stored item is changed by mistake.
 #[derive(Clone, Copy, PartialEq, Eq, PartialOrd, Ord, Hash)]
 pub struct OrdPair<K, V> {
     k: K,
@@ -50,7 +50,8 @@ impl<K, V> OrdPair<K, V> {
 
     /// The value, for writing.
     pub fn v_mut(&mut self) -> &mut V
-        ensures* writes_back { sem 𝓛 (Lends (the_row K.row V.row) V.row self.entry result (with_v self.old)) }
+        ensures* writes_back { sem 𝓛
+            (Lends (the_row K.row V.row) V.row self.entry result (with_v self.old)) }
         ensures value { result.now ≡ self.old.v }
     {
         &mut self.v
@@ -58,7 +59,8 @@ impl<K, V> OrdPair<K, V> {
 
     /// The key, and the value for writing.
     pub fn k_v_mut(&mut self) -> (&K, &mut V)
-        ensures* writes_back { sem 𝓛 (Lends (the_row K.row V.row) V.row self.entry result.1 (with_v self.old)) }
+        ensures* writes_back { sem 𝓛
+            (Lends (the_row K.row V.row) V.row self.entry result.1 (with_v self.old)) }
         ensures key { result.0.now ≡ self.old.k }
         ensures value { result.1.now ≡ self.old.v }
     {

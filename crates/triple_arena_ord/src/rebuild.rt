@@ -39,7 +39,8 @@ fn next_of<P: PtrCore, T: Drop, S: OrdSlots<P, T>>(
     chains: &ChainArena<P, SimpleOrdArenaNode<P, T>, S>,
     i: P::Inx,
 ) -> Option<P::Inx>
-    ensures { option_map P.Inx.number result ≡ next_at (ends_in P.Inx.number chains.now) (P.Inx.number i) }
+    ensures { option_map P.Inx.number result ≡ next_at (ends_in P.Inx.number chains.now)
+        (P.Inx.number i) }
 {
     match chains.get_inx_link_no_gen(i) {
         Some((_, link)) => link.next(),
@@ -47,17 +48,23 @@ fn next_of<P: PtrCore, T: Drop, S: OrdSlots<P, T>>(
     }
 }
 
-// Writes the nodes of the next entries, so many, as a halving tree, and answers its root. The root gets no parent.
+// Writes the nodes of the next entries, so many, as a halving tree, and returns its root. The root
+// gets no parent.
 fn build<P: PtrCore, T: Drop, S: OrdSlots<P, T>>(
     chains: &mut ChainArena<P, SimpleOrdArenaNode<P, T>, S>,
     cursor: &mut Option<P::Inx>,
     count: usize,
     top: u8,
 ) -> Option<P::Inx>
-    requires { (w : List ℕ) × IsAhead (ends_in P.Inx.number chains.old) (option_map P.Inx.number cursor.old) count w }
-    ensures built { (w : List ℕ) → IsAhead (ends_in P.Inx.number chains.old) (option_map P.Inx.number cursor.old) count w
-        → IsBuilt top w (option_map P.Inx.number result) (knots_in P.Inx.number chains.old) (knots_in P.Inx.number chains.new) }
-    ensures goes_on { (w : List ℕ) → (a : IsAhead (ends_in P.Inx.number chains.old) (option_map P.Inx.number cursor.old) count w)
+    requires { (w : List ℕ)
+        × IsAhead (ends_in P.Inx.number chains.old) (option_map P.Inx.number cursor.old) count w }
+    ensures built { (w : List ℕ)
+        → IsAhead (ends_in P.Inx.number chains.old) (option_map P.Inx.number cursor.old) count w
+        → IsBuilt top w (option_map P.Inx.number result) (knots_in P.Inx.number chains.old)
+        (knots_in P.Inx.number chains.new) }
+    ensures goes_on { (w : List ℕ)
+        → (a : IsAhead (ends_in P.Inx.number chains.old)
+        (option_map P.Inx.number cursor.old) count w)
         → option_map P.Inx.number cursor.new ≡ a.after }
     ensures keeps { rest chains.new ≡ rest chains.old }
 {
@@ -85,14 +92,16 @@ fn build<P: PtrCore, T: Drop, S: OrdSlots<P, T>>(
     Some(root)
 }
 
-/// Writes the tree of a list from its first index on, as the halving tree, and answers its root.
+/// Writes the tree of a list from its first index on, as the halving tree, and returns its root.
 pub(crate) fn rebuild<P: PtrCore, T: Drop, S: OrdSlots<P, T>>(
     chains: &mut ChainArena<P, SimpleOrdArenaNode<P, T>, S>,
     first: Option<P::Inx>,
 ) -> Option<P::Inx>
-    requires { (w : List ℕ) × IsLinear (ends_in P.Inx.number chains.old) w × (length w ≡ live_count chains.old)
+    requires { (w : List ℕ) × IsLinear (ends_in P.Inx.number chains.old) w
+        × (length w ≡ live_count chains.old)
         × (option_map P.Inx.number first ≡ first_or w None) }
-    ensures rebuilt { (w : List ℕ) → IsLinear (ends_in P.Inx.number chains.old) w → length w ≡ live_count chains.old
+    ensures rebuilt { (w : List ℕ) → IsLinear (ends_in P.Inx.number chains.old) w
+        → length w ≡ live_count chains.old
         → option_map P.Inx.number first ≡ first_or w None
         → IsRebuilt w (option_map P.Inx.number result) (knots_in P.Inx.number chains.new) }
     ensures keeps { rest chains.new ≡ rest chains.old }

@@ -1,4 +1,4 @@
-//! The tree is written anew by arithmetic, where the list is the indexes from 1 on.
+//! The tree is written anew by arithmetic, if the list is the indexes from 1 on.
 ghost use Rattle.std.specs.Prelude.{◌≡◌, ℕ, ◌+◌, ◌<◌, ◌≤◌, IsSome, ⊤};
 ghost use Rattle.std.specs.List.{range_with_len};
 ghost use Rattle.std.specs.Option.{option_map};
@@ -84,7 +84,7 @@ fn build_run<P: PtrCore, T: Drop, S: OrdSlots<P, T>>(
     }
 }
 
-/// Writes the tree of a list that is the indexes from 1 on, as the halving tree, and answers its
+/// Writes the tree of a list that is the indexes from 1 on, as the halving tree, and returns its
 /// root.
 pub(crate) fn rebuild_run<P: PtrCore, T: Drop, S: OrdSlots<P, T>>(
     chains: &mut ChainArena<P, SimpleOrdArenaNode<P, T>, S>,

@@ -3,7 +3,8 @@ use crate::SimpleOrdArenaNode;
 use triple_arena::{ArenaSlot, NonZeroInxGenericStack, PtrCore};
 use triple_arena_chain::LinkNoGen;
 
-/// A stack of the slots of a `SimpleOrdArena`: the bound on a stack in one word. Every such stack has it.
+/// A stack of the slots of a `SimpleOrdArena`: the bound on a stack in one word. Every such stack
+/// has it.
 pub trait OrdSlots<P: PtrCore, T: Drop>: NonZeroInxGenericStack<
     Item = ArenaSlot<P, LinkNoGen<P, SimpleOrdArenaNode<P, T>>>,
 >

@@ -52,11 +52,12 @@ impl<P: PtrCore, T: Drop, S: ArenaSlots<P, T>> ArenaCloneFromWith<P, T> for Aren
 }
 
 impl<P: PtrCore, T: Clone, S: ArenaSlots<P, T>> Arena<P, T, S> {
-    /// A new arena with the same pointers, clones of their values and the same counter, where the smallest free index
-    /// is the next one to be taken. It has room for the last live index. A clone of a value must equal it.
+    /// A new arena with the same pointers, clones of their values and the same counter, where the
+    /// smallest free index is the next one to be taken. It has room for the last live index. A
+    /// clone of a value must equal it.
     ///
-    /// It answers `BeyondMaxCapacity` where no new arena of this type has so much room, and `AllocError` where the
-    /// memory or the clone of a value was refused.
+    /// It returns `BeyondMaxCapacity` if no new arena of this type has so much room, and
+    /// `AllocError` if the memory or the clone of a value was refused.
     pub fn clone(&self, alloc: S::Alloc) -> Result<Self, ReallocationError>
         requires { (x y : T) → T.is_clone x y → y ≡ x }
         ensures exact { IfOk result (λ c. c ≡ copied_of (empty (second_generation P.Gen.last)
@@ -81,12 +82,13 @@ impl<P: PtrCore, T: Clone, S: ArenaSlots<P, T>> Arena<P, T, S> {
         Ok(copy)
     }
 
-    /// Makes this arena a clone of `source`, as `clone_from_with` does with clones of the values. A clone of a value
-    /// must equal it.
+    /// Makes this arena a clone of `source`, as `clone_from_with` does with clones of the values. A
+    /// clone of a value must equal it.
     ///
-    /// It answers `BeyondMaxCapacity` where the last live index of `source` is past the greatest capacity, and
-    /// `AllocError` where the memory was refused; the arena is then as it was. It also answers `AllocError` where the
-    /// clone of a value was refused; the arena is then grown to that index and cleared.
+    /// It returns `BeyondMaxCapacity` if the last live index of `source` is past the greatest
+    /// capacity, and `AllocError` if the memory was refused; the arena is then as it was. It also
+    /// returns `AllocError` if the clone of a value was refused; the arena is then grown to that
+    /// index and cleared.
     pub fn clone_from(&mut self, source: &Self) -> Result<(), ReallocationError>
         requires { (x y : T) → T.is_clone x y → y ≡ x }
         ensures exact { OnOk result (self.new ≡ copied_of self.old (Some source.now.counter)
@@ -108,7 +110,8 @@ impl<P: PtrCore, T: Clone, S: ArenaSlots<P, T>> Arena<P, T, S> {
 }
 
 impl<P: PtrCore, T: Drop, S: ArenaSlots<P, T>> Arena<P, T, S> {
-    // Becomes a copy of these slots, of which the last one is allocated, with this counter if there is one.
+    // Becomes a copy of these slots, of which the last one is allocated, with this counter if there
+    // is one.
     fn become_copy<U, E, F>(
         &mut self,
         source: &[E],
@@ -155,7 +158,8 @@ impl<P: PtrCore, T: Drop, S: ArenaSlots<P, T>> Arena<P, T, S> {
     }
 }
 
-// Links the free slots by rising index, and answers the first one. Of the slots, `live` are allocated.
+// Links the free slots by rising index, and returns the first one. Of the slots, `live` are
+// allocated.
 fn link_free<P: PtrCore, T: Drop, S: ArenaSlots<P, T>>(slots: &mut S, live: usize) -> OptionalInx
     requires { live ≡ count_by is_some (list_map entry_of (S.items slots.old)) }
     ensures entries { list_map entry_of (S.items slots.new)

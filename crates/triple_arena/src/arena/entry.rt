@@ -25,7 +25,7 @@ pub trait ArenaInsertEntryTrait<P: PtrCore, T> {
         ensures index { P.index result ≡ index self.now }
         ensures generation { P.generation result ≡ generation self.now };
 
-    /// Stores `t`, and answers its pointer. It takes no memory and cannot fail.
+    /// Stores `t`, and returns its pointer. It takes no memory and cannot fail.
     fn insert(self, t: T) -> P
         requires { has_room self }
         ensures index { P.index result ≡ index self }
@@ -66,7 +66,7 @@ impl<'a, P: PtrCore, T: Drop, S: ArenaSlots<P, T>> ArenaInsertEntryTrait<P, T>
     }
 }
 
-/// The calls of an `Arena` that answer an entry.
+/// The calls of an `Arena` that return an entry.
 pub trait ArenaInsertEntries<P: PtrCore, T: Drop> {
     /// The stack that the arena keeps its slots in.
     type Stack: ArenaSlots<P, T>;
@@ -74,8 +74,8 @@ pub trait ArenaInsertEntries<P: PtrCore, T: Drop> {
     // The arena as its entries see it.
     ghost content: { Self → Content T };
 
-    /// A place for one entry more. Where there is no room it answers `NotWithinCapacityError`, and the arena stays as
-    /// it is.
+    /// A place for one entry more. If there is no room, it returns `NotWithinCapacityError`, and
+    /// the arena stays as it is.
     fn entry_insert_within_capacity(
         &mut self,
     ) -> Result<ArenaInsertEntry<'_, P, T, Self::Stack>, NotWithinCapacityError>
@@ -86,13 +86,14 @@ pub trait ArenaInsertEntries<P: PtrCore, T: Drop> {
         ensures* err { sem 𝓛 (RestsIfErr Self.row self.entry entry_lender result
             (λ a. a ≡ self.old)) };
 
-    /// A place for one entry more. Where there is no room the arena grows, and answers the errors, as
+    /// A place for one entry more. If there is no room, the arena grows, and returns the errors, as
     /// `insert_reallocating` does. An error leaves the arena as it was.
     fn entry_insert_reallocating(
         &mut self,
     ) -> Result<ArenaInsertEntry<'_, P, T, Self::Stack>, ReallocationError>
         ensures same_reference { IfOk result (λ e. entry_lender e ≡ self.entry.ghost_name) }
-        ensures has_room { IfOk result (λ e. live_count (entry_arena e) < arena_capacity (entry_arena e)) }
+        ensures has_room { IfOk result
+            (λ e. live_count (entry_arena e) < arena_capacity (entry_arena e)) }
         ensures arena { IfOk result (λ e. entry_arena e ≡ grown_if_full (content self.old)) }
         ensures refusal { IsRefusal Self.Stack.takes_memory (live_count (content self.old))
             (content self.old).room result }
@@ -102,7 +103,8 @@ pub trait ArenaInsertEntries<P: PtrCore, T: Drop> {
     /// The same as `entry_insert_reallocating`.
     fn entry_insert(&mut self) -> Result<ArenaInsertEntry<'_, P, T, Self::Stack>, ReallocationError>
         ensures same_reference { IfOk result (λ e. entry_lender e ≡ self.entry.ghost_name) }
-        ensures has_room { IfOk result (λ e. live_count (entry_arena e) < arena_capacity (entry_arena e)) }
+        ensures has_room { IfOk result
+            (λ e. live_count (entry_arena e) < arena_capacity (entry_arena e)) }
         ensures arena { IfOk result (λ e. entry_arena e ≡ grown_if_full (content self.old)) }
         ensures refusal { IsRefusal Self.Stack.takes_memory (live_count (content self.old))
             (content self.old).room result }

@@ -14,7 +14,7 @@ use std::num::NonZeroUsize;
 use triple_arena_ptr::{PtrCore, PtrInxCore};
 
 impl<P: PtrCore, T: Drop, S: ArenaSlots<P, T>> Arena<P, T, S> {
-    /// The first of the free indexes, which the next insertion takes, or `None` where no slot is free.
+    /// The first of the free indexes, which the next insertion takes, or `None` if no slot is free.
     pub fn freelist_root(&self) -> Option<P::Inx>
         ensures { option_map P.Inx.number result ≡ slice_get self.now.free 0 }
     {
@@ -26,8 +26,8 @@ impl<P: PtrCore, T: Drop, S: ArenaSlots<P, T>> Arena<P, T, S> {
         }
     }
 
-    /// Pops the free slots at the end, until the last slot is live or none is left. The other free indexes keep
-    /// their order.
+    /// Pops the free slots at the end, until the last slot is live or none is left. The other free
+    /// indexes keep their order.
     pub fn remove_free_end_slots(&mut self)
         ensures value { self.new ≡ without_free_end self.old }
         ensures formed { IsWellFormed self.new }
@@ -71,7 +71,7 @@ impl<P: PtrCore, T: Drop, S: ArenaSlots<P, T>> Arena<P, T, S> {
     }
 }
 
-// Links the free slots by rising index, and answers the first one.
+// Links the free slots by rising index, and returns the first one.
 pub(crate) fn link_rising<P: PtrCore, T: Drop, S: ArenaSlots<P, T>>(slots: &mut S) -> OptionalInx
     ensures entries { list_map entry_of (S.items slots.new)
         ≡ list_map entry_of (S.items slots.old) }

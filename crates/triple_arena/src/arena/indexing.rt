@@ -34,7 +34,8 @@ impl<P: PtrCore, T: Drop, S: ArenaSlots<P, T>> IndexMut<P> for Arena<P, T, S> {
         ensures* writes_back { sem 𝓛 (Lends
             (the_row P.row T.row S.row P.Inx.row P.Gen.row P.Inx.Word.row S.Alloc.row
             P.PtrCore P.Inx.PtrInxCore.own P.Inx.PartialEq P.Gen.PtrGenCore.own P.Gen.PartialEq
-            S.NonZeroInxGenericStack) T.row self.entry result (with_value_of self.old (P.index p))) }
+            S.NonZeroInxGenericStack) T.row self.entry result
+            (with_value_of self.old (P.index p))) }
         ensures value { get self.old (P.index p) (P.generation p) ≡ Some result.now }
     {
         self.get_inx_mut_unwrap(p.inx())

@@ -1,4 +1,4 @@
-//! The greatest capacity, where it can be set.
+//! The greatest capacity, if it can be set.
 ghost use Rattle.std.specs.Prelude.{◌≡◌, ◌≤◌, length, min};
 ghost use Rattle.triple_arena_ptr.specs.Index.{max_index_of};
 ghost use Rattle.triple_arena_stack.specs.Room.{limited};

@@ -70,7 +70,8 @@ impl<P: PtrCore, T: Drop, S: ArenaSlots<P, T>> Arena<P, T, S> {
     }
 }
 
-// What lends the values at its indexes. A method of a trait names the row of the lender in one word.
+// What lends the values at its indexes. A method of a trait names the row of the lender in one
+// word.
 pub(crate) trait ValueAtMut<T> {
     ghost has_value: { Self → ℕ → Type 0 };
 

@@ -26,7 +26,8 @@ pub(crate) trait RecastByIndex<T>: ValueAtMut<T> {
     fn is_live_at(&self, i: NonZeroUsize) -> bool
         ensures { IsTrue result ↔ IsSome (entry_at (content self.now) (non_zero_usize_get i)) };
 
-    ghost has_its_value: { (s : Self) (i : ℕ) → IsSome (entry_at (content s) i) → Self.has_value s i };
+    ghost has_its_value: { (s : Self) (i : ℕ) → IsSome (entry_at (content s) i)
+        → Self.has_value s i };
 
     ghost value_of_entry: { (s : Self) (i : ℕ) → Self.value_at s i
         ≡ option_map (λ e. e.1) (entry_at (content s) i) };
@@ -35,7 +36,8 @@ pub(crate) trait RecastByIndex<T>: ValueAtMut<T> {
         → content (Self.with_value_at s i t) ≡ with_value (content s) i t };
 }
 
-// Recasts each value in the order of the indexes, up to the first that holds an item without an image.
+// Recasts each value in the order of the indexes, up to the first that holds an item without an
+// image.
 pub(crate) fn recast_values<I, T: Recast<I> + Drop, A: RecastByIndex<T>, R: Recaster<Item = I>>(
     arena: &mut A,
     recaster: &R,
@@ -60,7 +62,8 @@ impl<I, P: PtrCore, T: Recast<I> + Drop, S: ArenaSlots<P, T>> Recast<I> for Aren
 
     ghost recasted = { λ f c. content_recasted T.items f (T.recasted f) c };
 
-    ghost items_recasted = { λ f c. items-recasted T.items f (T.recasted f) (T.items_recasted f) c };
+    ghost items_recasted = { λ f c. items-recasted T.items f (T.recasted f)
+        (T.items_recasted f) c };
 
     fn recast<R: Recaster<Item = I>>(&mut self, recaster: &R) -> Result<(), I> {
         recast_values(self, recaster)

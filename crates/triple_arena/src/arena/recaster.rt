@@ -20,15 +20,16 @@ use crate::{ArenaSlots, ArenaTrait, DirectArena, DirectSlots};
 use std::num::NonZeroUsize;
 use triple_arena_ptr::{PtrCore, ReallocationError};
 
-/// Moves the live entries to the first indexes, as `compress` does, and answers the map from each old pointer to the
-/// new one, by which the values and other arenas can be recast. The map has an entry under each pointer that was valid,
-/// and no other.
+/// Moves the live entries to the first indexes, as `compress` does, and returns the map from each
+/// old pointer to the new one, by which the values and other arenas can be recast. The map has an
+/// entry under each pointer that was valid, and no other.
 ///
-/// Its memory is taken from `alloc` before, for as many slots as the last live index says. It answers
-/// `BeyondMaxCapacity` where the map cannot have so many, and `AllocError` where the memory was refused. An error
-/// leaves the arena as it was.
+/// Its memory is taken from `alloc` before, for as many slots as the last live index says. It
+/// returns `BeyondMaxCapacity` if the map cannot have so many, and `AllocError` if the memory was
+/// refused. An error leaves the arena as it was.
 ///
-/// Whether the step of the counter started the generations again is not answered: the counter before the call tells it.
+/// Whether the step of the counter started the generations again is not returned: the counter
+/// before the call tells it.
 pub fn compress_recaster<P: PtrCore, T: Drop, S: ArenaSlots<P, T>, R: DirectSlots<P, P>>(
     arena: &mut Arena<P, T, S>,
     reset: bool,
@@ -46,7 +47,7 @@ pub fn compress_recaster<P: PtrCore, T: Drop, S: ArenaSlots<P, T>, R: DirectSlot
     ensures map_exact { IfOk result (λ map. map ≡ directly_copied
         (empty (room_of P.Inx.greatest (R.room_at (last_index arena.old)))) (entries_of map)) }
 
-    // No memory is asked for where a new map has the room already.
+    // No memory is asked for if a new map has the room already.
     ensures succeeds { last_index arena.old ≤ capacity (room_of P.Inx.greatest (R.room_at 0))
         → IsOk result }
     ensures beyond { IsErrOf result ReallocationError.BeyondMaxCapacity
@@ -61,7 +62,8 @@ pub fn compress_recaster<P: PtrCore, T: Drop, S: ArenaSlots<P, T>, R: DirectSlot
 }
 
 impl<P: PtrCore, T: Drop, S: ArenaSlots<P, T>> Arena<P, T, S> {
-    // Compresses the arena, and stores each new pointer under the old one in `map`, which is empty and has the room.
+    // Compresses the arena, and stores each new pointer under the old one in `map`, which is empty
+    // and has the room.
     fn compress_noting<R: DirectSlots<P, P>>(&mut self, reset: bool, map: &mut DirectArena<P, P, R>)
         requires empty { map.old.slots ≡ [] }
         requires fits { last_index self.old ≤ arena_capacity map.old }
@@ -87,8 +89,9 @@ impl<P: PtrCore, T: Drop, S: ArenaSlots<P, T>> Arena<P, T, S> {
     }
 }
 
-// Moves the live entries to the first indexes, each with the given generation, drops the other slots, and stores each
-// new pointer under the old one in `map`, which is empty and reaches as far as the live slots.
+// Moves the live entries to the first indexes, each with the given generation, drops the other
+// slots, and stores each new pointer under the old one in `map`, which is empty and reaches as far
+// as the live slots.
 fn compact_noting<P: PtrCore, T: Drop, S, R>(
     slots: &mut S,
     generation: P::Gen,
@@ -123,6 +126,6 @@ where
         }
     }
     keep_first(slots, live);
-    // The map is well-formed, also where nothing was stored.
+    // The map is well-formed, also if nothing was stored.
     map.recall_formed();
 }

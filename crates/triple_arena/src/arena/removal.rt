@@ -15,7 +15,8 @@ use triple_arena_ptr::{PtrCore, PtrGenCore};
 use unreached::unreached;
 
 impl<P: PtrCore, T: Drop, S: ArenaSlots<P, T>> Arena<P, T, S> {
-    // Removes the entry at `i`, which is live, steps the counter, and says whether the generations started again.
+    // Removes the entry at `i`, which is live, steps the counter, and says whether the generations
+    // started again.
     #[inline]
     pub(crate) fn remove_at(&mut self, i: NonZeroUsize) -> ((P::Gen, T), bool)
         requires { IsSome (entry_at self.old (non_zero_usize_get i)) }
@@ -85,7 +86,7 @@ impl<P: PtrCore, T: Drop, S: ArenaSlots<P, T>> Arena<P, T, S> {
     }
 }
 
-// Where generations are not counted, all are 1, and pointers with one index are equal.
+// If generations are not counted, all are 1, and pointers with one index are equal.
 pub(crate) fn equal_uncounted<P: PtrCore>(p: P, q: P)
     ensures { P.Gen.last ≡ None → P.index p ≡ P.index q → p ≡ q }
 {

@@ -28,7 +28,7 @@ impl<P: PtrCore, T: Drop, S: ArenaSlots<P, T>> Arena<P, T, S> {
         limit_over::<P, ArenaSlot<P, T>, S>(&self.slots)
     }
 
-    // Makes room for `min` entries, by a growth to exactly that where there is less.
+    // Makes room for `min` entries, by a growth to exactly that if there is less.
     pub(crate) fn reallocate(&mut self, min: usize) -> Result<(), ReallocationError>
         ensures exact { OnOk result (self.new ≡ reallocated self.old min) }
         ensures fits { OnOk result (min ≤ arena_capacity self.new) }
@@ -41,8 +41,8 @@ impl<P: PtrCore, T: Drop, S: ArenaSlots<P, T>> Arena<P, T, S> {
         reallocate_over::<P, ArenaSlot<P, T>, S>(&mut self.slots, min)
     }
 
-    // Makes room for one entry more, as a stack does: at first for 4, then for the double, and never past the
-    // greatest capacity.
+    // Makes room for one entry more, as a stack does: at first for 4, then for the double, and
+    // never past the greatest capacity.
     #[inline]
     pub(crate) fn make_room(&mut self) -> Result<(), ReallocationError>
         ensures ok { OnOk result (live_count self.new < arena_capacity self.new) }

@@ -17,7 +17,8 @@ pub(crate) fn write_entries<P: Ptr, T: fmt::Debug, E: LentEntry<P, T>, W: fmt::W
     out.finish()
 }
 
-/// A map from the pointers to the values, in the order of the indexes: `{P0[1](2): "test", P0[2](2): "hello"}`.
+/// A map from the pointers to the values, in the order of the indexes:
+/// `{P0[1](2): "test", P0[2](2): "hello"}`.
 impl<P: Ptr, T: fmt::Debug + Drop, S: ArenaSlots<P, T>> fmt::Debug for Arena<P, T, S> {
     fn fmt<W: fmt::Write>(&self, f: &mut fmt::Formatter<W>) -> fmt::Result {
         write_entries(self.iter(), f)

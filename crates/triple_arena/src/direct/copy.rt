@@ -43,11 +43,11 @@ impl<P: PtrCore, T: Drop, S: DirectSlots<P, T>> ArenaCloneFromWith<P, T> for Dir
 }
 
 impl<P: PtrCore, T: Clone, S: DirectSlots<P, T>> DirectArena<P, T, S> {
-    /// A new arena with the same pointers, and clones of their values, and with room for the last live index. A
-    /// clone of a value must equal it.
+    /// A new arena with the same pointers, and clones of their values, and with room for the last
+    /// live index. A clone of a value must equal it.
     ///
-    /// It answers `BeyondMaxCapacity` where no new arena of this type has so much room, and `AllocError` where the
-    /// memory or the clone of a value was refused.
+    /// It returns `BeyondMaxCapacity` if no new arena of this type has so much room, and
+    /// `AllocError` if the memory or the clone of a value was refused.
     pub fn clone(&self, alloc: S::Alloc) -> Result<Self, ReallocationError>
         requires { (x y : T) → T.is_clone x y → y ≡ x }
         ensures exact { IfOk result (λ d. d ≡ directly_copied (empty
@@ -72,15 +72,17 @@ impl<P: PtrCore, T: Clone, S: DirectSlots<P, T>> DirectArena<P, T, S> {
         Ok(copy)
     }
 
-    /// Makes this arena a clone of `source`, as `clone_from_with` does with clones of the values. A clone of a value
-    /// must equal it.
+    /// Makes this arena a clone of `source`, as `clone_from_with` does with clones of the values. A
+    /// clone of a value must equal it.
     ///
-    /// It answers `BeyondMaxCapacity` where the last live index of `source` is past the greatest capacity, and
-    /// `AllocError` where the memory was refused; the arena is then as it was. It also answers `AllocError` where the
-    /// clone of a value was refused; the arena is then grown to that index and cleared.
+    /// It returns `BeyondMaxCapacity` if the last live index of `source` is past the greatest
+    /// capacity, and `AllocError` if the memory was refused; the arena is then as it was. It also
+    /// returns `AllocError` if the clone of a value was refused; the arena is then grown to that
+    /// index and cleared.
     pub fn clone_from(&mut self, source: &Self) -> Result<(), ReallocationError>
         requires { (x y : T) → T.is_clone x y → y ≡ x }
-        ensures exact { OnOk result (self.new ≡ directly_copied self.old (live_entries source.now)) }
+        ensures exact { OnOk result
+            (self.new ≡ directly_copied self.old (live_entries source.now)) }
         ensures succeeds { last_listed (live_entries source.now) ≤ arena_capacity self.old
             → ((x : T) → T.is_infallible x) → IsOk result }
         ensures beyond { IsErrOf result ReallocationError.BeyondMaxCapacity

@@ -9,8 +9,8 @@ use crate::{ArenaDirectInsertEntryTrait, ArenaDirectInsertTrait, DirectSlots};
 use std::num::NonZeroUsize;
 use triple_arena_ptr::{DirectInsertionError, PtrCore};
 
-/// A place for an entry at a pointer of the caller's choice in a `DirectArena`. Dropped unused, it leaves the arena as
-/// it is.
+/// A place for an entry at a pointer of the caller's choice in a `DirectArena`. Dropped unused, it
+/// leaves the arena as it is.
 #[derive(Drop)]
 pub struct ArenaDirectInsertEntry<'a, P: PtrCore, T: Drop, S: DirectSlots<P, T>> {
     arena: &'a mut DirectArena<P, T, S>,

@@ -1,4 +1,4 @@
-//! The greatest capacity, where it can be set, and the free slots at the end.
+//! The greatest capacity, if it can be set, and the free slots at the end.
 ghost use Rattle.std.specs.Prelude.{◌≡◌, ◌≤◌, length, min};
 ghost use Rattle.triple_arena_ptr.specs.Index.{max_index_of};
 ghost use Rattle.triple_arena_stack.specs.Room.{limited};
@@ -30,8 +30,9 @@ impl<P: PtrCore, T: Drop, S: NonZeroInxLimitedStack<Item = DirectSlot<P, T>> + D
 
     ghost with_limit = { with_limit_of P.Inx.greatest };
 
-    /// Sets the greatest capacity to `max`, as far as the pointers' indexes reach, or changes nothing where the last
-    /// live index is past `max`. Where there are slots past `max`, the free slots at the end are popped first.
+    /// Sets the greatest capacity to `max`, as far as the pointers' indexes reach, or changes
+    /// nothing if the last live index is past `max`. If there are slots past `max`, the free slots
+    /// at the end are popped first.
     fn set_max_capacity(&mut self, max: usize) -> Result<(), MaxCapacityReductionError> {
         if max < self.slot_count() {
             if max < self.last_index() {

@@ -43,7 +43,8 @@ impl<P: PtrCore, T: Drop, S: DirectSlots<P, T>> RecastByIndex<T> for DirectArena
     }
 }
 
-/// A direct arena of pointers renames each pointer that is valid in it to the pointer that it finds.
+/// A direct arena of pointers renames each pointer that is valid in it to the pointer that it
+/// finds.
 impl<P: PtrCore, S: DirectSlots<P, P>> Recaster for DirectArena<P, P, S> {
     type Item = P;
 

@@ -26,7 +26,7 @@ impl<P: PtrCore, T: Drop, S: DirectSlots<P, T>> DirectArena<P, T, S> {
         limit_over::<P, DirectSlot<P, T>, S>(&self.slots)
     }
 
-    // Makes room for `min` entries, by a growth to exactly that where there is less.
+    // Makes room for `min` entries, by a growth to exactly that if there is less.
     pub(crate) fn reallocate(&mut self, min: usize) -> Result<(), ReallocationError>
         ensures exact { OnOk result (self.new ≡ reallocated self.old min) }
         ensures fits { OnOk result (min ≤ arena_capacity self.new) }

@@ -55,7 +55,8 @@ impl<P: PtrCore, T: Drop, S: ChainSlots<P, T>> ArenaTrait<P, T> for ChainArena<P
 
     ghost drained = { drained_of P.Gen.last };
 
-    ghost is_compressed = { λ c reset values new. IsCompacted P.Inx.number P.Gen.last reset values c new };
+    ghost is_compressed = { λ c reset values new. IsCompacted P.Inx.number P.Gen.last reset
+        values c new };
 
     ghost walk = { λ a. a };
 

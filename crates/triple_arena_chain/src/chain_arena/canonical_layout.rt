@@ -37,7 +37,7 @@ pub(crate) fn behind<I: PtrInxCore>(count: usize) -> I
     }
 }
 
-// The first index of the chain of a live index, which is that index itself where the chain is a ring.
+// The first index of the chain of a live index, which is that index itself if the chain is a ring.
 pub(crate) fn chain_start<P, T, S>(arena: &Arena<P, LinkNoGen<P, T>, S>, k: P::Inx) -> P::Inx
 where
     P: PtrCore,
@@ -47,8 +47,10 @@ where
     requires live { IsSome (ends_in P.Inx.number arena.now (P.Inx.number k)) }
     ensures live { IsSome (ends_in P.Inx.number arena.now (P.Inx.number result)) }
     ensures head { IsHead (ends_in P.Inx.number arena.now) (P.Inx.number result) }
-    ensures own { IsHead (ends_in P.Inx.number arena.now) (P.Inx.number k) → P.Inx.number result ≡ P.Inx.number k }
-    ensures same { (c : Chain) → IsChainOf (ends_in P.Inx.number arena.now) c → On (members c) (P.Inx.number k)
+    ensures own { IsHead (ends_in P.Inx.number arena.now) (P.Inx.number k)
+        → P.Inx.number result ≡ P.Inx.number k }
+    ensures same { (c : Chain) → IsChainOf (ends_in P.Inx.number arena.now) c
+        → On (members c) (P.Inx.number k)
         → On (members c) (P.Inx.number result) }
 {
     let mut at = k;
@@ -107,7 +109,7 @@ where
     at
 }
 
-// The first index of the chain of the one at `k`, which is not placed yet. Where it is a ring that
+// The first index of the chain of the one at `k`, which is not placed yet. If it is a ring, that
 // is `k` itself, and the index that its link had comes with it.
 fn unplaced_start<P, T, S>(
     arena: &Arena<P, LinkNoGen<P, T>, S>,
@@ -142,7 +144,7 @@ where
 }
 
 // Brings the link at `at` to `place`, as the next of `last` if there is one. It changes places with
-// the one there, and notes where that one went.
+// the one there, and notes if that one went.
 fn bring<P, T, S>(
     arena: &mut Arena<P, LinkNoGen<P, T>, S>,
     last: Option<P::Inx>,
@@ -167,7 +169,7 @@ where
 }
 
 // Brings the chain of the first index behind `first` others to successive indexes from there on,
-// and answers the last one. A next index is looked up by the notes, since it is an old name.
+// and returns the last one. A next index is looked up by the notes, since it is an old name.
 fn gather_chain<P, T, S>(arena: &mut Arena<P, LinkNoGen<P, T>, S>, first: usize) -> usize
 where
     P: PtrCore,
@@ -272,9 +274,10 @@ where
 }
 
 impl<P: PtrCore, T: Drop, S: ChainSlots<P, T>> ChainArena<P, T, S> {
-    /// Moves the links to the indexes from 1 on, so that each chain has successive ones, from the start of a linear one on.
-    /// Which chain comes first is left open; where they stand so already no index changes. The generations are renewed as
-    /// by `compress`, and so is the answer. No memory is taken.
+    /// Moves the links to the indexes from 1 on, so that each chain has successive ones, from the
+    /// start of a linear one on. Which chain comes first is left open; where they stand so already
+    /// no index changes. The generations are renewed as by `compress`, and so is the answer. No
+    /// memory is taken.
     pub fn compress_canonical(&mut self, reset: bool) -> InvalidationOption<()>
         ensures overflow { overflowed result ≡ renewal_wraps P.Gen.last reset self.old.counter }
         ensures canonical { IsCanonical P.Inx.number P.Gen.last reset self.old self.new }

@@ -1,4 +1,5 @@
-//! The canonical transfer: the links of a chain arena moved to another, each chain to successive indexes.
+//! The canonical transfer: the links of a chain arena moved to another, each chain to successive
+//! indexes.
 ghost use Rattle.std.specs.Prelude.{◌≡◌, ◌≢◌, ◌↔◌, IsTrue, ◌+◌, ◌<◌, ◌≤◌, ℕ, Some, None, IsSome, IfSome, IfNone, ◌⊎◌, IsOk, OnOk, OnErr, IsErrOf, [], length};
 ghost use Rattle.std.specs.Fn.{iterate};
 ghost use Rattle.std.specs.Option.{option_map};
@@ -26,8 +27,8 @@ use triple_arena::{
 };
 use triple_arena_ptr::OptionalInx;
 
-// Takes the link at `i`, which is live, out of an arena, and leaves the interlinks of all others as they are. It answers
-// the pointer, the value with what its removal tells, and the next index.
+// Takes the link at `i`, which is live, out of an arena, and leaves the interlinks of all others as
+// they are. It returns the pointer, the value with what its removal tells, and the next index.
 fn take_link<Q, U, R>(
     source: &mut Arena<Q, LinkNoGen<Q, U>, R>,
     i: Q::Inx,
@@ -62,8 +63,8 @@ where
     }
 }
 
-// The new index for the next of a link, where the chain begins at `start`, which has the new index `first`, and so many
-// links are placed.
+// The new index for the next of a link, where the chain begins at `start`, which has the new index
+// `first`, and so many links are placed.
 fn next_place<J: PtrInxCore, I: PtrInxCore>(
     next: Option<J>,
     start: J,
@@ -87,7 +88,7 @@ fn next_place<J: PtrInxCore, I: PtrInxCore>(
     }
 }
 
-// Puts a link at the next index, where there is room.
+// Puts a link at the next index, if there is room.
 fn append_link<P, T, S>(target: &mut Arena<P, LinkNoGen<P, T>, S>, link: LinkNoGen<P, T>)
 where
     P: PtrCore,
@@ -100,8 +101,8 @@ where
     let _ = target.insert_within_capacity(link);
 }
 
-// Where the way along a chain goes on, or nowhere after its last link. The first link of a ring then gets its previous one,
-// which is the last one that was placed.
+// Where the way along a chain goes on, or nowhere after its last link. The first link of a ring
+// then gets its previous one, which is the last one that was placed.
 fn go_on<J, P, T, S>(
     target: &mut Arena<P, LinkNoGen<P, T>, S>,
     next: Option<J>,
@@ -135,8 +136,9 @@ where
     }
 }
 
-// Moves each chain to `target`, which has no link, has room for all, and gives its links this generation. The chains go in
-// the order of their least indexes, and the links of each one after another.
+// Moves each chain to `target`, which has no link, has room for all, and gives its links this
+// generation. The chains go in the order of their least indexes, and the links of each one after
+// another.
 fn move_chains<Q, U, R, P, T, S, F>(
     source: &mut Arena<Q, LinkNoGen<Q, U>, R>,
     target: &mut Arena<P, LinkNoGen<P, T>, S>,
@@ -201,20 +203,23 @@ where
 }
 
 impl<P: PtrCore, T: Drop, S: ChainSlots<P, T>> ChainArena<P, T, S> {
-    /// Drops what the arena holds, and moves the links of `source` here, each chain to successive indexes from 1 on. The
-    /// chains go in the order of the least index of each in `source`: a linear one from its start, a ring from that index.
-    /// Each link keeps its neighbors, and gets `new_generation` and what `map` makes of its value. The counter is
-    /// `new_generation` too, and no index is free.
+    /// Drops what the arena holds, and moves the links of `source` here, each chain to successive
+    /// indexes from 1 on. The chains go in the order of the least index of each in `source`: a
+    /// linear one from its start, a ring from that index. Each link keeps its neighbors, and gets
+    /// `new_generation` and what `map` makes of its value. The counter is `new_generation` too, and
+    /// no index is free.
     ///
-    /// `map` is called once for each link, in that order, with the pointer that it had in `source`, the value, and the
-    /// pointer that it gets. `source` is left with no link and no slot in the room that it had, and its counter is stepped
-    /// once for each link: if that step started the generations again, `map` gets the value as a `GenerationOverflow`.
+    /// `map` is called once for each link, in that order, with the pointer that it had in `source`,
+    /// the value, and the pointer that it gets. `source` is left with no link and no slot in the
+    /// room that it had, and its counter is stepped once for each link: if that step started the
+    /// generations again, `map` gets the value as a `GenerationOverflow`.
     ///
-    /// A pointer of what this arena held before may find a link that came in, if `new_generation` is its generation.
+    /// A pointer of what this arena held before may find a link that came in, if `new_generation`
+    /// is its generation.
     ///
-    /// Memory is taken only if `source` has more links than fit: then the arena first grows to exactly so many. It answers
-    /// `BeyondMaxCapacity` if they are more than the greatest capacity, and `AllocError` if the memory was refused. An
-    /// error leaves both arenas as they were.
+    /// Memory is taken only if `source` has more links than fit: then the arena first grows to
+    /// exactly so many. It returns `BeyondMaxCapacity` if they are more than the greatest capacity,
+    /// and `AllocError` if the memory was refused. An error leaves both arenas as they were.
     pub fn transfer_canonical_reallocating<Q, U, R, F>(
         &mut self,
         new_generation: P::Gen,
@@ -236,7 +241,7 @@ impl<P: PtrCore, T: Drop, S: ChainSlots<P, T>> ChainArena<P, T, S> {
         ensures formed { IsChained P.Inx.number self.new }
         ensures source_formed { IsChained Q.Inx.number source.new }
 
-        // No memory is asked for where the links fit.
+        // No memory is asked for if the links fit.
         ensures succeeds { live_count source.old ≤ arena_capacity self.old → IsOk result }
         ensures beyond { IsErrOf result ReallocationError.BeyondMaxCapacity
             ↔ IsBeyond self.old.room.limit (live_count source.old) }

@@ -17,7 +17,8 @@ use crate::{ChainSlots, LinkNoGen};
 use std::num::NonZeroUsize;
 use triple_arena::{Advancer, Arena, ArenaTrait, InvalidationOption, PtrCore, PtrInxCore};
 
-// Gives each link, as its previous index, the one that it gets where the links go to the first indexes.
+// Gives each link, as its previous index, the one that it gets if the links go to the first
+// indexes.
 fn number_links<P, T, S>(arena: &mut Arena<P, LinkNoGen<P, T>, S>)
 where
     P: PtrCore,
@@ -78,7 +79,8 @@ where
     }
 }
 
-// Gives each link that is a next, as its previous index, that of the link whose next it is. No link has a previous one.
+// Gives each link that is a next, as its previous index, that of the link whose next it is. No link
+// has a previous one.
 fn join_nexts<P, T, S>(arena: &mut Arena<P, LinkNoGen<P, T>, S>)
 where
     P: PtrCore,
@@ -106,8 +108,8 @@ where
     }
 }
 
-// Moves the links to the first indexes, in their order, each with what `map` makes of its value and with the generation
-// renewed, and the interlinks follow them.
+// Moves the links to the first indexes, in their order, each with what `map` makes of its value and
+// with the generation renewed, and the interlinks follow them.
 pub(crate) fn compress_links<P, T, S, F>(
     arena: &mut Arena<P, LinkNoGen<P, T>, S>,
     reset: bool,
@@ -129,7 +131,7 @@ where
         (list_map value_of (listed_values arena.new)) arena.old arena.new }
     ensures formed { IsChained P.Inx.number arena.new }
 {
-    // Where no index is free each link stays.
+    // If no index is free, each link stays.
     if arena.freelist_root().is_none() {
         return renew_links(arena, reset, map);
     }

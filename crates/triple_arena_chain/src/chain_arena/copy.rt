@@ -16,16 +16,18 @@ use crate::{ChainArena, ChainSlots, LinkCloneSource, LinkNoGen};
 use triple_arena::{AllocError, Arena, PtrCore, PtrInxCore, ReallocationError};
 
 impl<P: PtrCore, T: Drop, S: ChainSlots<P, T>> ChainArena<P, T, S> {
-    /// Makes this arena a copy of `source`: with its pointers, its interlinks and its counter, each value what `map` makes
-    /// of the link there. `map` is called once for each link, in the order of the indexes, with the pointer and the link.
-    /// What the arena held is dropped, and the smallest free index is the next one to be taken.
+    /// Makes this arena a copy of `source`: with its pointers, its interlinks and its counter, each
+    /// value what `map` makes of the link there. `map` is called once for each link, in the order
+    /// of the indexes, with the pointer and the link. What the arena held is dropped, and the
+    /// smallest free index is the next one to be taken.
     ///
-    /// No memory is taken where the last live index of `source` is within the capacity, which then stays. Else the
-    /// arena first grows to exactly that index. It answers `BeyondMaxCapacity` where that is past the greatest
-    /// capacity, and `AllocError` where the memory was refused; the arena is then as it was, and `map` was not called.
+    /// No memory is taken if the last live index of `source` is within the capacity, which then
+    /// stays. Else the arena first grows to exactly that index. It returns `BeyondMaxCapacity` if
+    /// that is past the greatest capacity, and `AllocError` if the memory was refused; the arena is
+    /// then as it was, and `map` was not called.
     ///
-    /// It also answers `AllocError` where `map` refused, and calls it no more. The arena then has room for the copy, no
-    /// link, and the counter that a removal of all at once leaves.
+    /// It also returns `AllocError` if `map` refused, and calls it no more. The arena then has room
+    /// for the copy, no link, and the counter that a removal of all at once leaves.
     pub fn clone_from_with<A, F>(&mut self, source: &A, map: F) -> Result<(), ReallocationError>
     where
         A: LinkCloneSource<P>,
@@ -73,11 +75,12 @@ impl<P: PtrCore, T: Drop, S: ChainSlots<P, T>> ChainArena<P, T, S> {
 }
 
 impl<P: PtrCore, T: Clone, S: ChainSlots<P, T>> ChainArena<P, T, S> {
-    /// A new arena with the same pointers and interlinks, clones of the values and the same counter, where the smallest
-    /// free index is the next one to be taken. It has room for the last live index. A clone of a value must equal it.
+    /// A new arena with the same pointers and interlinks, clones of the values and the same
+    /// counter, where the smallest free index is the next one to be taken. It has room for the last
+    /// live index. A clone of a value must equal it.
     ///
-    /// It answers `BeyondMaxCapacity` where no new arena of this type has so much room, and `AllocError` where the
-    /// memory or the clone of a value was refused.
+    /// It returns `BeyondMaxCapacity` if no new arena of this type has so much room, and
+    /// `AllocError` if the memory or the clone of a value was refused.
     pub fn clone(&self, alloc: S::Alloc) -> Result<Self, ReallocationError>
         requires { (x y : T) → T.is_clone x y → y ≡ x }
         ensures exact { IfOk result (λ c. c ≡ copied (empty (second_generation P.Gen.last)
@@ -94,7 +97,8 @@ impl<P: PtrCore, T: Clone, S: ChainSlots<P, T>> ChainArena<P, T, S> {
             → (IsTrue S.takes_memory × (capacity_of (room_of P.Inx.greatest (S.room_at 0))
             < last_listed (live_entries self.now)))
             ⊎ MayRefuse T.is_infallible (listed_values self.now) }
-        ensures lists { IfOk result (λ c. (chain : Chain) → IsChainOf (ends_in P.Inx.number self.now) chain
+        ensures lists { IfOk result (λ c. (chain : Chain)
+            → IsChainOf (ends_in P.Inx.number self.now) chain
             → IsChainOf (ends_in P.Inx.number c) chain) }
         ensures formed { IfOk result (λ c. IsChained P.Inx.number c) }
     {
@@ -104,16 +108,17 @@ impl<P: PtrCore, T: Clone, S: ChainSlots<P, T>> ChainArena<P, T, S> {
         }
     }
 
-    /// Makes this arena a clone of `source`: with its pointers, interlinks and counter, and with clones of the values. A
-    /// clone of a value must equal it. What the arena held is dropped, and the smallest free index is the next one to
-    /// be taken.
+    /// Makes this arena a clone of `source`: with its pointers, interlinks and counter, and with
+    /// clones of the values. A clone of a value must equal it. What the arena held is dropped, and
+    /// the smallest free index is the next one to be taken.
     ///
-    /// No memory is taken where the last live index of `source` is within the capacity, which then stays. Else the
-    /// arena first grows to exactly that index.
+    /// No memory is taken if the last live index of `source` is within the capacity, which then
+    /// stays. Else the arena first grows to exactly that index.
     ///
-    /// It answers `BeyondMaxCapacity` where the last live index of `source` is past the greatest capacity, and
-    /// `AllocError` where the memory was refused; the arena is then as it was. It also answers `AllocError` where the
-    /// clone of a value was refused; the arena is then grown to that index and cleared.
+    /// It returns `BeyondMaxCapacity` if the last live index of `source` is past the greatest
+    /// capacity, and `AllocError` if the memory was refused; the arena is then as it was. It also
+    /// returns `AllocError` if the clone of a value was refused; the arena is then grown to that
+    /// index and cleared.
     pub fn clone_from(&mut self, source: &Self) -> Result<(), ReallocationError>
         requires { (x y : T) → T.is_clone x y → y ≡ x }
         ensures exact { OnOk result (self.new ≡ copied self.old (some_counter source.now)
@@ -128,7 +133,8 @@ impl<P: PtrCore, T: Clone, S: ChainSlots<P, T>> ChainArena<P, T, S> {
             (last_listed (live_entries source.now))
             (λ c. cleared P.Gen.last (reallocated c (last_listed (live_entries source.now))))
             (MayRefuse T.is_infallible (listed_values source.now)) self.old self.new }
-        ensures lists { OnOk result ((chain : Chain) → IsChainOf (ends_in P.Inx.number source.now) chain
+        ensures lists { OnOk result
+            ((chain : Chain) → IsChainOf (ends_in P.Inx.number source.now) chain
             → IsChainOf (ends_in P.Inx.number self.new) chain) }
         ensures formed { IsChained P.Inx.number self.new }
     {

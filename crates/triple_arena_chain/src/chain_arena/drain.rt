@@ -11,20 +11,20 @@ ghost use Rattle.triple_arena_chain.specs.Drains.{next_or_prev, drain_chains, dr
 use crate::{ChainArena, ChainArenaTrait, ChainSlots, LinkNoGen};
 use triple_arena::{InvalidationOption, PtrCore, PtrInxCore};
 
-/// Takes the links of one chain out of an arena: from a link on to the end and then backwards from the link before it, or
-/// once round a ring.
+/// Takes the links of one chain out of an arena: from a link on to the end and then backwards from
+/// the link before it, or once round a ring.
 ///
-/// Each item is one removal, which joins the neighbors and steps the counter; it is `GenerationOverflow` where that step
-/// started the generations again. Dropped, at whatever item, it takes those of the chain that are left in the same way.
-/// All other chains stay.
+/// Each item is one removal, which joins the neighbors and steps the counter; it is
+/// `GenerationOverflow` if that step started the generations again. Dropped, at whatever item, it
+/// takes those of the chain that are left in the same way. All other chains stay.
 pub struct ChainDrain<'a, P: PtrCore, T: Drop, S: ChainSlots<P, T>> {
     chains: &'a mut ChainArena<P, T, S>,
     // The link that goes next.
     at: Option<P::Inx>,
 }
 
-// Where a walk goes on from a link with these neighbors, once the link is gone: to its next, or at the end of the chain
-// to its previous one, which is the end then.
+// Where a walk goes on from a link with these neighbors, once the link is gone: to its next, or at
+// the end of the chain to its previous one, which is the end then.
 fn onward<I: PtrInxCore>(i: I, own: (Option<I>, Option<I>)) -> Option<I>
     ensures { option_map I.number result ≡ next_or_prev (I.number i) (ends_by I.number own) }
 {
@@ -41,18 +41,21 @@ fn onward<I: PtrInxCore>(i: I, own: (Option<I>, Option<I>)) -> Option<I>
 impl<P: PtrCore, T: Drop, S: ChainSlots<P, T>> ChainArena<P, T, S> {
     ghost use Rattle.triple_arena_chain.specs.contracts.chain_arena.ChainArena.{the_row};
 
-    /// Takes the links of the chain of `p` out, in the order of a walk from `p`. It answers `None`, and changes nothing,
-    /// where `p` is invalid.
+    /// Takes the links of the chain of `p` out, in the order of a walk from `p`. It returns `None`,
+    /// and changes nothing, if `p` is invalid.
     ///
-    /// Once the iterator is dropped, after any number of items, the whole chain is gone, and all other chains stay.
+    /// Once the iterator is dropped, after any number of items, the whole chain is gone, and all
+    /// other chains stay.
     pub fn drain_chain(&mut self, p: P) -> Option<ChainDrain<'_, P, T, S>>
         ensures variant { IsSome result ↔ IsSome (get self.old (P.index p) (P.generation p)) }
         ensures same_reference { IfSome result (λ d. drain_lender d ≡ self.entry.ghost_name) }
         ensures chains { IfSome result (λ d. drain_chains d ≡ self.old) }
         ensures start { IfSome result (λ d. drain_at P.Inx.number d ≡ Some (P.index p)) }
         ensures ready { IfSome result (λ d. DrainCanStep P.Inx.number d) }
-        ensures stays { IfSome result (λ d. DrainKeepsAlong P.Inx.number P.Gen.last P.index P.generation d) }
-        ensures in_order { IfSome result (λ d. DrainGoesAlong P.Inx.number P.Gen.last P.index P.generation d) }
+        ensures stays { IfSome result
+            (λ d. DrainKeepsAlong P.Inx.number P.Gen.last P.index P.generation d) }
+        ensures in_order { IfSome result
+            (λ d. DrainGoesAlong P.Inx.number P.Gen.last P.index P.generation d) }
         ensures* none { sem 𝓛 (RestsIfNone
             (the_row P.row T.row S.row P.Inx.row P.Gen.row P.Inx.Word.row S.Alloc.row
             P.PtrCore P.Inx.PtrInxCore.own P.Inx.PartialEq P.Gen.PtrGenCore.own P.Gen.PartialEq
@@ -93,7 +96,8 @@ impl<P: PtrCore, T: Drop, S: ChainSlots<P, T>> ChainArena<P, T, S> {
 
     // Removes the links of the walk from `at`.
     fn take_rest(&mut self, at: Option<P::Inx>)
-        ensures { IsRestDrained P.Inx.number P.Gen.last (option_map P.Inx.number at) self.old self.new }
+        ensures { IsRestDrained P.Inx.number P.Gen.last
+            (option_map P.Inx.number at) self.old self.new }
     {
         let mut at = at;
         while let Some(i) = at {

@@ -34,7 +34,8 @@ impl<'a, P: PtrCore, T: Drop, S: ChainSlots<P, T>> ArenaInsertEntryTrait<P, T>
         requires { IsReady P.Inx.number P.index P.generation self }
 
         // `self.exit.0.now` are the links as they are left.
-        ensures placed { IsPlaced P.Inx.number (entry_place P.Inx.number self.entry) (P.index result)
+        ensures placed { IsPlaced P.Inx.number (entry_place P.Inx.number self.entry)
+            (P.index result)
             (P.generation result) t (entry_chains self.entry) self.exit.0.now }
         ensures formed { IsChained P.Inx.number self.exit.0.now }
         ensures room { self.exit.0.now.room ≡ (entry_chains self.entry).room }
@@ -64,8 +65,9 @@ impl<P: PtrCore, T: Drop, S: ChainSlots<P, T>> ChainArena<P, T, S> {
         }
     }
 
-    /// A place for one link more, if there is room. It answers `FailedLinkRequirement` where the links are not as the
-    /// kind requires, and else `NotWithinCapacity` where there is no room. The links stay as they are then.
+    /// A place for one link more, if there is room. It returns `FailedLinkRequirement` if the links
+    /// are not as the kind requires, and else `NotWithinCapacity` if there is no room. The links
+    /// stay as they are then.
     pub fn entry_insert_within_capacity(
         &mut self,
         kind: LinkInsertKind<P>,
@@ -75,7 +77,8 @@ impl<P: PtrCore, T: Drop, S: ChainSlots<P, T>> ChainArena<P, T, S> {
         ensures same_reference { IfOk result (λ e. entry_lender e ≡ self.entry.ghost_name) }
         ensures chains { IfOk result (λ e. entry_chains e ≡ self.old) }
         ensures ready { IfOk result (λ e. IsReady P.Inx.number P.index P.generation e) }
-        ensures place { IfOk result (λ e. place_among P.index P.generation P.Inx.number self.old kind
+        ensures place { IfOk result
+            (λ e. place_among P.index P.generation P.Inx.number self.old kind
             ≡ Some (entry_place P.Inx.number e)) }
         ensures* err { sem 𝓛 (RestsIfErr
             (the_row P.row T.row S.row P.Inx.row P.Gen.row P.Inx.Word.row S.Alloc.row
@@ -97,18 +100,20 @@ impl<P: PtrCore, T: Drop, S: ChainSlots<P, T>> ChainArena<P, T, S> {
         }
     }
 
-    /// A place for one link more. Where there is no room the arena grows, and answers the errors, as
+    /// A place for one link more. If there is no room, the arena grows, and returns the errors, as
     /// `insert_reallocating` does. An error leaves the links as they were.
     pub fn entry_insert_reallocating(
         &mut self,
         kind: LinkInsertKind<P>,
     ) -> Result<ChainArenaInsertEntry<'_, P, T, S>, ChainInsertionError>
-        ensures refusal { IsLinkRefusal (place_among P.index P.generation P.Inx.number self.old kind)
+        ensures refusal { IsLinkRefusal
+            (place_among P.index P.generation P.Inx.number self.old kind)
             S.takes_memory (live_count self.old) self.old.room result }
         ensures same_reference { IfOk result (λ e. entry_lender e ≡ self.entry.ghost_name) }
         ensures chains { IfOk result (λ e. entry_chains e ≡ grown_if_full self.old) }
         ensures ready { IfOk result (λ e. IsReady P.Inx.number P.index P.generation e) }
-        ensures place { IfOk result (λ e. place_among P.index P.generation P.Inx.number self.old kind
+        ensures place { IfOk result
+            (λ e. place_among P.index P.generation P.Inx.number self.old kind
             ≡ Some (entry_place P.Inx.number e)) }
         ensures* err { sem 𝓛 (RestsIfErr
             (the_row P.row T.row S.row P.Inx.row P.Gen.row P.Inx.Word.row S.Alloc.row

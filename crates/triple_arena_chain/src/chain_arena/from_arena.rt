@@ -52,8 +52,9 @@ fn goes_on<P: PtrCore, T: Drop, S: ChainSlots<P, T>>(
 }
 
 impl<P: PtrCore, T: Drop, S: ChainSlots<P, T>> ChainArena<P, T, S> {
-    /// Whether the interlinks of these links agree both ways: what a link names as its next is live and names it as its
-    /// previous link, and what it names as its previous link is live and names it as its next.
+    /// Whether the interlinks of these links agree both ways: what a link names as its next is live
+    /// and names it as its previous link, and what it names as its previous link is live and names
+    /// it as its next.
     pub fn interlinks_agree(arena: &Arena<P, LinkNoGen<P, T>, S>) -> bool
         ensures { IsTrue result ↔ IsAgreed (ends_in P.Inx.number arena.now) }
     {
@@ -70,7 +71,7 @@ impl<P: PtrCore, T: Drop, S: ChainSlots<P, T>> ChainArena<P, T, S> {
         true
     }
 
-    /// The chain arena of these links, or the arena back where `interlinks_agree` refuses it.
+    /// The chain arena of these links, or the arena back if `interlinks_agree` refuses it.
     pub fn from_arena(
         arena: Arena<P, LinkNoGen<P, T>, S>,
     ) -> Result<Self, Arena<P, LinkNoGen<P, T>, S>>
@@ -87,8 +88,8 @@ impl<P: PtrCore, T: Drop, S: ChainSlots<P, T>> ChainArena<P, T, S> {
         }
     }
 
-    /// Exchanges the links of this arena and those of `arena`, where `interlinks_agree` accepts them. Else it answers
-    /// `None`, and both stay as they are.
+    /// Exchanges the links of this arena and those of `arena`, if `interlinks_agree` accepts them.
+    /// Else it returns `None`, and both stay as they are.
     pub fn exchange_arena(&mut self, arena: &mut Arena<P, LinkNoGen<P, T>, S>) -> Option<()>
         ensures variant { IsSome result ↔ IsAgreed (ends_in P.Inx.number arena.old) }
         ensures some { OnSome result ((self.new ≡ arena.old) × (arena.new ≡ self.old)) }

@@ -15,9 +15,9 @@ use triple_arena::{PtrCore, ReallocationError};
 use triple_arena_ptr::NotWithinCapacityError;
 
 impl<P: PtrCore, T: Drop, S: ChainSlots<P, T>> ChainArena<P, T, S> {
-    /// Stores `t` in a link between the links at these two indexes, of which either may be missing, if there is room.
-    /// They are neighbors, or each has none on that side. It answers `NotWithinCapacityError`, and changes nothing,
-    /// where there is no room; `t` is dropped then.
+    /// Stores `t` in a link between the links at these two indexes, of which either may be missing,
+    /// if there is room. They are neighbors, or each has none on that side. It returns
+    /// `NotWithinCapacityError`, and changes nothing, if there is no room; `t` is dropped then.
     pub fn insert_in_gap_within_capacity(
         &mut self,
         prev: Option<P::Inx>,
@@ -40,7 +40,8 @@ impl<P: PtrCore, T: Drop, S: ChainSlots<P, T>> ChainArena<P, T, S> {
         }
     }
 
-    /// The same, where the arena grows if there is no room, and answers the errors, as `insert_reallocating` does.
+    /// The same, but the arena grows if there is no room, and returns the errors, as
+    /// `insert_reallocating` does.
     pub fn insert_in_gap_reallocating(
         &mut self,
         prev: Option<P::Inx>,

@@ -1,4 +1,4 @@
-//! Insertion of a link that makes room where there is none.
+//! Insertion of a link that makes room if there is none.
 ghost use Rattle.std.specs.Prelude.{◌≡◌, ◌<◌, Some, IfOk, OnOk, OnErr};
 ghost use Rattle.triple_arena_stack.specs.Push.{IsRefusal};
 ghost use Rattle.triple_arena.specs.Content.{live_count, arena_capacity, next_index, grown_if_full};
@@ -13,9 +13,9 @@ use triple_arena::{ArenaInsertEntries, ArenaInsertEntryTrait, PtrCore, Reallocat
 use triple_arena_ptr::ChainInsertionError;
 
 impl<P: PtrCore, T: Drop, S: ChainSlots<P, T>> ChainArena<P, T, S> {
-    /// Makes room for one link more, where there is none, and answers the pointer that the next insertion gives. It answers
-    /// `BeyondMaxCapacity` where as many links are live as the greatest capacity, and `AllocError` where the memory was
-    /// refused; both change nothing.
+    /// Makes room for one link more, if there is none, and returns the pointer that the next
+    /// insertion gives. It returns `BeyondMaxCapacity` if as many links are live as the greatest
+    /// capacity, and `AllocError` if the memory was refused; both change nothing.
     pub fn make_room(&mut self) -> Result<P, ReallocationError>
         ensures has_index { IfOk result (λ p. P.index p ≡ next_index self.new) }
         ensures has_generation { IfOk result (λ p. P.generation p ≡ self.new.counter) }
@@ -35,9 +35,11 @@ impl<P: PtrCore, T: Drop, S: ChainSlots<P, T>> ChainArena<P, T, S> {
         &mut self,
         kind: LinkInsertKind<P>,
     ) -> Result<(Place<P::Inx>, P), ChainInsertionError>
-        ensures refusal { IsLinkRefusal (place_among P.index P.generation P.Inx.number self.old kind)
+        ensures refusal { IsLinkRefusal
+            (place_among P.index P.generation P.Inx.number self.old kind)
             S.takes_memory (live_count self.old) self.old.room result }
-        ensures place { IfOk result (λ made. place_among P.index P.generation P.Inx.number self.old kind
+        ensures place { IfOk result
+            (λ made. place_among P.index P.generation P.Inx.number self.old kind
             ≡ Some (place_by P.Inx.number made.0)) }
         ensures is_place { IfOk result (λ made.
             IsPlace (ends_in P.Inx.number self.new) (place_by P.Inx.number made.0)) }

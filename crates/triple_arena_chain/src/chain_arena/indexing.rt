@@ -12,7 +12,8 @@ impl<P: PtrCore, T: Drop, S: ChainSlots<P, T>> Index<P> for ChainArena<P, T, S> 
 
     ghost can_index = { λ c p. IsSome (value_if (P.generation p) (values_in c (P.index p))) };
 
-    ghost index_gives = { λ c p value. value_if (P.generation p) (values_in c (P.index p)) ≡ Some value };
+    ghost index_gives = { λ c p value. value_if (P.generation p) (values_in c (P.index p))
+        ≡ Some value };
 
     fn index(&self, p: P) -> &T {
         match self.get(p) {
@@ -36,7 +37,8 @@ impl<P: PtrCore, T: Drop, S: ChainSlots<P, T>> IndexMut<P> for ChainArena<P, T, 
             P.PtrCore P.Inx.PtrInxCore.own P.Inx.PartialEq P.Gen.PtrGenCore.own P.Gen.PartialEq
             S.NonZeroInxGenericStack) T.row self.entry result
             (with_value_in self.old (P.index p))) }
-        ensures value { value_if (P.generation p) (values_in self.old (P.index p)) ≡ Some result.now }
+        ensures value { value_if (P.generation p) (values_in self.old (P.index p))
+            ≡ Some result.now }
     {
         self.get_inx_mut_unwrap(p.inx())
     }

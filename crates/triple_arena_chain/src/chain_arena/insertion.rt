@@ -1,4 +1,5 @@
-//! Insertion of a link. It is always inlined: the kind, which is known where it is called, leaves one case of fourteen.
+//! Insertion of a link. It is always inlined: the kind, which is known where it is called, leaves
+//! one case of fourteen.
 ghost use Rattle.std.specs.Prelude.{◌≡◌, ◌<◌};
 ghost use Rattle.triple_arena.specs.Content.{live_count, arena_capacity};
 ghost use Rattle.triple_arena_chain.specs.Chains.{IsPlace};
@@ -28,7 +29,7 @@ fn link_at<I: PtrInxCore<Word = W>, W: Copy, T>(
 }
 
 impl<P: PtrCore, T: Drop, S: ChainSlots<P, T>> ChainArena<P, T, S> {
-    // Stores `t` in a link at a place, where there is room.
+    // Stores `t` in a link at a place, if there is room.
     #[inline(always)]
     pub(crate) fn put(&mut self, place: Place<P::Inx>, t: T) -> P
         requires room { live_count self.old < arena_capacity self.old }

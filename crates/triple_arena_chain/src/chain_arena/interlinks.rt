@@ -46,7 +46,8 @@ pub(crate) fn set_prev<P: PtrCore, T: Drop, S: ChainSlots<P, T>>(
     }
 }
 
-// Gives the link at `before` another next, and the one at `after` another previous one. What is an index is live.
+// Gives the link at `before` another next, and the one at `after` another previous one. What is an
+// index is live.
 #[tactic(auto, using(crate::specs::LinkLaws::live_links))]
 pub(crate) fn relink<P: PtrCore, T: Drop, S: ChainSlots<P, T>>(
     arena: &mut Arena<P, LinkNoGen<P, T>, S>,

@@ -14,8 +14,8 @@ use triple_arena::{ArenaTrait, PtrCore, PtrInxCore};
 use triple_arena_ptr::OptionalInx;
 use unreached::unreached;
 
-/// The pointers and the links of one chain, from a link on to the end and then backwards from the link before it, or
-/// once round a ring: seen as the list of the entries that are left.
+/// The pointers and the links of one chain, from a link on to the end and then backwards from the
+/// link before it, or once round a ring: seen as the list of the entries that are left.
 #[derive(Drop)]
 pub struct IterChain<'a, P: PtrCore, T: Drop, S: ChainSlots<P, T>>
 where
@@ -53,7 +53,8 @@ where
         (option_map P.Inx.number it.start) (option_map P.Inx.number it.at)) };
 }
 
-// Where a walk that began there goes on from a link with these neighbors, and where it began as long as it goes on.
+// Where a walk that began there goes on from a link with these neighbors, and if it began as long
+// as it goes on.
 #[inline(always)]
 fn onward<I: PtrInxCore<Word = W>, W: Copy + Drop>(
     start: OptionalInx<I, W>,
@@ -107,7 +108,8 @@ where
 {
     type Item = (P, &'a LinkNoGen<P, T>);
 
-    ghost next_gives = { YieldsFirstBy (λ e. (P.index e.0, (P.generation e.0, e.1.now))) (λ left. left) };
+    ghost next_gives = { YieldsFirstBy (λ e. (P.index e.0, (P.generation e.0, e.1.now)))
+        (λ left. left) };
 
     ghost remaining = { item_count (λ left. left) };
 
@@ -128,7 +130,7 @@ where
 }
 
 impl<P: PtrCore, T: Drop, S: ChainSlots<P, T>> ChainArena<P, T, S> {
-    /// The links of the chain of `p`, in the order of a walk from `p`, or `None` where `p` is invalid.
+    /// The links of the chain of `p`, in the order of a walk from `p`, or `None` if `p` is invalid.
     #[tactic(auto, using(crate::specs::WalkLaws::walks))]
     pub fn iter_chain(&self, p: P) -> Option<IterChain<'_, P, T, S>>
         ensures variant { IsSome result ↔ IsSome (get self.now (P.index p) (P.generation p)) }

@@ -19,9 +19,10 @@ use triple_arena::{
 };
 use triple_arena_ptr::OptionalInx;
 
-// What becomes a copy of a source of the type `A`. It stands between the base's trait and `copy_links`, so that the closure
-// there is in a function that knows nothing of pointers and arenas: the check of its call grows with what is known.
-// `copy_from` has a clause that asks no more, as the answer to a lone one would cost far more to state.
+// What becomes a copy of a source of the type `A`. It stands between the base's trait and
+// `copy_links`, so that the closure there is in a function that knows nothing of pointers and
+// arenas: the check of its call grows with what is known. `copy_from` has a clause that asks no
+// more, as the answer to a lone one would cost far more to state.
 pub(crate) trait CopiesFrom<P: Copy, L: Drop, M: Drop, A> {
     ghost index: { P → ℕ };
 
@@ -38,7 +39,7 @@ pub(crate) trait CopiesFrom<P: Copy, L: Drop, M: Drop, A> {
 
     ghost is_beyond: { A → Self → Type 0 };
 
-    // What is left where the memory, or the map, refused.
+    // What is left if the memory, or the map, refused.
     ghost is_left: { A → Self → Self → Type 0 };
 
     ghost is_emptied: { A → Self → Self → Type 0 };
@@ -80,7 +81,8 @@ where
 
     ghost entries = { live_entries };
 
-    ghost is_copied = { λ a old new. IsCopyMade entry_at live_count some_counter (λ c. c.room) copied_of
+    ghost is_copied = { λ a old new. IsCopyMade entry_at live_count some_counter
+        (λ c. c.room) copied_of
         live_entries (A.entry_at a) (A.live_count a) (last_listed (A.live_entries a)) (A.counter a)
         old new };
 
@@ -106,7 +108,8 @@ where
     }
 }
 
-// Makes `target` a copy of `source`, with the interlinks of its links, and with what `map` makes of each link as the value.
+// Makes `target` a copy of `source`, with the interlinks of its links, and with what `map` makes of
+// each link as the value.
 pub(crate) fn copy_links<P, I, W, L, T, A, B, F>(
     target: &mut B,
     source: &A,
@@ -141,9 +144,11 @@ where
         source,
         move |p, link| -> Result<IndexLink<OptionalInx<I, W>, T>, AllocError>
             requires { F.IsAlwaysCallable map }
-            ensures given { IfOk result (λ made. F.step map.entry p link.entry (Ok made.t) map.exit) }
+            ensures given { IfOk result
+                (λ made. F.step map.entry p link.entry (Ok made.t) map.exit) }
             ensures linked { IfOk result (λ made. prev_next_of made ≡ L.neighbors link.now) }
-            ensures refused { IfErr result (λ error. F.step map.entry p link.entry (Err error) map.exit) }
+            ensures refused { IfErr result
+                (λ error. F.step map.entry p link.entry (Err error) map.exit) }
             ensures again { F.IsAlwaysCallable map.exit }
         {
             match map(p, link) {

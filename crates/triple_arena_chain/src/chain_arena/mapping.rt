@@ -11,7 +11,8 @@ use crate::IndexLink;
 use triple_arena::{ArenaTrait, InvalidationOption, PtrCore, PtrInxCore};
 use triple_arena_ptr::OptionalInx;
 
-// What `compress_with` does, with a clause that asks no more: the answer to a lone one would cost far more to state.
+// What `compress_with` does, with a clause that asks no more: the answer to a lone one would cost
+// far more to state.
 fn compress_by<P, L, A, G>(arena: &mut A, reset: bool, map: G) -> InvalidationOption<()>
 where
     P: PtrCore,
@@ -26,13 +27,15 @@ where
         (list_map generation_of (A.live_entries arena.old)) }
     ensures compressed { IsCompressed A.entry_at A.live_count A.counter A.room P.Gen.last
         A.live_entries reset arena.old arena.new }
-    ensures exact { A.is_compressed arena.old reset (list_map value_of (A.live_entries arena.new)) arena.new }
+    ensures exact { A.is_compressed arena.old reset
+        (list_map value_of (A.live_entries arena.new)) arena.new }
     ensures formed { A.is_formed arena.new }
 {
     arena.compress_with(reset, map)
 }
 
-// Moves the links to the first indexes, each with what `map` makes of its value, and forgets the previous indexes.
+// Moves the links to the first indexes, each with what `map` makes of its value, and forgets the
+// previous indexes.
 pub(crate) fn compact_links<P, I, W, T, A, F>(
     arena: &mut A,
     reset: bool,
@@ -47,14 +50,16 @@ where
     F: FnMut(P, T, P) -> T,
     requires callable { F.IsAlwaysCallable map }
     requires no_more { ⊤ }
-    ensures mapped { IsMapped P.index P.generation F.step map (list_map listed_value (A.live_entries arena.old))
+    ensures mapped { IsMapped P.index P.generation F.step map
+        (list_map listed_value (A.live_entries arena.old))
         (list_map listed_value (A.live_entries arena.new)) }
     ensures links { AllZip IsLeftWithNext (A.live_entries arena.old) (A.live_entries arena.new) }
     ensures overflow { overflowed result ≡ compression_wraps P.Gen.last reset (A.counter arena.old)
         (list_map generation_of (A.live_entries arena.old)) }
     ensures compressed { IsCompressed A.entry_at A.live_count A.counter A.room P.Gen.last
         A.live_entries reset arena.old arena.new }
-    ensures exact { A.is_compressed arena.old reset (list_map value_of (A.live_entries arena.new)) arena.new }
+    ensures exact { A.is_compressed arena.old reset
+        (list_map value_of (A.live_entries arena.new)) arena.new }
     ensures formed { A.is_formed arena.new }
 {
     compress_by(
@@ -75,7 +80,7 @@ where
     )
 }
 
-// Renews the generations of links that stay where they are, each with what `map` makes of its value.
+// Renews the generations of links that stay if they are, each with what `map` makes of its value.
 pub(crate) fn renew_links<P, I, W, T, A, F>(
     arena: &mut A,
     reset: bool,

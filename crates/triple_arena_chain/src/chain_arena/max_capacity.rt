@@ -1,4 +1,4 @@
-//! The greatest capacity of a chain arena, where it can be set.
+//! The greatest capacity of a chain arena, if it can be set.
 ghost use Rattle.triple_arena.specs.Content.{last_index as last_index_of, with_limit as with_limit_of};
 
 use crate::chain_arena::interlinks::recall_formed;
@@ -17,8 +17,9 @@ impl<
 
     ghost with_limit = { with_limit_of P.Inx.greatest };
 
-    /// Sets the greatest capacity to `max`, as far as the pointers' indexes reach, or changes nothing where the last
-    /// live index is past `max`. Where there are slots past `max`, the free slots at the end are popped first.
+    /// Sets the greatest capacity to `max`, as far as the pointers' indexes reach, or changes
+    /// nothing if the last live index is past `max`. If there are slots past `max`, the free slots
+    /// at the end are popped first.
     fn set_max_capacity(&mut self, max: usize) -> Result<(), MaxCapacityReductionError> {
         let answer = self.arena.set_max_capacity(max);
         // The arena is well-formed after.

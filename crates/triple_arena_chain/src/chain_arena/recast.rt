@@ -26,9 +26,11 @@ impl<N, I: PtrInxCore<Word = W>, W: Copy, T: Recast<N>> Recast<N>
 impl<N, P: PtrCore, T: Recast<N> + Drop, S: ChainSlots<P, T>> Recast<N> for ChainArena<P, T, S> {
     ghost items = { content_items (link_items T.items) };
 
-    ghost recasted = { λ f c. content_recasted (link_items T.items) f (link_recasted (T.recasted f)) c };
+    ghost recasted = { λ f c. content_recasted (link_items T.items) f
+        (link_recasted (T.recasted f)) c };
 
-    ghost items_recasted = { λ f c. items-recasted (link_items T.items) f (link_recasted (T.recasted f))
+    ghost items_recasted = { λ f c. items-recasted (link_items T.items) f
+        (link_recasted (T.recasted f))
         (λ link. T.items_recasted f link.t) c };
 
     fn recast<R: Recaster<Item = N>>(&mut self, recaster: &R) -> Result<(), N> {

@@ -34,7 +34,7 @@ impl<P: PtrCore, T: Drop, S: ChainSlots<P, T>> ChainArena<P, T, S> {
         }
     }
 
-    // The place that the kind asks for, or `None` where its requirement is not met.
+    // The place that the kind asks for, or `None` if its requirement is not met.
     #[inline(always)]
     pub(crate) fn place(&self, kind: LinkInsertKind<P>) -> Option<Place<P::Inx>>
         ensures { option_map (place_by P.Inx.number) result

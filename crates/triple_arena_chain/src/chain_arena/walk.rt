@@ -12,13 +12,14 @@ use std::marker::Model;
 use triple_arena::{Advancer, ArenaTrait, PtrCore, PtrInxCore};
 use triple_arena_ptr::OptionalInx;
 
-/// Gives the pointers to the links of a chain, one a call: from a link on to the end and then backwards from the link
-/// before it, or once round a ring. The links are free between the calls.
+/// Gives the pointers to the links of a chain, one a call: from a link on to the end and then
+/// backwards from the link before it, or once round a ring. The links are free between the calls.
 ///
-/// As it gives a link it notes the index that comes next, and later gives what is live there. Where nothing is, it ends.
-/// Over links that stay it ends always. A ring whose first link is removed during the walk is gone round without an end.
-/// A walk from the middle of a list goes back from the index where it began: from the link that lives there by then,
-/// perhaps in another chain, or nowhere if none does.
+/// As it gives a link it notes the index that comes next, and later gives what is live there. If
+/// nothing is, it ends. Over links that stay it ends always. A ring whose first link is removed
+/// during the walk is gone round without an end. A walk from the middle of a list goes back from
+/// the index where it began: from the link that lives there by then, perhaps in another chain, or
+/// nowhere if none does.
 #[derive(Drop)]
 pub struct ChainPtrAdvancer<P: PtrCore> {
     // Where the walk began.
@@ -84,7 +85,8 @@ impl<P: PtrCore, T: Drop, S: ChainSlots<P, T>> Advancer<ChainArena<P, T, S>>
 
     ghost remaining = { λ a _. left_to a.at };
 
-    ghost advance_gives = { λ before c given after. ChainSteps (ends_in P.Inx.number c) (values_in c)
+    ghost advance_gives = { λ before c given after. ChainSteps (ends_in P.Inx.number c)
+        (values_in c)
         before (option_map (λ p. (P.index p, P.generation p)) given) after };
 
     fn advance(&mut self, chains: &ChainArena<P, T, S>) -> Option<P> {

@@ -1,9 +1,10 @@
 //! The calls of a `SimpleOrdArena` that every arena has.
 //!
-//! A removal takes one index out of the list, so keys that ascend still do (`laws::removals_keep_keys_ascending`). An
-//! invalidation and a write keep the list, whatever key is written (`laws::invalidations_keep_the_list`,
-//! `laws::writes_keep_the_list`). A compression moves the entries by index and the list follows, also where the new keys
-//! do not ascend along it. The tree is then written anew.
+//! A removal takes one index out of the list, so keys that ascend still do
+//! (`laws::removals_keep_keys_ascending`). An invalidation and a write keep the list, whatever key
+//! is written (`laws::invalidations_keep_the_list`, `laws::writes_keep_the_list`). A compression
+//! moves the entries by index and the list follows, also if the new keys do not ascend along it.
+//! The tree is then written anew.
 ghost use Rattle.std.specs.Prelude.{true, refl};
 ghost use Rattle.triple_arena_ptr.specs.Generation.{second_generation};
 ghost use Rattle.triple_arena.specs.ArenaRoom.{room_of};
@@ -71,7 +72,8 @@ impl<P: PtrCore, T: Drop, S: OrdSlots<P, T>> ArenaTrait<P, T> for SimpleOrdArena
 
     ghost drained = { drained_in P.Gen.last };
 
-    ghost is_compressed = { λ o reset items new. IsCompressedInOrder P.Inx.number P.Gen.last reset items o new };
+    ghost is_compressed = { λ o reset items new. IsCompressedInOrder P.Inx.number P.Gen.last reset
+        items o new };
 
     ghost is_formed = { IsFormed P.Inx.number };
 

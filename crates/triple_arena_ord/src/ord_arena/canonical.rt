@@ -1,4 +1,5 @@
-//! Comparisons of two ordered arenas by their items in order, whatever their pointers and their room.
+//! Comparisons of two ordered arenas by their items in order, whatever their pointers and their
+//! room.
 ghost use Rattle.std.specs.Prelude.{◌≡◌};
 ghost use Rattle.std.specs.Cmp.Lexicographic.{pointwise, slice_cmp, slice_partial_cmp};
 ghost use Rattle.triple_arena_ord.specs.Ordered.{ordered_entries};
@@ -86,27 +87,30 @@ fn order<P: PtrCore, Q: PtrCore, T: Ord + Drop, S: OrdSlots<P, T>, R: OrdSlots<Q
 }
 
 impl<P: PtrCore, T: Drop, S: OrdSlots<P, T>> SimpleOrdArena<P, T, S> {
-    /// Whether both lists have equal items, and as many. Pointers, generations and room are not looked at.
+    /// Whether both lists have equal items, and as many. Pointers, generations and room are not
+    /// looked at.
     pub fn canonical_eq<Q: PtrCore, R: OrdSlots<Q, T>>(
         &self,
         other: &SimpleOrdArena<Q, T, R>,
     ) -> bool
     where
         T: PartialEq,
-        ensures { result ≡ pointwise (by_item T.eq) (ordered_entries P.Inx.number self.now) (ordered_entries Q.Inx.number other.now) }
+        ensures { result ≡ pointwise (by_item T.eq) (ordered_entries P.Inx.number self.now)
+            (ordered_entries Q.Inx.number other.now) }
     {
         same(self.iter_ordered(), other.iter_ordered())
     }
 
-    /// How the items of both lists compare: the first pair that is not equal decides, and else the lengths do, as for two
-    /// vectors. `None` where the items of that pair do not compare.
+    /// How the items of both lists compare: the first pair that is not equal decides, and else the
+    /// lengths do, as for two vectors. `None` if the items of that pair do not compare.
     pub fn canonical_partial_cmp<Q: PtrCore, R: OrdSlots<Q, T>>(
         &self,
         other: &SimpleOrdArena<Q, T, R>,
     ) -> Option<Ordering>
     where
         T: PartialOrd,
-        ensures { result ≡ slice_partial_cmp (by_item T.partial_cmp) (ordered_entries P.Inx.number self.now) (ordered_entries Q.Inx.number other.now) }
+        ensures { result ≡ slice_partial_cmp (by_item T.partial_cmp)
+            (ordered_entries P.Inx.number self.now) (ordered_entries Q.Inx.number other.now) }
     {
         partial_order(self.iter_ordered(), other.iter_ordered())
     }
@@ -118,7 +122,8 @@ impl<P: PtrCore, T: Drop, S: OrdSlots<P, T>> SimpleOrdArena<P, T, S> {
     ) -> Ordering
     where
         T: Ord,
-        ensures { result ≡ slice_cmp (by_item T.cmp) (ordered_entries P.Inx.number self.now) (ordered_entries Q.Inx.number other.now) }
+        ensures { result ≡ slice_cmp (by_item T.cmp) (ordered_entries P.Inx.number self.now)
+            (ordered_entries Q.Inx.number other.now) }
     {
         order(self.iter_ordered(), other.iter_ordered())
     }

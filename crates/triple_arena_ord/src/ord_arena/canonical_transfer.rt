@@ -1,4 +1,5 @@
-//! The canonical transfer: the entries of an ordered arena moved to another, in the order of the list.
+//! The canonical transfer: the entries of an ordered arena moved to another, in the order of the
+//! list.
 ghost use Rattle.std.specs.Prelude.{◌≡◌, ◌≤◌, ◌↔◌, IsTrue, IsOk, OnOk, OnErr, IsErrOf};
 ghost use Rattle.triple_arena_stack.specs.Room.{capacity as capacity_of, IsBeyond};
 ghost use Rattle.triple_arena.specs.ArenaRoom.{room_with};
@@ -16,19 +17,22 @@ use triple_arena::{ArenaTrait, InvalidationOption, PtrCore, ReallocationError};
 use triple_arena_chain::ChainArena;
 
 impl<P: PtrCore, T: Drop, S: OrdSlots<P, T>> SimpleOrdArena<P, T, S> {
-    /// Drops what the arena holds, and moves the entries of `source` to the indexes from 1 on, in the order of its list. Each
-    /// gets `new_generation` and what `map` makes of its item. The counter is `new_generation` too, no index is free, and the
-    /// tree is written anew, also if the new items' keys do not ascend along the list.
+    /// Drops what the arena holds, and moves the entries of `source` to the indexes from 1 on, in
+    /// the order of its list. Each gets `new_generation` and what `map` makes of its item. The
+    /// counter is `new_generation` too, no index is free, and the tree is written anew, also if the
+    /// new items' keys do not ascend along the list.
     ///
-    /// `map` is called once for each entry, along the list, with the pointer that it had in `source`, the item, and the pointer
-    /// that it gets. `source` is left with no entry and no slot in the room that it had, and its counter is stepped once for
-    /// each entry: if that step started the generations again, `map` gets the item as a `GenerationOverflow`.
+    /// `map` is called once for each entry, along the list, with the pointer that it had in
+    /// `source`, the item, and the pointer that it gets. `source` is left with no entry and no slot
+    /// in the room that it had, and its counter is stepped once for each entry: if that step
+    /// started the generations again, `map` gets the item as a `GenerationOverflow`.
     ///
-    /// A pointer of what this arena held before may find an entry that came in, if `new_generation` is its generation.
+    /// A pointer of what this arena held before may find an entry that came in, if `new_generation`
+    /// is its generation.
     ///
-    /// Memory is taken only if `source` has more entries than fit: then the arena first grows to exactly so many. It answers
-    /// `BeyondMaxCapacity` if they are more than the greatest capacity, and `AllocError` if the memory was refused. An error
-    /// leaves both arenas as they were.
+    /// Memory is taken only if `source` has more entries than fit: then the arena first grows to
+    /// exactly so many. It returns `BeyondMaxCapacity` if they are more than the greatest capacity,
+    /// and `AllocError` if the memory was refused. An error leaves both arenas as they were.
     pub fn transfer_canonical_reallocating<Q, U, R, F>(
         &mut self,
         new_generation: P::Gen,
@@ -50,7 +54,7 @@ impl<P: PtrCore, T: Drop, S: OrdSlots<P, T>> SimpleOrdArena<P, T, S> {
         ensures ordered { IsOrdered P.Inx.number self.new }
         ensures source_ordered { IsOrdered Q.Inx.number source.new }
 
-        // No memory is asked for where the entries fit.
+        // No memory is asked for if the entries fit.
         ensures succeeds { size_in source.old ≤ capacity_of (room_in self.old) → IsOk result }
         ensures beyond { IsErrOf result ReallocationError.BeyondMaxCapacity
             ↔ IsBeyond (room_in self.old).limit (size_in source.old) }

@@ -8,8 +8,9 @@ use triple_arena::{ArenaTrait, PtrCore};
 use triple_arena_chain::ChainArena;
 
 impl<P: PtrCore, T: SimpleOrdItem + Drop, S: OrdSlots<P, T>> SimpleOrdArena<P, T, S> {
-    /// Whether no key is greater than the next one. Where one is, it answers the error "incorrect ordering". All else that an
-    /// arena keeps, its tree, ranks and list, needs no look: no call can break it.
+    /// Whether no key is greater than the next one. If one is, it returns the error "incorrect
+    /// ordering". All else that an arena keeps, its tree, ranks and list, needs no look: no call
+    /// can break it.
     pub fn _check_invariants(this: &Self) -> Result<(), &'static str>
         ensures ascends { IsOk result ↔ IsAscending P.Inx.number T.Key.cmp T.key_of this.now }
         ensures error { IfErr result (λ e. e.now ≡ codes "incorrect ordering") }

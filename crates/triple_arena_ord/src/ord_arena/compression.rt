@@ -1,4 +1,5 @@
-//! The ends of the list as they are found in the order of the indexes, for a compression, which moves every entry.
+//! The ends of the list as they are found in the order of the indexes, for a compression, which
+//! moves every entry.
 ghost use Rattle.std.specs.Prelude.{◌≡◌, ℕ, List, None, IsSome};
 ghost use Rattle.std.specs.Option.{option_map};
 ghost use Rattle.triple_arena_chain.specs.Chains.{IsLinear, On, first_or, last_or};
@@ -10,9 +11,11 @@ use crate::{OrdSlots, SimpleOrdArena, SimpleOrdArenaNode};
 use triple_arena::{Advancer, ArenaTrait, PtrCore, PtrInxCore};
 use triple_arena_chain::ChainArena;
 
-// An end of the list: a later index where it has no neighbor on that side, else the one that was noted.
+// An end of the list: a later index if it has no neighbor on that side, else the one that was
+// noted.
 fn noted<I: PtrInxCore>(end: Option<I>, neighbor: Option<I>, i: I) -> Option<I>
-    ensures { option_map I.number result ≡ end_noted (option_map I.number end) (option_map I.number neighbor) (I.number i) }
+    ensures { option_map I.number result
+        ≡ end_noted (option_map I.number end) (option_map I.number neighbor) (I.number i) }
 {
     match neighbor {
         Some(_) => end,

@@ -1,4 +1,5 @@
-//! An ordered arena as a clone of another one, and an arena or a chain arena as a copy of an ordered one.
+//! An ordered arena as a clone of another one, and an arena or a chain arena as a copy of an
+//! ordered one.
 ghost use Rattle.std.specs.Prelude.{◌≡◌, ℕ, ◌<◌, ◌≤◌, ◌↔◌, ◌⊎◌, IsTrue, IsOk, IfOk, OnOk, IsErrOf};
 ghost use Rattle.triple_arena_ptr.specs.Generation.{second_generation};
 ghost use Rattle.triple_arena_stack.specs.Room.{capacity as capacity_of, IsBeyond};
@@ -41,9 +42,10 @@ impl<P: PtrCore, T: Drop, S: OrdSlots<P, T>> LinkCloneSource<P> for SimpleOrdAre
 }
 
 impl<P: PtrCore, T: Drop, S: OrdSlots<P, T>> SimpleOrdArena<P, T, S> {
-    /// Makes `target` a copy of this arena: with its pointers, its counter and its list as one chain, each value what `map` makes
-    /// of the item there. `map` is called once for each entry, in the order of the indexes. What `target` held is dropped,
-    /// and its smallest free index is the next one to be taken. It answers what `clone_to_arena` does.
+    /// Makes `target` a copy of this arena: with its pointers, its counter and its list as one
+    /// chain, each value what `map` makes of the item there. `map` is called once for each entry,
+    /// in the order of the indexes. What `target` held is dropped, and its smallest free index is
+    /// the next one to be taken. It returns what `clone_to_arena` does.
     pub fn clone_to_chain_arena<U, R, F>(
         &self,
         target: &mut ChainArena<P, U, R>,
@@ -65,7 +67,8 @@ impl<P: PtrCore, T: Drop, S: OrdSlots<P, T>> SimpleOrdArena<P, T, S> {
             → NeverRefuses F.step → IsOk result }
         ensures beyond { IsErrOf result ReallocationError.BeyondMaxCapacity
             ↔ IsBeyond (chain_room target.old).limit (last_inx self.now) }
-        ensures kept { IsErrOf result ReallocationError.BeyondMaxCapacity → target.new ≡ target.old }
+        ensures kept { IsErrOf result ReallocationError.BeyondMaxCapacity
+            → target.new ≡ target.old }
         ensures unmade { IsErrOf result ReallocationError.AllocError
             → IsUnmadeCopy values_in live_count some_counter chain_room R.takes_memory
             P.Gen.last (last_inx self.now)
@@ -87,14 +90,16 @@ impl<P: PtrCore, T: Drop, S: OrdSlots<P, T>> SimpleOrdArena<P, T, S> {
 }
 
 impl<P: PtrCore, T: Clone, S: OrdSlots<P, T>> SimpleOrdArena<P, T, S> {
-    /// A new arena with the same pointers, clones of the items, the same list, tree and counter, where the smallest free index
-    /// is the next one to be taken. It has room for the last live index. A clone of an item must equal it.
+    /// A new arena with the same pointers, clones of the items, the same list, tree and counter,
+    /// where the smallest free index is the next one to be taken. It has room for the last live
+    /// index. A clone of an item must equal it.
     ///
-    /// It answers `BeyondMaxCapacity` where no new arena of this type has so much room, and `AllocError` where the memory or
-    /// the clone of an item was refused.
+    /// It returns `BeyondMaxCapacity` if no new arena of this type has so much room, and
+    /// `AllocError` if the memory or the clone of an item was refused.
     pub fn clone(&self, alloc: S::Alloc) -> Result<Self, ReallocationError>
         requires { (x y : T) → T.is_clone x y → y ≡ x }
-        ensures cloned { IfOk result (λ o. IsClone P.Inx.number (empty (second_generation P.Gen.last)
+        ensures cloned { IfOk result
+            (λ o. IsClone P.Inx.number (empty (second_generation P.Gen.last)
             (room_of P.Inx.greatest (S.room_at (last_inx self.now)))) self.now o) }
         ensures succeeds { last_inx self.now ≤ capacity_of (room_of P.Inx.greatest (S.room_at 0))
             → ((x : T) → T.is_infallible x) → IsOk result }
@@ -118,15 +123,17 @@ impl<P: PtrCore, T: Clone, S: OrdSlots<P, T>> SimpleOrdArena<P, T, S> {
         }
     }
 
-    /// Makes this arena a clone of `source`: with its pointers, list, tree and counter, and with clones of the items. A clone of
-    /// an item must equal it. What the arena held is dropped, and the smallest free index is the next one to be taken.
+    /// Makes this arena a clone of `source`: with its pointers, list, tree and counter, and with
+    /// clones of the items. A clone of an item must equal it. What the arena held is dropped, and
+    /// the smallest free index is the next one to be taken.
     ///
-    /// No memory is taken where the last live index of `source` is within the capacity, which then stays. Else the arena
-    /// first grows to exactly that index.
+    /// No memory is taken if the last live index of `source` is within the capacity, which then
+    /// stays. Else the arena first grows to exactly that index.
     ///
-    /// It answers `BeyondMaxCapacity` where the last live index of `source` is past the greatest capacity, and `AllocError`
-    /// where the memory was refused; the arena is then as it was. It also answers `AllocError` where the clone of an item
-    /// was refused; the arena is then grown to that index and cleared.
+    /// It returns `BeyondMaxCapacity` if the last live index of `source` is past the greatest
+    /// capacity, and `AllocError` if the memory was refused; the arena is then as it was. It also
+    /// returns `AllocError` if the clone of an item was refused; the arena is then grown to that
+    /// index and cleared.
     pub fn clone_from(&mut self, source: &Self) -> Result<(), ReallocationError>
         requires { (x y : T) → T.is_clone x y → y ≡ x }
         ensures cloned { OnOk result (IsClone P.Inx.number self.old.chains source.now self.new) }
@@ -149,7 +156,7 @@ impl<P: PtrCore, T: Clone, S: OrdSlots<P, T>> SimpleOrdArena<P, T, S> {
                 Ok(())
             }
             Err(error) => {
-                // Where a clone was refused no link is left.
+                // If a clone was refused, no link is left.
                 if self.chains.is_empty() {
                     self.root = None;
                     self.first = None;

@@ -16,7 +16,8 @@ impl<P: PtrCore, T: Drop, const LIMIT: usize> Default
         NonZeroInxArray<ArenaSlot<P, LinkNoGen<P, SimpleOrdArenaNode<P, T>>>, LIMIT>,
     > {
     ghost is_default = { λ o. (o.chains ≡ empty (second_generation P.Gen.last)
-        (room_of P.Inx.greatest (record { reserved = LIMIT; limit = Some LIMIT }))) × IsOrdered P.Inx.number o };
+        (room_of P.Inx.greatest (record { reserved = LIMIT; limit = Some LIMIT })))
+        × IsOrdered P.Inx.number o };
 
     /// An arena without an entry, in an array.
     fn default() -> Self {

@@ -11,16 +11,18 @@ use triple_arena::{ArenaTrait, InvalidationOption, PtrCore};
 
 /// Takes the entries out of an arena, from the first of the list to the last.
 ///
-/// Each item is one removal, which steps the counter; it is `GenerationOverflow` where that step started the generations
-/// again. Dropped, at whatever item, it clears the arena: the entries that are left go at once, by one step of the counter
-/// more, which is made also where none is left, and no slot stays.
+/// Each item is one removal, which steps the counter; it is `GenerationOverflow` if that step
+/// started the generations again. Dropped, at whatever item, it clears the arena: the entries that
+/// are left go at once, by one step of the counter more, which is made also if none is left, and no
+/// slot stays.
 pub struct OrderedDrain<'a, P: PtrCore, T: Drop, S: OrdSlots<P, T>> {
     arena: &'a mut SimpleOrdArena<P, T, S>,
 }
 
 impl<P: PtrCore, T: Drop, S: OrdSlots<P, T>> SimpleOrdArena<P, T, S> {
-    /// Takes each entry out, from the first of the list to the last. Once the iterator is dropped the arena has no entry
-    /// and no slot, its counter has stepped once for each item and once more, and its room is as it was.
+    /// Takes each entry out, from the first of the list to the last. Once the iterator is dropped
+    /// the arena has no entry and no slot, its counter has stepped once for each item and once
+    /// more, and its room is as it was.
     pub fn drain_ordered(&mut self) -> OrderedDrain<'_, P, T, S>
         ensures entries { drain_arena result ≡ self.old }
         ensures same_reference { drain_lender result ≡ self.entry.ghost_name }
@@ -66,9 +68,12 @@ impl<'a, P: PtrCore, T: Drop, S: OrdSlots<P, T>> Iterator for OrderedDrain<'a, P
     }
 
     fn size_hint(&self) -> (usize, Option<usize>)
-        ensures lower { IsWithinCount result.0 (item_count (drain_rest P.Gen.last P.Inx.number) self.now) }
-        ensures upper { IfSome result.1 (UpTo (item_count (drain_rest P.Gen.last P.Inx.number) self.now)) }
-        ensures exact { result ≡ (size_in (drain_arena self.now), Some (size_in (drain_arena self.now))) }
+        ensures lower { IsWithinCount result.0
+            (item_count (drain_rest P.Gen.last P.Inx.number) self.now) }
+        ensures upper { IfSome result.1
+            (UpTo (item_count (drain_rest P.Gen.last P.Inx.number) self.now)) }
+        ensures exact { result
+            ≡ (size_in (drain_arena self.now), Some (size_in (drain_arena self.now))) }
     {
         let len = self.arena.len();
         (len, Some(len))

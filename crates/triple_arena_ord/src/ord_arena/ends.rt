@@ -13,7 +13,8 @@ use triple_arena::PtrCore;
 impl<P: PtrCore, T: Drop, S: OrdSlots<P, T>> SimpleOrdArena<P, T, S> {
     // The index of the first entry.
     pub(crate) fn first_index(&self) -> Option<P::Inx>
-        ensures at { option_map P.Inx.number result ≡ first_or (order_in P.Inx.number self.now) None }
+        ensures at { option_map P.Inx.number result
+            ≡ first_or (order_in P.Inx.number self.now) None }
         ensures ordered { IsOrdered P.Inx.number self.now }
     {
         self.first
@@ -21,7 +22,8 @@ impl<P: PtrCore, T: Drop, S: OrdSlots<P, T>> SimpleOrdArena<P, T, S> {
 
     // The index of the last entry.
     fn last_index(&self) -> Option<P::Inx>
-        ensures at { option_map P.Inx.number result ≡ last_or None (order_in P.Inx.number self.now) }
+        ensures at { option_map P.Inx.number result
+            ≡ last_or None (order_in P.Inx.number self.now) }
         ensures ordered { IsOrdered P.Inx.number self.now }
     {
         self.last
@@ -32,14 +34,16 @@ impl<P: PtrCore, T: Drop, S: OrdSlots<P, T>> SimpleOrdArena<P, T, S> {
         requires live { IsSome (entry_in self.now (P.Inx.number i)) }
         requires no_more { ⊤ }
         ensures index { P.index result ≡ P.Inx.number i }
-        ensures live { generation_at (entry_in self.now) (P.index result) ≡ Some (P.generation result) }
+        ensures live { generation_at (entry_in self.now) (P.index result)
+            ≡ Some (P.generation result) }
     {
         ptr_at(&self.chains, i)
     }
 
-    /// The pointer to the first entry of the list, or `None` where there is no entry.
+    /// The pointer to the first entry of the list, or `None` if there is no entry.
     pub fn first(&self) -> Option<P>
-        ensures { IsEnd P.index P.generation (first_or (order_in P.Inx.number self.now) None) result self.now }
+        ensures { IsEnd P.index P.generation (first_or (order_in P.Inx.number self.now) None)
+            result self.now }
     {
         match self.first_index() {
             Some(i) => Some(self.ptr_to(i)),
@@ -47,9 +51,10 @@ impl<P: PtrCore, T: Drop, S: OrdSlots<P, T>> SimpleOrdArena<P, T, S> {
         }
     }
 
-    /// The pointer to the last entry of the list, or `None` where there is no entry.
+    /// The pointer to the last entry of the list, or `None` if there is no entry.
     pub fn last(&self) -> Option<P>
-        ensures { IsEnd P.index P.generation (last_or None (order_in P.Inx.number self.now)) result self.now }
+        ensures { IsEnd P.index P.generation (last_or None (order_in P.Inx.number self.now))
+            result self.now }
     {
         match self.last_index() {
             Some(i) => Some(self.ptr_to(i)),

@@ -41,14 +41,15 @@ impl<'a, P: PtrCore, T: Drop, S: OrdSlots<P, T>> SimpleOrdArenaInsertEntry<'a, P
         }
     }
 
-    /// Stores `t` there, and answers the item that it replaces. It takes no memory and cannot fail.
+    /// Stores `t` there, and returns the item that it replaces. It takes no memory and cannot fail.
     pub fn insert(self, t: T) -> Option<T>
         requires { IsReady P.Inx.number P.index P.generation self }
 
         // `self.exit.0.now` is the arena as it is left.
         ensures inserted { IsInsertedAt P.Inx.number P.index P.generation
             (within_room (size_in (entry_arena self.entry)) (entry_arena self.entry).chains.room)
-            (entry_place P.Inx.number self.entry) t (Ok (self.entry.ptr, result)) (entry_arena self.entry) self.exit.0.now }
+            (entry_place P.Inx.number self.entry) t (Ok (self.entry.ptr, result))
+            (entry_arena self.entry) self.exit.0.now }
         ensures counter { self.exit.0.now.chains.counter ≡ (entry_arena self.entry).chains.counter }
         ensures room { self.exit.0.now.chains.room ≡ (entry_arena self.entry).chains.room }
         ensures ordered { IsOrdered P.Inx.number self.exit.0.now }
@@ -69,14 +70,17 @@ impl<'a, P: PtrCore, T: Drop, S: OrdSlots<P, T>> SimpleOrdArenaInsertEntry<'a, P
 }
 
 impl<P: PtrCore, T: Drop, S: OrdSlots<P, T>> SimpleOrdArena<P, T, S> {
-    // The pointer that an item gets at a place: that of the entry there, or a new one, if there is room for it.
+    // The pointer that an item gets at a place: that of the entry there, or a new one, if there is
+    // room for it.
     fn ptr_within_capacity(&mut self, place: Option<(P::Inx, Ordering)>) -> Option<P>
         requires live { IfSome place (λ a. IsSome (entry_in self.old (P.Inx.number a.0))) }
         requires empty { place ≡ None → size_in self.old ≡ 0 }
-        ensures ready { IfSome result (λ p. IsReadyAt (option_map (λ a. (P.Inx.number a.0, a.1)) place)
+        ensures ready { IfSome result
+            (λ p. IsReadyAt (option_map (λ a. (P.Inx.number a.0, a.1)) place)
             (P.index p) (P.generation p) self.old) }
         ensures full { IfNone result (capacity self.old.chains.room ≤ size_in self.old) }
-        ensures new { IfNone result (Replaces (option_map (λ a. (P.Inx.number a.0, a.1)) place) → ⊥) }
+        ensures new { IfNone result
+            (Replaces (option_map (λ a. (P.Inx.number a.0, a.1)) place) → ⊥) }
         ensures kept { self.new ≡ self.old }
     {
         if let Some(p) = found_at(&self.chains, place) {
@@ -85,20 +89,23 @@ impl<P: PtrCore, T: Drop, S: OrdSlots<P, T>> SimpleOrdArena<P, T, S> {
         self.chains.next_ptr()
     }
 
-    // The same, where the arena grows if a new entry is needed and there is no room.
+    // The same, but the arena grows if a new entry is needed and there is no room.
     fn ptr_reallocating(
         &mut self,
         place: Option<(P::Inx, Ordering)>,
     ) -> Result<P, OrdInsertionError>
         requires live { IfSome place (λ a. IsSome (entry_in self.old (P.Inx.number a.0))) }
         requires empty { place ≡ None → size_in self.old ≡ 0 }
-        ensures ready { IfOk result (λ p. IsReadyAt (option_map (λ a. (P.Inx.number a.0, a.1)) place)
+        ensures ready { IfOk result
+            (λ p. IsReadyAt (option_map (λ a. (P.Inx.number a.0, a.1)) place)
             (P.index p) (P.generation p) self.new) }
-        ensures grown { OnOk result (IsInRoom P.Inx.number (room_for (option_map (λ a. (P.Inx.number a.0, a.1)) place)
+        ensures grown { OnOk result
+            (IsInRoom P.Inx.number (room_for (option_map (λ a. (P.Inx.number a.0, a.1)) place)
             (size_in self.old) self.old.chains.room) self.old self.new) }
         ensures fits { OnOk result ((Replaces (option_map (λ a. (P.Inx.number a.0, a.1)) place) → ⊥)
             → growing_room S.takes_memory (size_in self.old) self.old.chains.room None) }
-        ensures new { (error : Refused) → result ≡ Err error → Replaces (option_map (λ a. (P.Inx.number a.0, a.1)) place) → ⊥ }
+        ensures new { (error : Refused) → result ≡ Err error
+            → Replaces (option_map (λ a. (P.Inx.number a.0, a.1)) place) → ⊥ }
         ensures refused { (error : Refused) → result ≡ Err error
             → growing_room S.takes_memory (size_in self.old) self.old.chains.room (Some error) }
         ensures err { OnErr result (self.new ≡ self.old) }
@@ -116,15 +123,17 @@ impl<P: PtrCore, T: Drop, S: OrdSlots<P, T>> SimpleOrdArena<P, T, S> {
 impl<P: PtrCore, T: SimpleOrdItem + Drop, S: OrdSlots<P, T>> SimpleOrdArena<P, T, S> {
     ghost use Rattle.triple_arena_ord.specs.contracts.ord_arena.SimpleOrdArena.{the_row};
 
-    /// A place for one item more, where the kind says. It answers `FailedOrdRequirement` for `Empty` where there is an entry,
-    /// and for `Manual` at an index that is not live; and else `NotWithinCapacity` where a new entry is needed and there is no
-    /// room. The entries stay as they are then.
+    /// A place for one item more, where the kind says. It returns `FailedOrdRequirement` for
+    /// `Empty` if there is an entry, and for `Manual` at an index that is not live; and else
+    /// `NotWithinCapacity` if a new entry is needed and there is no room. The entries stay as they
+    /// are then.
     pub fn entry_insert_within_capacity(
         &mut self,
         kind: OrdInsertKind<P, &T::Key>,
     ) -> Result<SimpleOrdArenaInsertEntry<'_, P, T, S>, OrdInsertionError>
         ensures answer { IsOrdAnswer (Meets P.Inx.number kind.entry self.old)
-            (IsPlaceFor P.Inx.number T.Key.cmp T.key_of kind.entry self.old) (entry_place P.Inx.number)
+            (IsPlaceFor P.Inx.number T.Key.cmp T.key_of kind.entry self.old)
+            (entry_place P.Inx.number)
             (within_room (size_in self.old) self.old.chains.room) result }
         ensures ready { IfOk result (λ e. IsReady P.Inx.number P.index P.generation e) }
         ensures same_reference { IfOk result (λ e. entry_lender e ≡ self.entry.ghost_name) }
@@ -147,18 +156,21 @@ impl<P: PtrCore, T: SimpleOrdItem + Drop, S: OrdSlots<P, T>> SimpleOrdArena<P, T
         }
     }
 
-    /// The same, where the arena grows if a new entry is needed and there is no room, as in `insert_reallocating`;
-    /// `BeyondMaxCapacity` and `AllocError`, too, leave the entries and the room as they were.
+    /// The same, but the arena grows if a new entry is needed and there is no room, as in
+    /// `insert_reallocating`; `BeyondMaxCapacity` and `AllocError`, too, leave the entries and the
+    /// room as they were.
     pub fn entry_insert_reallocating(
         &mut self,
         kind: OrdInsertKind<P, &T::Key>,
     ) -> Result<SimpleOrdArenaInsertEntry<'_, P, T, S>, OrdInsertionError>
         ensures answer { IsOrdAnswer (Meets P.Inx.number kind.entry self.old)
-            (IsPlaceFor P.Inx.number T.Key.cmp T.key_of kind.entry self.old) (entry_place P.Inx.number)
+            (IsPlaceFor P.Inx.number T.Key.cmp T.key_of kind.entry self.old)
+            (entry_place P.Inx.number)
             (growing_room S.takes_memory (size_in self.old) self.old.chains.room) result }
         ensures ready { IfOk result (λ e. IsReady P.Inx.number P.index P.generation e) }
         ensures same_reference { IfOk result (λ e. entry_lender e ≡ self.entry.ghost_name) }
-        ensures arena { IfOk result (λ e. IsInRoom P.Inx.number (room_for (entry_place P.Inx.number e)
+        ensures arena { IfOk result
+            (λ e. IsInRoom P.Inx.number (room_for (entry_place P.Inx.number e)
             (size_in self.old) self.old.chains.room) self.old (entry_arena e)) }
         ensures* err { sem 𝓛 (RestsIfErr
             (the_row P.row T.row S.row P.Inx.row P.Gen.row P.Inx.Word.row S.Alloc.row
@@ -182,11 +194,13 @@ impl<P: PtrCore, T: SimpleOrdItem + Drop, S: OrdSlots<P, T>> SimpleOrdArena<P, T
         kind: OrdInsertKind<P, &T::Key>,
     ) -> Result<SimpleOrdArenaInsertEntry<'_, P, T, S>, OrdInsertionError>
         ensures answer { IsOrdAnswer (Meets P.Inx.number kind.entry self.old)
-            (IsPlaceFor P.Inx.number T.Key.cmp T.key_of kind.entry self.old) (entry_place P.Inx.number)
+            (IsPlaceFor P.Inx.number T.Key.cmp T.key_of kind.entry self.old)
+            (entry_place P.Inx.number)
             (growing_room S.takes_memory (size_in self.old) self.old.chains.room) result }
         ensures ready { IfOk result (λ e. IsReady P.Inx.number P.index P.generation e) }
         ensures same_reference { IfOk result (λ e. entry_lender e ≡ self.entry.ghost_name) }
-        ensures arena { IfOk result (λ e. IsInRoom P.Inx.number (room_for (entry_place P.Inx.number e)
+        ensures arena { IfOk result
+            (λ e. IsInRoom P.Inx.number (room_for (entry_place P.Inx.number e)
             (size_in self.old) self.old.chains.room) self.old (entry_arena e)) }
         ensures* err { sem 𝓛 (RestsIfErr
             (the_row P.row T.row S.row P.Inx.row P.Gen.row P.Inx.Word.row S.Alloc.row

@@ -18,7 +18,8 @@ pub(crate) fn ptr_at<P: PtrCore, T: Drop, S: OrdSlots<P, T>>(
 ) -> P
     requires { IsSome (items_in chains.now (P.Inx.number i)) }
     ensures index { P.index result ≡ P.Inx.number i }
-    ensures live { generation_at (items_in chains.now) (P.index result) ≡ Some (P.generation result) }
+    ensures live { generation_at (items_in chains.now) (P.index result)
+        ≡ Some (P.generation result) }
 {
     match chains.get_inx(i) {
         Some(entry) => P::_from_raw(i, entry.0),
@@ -33,8 +34,10 @@ pub(crate) fn similar_at<P: PtrCore, T: Drop, S: OrdSlots<P, T>>(
 ) -> Option<(P, Ordering)>
     requires live { IfSome place (λ a. IsSome (items_in chains.now (P.Inx.number a.0))) }
     requires no_more { ⊤ }
-    ensures same { option_map {U = ℕ × Way} (λ a. (P.index a.0, a.1)) result ≡ option_map (λ a. (P.Inx.number a.0, a.1)) place }
-    ensures live { IfSome result (λ a. generation_at (items_in chains.now) (P.index a.0) ≡ Some (P.generation a.0)) }
+    ensures same { option_map {U = ℕ × Way} (λ a. (P.index a.0, a.1)) result
+        ≡ option_map (λ a. (P.Inx.number a.0, a.1)) place }
+    ensures live { IfSome result
+        (λ a. generation_at (items_in chains.now) (P.index a.0) ≡ Some (P.generation a.0)) }
 {
     match place {
         Some((i, answer)) => Some((ptr_at(chains, i), answer)),
@@ -50,9 +53,12 @@ pub(crate) fn found_at<P: PtrCore, T: Drop, S: OrdSlots<P, T>>(
     requires live { IfSome place (λ a. IsSome (items_in chains.now (P.Inx.number a.0))) }
     requires no_more { ⊤ }
     ensures some { (p : P) → result ≡ Some p
-        → option_map {U = ℕ × Way} (λ a. (P.Inx.number a.0, a.1)) place ≡ Some (P.index p, Way.Equal) }
-    ensures none { result ≡ None → (i : ℕ) → option_map {U = ℕ × Way} (λ a. (P.Inx.number a.0, a.1)) place ≢ Some (i, Way.Equal) }
-    ensures live { IfSome result (λ p. generation_at (items_in chains.now) (P.index p) ≡ Some (P.generation p)) }
+        → option_map {U = ℕ × Way} (λ a. (P.Inx.number a.0, a.1)) place
+        ≡ Some (P.index p, Way.Equal) }
+    ensures none { result ≡ None → (i : ℕ)
+        → option_map {U = ℕ × Way} (λ a. (P.Inx.number a.0, a.1)) place ≢ Some (i, Way.Equal) }
+    ensures live { IfSome result
+        (λ p. generation_at (items_in chains.now) (P.index p) ≡ Some (P.generation p)) }
 {
     match place {
         Some((i, answer)) => match answer {

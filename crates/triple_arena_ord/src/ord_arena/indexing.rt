@@ -13,7 +13,8 @@ impl<P: PtrCore, T: Drop, S: OrdSlots<P, T>> Index<P> for SimpleOrdArena<P, T, S
 
     ghost can_index = { λ o p. IsSome (value_if (P.generation p) (entry_in o (P.index p))) };
 
-    ghost index_gives = { λ o p item. value_if (P.generation p) (entry_in o (P.index p)) ≡ Some item };
+    ghost index_gives = { λ o p item. value_if (P.generation p) (entry_in o (P.index p))
+        ≡ Some item };
 
     fn index(&self, p: P) -> &T {
         match self.get(p) {
@@ -38,7 +39,8 @@ impl<P: PtrCore, T: Drop, S: OrdSlots<P, T>> IndexMut<P> for SimpleOrdArena<P, T
             P.PtrCore P.Inx.PtrInxCore.own P.Inx.PartialEq P.Gen.PtrGenCore.own P.Gen.PartialEq
             S.NonZeroInxGenericStack) T.row self.entry result
             (with_item self.old (P.index p))) }
-        ensures value { value_if (P.generation p) (entry_in self.old (P.index p)) ≡ Some result.now }
+        ensures value { value_if (P.generation p) (entry_in self.old (P.index p))
+            ≡ Some result.now }
     {
         self.get_inx_mut_unwrap(p.inx())
     }

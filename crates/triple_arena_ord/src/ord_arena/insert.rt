@@ -23,7 +23,8 @@ fn renew<P: PtrCore, T: Drop, S: OrdSlots<P, T>>(
 ) -> (P, T)
     requires { IsSome (knots_in P.Inx.number chains.old (P.Inx.number i)) }
     ensures index { P.index result.0 ≡ P.Inx.number i }
-    ensures renewed { IsRenewed P.Inx.number (P.index result.0) (P.generation result.0) t result.1 chains.old chains.new }
+    ensures renewed { IsRenewed P.Inx.number (P.index result.0)
+        (P.generation result.0) t result.1 chains.old chains.new }
 {
     match chains.get_inx(i) {
         Some(entry) => {
@@ -36,12 +37,13 @@ fn renew<P: PtrCore, T: Drop, S: OrdSlots<P, T>>(
     }
 }
 
-// What an insertion of a new entry answers.
+// What an insertion of a new entry returns.
 fn answer<P: Drop, T: Drop>(
     inserted: Result<P, NotWithinCapacityError>,
 ) -> Result<(P, Option<T>), OrdInsertionError>
     ensures ok { (p : P) → inserted ≡ Ok p → result ≡ Ok (p, None) }
-    ensures err { (e : NotWithinCapacityError) → inserted ≡ Err e → result ≡ Err OrdInsertionError.NotWithinCapacity }
+    ensures err { (e : NotWithinCapacityError) → inserted ≡ Err e
+        → result ≡ Err OrdInsertionError.NotWithinCapacity }
 {
     match inserted {
         Ok(p) => Ok((p, None)),
@@ -49,9 +51,10 @@ fn answer<P: Drop, T: Drop>(
     }
 }
 
-// What an insertion answers where a growth was refused.
+// What an insertion answers if a growth was refused.
 pub(crate) fn grown_error(error: ReallocationError) -> OrdInsertionError
-    ensures beyond { error ≡ ReallocationError.BeyondMaxCapacity → result ≡ OrdInsertionError.BeyondMaxCapacity }
+    ensures beyond { error ≡ ReallocationError.BeyondMaxCapacity
+        → result ≡ OrdInsertionError.BeyondMaxCapacity }
     ensures memory { error ≡ ReallocationError.AllocError → result ≡ OrdInsertionError.AllocError }
 {
     match error {
@@ -75,7 +78,8 @@ impl<P: PtrCore, T: Drop, S: OrdSlots<P, T>> SimpleOrdArena<P, T, S> {
     pub(crate) fn replace_item(&mut self, i: P::Inx, t: T) -> (P, T)
         requires { IsSome (knots_in P.Inx.number self.old.chains (P.Inx.number i)) }
         ensures index { P.index result.0 ≡ P.Inx.number i }
-        ensures replaced { IsReplaced P.Inx.number (P.index result.0) (P.generation result.0) t result.1 self.old self.new }
+        ensures replaced { IsReplaced P.Inx.number (P.index result.0)
+            (P.generation result.0) t result.1 self.old self.new }
         ensures ordered { IsOrdered P.Inx.number self.new }
     {
         renew(&mut self.chains, i, t)
@@ -88,9 +92,11 @@ impl<P: PtrCore, T: Drop, S: OrdSlots<P, T>> SimpleOrdArena<P, T, S> {
         place: Option<(P::Inx, Ordering)>,
         t: T,
     ) -> Result<(P, Option<T>), OrdInsertionError>
-        requires free { IfSome place (λ a. IsFreeAt a.1 (knots_in P.Inx.number self.old.chains (P.Inx.number a.0))) }
+        requires free { IfSome place
+            (λ a. IsFreeAt a.1 (knots_in P.Inx.number self.old.chains (P.Inx.number a.0))) }
         requires empty { place ≡ None → self.old.root ≡ None }
-        ensures inserted { IsInsertedAt P.Inx.number P.index P.generation (within_room (size_in self.old) self.old.chains.room)
+        ensures inserted { IsInsertedAt P.Inx.number P.index P.generation
+            (within_room (size_in self.old) self.old.chains.room)
             (option_map (λ a. (P.Inx.number a.0, a.1)) place) t result self.old self.new }
         ensures counter { self.new.chains.counter ≡ self.old.chains.counter }
         ensures room { self.new.chains.room ≡ self.old.chains.room }
@@ -109,19 +115,22 @@ impl<P: PtrCore, T: Drop, S: OrdSlots<P, T>> SimpleOrdArena<P, T, S> {
         }
     }
 
-    // The same, where the arena grows if a new entry is needed and there is no room.
+    // The same, but the arena grows if a new entry is needed and there is no room.
     pub(crate) fn insert_at_reallocating(
         &mut self,
         place: Option<(P::Inx, Ordering)>,
         t: T,
     ) -> Result<(P, Option<T>), OrdInsertionError>
-        requires free { IfSome place (λ a. IsFreeAt a.1 (knots_in P.Inx.number self.old.chains (P.Inx.number a.0))) }
+        requires free { IfSome place
+            (λ a. IsFreeAt a.1 (knots_in P.Inx.number self.old.chains (P.Inx.number a.0))) }
         requires empty { place ≡ None → self.old.root ≡ None }
         ensures inserted { IsInsertedAt P.Inx.number P.index P.generation
             (growing_room S.takes_memory (size_in self.old) self.old.chains.room)
             (option_map (λ a. (P.Inx.number a.0, a.1)) place) t result self.old self.new }
         ensures counter { self.new.chains.counter ≡ self.old.chains.counter }
-        ensures room { IfOk result (λ made. self.new.chains.room ≡ room_made made.1 (size_in self.old) self.old.chains.room) }
+        ensures room { IfOk result
+            (λ made. self.new.chains.room
+            ≡ room_made made.1 (size_in self.old) self.old.chains.room) }
         ensures ordered { IsOrdered P.Inx.number self.new }
     {
         if replaces(place) {
@@ -135,13 +144,15 @@ impl<P: PtrCore, T: Drop, S: OrdSlots<P, T>> SimpleOrdArena<P, T, S> {
 }
 
 impl<P: PtrCore, T: SimpleOrdItem + Drop, S: OrdSlots<P, T>> SimpleOrdArena<P, T, S> {
-    /// Puts an item in where its key belongs. Where an entry with an equal key is found its item is replaced, and answered,
-    /// whether or not there is room. Else there is a new entry; `NotWithinCapacity`, where there is no room for it, changes
-    /// nothing. A list whose keys ascend still does.
+    /// Puts an item in where its key belongs. If an entry with an equal key is found, its item is
+    /// replaced, and returned, whether or not there is room. Else there is a new entry;
+    /// `NotWithinCapacity`, if there is no room for it, changes nothing. A list whose keys ascend
+    /// still does.
     pub fn insert_within_capacity(&mut self, t: T) -> Result<(P, Option<T>), OrdInsertionError>
         ensures inserted { IsKeyInserted P.Inx.number T.Key.cmp T.key_of P.index P.generation
             (within_room (size_in self.old) self.old.chains.room) t result self.old self.new }
-        ensures ascending { IsAscending P.Inx.number T.Key.cmp T.key_of self.old → IsAscending P.Inx.number T.Key.cmp T.key_of self.new }
+        ensures ascending { IsAscending P.Inx.number T.Key.cmp T.key_of self.old
+            → IsAscending P.Inx.number T.Key.cmp T.key_of self.new }
         ensures counter { self.new.chains.counter ≡ self.old.chains.counter }
         ensures room { self.new.chains.room ≡ self.old.chains.room }
         ensures ordered { IsOrdered P.Inx.number self.new }
@@ -150,15 +161,20 @@ impl<P: PtrCore, T: SimpleOrdItem + Drop, S: OrdSlots<P, T>> SimpleOrdArena<P, T
         self.insert_at_within_capacity(place, t)
     }
 
-    /// The same, where the arena grows if there is no room for a new entry: to room for 4 at first, then for the double, and
-    /// never past its greatest capacity. `BeyondMaxCapacity`, where as many entries are live as the greatest capacity, and
-    /// `AllocError`, where the memory was refused, change nothing.
+    /// The same, but the arena grows if there is no room for a new entry: to room for 4 at first,
+    /// then for the double, and never past its greatest capacity. `BeyondMaxCapacity`, if as many
+    /// entries are live as the greatest capacity, and `AllocError`, if the memory was refused,
+    /// change nothing.
     pub fn insert_reallocating(&mut self, t: T) -> Result<(P, Option<T>), OrdInsertionError>
         ensures inserted { IsKeyInserted P.Inx.number T.Key.cmp T.key_of P.index P.generation
-            (growing_room S.takes_memory (size_in self.old) self.old.chains.room) t result self.old self.new }
-        ensures ascending { IsAscending P.Inx.number T.Key.cmp T.key_of self.old → IsAscending P.Inx.number T.Key.cmp T.key_of self.new }
+            (growing_room S.takes_memory (size_in self.old) self.old.chains.room) t result
+            self.old self.new }
+        ensures ascending { IsAscending P.Inx.number T.Key.cmp T.key_of self.old
+            → IsAscending P.Inx.number T.Key.cmp T.key_of self.new }
         ensures counter { self.new.chains.counter ≡ self.old.chains.counter }
-        ensures room { IfOk result (λ made. self.new.chains.room ≡ room_made made.1 (size_in self.old) self.old.chains.room) }
+        ensures room { IfOk result
+            (λ made. self.new.chains.room
+            ≡ room_made made.1 (size_in self.old) self.old.chains.room) }
         ensures ordered { IsOrdered P.Inx.number self.new }
     {
         let found = self.seek(t.key(), &mut Probes::new());
@@ -168,10 +184,14 @@ impl<P: PtrCore, T: SimpleOrdItem + Drop, S: OrdSlots<P, T>> SimpleOrdArena<P, T
     /// The same as `insert_reallocating`.
     pub fn insert(&mut self, t: T) -> Result<(P, Option<T>), OrdInsertionError>
         ensures inserted { IsKeyInserted P.Inx.number T.Key.cmp T.key_of P.index P.generation
-            (growing_room S.takes_memory (size_in self.old) self.old.chains.room) t result self.old self.new }
-        ensures ascending { IsAscending P.Inx.number T.Key.cmp T.key_of self.old → IsAscending P.Inx.number T.Key.cmp T.key_of self.new }
+            (growing_room S.takes_memory (size_in self.old) self.old.chains.room) t result
+            self.old self.new }
+        ensures ascending { IsAscending P.Inx.number T.Key.cmp T.key_of self.old
+            → IsAscending P.Inx.number T.Key.cmp T.key_of self.new }
         ensures counter { self.new.chains.counter ≡ self.old.chains.counter }
-        ensures room { IfOk result (λ made. self.new.chains.room ≡ room_made made.1 (size_in self.old) self.old.chains.room) }
+        ensures room { IfOk result
+            (λ made. self.new.chains.room
+            ≡ room_made made.1 (size_in self.old) self.old.chains.room) }
         ensures ordered { IsOrdered P.Inx.number self.new }
     {
         self.insert_reallocating(t)

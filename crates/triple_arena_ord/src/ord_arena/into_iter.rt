@@ -9,8 +9,8 @@ use std::iter::FusedIterator;
 use std::marker::Model;
 use triple_arena::{ArenaTrait, PtrCore};
 
-/// The pointers and the items of the entries, by value, from the first of the list to the last, seen as the list of those
-/// that are left. Dropped, it drops those.
+/// The pointers and the items of the entries, by value, from the first of the list to the last,
+/// seen as the list of those that are left. Dropped, it drops those.
 #[derive(Drop)]
 pub struct CapacityDrain<P: PtrCore, T: Drop, S: OrdSlots<P, T>> {
     arena: SimpleOrdArena<P, T, S>,
@@ -28,7 +28,8 @@ impl<P: PtrCore, T: Drop, S: OrdSlots<P, T>> Model for CapacityDrain<P, T, S> {
 impl<P: PtrCore, T: Drop, S: OrdSlots<P, T>> Iterator for CapacityDrain<P, T, S> {
     type Item = (P, T);
 
-    ghost next_gives = { YieldsFirstBy (λ e. (P.index e.0, (P.generation e.0, e.1))) (λ left. left) };
+    ghost next_gives = { YieldsFirstBy (λ e. (P.index e.0, (P.generation e.0, e.1)))
+        (λ left. left) };
 
     ghost remaining = { item_count (λ left. left) };
 

@@ -10,8 +10,8 @@ use std::iter::FusedIterator;
 use std::marker::Model;
 use triple_arena::{ArenaTrait, PtrCore, PtrInxCore};
 
-/// The pointers and the items of the entries, from the first of the list to the last, seen as the list of the entries that
-/// are left. It tells how many these are.
+/// The pointers and the items of the entries, from the first of the list to the last, seen as the
+/// list of the entries that are left. It tells how many these are.
 #[derive(Drop)]
 pub struct Iter<'a, P: PtrCore, T: Drop, S: OrdSlots<P, T>>
 where
@@ -36,7 +36,8 @@ where
 
     ghost view = { λ it. entries_left P.Inx.number it.arena.now it.advancer };
 
-    ghost invariant = { λ it. it.left ≡ length (entries_left P.Inx.number it.arena.now it.advancer) };
+    ghost invariant = { λ it. it.left
+        ≡ length (entries_left P.Inx.number it.arena.now it.advancer) };
 }
 
 impl<'a, P: PtrCore, T: Drop, S: OrdSlots<P, T>> Iterator for Iter<'a, P, T, S>
@@ -46,7 +47,8 @@ where
 {
     type Item = (P, &'a T);
 
-    ghost next_gives = { YieldsFirstBy (λ e. (P.index e.0, (P.generation e.0, e.1.now))) (λ left. left) };
+    ghost next_gives = { YieldsFirstBy (λ e. (P.index e.0, (P.generation e.0, e.1.now)))
+        (λ left. left) };
 
     ghost remaining = { item_count (λ left. left) };
 

@@ -17,8 +17,9 @@ use crate::IndexNode;
 use triple_arena::{AllocError, PtrCore, ReallocationError};
 use triple_arena_chain::{ChainArena, ChainSlots, IndexLink, LinkCloneSource};
 
-// What becomes a copy of a source of the type `A`. It stands between the chain arena's call and `copy_items`, so that the
-// closure there is in a function that knows nothing of pointers and arenas: the check of its call grows with what is known.
+// What becomes a copy of a source of the type `A`. It stands between the chain arena's call and
+// `copy_items`, so that the closure there is in a function that knows nothing of pointers and
+// arenas: the check of its call grows with what is known.
 pub(crate) trait CopiesLinks<P: PtrCore, L: Drop, U: Drop, A> {
     ghost links: { A → List (ℕ × (ℕ × L)) };
 
@@ -31,7 +32,7 @@ pub(crate) trait CopiesLinks<P: PtrCore, L: Drop, U: Drop, A> {
 
     ghost is_beyond: { A → Self → Type 0 };
 
-    // What is left where the memory, or the map, refused.
+    // What is left if the memory, or the map, refused.
     ghost is_left: { A → Self → Self → Type 0 };
 
     ghost is_emptied: { A → Self → Self → Type 0 };

@@ -18,8 +18,9 @@ use triple_arena::{InvalidationOption, PtrCore, PtrInxCore, ReallocationError};
 use triple_arena_chain::{ChainArena, ChainSlots};
 use triple_arena_ptr::OptionalInx;
 
-// What takes over the links of a source of the type `A`. It stands between the chain arena's call and `move_items`, so that
-// the closure there is in a function that knows nothing of arenas: the check of its call grows with what is known.
+// What takes over the links of a source of the type `A`. It stands between the chain arena's call
+// and `move_items`, so that the closure there is in a function that knows nothing of arenas: the
+// check of its call grows with what is known.
 pub(crate) trait MovesLinks<Q: Copy, V: Drop, P: Copy, W: Drop, N, A> {
     ghost number: { N → ℕ };
 
@@ -66,10 +67,12 @@ pub(crate) trait MovesLinks<Q: Copy, V: Drop, P: Copy, W: Drop, N, A> {
         G: FnMut(Q, InvalidationOption<V>, P) -> W,
         requires callable { G.IsAlwaysCallable map }
         requires no_more { ⊤ }
-        ensures moved { OnOk result ((order : List (ℕ × (ℕ × V))) × (is_moved source.old order self.new
+        ensures moved { OnOk result ((order : List (ℕ × (ℕ × V)))
+            × (is_moved source.old order self.new
             × IsTransferred old_index old_generation index generation G.step map last
             (counter source.old) order (values self.new))) }
-        ensures filled { OnOk result (is_filled (number new_generation) source.old self.old self.new) }
+        ensures filled { OnOk result
+            (is_filled (number new_generation) source.old self.old self.new) }
         ensures given_up { OnOk result (source.new ≡ given_up source.old) }
         ensures formed { is_formed self.new }
         ensures source_formed { is_source_formed source.new }
@@ -108,7 +111,8 @@ where
 
     ghost is_moved = { λ a order b. IsMovedAlong Q.Inx.number P.Inx.number order a b };
 
-    ghost is_filled = { λ g a old new. IsFilled values_in live_count some_counter room_in listed_values
+    ghost is_filled = { λ g a old new. IsFilled values_in live_count some_counter room_in
+        listed_values
         (live_count a) g (room_with (live_count a) (room_in old)) old new };
 
     ghost given_up = { drained Q.Gen.last };
@@ -173,7 +177,8 @@ fn item_of<V: HoldsItem<U>, U: Drop>(node: InvalidationOption<V>) -> Invalidatio
     }
 }
 
-// Moves the nodes of `source` to `target`, each with what `map` makes of its item, and forgets the tree.
+// Moves the nodes of `source` to `target`, each with what `map` makes of its item, and forgets the
+// tree.
 pub(crate) fn move_items<Q, V, U, P, W, T, N, A, B, F>(
     target: &mut B,
     new_generation: N,
@@ -195,7 +200,8 @@ where
         × IsTransferred B.old_index B.old_generation B.index B.generation F.step map B.last
         (B.counter source.old) (list_map (with_part V.item) order)
         (list_map (with_part W.item) (B.values target.new)))) }
-    ensures filled { OnOk result (B.is_filled (B.number new_generation) source.old target.old target.new) }
+    ensures filled { OnOk result
+        (B.is_filled (B.number new_generation) source.old target.old target.new) }
     ensures given_up { OnOk result (source.new ≡ B.given_up source.old) }
     ensures formed { B.is_formed target.new }
     ensures source_formed { B.is_source_formed source.new }

@@ -14,9 +14,10 @@ use triple_arena_ptr::OrdInsertionError;
 use unreached::unreached;
 
 impl<P: PtrCore, T: Drop, S: OrdSlots<P, T>> SimpleOrdArena<P, T, S> {
-    /// Puts an item in at an entry that is live, whatever the keys are: `Equal` replaces the item there, and answers it,
-    /// `Less` puts a new entry directly before it, `Greater` directly after it. Where there is no room for a new entry the
-    /// arena grows, as in `insert_reallocating`; `BeyondMaxCapacity` and `AllocError` change nothing.
+    /// Puts an item in at an entry that is live, whatever the keys are: `Equal` replaces the item
+    /// there, and returns it, `Less` puts a new entry directly before it, `Greater` directly after
+    /// it. If there is no room for a new entry, the arena grows, as in `insert_reallocating`;
+    /// `BeyondMaxCapacity` and `AllocError` change nothing.
     pub fn insert_inx_manual(
         &mut self,
         p: P::Inx,
@@ -24,11 +25,14 @@ impl<P: PtrCore, T: Drop, S: OrdSlots<P, T>> SimpleOrdArena<P, T, S> {
         t: T,
     ) -> Result<Option<T>, OrdInsertionError>
         requires { IsSome (entry_in self.old (P.Inx.number p)) }
-        ensures inserted { (q : ℕ × ℕ) × IsInsertedAt P.Inx.number (λ (q : ℕ × ℕ). q.0) (λ (q : ℕ × ℕ). q.1)
+        ensures inserted { (q : ℕ × ℕ)
+            × IsInsertedAt P.Inx.number (λ (q : ℕ × ℕ). q.0) (λ (q : ℕ × ℕ). q.1)
             (growing_room S.takes_memory (size_in self.old) self.old.chains.room)
             (Some (P.Inx.number p, direction)) t (under q result) self.old self.new }
         ensures counter { self.new.chains.counter ≡ self.old.chains.counter }
-        ensures room { IfOk result (λ replaced. self.new.chains.room ≡ room_made replaced (size_in self.old) self.old.chains.room) }
+        ensures room { IfOk result
+            (λ replaced. self.new.chains.room
+            ≡ room_made replaced (size_in self.old) self.old.chains.room) }
         ensures ordered { IsOrdered P.Inx.number self.new }
     {
         let place = self.settle(Some((p, direction)));
@@ -38,7 +42,7 @@ impl<P: PtrCore, T: Drop, S: OrdSlots<P, T>> SimpleOrdArena<P, T, S> {
         }
     }
 
-    /// Puts an item in at a known place, for which there is room, and answers its pointer: as the
+    /// Puts an item in at a known place, for which there is room, and returns its pointer: as the
     /// only one, by `None`, if there is no entry; else directly before an entry that is live, by
     /// `Less`, or directly after it, by `Greater`. No key is compared.
     pub fn insert_inx_manual_within_capacity(

@@ -8,7 +8,8 @@ ghost use Rattle.triple_arena_ord.specs.Copies.{listed_items};
 use crate::ord_arena::link_moves::HoldsItem;
 use triple_arena::{ArenaTrait, InvalidationOption, PtrCore};
 
-// Moves the nodes to the first indexes, each with what `map` makes of its item, and forgets the tree.
+// Moves the nodes to the first indexes, each with what `map` makes of its item, and forgets the
+// tree.
 pub(crate) fn compact_nodes<P, N, T, A, F>(
     arena: &mut A,
     reset: bool,
@@ -28,7 +29,8 @@ where
         (list_map generation_of (A.live_entries arena.old)) }
     ensures compressed { IsCompressed A.entry_at A.live_count A.counter A.room P.Gen.last
         A.live_entries reset arena.old arena.new }
-    ensures exact { A.is_compressed arena.old reset (list_map value_of (A.live_entries arena.new)) arena.new }
+    ensures exact { A.is_compressed arena.old reset
+        (list_map value_of (A.live_entries arena.new)) arena.new }
 {
     arena.compress_with(
         reset,

@@ -1,4 +1,4 @@
-//! The greatest capacity of an ordered arena, where it can be set.
+//! The greatest capacity of an ordered arena, if it can be set.
 ghost use Rattle.triple_arena.specs.Content.{last_index as last_index_of, with_limit as with_limit_of};
 
 use crate::{SimpleOrdArena, SimpleOrdArenaNode};
@@ -16,9 +16,9 @@ impl<
 
     ghost with_limit = { λ o max. record o { chains = with_limit_of P.Inx.greatest o.chains max } };
 
-    /// Sets the greatest capacity to `max`, as far as the pointers' indexes reach, or changes nothing where the last
-    /// live index is past `max`. Where there are slots past `max`, the free slots at the end are popped first. The list and
-    /// the tree stay.
+    /// Sets the greatest capacity to `max`, as far as the pointers' indexes reach, or changes
+    /// nothing if the last live index is past `max`. If there are slots past `max`, the free slots
+    /// at the end are popped first. The list and the tree stay.
     fn set_max_capacity(&mut self, max: usize) -> Result<(), MaxCapacityReductionError> {
         self.chains.set_max_capacity(max)
     }

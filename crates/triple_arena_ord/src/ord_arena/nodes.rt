@@ -11,7 +11,8 @@ use triple_arena::PtrCore;
 use triple_arena_chain::{ChainArenaTrait, LinkNoGen};
 
 impl<P: PtrCore, T: Drop, S: OrdSlots<P, T>> SimpleOrdArena<P, T, S> {
-    /// The generation and the item at an index, if it is live, with the indexes of its neighbors in the list.
+    /// The generation and the item at an index, if it is live, with the indexes of its neighbors in
+    /// the list.
     pub fn get_inx_link_no_gen(&self, i: P::Inx) -> Option<(P::Gen, LinkNoGen<P, &T>)>
         ensures link { option_map (λ e. (P.Gen.number e.0, read_link e.1)) result
             ≡ option_map bare (entry_at self.now.chains (P.Inx.number i)) }
@@ -28,7 +29,8 @@ impl<P: PtrCore, T: Drop, S: OrdSlots<P, T>> SimpleOrdArena<P, T, S> {
         }
     }
 
-    /// The generation at an index, if it is live, and its link in the list, whose value is the node of the tree.
+    /// The generation at an index, if it is live, and its link in the list, whose value is the node
+    /// of the tree.
     pub fn get_inx_node(
         &self,
         i: P::Inx,

@@ -12,7 +12,8 @@ use triple_arena_ptr::Probes;
 
 // Directly before an entry in place of in it.
 fn before_equal<I: PtrInxCore>(place: Option<(I, Ordering)>) -> Option<(I, Ordering)>
-    ensures { option_map (λ a. (I.number a.0, a.1)) result ≡ before_equal (option_map (λ a. (I.number a.0, a.1)) place) }
+    ensures { option_map (λ a. (I.number a.0, a.1)) result
+        ≡ before_equal (option_map (λ a. (I.number a.0, a.1)) place) }
 {
     match place {
         Some((i, direction)) => match direction {
@@ -27,7 +28,8 @@ fn before_equal<I: PtrInxCore>(place: Option<(I, Ordering)>) -> Option<(I, Order
 impl<P: PtrCore, T: SimpleOrdItem + Drop, S: OrdSlots<P, T>> SimpleOrdArena<P, T, S> {
     // The place for a key.
     fn place_by_key(&self, k: &T::Key) -> Option<(P::Inx, Ordering)>
-        ensures by_key { IsPlaceByKey P.Inx.number T.Key.cmp T.key_of k.now self.now (option_map (λ a. (P.Inx.number a.0, a.1)) result) }
+        ensures by_key { IsPlaceByKey P.Inx.number T.Key.cmp T.key_of k.now self.now
+            (option_map (λ a. (P.Inx.number a.0, a.1)) result) }
         ensures live { IfSome result (λ a. IsSome (entry_in self.now (P.Inx.number a.0))) }
         ensures empty { result ≡ None → size_in self.now ≡ 0 }
     {
@@ -36,7 +38,8 @@ impl<P: PtrCore, T: SimpleOrdItem + Drop, S: OrdSlots<P, T>> SimpleOrdArena<P, T
 
     // The same, after a search along the list.
     fn place_near(&self, p_init: P::Inx, num: usize, k: &T::Key) -> Option<(P::Inx, Ordering)>
-        ensures by_key { IsPlaceByKey P.Inx.number T.Key.cmp T.key_of k.now self.now (option_map (λ a. (P.Inx.number a.0, a.1)) result) }
+        ensures by_key { IsPlaceByKey P.Inx.number T.Key.cmp T.key_of k.now self.now
+            (option_map (λ a. (P.Inx.number a.0, a.1)) result) }
         ensures live { IfSome result (λ a. IsSome (entry_in self.now (P.Inx.number a.0))) }
         ensures empty { result ≡ None → size_in self.now ≡ 0 }
     {
@@ -49,7 +52,8 @@ impl<P: PtrCore, T: SimpleOrdItem + Drop, S: OrdSlots<P, T>> SimpleOrdArena<P, T
         k: &T::Key,
         near: Option<(P::Inx, usize)>,
     ) -> Option<(P::Inx, Ordering)>
-        ensures before { IsPlaceBeforeEqual P.Inx.number T.Key.cmp T.key_of k.now self.now (option_map (λ a. (P.Inx.number a.0, a.1)) result) }
+        ensures before { IsPlaceBeforeEqual P.Inx.number T.Key.cmp T.key_of k.now self.now
+            (option_map (λ a. (P.Inx.number a.0, a.1)) result) }
         ensures live { IfSome result (λ a. IsSome (entry_in self.now (P.Inx.number a.0))) }
         ensures empty { result ≡ None → size_in self.now ≡ 0 }
     {
@@ -66,9 +70,11 @@ impl<P: PtrCore, T: SimpleOrdItem + Drop, S: OrdSlots<P, T>> SimpleOrdArena<P, T
         kind: OrdInsertKind<P, &T::Key>,
     ) -> Option<Option<(P::Inx, Ordering)>>
         ensures meets { IsSome result ↔ Meets P.Inx.number kind.entry self.now }
-        ensures place { IfSome result (λ place. IsPlaceFor P.Inx.number T.Key.cmp T.key_of kind.entry self.now
+        ensures place { IfSome result
+            (λ place. IsPlaceFor P.Inx.number T.Key.cmp T.key_of kind.entry self.now
             (option_map (λ a. (P.Inx.number a.0, a.1)) place)) }
-        ensures live { IfSome result (λ place. IfSome place (λ a. IsSome (entry_in self.now (P.Inx.number a.0)))) }
+        ensures live { IfSome result
+            (λ place. IfSome place (λ a. IsSome (entry_in self.now (P.Inx.number a.0)))) }
         ensures empty { IfSome result (λ place. place ≡ None → size_in self.now ≡ 0) }
         ensures ordered { IsOrdered P.Inx.number self.now }
     {

@@ -19,13 +19,15 @@ impl<N, I: PtrInxCore<Word = W>, W: Copy, T: Recast<N>> Recast<N>
     }
 }
 
-/// What is renamed is what the items of the arena hold, in the order of the indexes. The list and the tree stay.
+/// What is renamed is what the items of the arena hold, in the order of the indexes. The list and
+/// the tree stay.
 impl<N, P: PtrCore, T: Recast<N> + Drop, S: OrdSlots<P, T>> Recast<N> for SimpleOrdArena<P, T, S> {
     ghost items = { items_of T.items };
 
     ghost recasted = { λ f o. recasted_in T.items f (T.recasted f) o };
 
-    ghost items_recasted = { λ f o. items-recasted_in T.items f (T.recasted f) (T.items_recasted f) o };
+    ghost items_recasted = { λ f o. items-recasted_in T.items f (T.recasted f)
+        (T.items_recasted f) o };
 
     fn recast<R: Recaster<Item = N>>(&mut self, recaster: &R) -> Result<(), N> {
         self.chains.recast(recaster)

@@ -23,7 +23,8 @@ pub(crate) fn neighbors<P: PtrCore, T: Drop, S: OrdSlots<P, T>>(
     i: P::Inx,
 ) -> (Option<P::Inx>, Option<P::Inx>)
     requires { IsSome (knots_in P.Inx.number chains.now (P.Inx.number i)) }
-    ensures { ends_in P.Inx.number chains.now (P.Inx.number i) ≡ Some (option_map P.Inx.number result.0, option_map P.Inx.number result.1) }
+    ensures { ends_in P.Inx.number chains.now (P.Inx.number i)
+        ≡ Some (option_map P.Inx.number result.0, option_map P.Inx.number result.1) }
 {
     match chains.get_inx_link_no_gen(i) {
         Some((_, link)) => (link.prev(), link.next()),
@@ -48,9 +49,13 @@ fn end_at<I: PtrInxCore>(end: &mut Option<I>, gone: I, neighbor: Option<I>)
 fn item_of<P: PtrCore, T>(
     taken: InvalidationResult<(P::Gen, LinkNoGen<P, SimpleOrdArenaNode<P, T>>)>,
 ) -> InvalidationResult<(P::Gen, T)>
-    ensures value { option_map {U = ℕ × T} (λ a. let v : P.Gen × T = value_of a in (P.Gen.number v.0, v.1)) (answer_of result)
-        ≡ option_map (λ a. let v : P.Gen × IndexLink P.Inx (IndexNode P.Inx T) = value_of a in (P.Gen.number v.0, v.1.t.t)) (answer_of taken) }
-    ensures overflow { option_map overflowed (answer_of result) ≡ option_map overflowed (answer_of taken) }
+    ensures value { option_map {U = ℕ × T}
+        (λ a. let v : P.Gen × T = value_of a in (P.Gen.number v.0, v.1)) (answer_of result)
+        ≡ option_map (λ a. let v : P.Gen
+        × IndexLink P.Inx (IndexNode P.Inx T) = value_of a in (P.Gen.number v.0, v.1.t.t))
+        (answer_of taken) }
+    ensures overflow { option_map overflowed (answer_of result)
+        ≡ option_map overflowed (answer_of taken) }
 {
     match taken {
         InvalidationResult::Success((generation, link)) => {
@@ -69,9 +74,12 @@ impl<P: PtrCore, T: Drop, S: OrdSlots<P, T>> SimpleOrdArena<P, T, S> {
     pub(crate) fn remove_live(&mut self, gone: P::Inx) -> InvalidationResult<(P::Gen, T)>
         requires live { IsSome (knots_in P.Inx.number self.old.chains (P.Inx.number gone)) }
         requires no_more { ⊤ }
-        ensures removed { IsEntryRemoved P.Inx.number P.Gen.last (P.Inx.number gone) self.old self.new }
-        ensures value { option_map (λ a. (P.Gen.number (value_of a).0, (value_of a).1)) (answer_of result) ≡ entry_in self.old (P.Inx.number gone) }
-        ensures overflow { option_map overflowed (answer_of result) ≡ Some (next_wraps P.Gen.last self.old.chains.counter) }
+        ensures removed { IsEntryRemoved P.Inx.number P.Gen.last
+            (P.Inx.number gone) self.old self.new }
+        ensures value { option_map (λ a. (P.Gen.number (value_of a).0, (value_of a).1))
+            (answer_of result) ≡ entry_in self.old (P.Inx.number gone) }
+        ensures overflow { option_map overflowed (answer_of result)
+            ≡ Some (next_wraps P.Gen.last self.old.chains.counter) }
         ensures ordered { IsOrdered P.Inx.number self.new }
     {
         let (prev, next) = neighbors(&self.chains, gone);

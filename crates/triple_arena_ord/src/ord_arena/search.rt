@@ -22,8 +22,11 @@ impl<P: PtrCore, T: SimpleOrdItem + Drop, S: OrdSlots<P, T>> SimpleOrdArena<P, T
     pub(crate) fn seek(&self, k: &T::Key, probes: &mut Probes) -> Option<(P::Inx, Ordering)>
         ensures answer { IsAnswer (asked_at T.Key.cmp T.key_of k.now self.now)
             (tree_in P.Inx.number self.now) (option_map (λ a. (P.Inx.number a.0, a.1)) result) }
-        ensures free { IfSome result (λ a. IsFreeAt a.1 (knots_in P.Inx.number self.now.chains (P.Inx.number a.0))) }
-        ensures ticks { probes.new ≡ probes.old + asked_down (asked_at T.Key.cmp T.key_of k.now self.now) (tree_in P.Inx.number self.now) }
+        ensures free { IfSome result
+            (λ a. IsFreeAt a.1 (knots_in P.Inx.number self.now.chains (P.Inx.number a.0))) }
+        ensures ticks { probes.new ≡ probes.old
+            + asked_down (asked_at T.Key.cmp T.key_of k.now self.now)
+            (tree_in P.Inx.number self.now) }
         ensures bound { probes.new ≤ probes.old + rank_of (tree_in P.Inx.number self.now) }
         ensures ordered { IsOrdered P.Inx.number self.now }
     {
@@ -52,10 +55,10 @@ impl<P: PtrCore, T: SimpleOrdItem + Drop, S: OrdSlots<P, T>> SimpleOrdArena<P, T
         place
     }
 
-    /// Whether the bound on the comparisons of a search surely leaves one more than any search takes
-    /// here. If so, a caller may look at one entry before it searches. The rank of the root tells
-    /// it, at no comparison: the answer is yes if `2^h` is at most the number of entries, where h is
-    /// the half of that rank and 3.
+    /// Whether the bound on the comparisons of a search surely leaves one more than any search
+    /// takes here. If so, a caller may look at one entry before it searches. The rank of the root
+    /// tells it, at no comparison: the answer is yes if `2^h` is at most the number of entries,
+    /// where h is the half of that rank and 3.
     pub fn spares_a_comparison(&self) -> bool
         ensures told { result
             ≡ spares (rank_of (tree_in P.Inx.number self.now)) (size_in self.now) }
@@ -73,13 +76,16 @@ impl<P: PtrCore, T: SimpleOrdItem + Drop, S: OrdSlots<P, T>> SimpleOrdArena<P, T
         }
     }
 
-    /// The pointer to an entry with an equal key; in a list whose keys ascend, exactly where there is one. Each comparison is a
-    /// tick, one at each entry on the way down from the root, and among n entries there are at most c of them, where c is the
-    /// greatest number with `2^(c+1) <= (n+1)^2`; there is none in an empty arena.
+    /// The pointer to an entry with an equal key; in a list whose keys ascend, exactly if there is
+    /// one. Each comparison is a tick, one at each entry on the way down from the root, and among n
+    /// entries there are at most c of them, where c is the greatest number with
+    /// `2^(c+1) <= (n+1)^2`; there is none in an empty arena.
     pub fn find_key_counted(&self, k: &T::Key, probes: &mut Probes) -> Option<P>
         ensures found { IsFound P.index P.generation (asked_at T.Key.cmp T.key_of k.now self.now)
             (IsAscending P.Inx.number T.Key.cmp T.key_of self.now) result self.now }
-        ensures ticks { probes.new ≡ probes.old + asked_down (asked_at T.Key.cmp T.key_of k.now self.now) (tree_in P.Inx.number self.now) }
+        ensures ticks { probes.new ≡ probes.old
+            + asked_down (asked_at T.Key.cmp T.key_of k.now self.now)
+            (tree_in P.Inx.number self.now) }
         ensures bound { probes.new ≤ probes.old + most_comparisons (size_in self.now) }
     {
         let place = self.seek(k, probes);
@@ -94,13 +100,17 @@ impl<P: PtrCore, T: SimpleOrdItem + Drop, S: OrdSlots<P, T>> SimpleOrdArena<P, T
         self.find_key_counted(k, &mut Probes::new())
     }
 
-    /// The pointer to an entry with an equal key, or else to one beside which the key belongs, and what the key compares as
-    /// with the entry's; `None` where there is no entry. Where the keys do not ascend it is some entry. Each comparison is a
-    /// tick, and there are as many at most as `find_key_counted` says.
+    /// The pointer to an entry with an equal key, or else to one beside which the key belongs, and
+    /// what the key compares as with the entry's; `None` if there is no entry. If the keys do not
+    /// ascend, it is some entry. Each comparison is a tick, and there are as many at most as
+    /// `find_key_counted` says.
     pub fn find_similar_key_counted(&self, k: &T::Key, probes: &mut Probes) -> Option<(P, Ordering)>
-        ensures similar { IsSimilar P.index P.generation P.Inx.number (asked_at T.Key.cmp T.key_of k.now self.now)
+        ensures similar { IsSimilar P.index P.generation P.Inx.number
+            (asked_at T.Key.cmp T.key_of k.now self.now)
             (IsAscending P.Inx.number T.Key.cmp T.key_of self.now) result self.now }
-        ensures ticks { probes.new ≡ probes.old + asked_down (asked_at T.Key.cmp T.key_of k.now self.now) (tree_in P.Inx.number self.now) }
+        ensures ticks { probes.new ≡ probes.old
+            + asked_down (asked_at T.Key.cmp T.key_of k.now self.now)
+            (tree_in P.Inx.number self.now) }
         ensures bound { probes.new ≤ probes.old + most_comparisons (size_in self.now) }
     {
         let place = self.seek(k, probes);
@@ -109,7 +119,8 @@ impl<P: PtrCore, T: SimpleOrdItem + Drop, S: OrdSlots<P, T>> SimpleOrdArena<P, T
 
     /// The same, with no count.
     pub fn find_similar_key(&self, k: &T::Key) -> Option<(P, Ordering)>
-        ensures { IsSimilar P.index P.generation P.Inx.number (asked_at T.Key.cmp T.key_of k.now self.now)
+        ensures { IsSimilar P.index P.generation P.Inx.number
+            (asked_at T.Key.cmp T.key_of k.now self.now)
             (IsAscending P.Inx.number T.Key.cmp T.key_of self.now) result self.now }
     {
         self.find_similar_key_counted(k, &mut Probes::new())

@@ -19,8 +19,8 @@ use triple_arena_chain::ChainArena;
 use triple_arena_ptr::Probes;
 
 impl<P: PtrCore, T: SimpleOrdItem + Drop, S: OrdSlots<P, T>> SimpleOrdArena<P, T, S> {
-    // Where a search by key ends that goes along the list first, from an index, for at most `num` comparisons. The entry there
-    // may have a child on the side of the gap.
+    // Where a search by key ends that goes along the list first, from an index, for at most `num`
+    // comparisons. The entry there may have a child on the side of the gap.
     pub(crate) fn seek_linear(
         &self,
         p_init: P::Inx,
@@ -33,13 +33,18 @@ impl<P: PtrCore, T: SimpleOrdItem + Drop, S: OrdSlots<P, T>> SimpleOrdArena<P, T
         ensures rises { probes.old ≤ probes.new }
         ensures ticks { probes.new ≤ probes.old + (num + rank_of (tree_in P.Inx.number self.now)) }
         ensures gone { entry_in self.now (P.Inx.number p_init) ≡ None
-            → probes.new ≡ probes.old + asked_down (asked_at T.Key.cmp T.key_of k.now self.now) (tree_in P.Inx.number self.now) }
-        ensures counted { IsSome (entry_in self.now (P.Inx.number p_init)) → (on : On (order_in P.Inx.number self.now) (P.Inx.number p_init))
-            → IsPlaceCounted num (asked_down (asked_at T.Key.cmp T.key_of k.now self.now) (tree_in P.Inx.number self.now))
+            → probes.new ≡ probes.old + asked_down (asked_at T.Key.cmp T.key_of k.now self.now)
+            (tree_in P.Inx.number self.now) }
+        ensures counted { IsSome (entry_in self.now (P.Inx.number p_init))
+            → (on : On (order_in P.Inx.number self.now) (P.Inx.number p_init))
+            → IsPlaceCounted num (asked_down (asked_at T.Key.cmp T.key_of k.now self.now)
+            (tree_in P.Inx.number self.now))
             (path_from (asked_at T.Key.cmp T.key_of k.now self.now) on) probes.old probes.new }
-        ensures near { IsParted (asked_at T.Key.cmp T.key_of k.now self.now) (order_in P.Inx.number self.now)
+        ensures near { IsParted (asked_at T.Key.cmp T.key_of k.now self.now)
+            (order_in P.Inx.number self.now)
             → IsSome (entry_in self.now (P.Inx.number p_init))
-            → IsAtHand num (asked_at T.Key.cmp T.key_of k.now self.now) (order_in P.Inx.number self.now) (P.Inx.number p_init)
+            → IsAtHand num (asked_at T.Key.cmp T.key_of k.now self.now)
+            (order_in P.Inx.number self.now) (P.Inx.number p_init)
             → probes.new ≤ probes.old + num }
         ensures ordered { IsOrdered P.Inx.number self.now }
     {
@@ -58,10 +63,11 @@ impl<P: PtrCore, T: SimpleOrdItem + Drop, S: OrdSlots<P, T>> SimpleOrdArena<P, T
         }
     }
 
-    /// As `find_key_counted`, but first it compares with the entry of `p_init` and goes on from there along the list, in one
-    /// direction, for at most `num` comparisons, one at each entry, and a tick each. Where these find no equal key, or `p_init`
-    /// points to no entry, it searches from the root. In a list whose keys ascend `num` comparisons are enough where an entry
-    /// with an equal key stands less than `num` steps from that of `p_init`.
+    /// As `find_key_counted`, but first it compares with the entry of `p_init` and goes on from
+    /// there along the list, in one direction, for at most `num` comparisons, one at each entry,
+    /// and a tick each. If these find no equal key, or `p_init` points to no entry, it searches
+    /// from the root. In a list whose keys ascend `num` comparisons are enough if an entry with an
+    /// equal key stands less than `num` steps from that of `p_init`.
     pub fn find_key_linear_counted(
         &self,
         p_init: P,
@@ -74,13 +80,18 @@ impl<P: PtrCore, T: SimpleOrdItem + Drop, S: OrdSlots<P, T>> SimpleOrdArena<P, T
         ensures rises { probes.old ≤ probes.new }
         ensures bound { probes.new ≤ probes.old + (num + most_comparisons (size_in self.now)) }
         ensures gone { value_if (P.generation p_init) (entry_in self.now (P.index p_init)) ≡ None
-            → probes.new ≡ probes.old + asked_down (asked_at T.Key.cmp T.key_of k.now self.now) (tree_in P.Inx.number self.now) }
-        ensures counted { IsSome (value_if (P.generation p_init) (entry_in self.now (P.index p_init))) → (on : On (order_in P.Inx.number self.now) (P.index p_init))
-            → IsKeyCounted num (asked_down (asked_at T.Key.cmp T.key_of k.now self.now) (tree_in P.Inx.number self.now)) (asked_at T.Key.cmp T.key_of k.now self.now)
+            → probes.new ≡ probes.old + asked_down (asked_at T.Key.cmp T.key_of k.now self.now)
+            (tree_in P.Inx.number self.now) }
+        ensures counted { IsSome
+            (value_if (P.generation p_init) (entry_in self.now (P.index p_init)))
+            → (on : On (order_in P.Inx.number self.now) (P.index p_init))
+            → IsKeyCounted num (asked_down (asked_at T.Key.cmp T.key_of k.now self.now)
+            (tree_in P.Inx.number self.now)) (asked_at T.Key.cmp T.key_of k.now self.now)
             (path_from (asked_at T.Key.cmp T.key_of k.now self.now) on) probes.old probes.new }
         ensures near { IsAscending P.Inx.number T.Key.cmp T.key_of self.now
             → IsSome (value_if (P.generation p_init) (entry_in self.now (P.index p_init)))
-            → IsEndNear num (asked_at T.Key.cmp T.key_of k.now self.now) (order_in P.Inx.number self.now) (P.index p_init)
+            → IsEndNear num (asked_at T.Key.cmp T.key_of k.now self.now)
+            (order_in P.Inx.number self.now) (P.index p_init)
             → probes.new ≤ probes.old + num }
     {
         if !self.chains.contains(p_init) {
@@ -107,11 +118,13 @@ impl<P: PtrCore, T: SimpleOrdItem + Drop, S: OrdSlots<P, T>> SimpleOrdArena<P, T
         self.find_key_linear_counted(p_init, num, k, &mut Probes::new())
     }
 
-    /// As `find_similar_key_counted`, but first it compares with the entry at `p_init`, whatever its generation, and goes on
-    /// from there along the list, in one direction, for at most `num` comparisons, one at each entry, and a tick each. It ends
-    /// at an equal key, at an end of the list, and where it comes over the place of the key; else, and where `p_init` is not
-    /// live, it searches from the root. In a list whose keys ascend `num` comparisons are enough where an entry with an equal
-    /// key, or each entry beside the place of the key, stands less than `num` steps from that at `p_init`.
+    /// As `find_similar_key_counted`, but first it compares with the entry at `p_init`, whatever
+    /// its generation, and goes on from there along the list, in one direction, for at most `num`
+    /// comparisons, one at each entry, and a tick each. It ends at an equal key, at an end of the
+    /// list, and where it comes over the place of the key; else, and if `p_init` is not live, it
+    /// searches from the root. In a list whose keys ascend `num` comparisons are enough if an entry
+    /// with an equal key, or each entry beside the place of the key, stands less than `num` steps
+    /// from that at `p_init`.
     pub fn find_similar_key_linear_counted(
         &self,
         p_init: P::Inx,
@@ -119,18 +132,23 @@ impl<P: PtrCore, T: SimpleOrdItem + Drop, S: OrdSlots<P, T>> SimpleOrdArena<P, T
         k: &T::Key,
         probes: &mut Probes,
     ) -> Option<(P, Ordering)>
-        ensures similar { IsSimilar P.index P.generation P.Inx.number (asked_at T.Key.cmp T.key_of k.now self.now)
+        ensures similar { IsSimilar P.index P.generation P.Inx.number
+            (asked_at T.Key.cmp T.key_of k.now self.now)
             (IsAscending P.Inx.number T.Key.cmp T.key_of self.now) result self.now }
         ensures rises { probes.old ≤ probes.new }
         ensures bound { probes.new ≤ probes.old + (num + most_comparisons (size_in self.now)) }
         ensures gone { entry_in self.now (P.Inx.number p_init) ≡ None
-            → probes.new ≡ probes.old + asked_down (asked_at T.Key.cmp T.key_of k.now self.now) (tree_in P.Inx.number self.now) }
-        ensures counted { IsSome (entry_in self.now (P.Inx.number p_init)) → (on : On (order_in P.Inx.number self.now) (P.Inx.number p_init))
-            → IsPlaceCounted num (asked_down (asked_at T.Key.cmp T.key_of k.now self.now) (tree_in P.Inx.number self.now))
+            → probes.new ≡ probes.old + asked_down (asked_at T.Key.cmp T.key_of k.now self.now)
+            (tree_in P.Inx.number self.now) }
+        ensures counted { IsSome (entry_in self.now (P.Inx.number p_init))
+            → (on : On (order_in P.Inx.number self.now) (P.Inx.number p_init))
+            → IsPlaceCounted num (asked_down (asked_at T.Key.cmp T.key_of k.now self.now)
+            (tree_in P.Inx.number self.now))
             (path_from (asked_at T.Key.cmp T.key_of k.now self.now) on) probes.old probes.new }
         ensures near { IsAscending P.Inx.number T.Key.cmp T.key_of self.now
             → IsSome (entry_in self.now (P.Inx.number p_init))
-            → IsAtHand num (asked_at T.Key.cmp T.key_of k.now self.now) (order_in P.Inx.number self.now) (P.Inx.number p_init)
+            → IsAtHand num (asked_at T.Key.cmp T.key_of k.now self.now)
+            (order_in P.Inx.number self.now) (P.Inx.number p_init)
             → probes.new ≤ probes.old + num }
     {
         let place = self.seek_linear(p_init, num, k, probes);
@@ -144,7 +162,8 @@ impl<P: PtrCore, T: SimpleOrdItem + Drop, S: OrdSlots<P, T>> SimpleOrdArena<P, T
         num: usize,
         k: &T::Key,
     ) -> Option<(P, Ordering)>
-        ensures { IsSimilar P.index P.generation P.Inx.number (asked_at T.Key.cmp T.key_of k.now self.now)
+        ensures { IsSimilar P.index P.generation P.Inx.number
+            (asked_at T.Key.cmp T.key_of k.now self.now)
             (IsAscending P.Inx.number T.Key.cmp T.key_of self.now) result self.now }
     {
         self.find_similar_key_linear_counted(p_init, num, k, &mut Probes::new())

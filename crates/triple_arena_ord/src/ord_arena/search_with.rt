@@ -15,15 +15,16 @@ use triple_arena::PtrCore;
 use triple_arena_ptr::Probes;
 
 impl<P: PtrCore, T: Drop, S: OrdSlots<P, T>> SimpleOrdArena<P, T, S> {
-    /// Asks `f` at entries, with the pointer and the item: `Less` leads to the entries before it, `Greater` to those after it,
-    /// and `Equal` ends the search, as does a gap between entries that were asked. It answers the last entry that was asked,
-    /// with the answer; `None` where there is no entry. Each question is a tick, and there are no more than the rank of the root,
-    /// and so no more than `find_key_counted` says.
+    /// Asks `f` at entries, with the pointer and the item: `Less` leads to the entries before it,
+    /// `Greater` to those after it, and `Equal` ends the search, as does a gap between entries that
+    /// were asked. It returns the last entry that was asked, with the answer; `None` if there is no
+    /// entry. Each question is a tick, and there are no more than the rank of the root, and so no
+    /// more than `find_key_counted` says.
     ///
     /// If the answers hang on the pointer and the item alone, in each state that `f` comes to from
     /// this one, and go from `Greater` over `Equal` to `Less` along the list, the entry is one at
-    /// which `f` answers `Equal`, or else one beside the gap. So `f` may capture what it keeps, as a
-    /// key.
+    /// which `f` answers `Equal`, or else one beside the gap. So `f` may capture what it keeps, as
+    /// a key.
     pub fn find_similar_with_counted<F>(
         &self,
         mut f: F,
@@ -32,7 +33,8 @@ impl<P: PtrCore, T: Drop, S: OrdSlots<P, T>> SimpleOrdArena<P, T, S> {
     where
         F: FnMut(P, &T) -> Ordering,
         requires { F.IsAlwaysCallable f }
-        ensures asked { IsAsked P.index P.generation F.step (entry_in self.now) (order_in P.Inx.number self.now)
+        ensures asked { IsAsked P.index P.generation F.step (entry_in self.now)
+            (order_in P.Inx.number self.now)
             f result probes.old probes.new }
         ensures similar { (side : ℕ → ℕ × T → Way) → AnswersBy P.index P.generation F.step f side
             → IsSimilar P.index P.generation P.Inx.number (answer_at side self.now)
@@ -57,7 +59,8 @@ impl<P: PtrCore, T: Drop, S: OrdSlots<P, T>> SimpleOrdArena<P, T, S> {
         ensures asked { (asked : IsAsked P.index P.generation F.step (entry_in self.now)
             (order_in P.Inx.number self.now) f.old result probes.old probes.new)
             × (asked.last ≡ f.new) }
-        ensures similar { (side : ℕ → ℕ × T → Way) → AnswersBy P.index P.generation F.step f.old side
+        ensures similar { (side : ℕ → ℕ × T → Way)
+            → AnswersBy P.index P.generation F.step f.old side
             → IsSimilar P.index P.generation P.Inx.number (answer_at side self.now)
             (IsParted (answer_at side self.now) (order_in P.Inx.number self.now)) result self.now }
         ensures rank { probes.new ≤ probes.old + rank_of (tree_in P.Inx.number self.now) }
@@ -72,8 +75,11 @@ impl<P: PtrCore, T: Drop, S: OrdSlots<P, T>> SimpleOrdArena<P, T, S> {
     where
         F: FnMut(P, &T) -> Ordering,
         requires { F.IsAlwaysCallable f }
-        ensures asked { (ticks : ℕ) × IsAsked P.index P.generation F.step (entry_in self.now) (order_in P.Inx.number self.now)
-            f result 0 ticks × (ticks ≤ rank_of (tree_in P.Inx.number self.now)) × (ticks ≤ most_comparisons (size_in self.now)) }
+        ensures asked { (ticks : ℕ)
+            × IsAsked P.index P.generation F.step (entry_in self.now)
+            (order_in P.Inx.number self.now)
+            f result 0 ticks × (ticks ≤ rank_of (tree_in P.Inx.number self.now))
+            × (ticks ≤ most_comparisons (size_in self.now)) }
         ensures similar { (side : ℕ → ℕ × T → Way) → AnswersBy P.index P.generation F.step f side
             → IsSimilar P.index P.generation P.Inx.number (answer_at side self.now)
             (IsParted (answer_at side self.now) (order_in P.Inx.number self.now)) result self.now }
@@ -81,14 +87,16 @@ impl<P: PtrCore, T: Drop, S: OrdSlots<P, T>> SimpleOrdArena<P, T, S> {
         self.find_similar_with_counted(f, &mut Probes::new())
     }
 
-    /// Asks `f` in the same way, and answers the entry at which it answered `Equal`. Where the answers are as said there, it
-    /// answers `None` exactly where `f` answers `Equal` at no entry.
+    /// Asks `f` in the same way, and returns the entry at which it answered `Equal`. If the answers
+    /// are as said there, it returns `None` exactly if `f` answers `Equal` at no entry.
     pub fn find_with_counted<F>(&self, f: F, probes: &mut Probes) -> Option<P>
     where
         F: FnMut(P, &T) -> Ordering,
         requires { F.IsAlwaysCallable f }
-        ensures asked { (last : Option (P × Way)) × IsAsked P.index P.generation F.step (entry_in self.now)
-            (order_in P.Inx.number self.now) f last probes.old probes.new × (result ≡ found_by last) }
+        ensures asked { (last : Option (P × Way))
+            × IsAsked P.index P.generation F.step (entry_in self.now)
+            (order_in P.Inx.number self.now) f last probes.old probes.new
+            × (result ≡ found_by last) }
         ensures found { (side : ℕ → ℕ × T → Way) → AnswersBy P.index P.generation F.step f side
             → IsFound P.index P.generation (answer_at side self.now)
             (IsParted (answer_at side self.now) (order_in P.Inx.number self.now)) result self.now }
@@ -109,9 +117,11 @@ impl<P: PtrCore, T: Drop, S: OrdSlots<P, T>> SimpleOrdArena<P, T, S> {
     where
         F: FnMut(P, &T) -> Ordering,
         requires { F.IsAlwaysCallable f }
-        ensures asked { (ticks : ℕ) × (last : Option (P × Way)) × IsAsked P.index P.generation F.step (entry_in self.now)
+        ensures asked { (ticks : ℕ) × (last : Option (P × Way))
+            × IsAsked P.index P.generation F.step (entry_in self.now)
             (order_in P.Inx.number self.now) f last 0 ticks × (result ≡ found_by last)
-            × (ticks ≤ rank_of (tree_in P.Inx.number self.now)) × (ticks ≤ most_comparisons (size_in self.now)) }
+            × (ticks ≤ rank_of (tree_in P.Inx.number self.now))
+            × (ticks ≤ most_comparisons (size_in self.now)) }
         ensures found { (side : ℕ → ℕ × T → Way) → AnswersBy P.index P.generation F.step f side
             → IsFound P.index P.generation (answer_at side self.now)
             (IsParted (answer_at side self.now) (order_in P.Inx.number self.now)) result self.now }

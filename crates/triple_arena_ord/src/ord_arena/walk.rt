@@ -10,10 +10,11 @@ use crate::{OrdSlots, SimpleOrdArena};
 use std::marker::Model;
 use triple_arena::{Advancer, ArenaTrait, PtrCore, PtrInxCore};
 
-/// Gives the pointers to the entries of the list, one a call: from an entry on to the last, or backward to the first. The
-/// arena is free between the calls.
+/// Gives the pointers to the entries of the list, one a call: from an entry on to the last, or
+/// backward to the first. The arena is free between the calls.
 ///
-/// As it gives an entry it notes the index that comes next, and later gives what is live there. Where nothing is, it ends.
+/// As it gives an entry it notes the index that comes next, and later gives what is live there. If
+/// nothing is, it ends.
 #[derive(Drop)]
 pub struct OrderedPtrAdvancer<P: PtrCore> {
     // The index that comes next.
@@ -46,14 +47,15 @@ impl<P: PtrCore> OrderedPtrAdvancer<P> {
         OrderedPtrAdvancer { at, back }
     }
 
-    // Gives the entry where the walk is, and goes on from there. Where nothing is live the walk ends.
+    // Gives the entry where the walk is, and goes on from there. If nothing is live, the walk ends.
     pub(crate) fn step<'a, T: Drop, S: OrdSlots<P, T>>(
         &mut self,
         arena: &'a SimpleOrdArena<P, T, S>,
     ) -> Option<(P, &'a T)>
         ensures steps { OrderedSteps P.Inx.number arena.now self.old
             (option_map (λ e. (P.index e.0, P.generation e.0)) result) self.new }
-        ensures item { IfSome result (λ e. entry_in arena.now (P.index e.0) ≡ Some (P.generation e.0, e.1.now)) }
+        ensures item { IfSome result
+            (λ e. entry_in arena.now (P.index e.0) ≡ Some (P.generation e.0, e.1.now)) }
     {
         let i = self.at?;
         match arena.get_inx_node(i) {
@@ -97,17 +99,19 @@ impl<P: PtrCore, T: Drop, S: OrdSlots<P, T>> Advancer<SimpleOrdArena<P, T, S>>
 impl<P: PtrCore, T: Drop, S: OrdSlots<P, T>> SimpleOrdArena<P, T, S> {
     // The arena is ordered, and this is whether a pointer finds an entry.
     fn finds(&self, p: P) -> bool
-        ensures found { IsTrue result ↔ IsSome (value_if (P.generation p) (entry_in self.now (P.index p))) }
+        ensures found { IsTrue result
+            ↔ IsSome (value_if (P.generation p) (entry_in self.now (P.index p))) }
         ensures ordered { IsOrdered P.Inx.number self.now }
     {
         self.chains.contains(p)
     }
 
-    /// A walk along the list from the entry that `p` points to: that one and those after it, or with `rev` that one and
-    /// those before it, backward. It is `None` where `p` points to none. It gives the pointers, one a call, and the arena
-    /// may be changed between the calls.
+    /// A walk along the list from the entry that `p` points to: that one and those after it, or
+    /// with `rev` that one and those before it, backward. It is `None` if `p` points to none. It
+    /// gives the pointers, one a call, and the arena may be changed between the calls.
     pub fn advancer_ordered(&self, p: P, rev: bool) -> Option<OrderedPtrAdvancer<P>>
-        ensures variant { IsSome result ↔ IsSome (value_if (P.generation p) (entry_in self.now (P.index p))) }
+        ensures variant { IsSome result
+            ↔ IsSome (value_if (P.generation p) (entry_in self.now (P.index p))) }
         ensures from { IfSome result (λ a. a ≡ walk_at (P.index p) rev) }
         ensures along { IfSome result (λ a. IsFrom (order_in P.Inx.number self.now) (P.index p) rev
             (left_over P.Inx.number self.now a)) }
