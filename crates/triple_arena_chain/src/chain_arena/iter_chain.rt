@@ -53,8 +53,8 @@ where
         (option_map P.Inx.number it.start) (option_map P.Inx.number it.at)) };
 }
 
-// Where a walk that began there goes on from a link with these neighbors, and if it began as long
-// as it goes on.
+// Where a walk that began there goes on from a link with these neighbors. With it comes where the
+// walk began, as long as it goes on.
 #[inline(always)]
 fn onward<I: PtrInxCore<Word = W>, W: Copy + Drop>(
     start: OptionalInx<I, W>,
