@@ -30,8 +30,10 @@ found_by at (Some p) = value_if p.1 (at p.0)
 
 -- a stop and a mark as the state has them: a reference is the ticket of the item that it finds
 abbrev pub state_stop : Found → StopView → Stop
-state_stop f v = record { ticket = v.ticket;
-    place = option_map (λ (p : Place). p.ticket) (found_by f.places v.place) }
+state_stop f v = record {
+  ticket = v.ticket;
+  place = option_map (λ (p : Place). p.ticket) (found_by f.places v.place);
+}
 
 abbrev pub state_mark : Found → MarkView → Mark
 state_mark f v =

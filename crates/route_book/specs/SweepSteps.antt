@@ -9,8 +9,11 @@ use Rattle.route_book.specs.Removals.{Steps}
 module _ {I : Type 0} where
   -- the two counters of a store, beside the looks so far
   abbrev pub tally : Book I → ℕ → Tally
-  tally b looks = record { places = b.places.chains.counter; stops = b.stops.counter;
-      looks = looks }
+  tally b looks = record {
+    places = b.places.chains.counter;
+    stops = b.stops.counter;
+    looks = looks;
+  }
 
   -- what a line does is a step, where generations go up to `top` and the references are so many at
   -- most

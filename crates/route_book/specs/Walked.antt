@@ -7,8 +7,10 @@ use Rattle.route_book.specs.Item.{StopView}
 
 -- its ticket, and that of the place that its reference finds among these
 abbrev pub stop_seen : (ℕ → Option (ℕ × Place)) → StopView → Stop
-stop_seen places v = record { ticket = v.ticket;
-    place = option_map (λ (p : Place). p.ticket) (found_by places v.place) }
+stop_seen places v = record {
+  ticket = v.ticket;
+  place = option_map (λ (p : Place). p.ticket) (found_by places v.place);
+}
 
 -- the stop at an index, as the state has it
 abbrev pub stop_in : Found → ℕ → Option Stop

@@ -87,7 +87,7 @@ worded s ticket = and_then (place_holder s ticket) (λ p. Ok p.word)
 abbrev pub after_word : State → ℕ → List ℕ → State
 after_word s ticket word =
     unless_refused s (place_holder s ticket)
-        (λ p. record s { places = reworded ticket word s.places })
+    (λ p. record s { places = reworded ticket word s.places })
 
 -- `show`
 abbrev pub shown : State → ℕ → Result Shown Refusal
@@ -111,14 +111,14 @@ floor_of s key = option_map (λ p. p.ticket) (find (λ p. nat_le p.key key) (rev
 abbrev pub place_after : State → ℕ → Result (Option ℕ) Refusal
 place_after s ticket =
     and_then (place_holder s ticket)
-        (λ p. Ok (option_map (λ q. q.ticket)
-        (first_item (behind (λ q. q.ticket == ticket) s.places))))
+    (λ p. Ok (option_map (λ q. q.ticket)
+    (first_item (behind (λ q. q.ticket == ticket) s.places))))
 
 abbrev pub place_before : State → ℕ → Result (Option ℕ) Refusal
 place_before s ticket =
     and_then (place_holder s ticket)
-        (λ p. Ok (option_map (λ q. q.ticket)
-        (last_item (before (λ q. q.ticket == ticket) s.places))))
+    (λ p. Ok (option_map (λ q. q.ticket)
+    (last_item (before (λ q. q.ticket == ticket) s.places))))
 
 -- `places`: what the iterator gives of a place
 abbrev pub listed : ℕ × ℕ × Bor (List ℕ) → Place
@@ -154,8 +154,8 @@ after_extend s t at =
 abbrev pub joined : State → ℕ → ℕ → Result Unit Refusal
 joined s t u =
     and_then (stop_holder s t)
-        (λ x. and_then (stop_holder s u)
-        (λ y. allowed (is_none (next_stop s.routes t) && is_none (previous_stop s.routes u))))
+    (λ x. and_then (stop_holder s u)
+    (λ y. allowed (is_none (next_stop s.routes t) && is_none (previous_stop s.routes u))))
 
 abbrev pub after_join : State → ℕ → ℕ → State
 after_join s t u = unless_refused s (joined s t u) (λ ok. record s { routes = linked t u s.routes })
@@ -171,8 +171,8 @@ after_cut s t = unless_refused s (parted s t) (λ ok. record s { routes = unlink
 abbrev pub swapped : State → ℕ → ℕ → Result Unit Refusal
 swapped s t u =
     and_then (stop_holder s t)
-        (λ x. and_then (stop_holder s u)
-        (λ y. allowed (is_some (next_stop s.routes t) && is_some (next_stop s.routes u))))
+    (λ x. and_then (stop_holder s u)
+    (λ y. allowed (is_some (next_stop s.routes t) && is_some (next_stop s.routes u))))
 
 abbrev pub after_swap : State → ℕ → ℕ → State
 after_swap s t u = unless_refused s (swapped s t u)
@@ -231,8 +231,10 @@ without_place s t =
     }
 
 abbrev pub without_stop : State → ℕ → State
-without_stop s t = record s { routes = taken_out t s.routes;
-    marks = map (clear_mark_stop t) s.marks }
+without_stop s t = record s {
+  routes = taken_out t s.routes;
+  marks = map (clear_mark_stop t) s.marks;
+}
 
 abbrev pub without_mark : State → ℕ → State
 without_mark s t = record s { marks = filter (λ m. not (m.ticket == t)) s.marks }

@@ -15,8 +15,8 @@ use Rattle.route_lines.specs.declared.refusal.RoomError.TheVariants.{Generation,
 abbrev pub rooms_of : List (List ℕ) → Option Rooms
 rooms_of (places ∷ stops ∷ marks ∷ []) =
     option_and_then (λ p. option_and_then
-        (λ t. option_map (λ m. record { places = p; stops = t; marks = m }) (number_of marks))
-        (number_of stops)) (number_of places)
+    (λ t. option_map (λ m. record { places = p; stops = t; marks = m }) (number_of marks))
+    (number_of stops)) (number_of places)
 rooms_of _ = None
 
 abbrev pub room_sum : Rooms → ℕ

@@ -22,7 +22,7 @@ Spells line (Place key word None) = IsNumber key × IsWord word
     × (line ≡ codes "place " ++ decimal key ++ 32 ∷ word)
 Spells line (Place key word (Some near)) =
     IsNumber key × IsWord word × IsNumber near
-        × (line ≡ codes "place " ++ decimal key ++ 32 ∷ (word ++ (codes " near " ++ decimal near)))
+    × (line ≡ codes "place " ++ decimal key ++ 32 ∷ (word ++ (codes " near " ++ decimal near)))
 Spells line (Word ticket word) =
     IsNumber ticket × IsWord word × (line ≡ codes "word " ++ decimal ticket ++ 32 ∷ word)
 Spells line (Show ticket) = SpellsNumber line (codes "show ") ticket
@@ -85,19 +85,19 @@ abbrev pub command_of_three_fields : List ℕ → List ℕ → List ℕ → Opti
 command_of_three_fields verb first second =
     if bytes_eq verb (codes "place")
     then option_and_then (λ key. option_map (λ word. Place key word None) (word_of second))
-        (number_of first)
+    (number_of first)
     else if bytes_eq verb (codes "word")
     then option_and_then (λ ticket. option_map (λ word. Word ticket word) (word_of second))
-        (number_of first)
+    (number_of first)
     else option_and_then (λ m. option_and_then (command_of_numbers verb m) (number_of second))
-        (number_of first)
+    (number_of first)
 
 abbrev pub command_of_five_fields : List ℕ → List ℕ → List ℕ → List ℕ → List ℕ → Option Command
 command_of_five_fields verb first second third fourth =
     if bytes_eq verb (codes "place") && bytes_eq third (codes "near")
     then option_and_then (λ key. option_and_then
-        (λ word. option_map (λ near. Place key word (Some near)) (number_of fourth))
-        (word_of second)) (number_of first)
+    (λ word. option_map (λ near. Place key word (Some near)) (number_of fourth))
+    (word_of second)) (number_of first)
     else None
 
 abbrev pub command_of_fields : List (List ℕ) → Option Command

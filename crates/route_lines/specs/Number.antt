@@ -11,4 +11,4 @@ IsNumber n = n < 2 ^ 64
 unfoldable pub number_of : List ℕ → Option ℕ
 number_of bytes =
     let n = digits_value 10 bytes in if nat_lt n (2 ^ 64) && bytes_eq
-        (decimal n) bytes then Some n else None
+    (decimal n) bytes then Some n else None

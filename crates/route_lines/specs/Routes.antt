@@ -91,8 +91,8 @@ previous_stop routes s = option_and_then (previous_in s) (route_of routes s)
 abbrev pub put_behind : ℕ → Stop → List Route → List Route
 put_behind s new routes =
     map (λ r. if has_stop s r then record r
-        { stops = up_to (has_ticket s) r.stops ++ new ∷ behind (has_ticket s) r.stops }
-        else r) routes
+    { stops = up_to (has_ticket s) r.stops ++ new ∷ behind (has_ticket s) r.stops }
+    else r) routes
 
 -- the route that ends with `s` goes on with the one that starts with `u`; where they are one route
 -- it becomes a ring

@@ -55,7 +55,7 @@ asked_from (Some e) ticket search = if e.ticket == ticket then 1 else search + 1
 abbrev pub asked : Tickets → ℕ → ℕ
 asked b ticket =
     asked_from (looked_at b ticket) ticket
-        (asked_among b.asked_below b.entries b.asked_along ticket)
+    (asked_among b.asked_below b.entries b.asked_along ticket)
 
 -- the entry of a ticket
 abbrev pub lookup : List Entry → ℕ → Option Entry

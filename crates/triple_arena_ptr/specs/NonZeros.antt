@@ -11,27 +11,39 @@ use Rattle.std.specs.declared.num.NonZeroU128.{NonZeroU128}
 use Rattle.std.specs.declared.num.NonZeroUsize.{NonZeroUsize}
 
 pub u8_determined : (a b : NonZeroU8) → non_zero_u8_get a ≡ non_zero_u8_get b → a ≡ b
-u8_determined a b q = λ i. record { value = q i;
-    ok = to_path_p (λ j. 0 < q j) {a = a.ok} {b = b.ok} (le_prop _ _) i }
+u8_determined a b q = λ i. record {
+  value = q i;
+  ok = to_path_p (λ j. 0 < q j) {a = a.ok} {b = b.ok} (le_prop _ _) i;
+}
 
 pub u16_determined : (a b : NonZeroU16) → non_zero_u16_get a ≡ non_zero_u16_get b → a ≡ b
-u16_determined a b q = λ i. record { value = q i;
-    ok = to_path_p (λ j. 0 < q j) {a = a.ok} {b = b.ok} (le_prop _ _) i }
+u16_determined a b q = λ i. record {
+  value = q i;
+  ok = to_path_p (λ j. 0 < q j) {a = a.ok} {b = b.ok} (le_prop _ _) i;
+}
 
 pub u32_determined : (a b : NonZeroU32) → non_zero_u32_get a ≡ non_zero_u32_get b → a ≡ b
-u32_determined a b q = λ i. record { value = q i;
-    ok = to_path_p (λ j. 0 < q j) {a = a.ok} {b = b.ok} (le_prop _ _) i }
+u32_determined a b q = λ i. record {
+  value = q i;
+  ok = to_path_p (λ j. 0 < q j) {a = a.ok} {b = b.ok} (le_prop _ _) i;
+}
 
 pub u64_determined : (a b : NonZeroU64) → non_zero_u64_get a ≡ non_zero_u64_get b → a ≡ b
-u64_determined a b q = λ i. record { value = q i;
-    ok = to_path_p (λ j. 0 < q j) {a = a.ok} {b = b.ok} (le_prop _ _) i }
+u64_determined a b q = λ i. record {
+  value = q i;
+  ok = to_path_p (λ j. 0 < q j) {a = a.ok} {b = b.ok} (le_prop _ _) i;
+}
 
 pub u128_determined : (a b : NonZeroU128) → non_zero_u128_get a ≡ non_zero_u128_get b → a ≡ b
 u128_determined a b q
-    = λ i. record { value = q i;
-    ok = to_path_p (λ j. 0 < q j) {a = a.ok} {b = b.ok} (le_prop _ _) i }
+    = λ i. record {
+      value = q i;
+      ok = to_path_p (λ j. 0 < q j) {a = a.ok} {b = b.ok} (le_prop _ _) i;
+    }
 
 pub usize_determined : (a b : NonZeroUsize) → non_zero_usize_get a ≡ non_zero_usize_get b → a ≡ b
 usize_determined a b q
-    = λ i. record { value = q i;
-    ok = to_path_p (λ j. 0 < q j) {a = a.ok} {b = b.ok} (le_prop _ _) i }
+    = λ i. record {
+      value = q i;
+      ok = to_path_p (λ j. 0 < q j) {a = a.ok} {b = b.ok} (le_prop _ _) i;
+    }

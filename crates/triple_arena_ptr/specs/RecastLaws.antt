@@ -66,7 +66,7 @@ pub pair_items_recasted : {I X Y : Type 0} (items_x : X → List I) (items_y : Y
 pair_items_recasted items_x items_y recasted_x recasted_y f each_x each_y x y =
     ap (λ l. l ++ items_y (where_ok (recast_answer f (items_x x)) (recasted_y y) y)) (each_x x)
     ∙ ap (λ l. renamed f (items_x x) ++ l)
-        (items-where_ok items_y (recast_answer f (items_x x)) (recasted_y y) y
+    (items-where_ok items_y (recast_answer f (items_x x)) (recasted_y y) y
     ∙ ap (λ l. where_ok (recast_answer f (items_x x)) l (items_y y)) (each_y y))
     ∙ sym (renamed-append f (items_x x) (items_y y))
 

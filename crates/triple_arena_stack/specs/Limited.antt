@@ -12,7 +12,7 @@ pub record Limited (T : Type 0) : Type 0 where
 abbrev pub limited_code : {T : Type 0} → Coded T → Coded (Limited T)
 limited_code {T} code =
     code_by (List T × (ℕ × Option ℕ))
-        (coded× (coded_list code) (coded× coded_ℕ (coded_option coded_ℕ)))
+    (coded× (coded_list code) (coded× coded_ℕ (coded_option coded_ℕ)))
     (λ s. (s.items, (s.reserved, s.limit)))
     (λ p. record { items = p.0; reserved = p.1.0; limit = p.1.1 })
     (λ _. refl)
